@@ -1,0 +1,58 @@
+ghost use Rattle.std.specs.Prelude.{◌≡◌, ◌<◌, ◌≤◌, length, map, slice_get, IfOk};
+ghost use Rattle.k_types.specs.Types.{HaveFewFields, object_size, type_row};
+
+use crate::names::{Field, TypeId};
+use k_io::NoMemory;
+use std::alloc::Global;
+use std::marker::Model;
+
+/// The types of a trace: for each the kinds of its fields, of which there are at most 16.
+///
+/// Contracts see the table as the list of its rows, by the number of the type. Source: own.
+#[derive(Drop)]
+pub struct TypeTable {
+    rows: Vec<Vec<Field>>,
+}
+
+impl Model for TypeTable {
+    ghost use Rattle.std.specs.Prelude.{List, map};
+    ghost use Rattle.k_types.specs.Types.{HaveFewFields};
+    ghost use Rattle.k_types.specs.declared.names.Field.{Field};
+
+    ghost Value = { List (List Field) };
+
+    ghost view = { λ t. map (λ row. row.items) t.rows.items };
+
+    ghost invariant = { λ t. HaveFewFields (map (λ row. row.items) t.rows.items) };
+}
+
+impl TypeTable {
+    /// A table of copies of the rows. `NoMemory` comes where the copies find no memory. Source: own.
+    pub fn make(alloc: Global, rows: &[Vec<Field>]) -> Result<TypeTable, NoMemory>
+        requires { HaveFewFields (map (λ row. row.items) rows.now) }
+        ensures { IfOk result (λ t. t ≡ map (λ row. row.items) rows.now) }
+    {
+        let mut copies = Vec::new(alloc);
+        for row in rows {
+            copies.push(row.as_slice().to_vec(alloc)?)?;
+        }
+        Ok(TypeTable { rows: copies })
+    }
+
+    /// How many bytes an object of the type takes. Source: own.
+    pub fn size_of(&self, ty: TypeId) -> u64
+        requires { ty.0 < length self.now }
+        ensures size { result ≡ object_size (length (type_row self.now ty)) }
+        ensures small { length (type_row self.now ty) ≤ 16 }
+    {
+        16 + 8 * self.rows[ty.0 as usize].len() as u64
+    }
+
+    /// The kind of a field of the type; `None` past the last field. Source: own.
+    pub fn kind_of(&self, ty: TypeId, field: u32) -> Option<Field>
+        requires { ty.0 < length self.now }
+        ensures { result ≡ slice_get (type_row self.now ty) field }
+    {
+        self.rows[ty.0 as usize].get(field as usize).copied()
+    }
+}
