@@ -39,6 +39,13 @@ impl TypeTable {
         Ok(TypeTable { rows: copies })
     }
 
+    /// Another table with the same rows. `NoMemory` comes where the copies find no memory. Source: own.
+    pub fn copy(&self, alloc: Global) -> Result<TypeTable, NoMemory>
+        ensures { IfOk result (λ t. t ≡ self.now) }
+    {
+        TypeTable::make(alloc, &self.rows)
+    }
+
     /// How many bytes an object of the type takes. Source: own.
     pub fn size_of(&self, ty: TypeId) -> u64
         requires { ty.0 < length self.now }
