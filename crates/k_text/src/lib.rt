@@ -1,0 +1,8 @@
+//! The report of a run: what it says, and the writing of it.
+//!
+//! A [`View`] shows the trace, the history and the last state of a run.
+#![tactic(auto)]
+
+mod view;
+
+pub use view::View;
