@@ -1,0 +1,16 @@
+pub mod NameTests
+pub mod Lists
+pub mod Objects
+pub mod Kept
+pub mod OwnerOf
+pub mod Elsewhere
+pub mod FrameSteps
+pub mod ElsewhereOther
+pub mod LocalSteps
+pub mod LocalEffects
+pub mod LocalBook
+pub mod Tails
+pub mod Charges
+pub mod Exact
+pub mod Maxima
+pub mod Bytes

@@ -1,0 +1,9 @@
+//! Laws of the one-thread machine on what a step leaves as it was and on what it goes by. Each law is the contract of a
+//! public function with an empty body. They hold in every state, sound or not. Below stand the definitions of k_types alone.
+#![tactic(auto)]
+
+mod frame;
+mod locality;
+
+pub use frame::steps_leave_other_cells;
+pub use locality::{local_replies, move_changes_its_cell, tails_follow};

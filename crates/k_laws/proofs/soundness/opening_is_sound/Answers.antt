@@ -1,0 +1,5 @@
+use Rattle.k_laws.proofs.SoundOpening.{opening_sound}
+use Rattle.k_laws.proofs.soundness.opening_is_sound.Goals as goal
+
+pub returns : goal.returns
+returns c = opening_sound
