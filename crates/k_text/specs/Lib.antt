@@ -1,1 +1,5 @@
 pub mod Shown
+pub mod Named
+pub mod EventLines
+pub mod Report
+pub mod Spaced

@@ -3,6 +3,10 @@
 //! A [`View`] shows the trace, the history and the last state of a run.
 #![tactic(auto)]
 
+mod line;
+mod names;
 mod view;
 
+pub use line::LineBuffer;
+pub use names::Names;
 pub use view::View;

@@ -1,0 +1,69 @@
+ghost use Rattle.std.specs.Prelude.{◌≡◌, ℕ, ◌<◌, ◌≤◌, ◌+◌, ◌++◌, ◌∷◌, [], List, length, decimal};
+ghost use Rattle.k_io.specs.Writing.{Writes};
+
+use arrayvec::ArrayVec;
+use itoa::Buffer;
+use k_io::{Sink, WriteFailed};
+use std::marker::Model;
+
+/// A line that is being made, with room for the longest, which is that of an object. Source: own.
+#[derive(Drop)]
+pub struct LineBuffer {
+    bytes: ArrayVec<u8, 1024>,
+}
+
+impl Model for LineBuffer {
+    ghost use Rattle.std.specs.Prelude.{List, ℕ};
+
+    ghost Value = { List ℕ };
+
+    ghost view = { λ l. l.bytes.items };
+}
+
+impl LineBuffer {
+    /// An empty line. Source: own.
+    pub fn new() -> LineBuffer
+        ensures { result ≡ [] }
+    {
+        LineBuffer {
+            bytes: ArrayVec::new(),
+        }
+    }
+
+    /// Adds bytes. Source: own.
+    pub fn push_text(&mut self, text: &[u8])
+        requires { length self.old + length text.now ≤ 1024 }
+        ensures { self.new ≡ self.old ++ text.now }
+    {
+        let _fits = self.bytes.try_extend_from_slice(text);
+    }
+
+    /// Adds a space and a word. Source: own.
+    pub fn push_word(&mut self, word: &[u8])
+        requires { length self.old + length word.now < 1024 }
+        ensures { self.new ≡ self.old ++ 32 ∷ word.now }
+    {
+        self.push_text(b" ");
+        self.push_text(word);
+    }
+
+    /// Adds the digits of a number. Source: own.
+    pub fn push_digits(&mut self, number: u64)
+        requires { length self.old + 20 ≤ 1024 }
+        ensures text { self.new ≡ self.old ++ decimal number }
+        ensures short { length self.new ≤ length self.old + 20 }
+    {
+        let mut buffer = Buffer::new();
+        self.push_text(buffer.format(number).as_bytes());
+    }
+
+    /// Adds a space and a number. Source: own.
+    pub fn push_number(&mut self, number: u64)
+        requires { length self.old + 21 ≤ 1024 }
+        ensures text { self.new ≡ self.old ++ 32 ∷ decimal number }
+        ensures short { length self.new ≤ length self.old + 21 }
+    {
+        self.push_text(b" ");
+        self.push_digits(number);
+    }
+}
