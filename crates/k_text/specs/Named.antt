@@ -6,40 +6,35 @@ use Rattle.k_types.specs.declared.names.Heap.TheVariants.{Kernel, User, Shared}
 use Rattle.k_types.specs.declared.names.TypeId.{TypeId}
 use Rattle.k_types.specs.Trace.{Trace, process_count}
 use Rattle.k_words.specs.Words.{Text, word_at}
-
-pub record NameLists : Type 0 where
-  pub types : List Text
-  pub limits : List Text
-  pub procs : List Text
-  pub shared : List Text
+use Rattle.k_trace.specs.Named.{DeclaredNames, type_name, proc_name, shared_name}
 
 -- There is a name for each type, limit, process and shared heap of the trace, and no other.
-pub record AreNamed (names : NameLists) (trace : Trace) : Type 0 where
+pub record AreNamed (names : DeclaredNames) (trace : Trace) : Type 0 where
   pub types : length names.types ≡ length trace.types
   pub limits : length names.limits ≡ length trace.limits
   pub procs : length names.procs ≡ process_count trace
   pub shared : length names.shared ≡ trace.shared_heaps
 
 -- The names of the segments: the kernel's, those of the processes, those of the shared heaps.
-abbrev pub segment_names : NameLists → List Text
+abbrev pub segment_names : DeclaredNames → List Text
 segment_names names = codes "kernel" ∷ names.procs ++ names.shared
 
 -- The word of an object's name: the name of its segment, a dot and the serial.
-abbrev pub name_word : NameLists → Name → Text
+abbrev pub name_word : DeclaredNames → Name → Text
 name_word names n = word_at (segment_names names) n.seg.0 ++ 46 ∷ decimal n.serial.0
 
 -- The word of a reference.
-abbrev pub reference_word : NameLists → Option Name → Text
+abbrev pub reference_word : DeclaredNames → Option Name → Text
 reference_word names None = codes "null"
 reference_word names (Some n) = name_word names n
 
 -- The word of a heap.
-abbrev pub heap_word : NameLists → Heap → Text
+abbrev pub heap_word : DeclaredNames → Heap → Text
 heap_word names Kernel = codes "kernel"
-heap_word names (User p) = word_at names.procs p.0
-heap_word names (Shared s) = word_at names.shared s.0
+heap_word names (User p) = proc_name names p
+heap_word names (Shared s) = shared_name names s
 
 -- The word of an object's type; the directory has none that is declared.
-abbrev pub type_word : NameLists → Option TypeId → Text
+abbrev pub type_word : DeclaredNames → Option TypeId → Text
 type_word names None = codes "directory"
-type_word names (Some ty) = word_at names.types ty.0
+type_word names (Some ty) = type_name names ty

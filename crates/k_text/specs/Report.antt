@@ -17,26 +17,27 @@ use Rattle.k_types.specs.Limits.{use_of, max_of, limits_in}
 use Rattle.k_types.specs.Steps.{state_after}
 use Rattle.k_words.specs.Words.{Text, word_at, text_of}
 use Rattle.k_words.specs.Numbers.{register_word}
-use Rattle.k_text.specs.Named.{NameLists, name_word, reference_word, heap_word, type_word}
+use Rattle.k_trace.specs.Named.{DeclaredNames, proc_name}
+use Rattle.k_text.specs.Named.{name_word, reference_word, heap_word, type_word}
 use Rattle.k_text.specs.Shown.{exits_of}
 use Rattle.k_text.specs.EventLines.{event_lines}
 
 -- The word of a field: what it refers to, or its number.
-abbrev pub field_word : NameLists → Content → Text
+abbrev pub field_word : DeclaredNames → Content → Text
 field_word names (Refers r) = reference_word names r
 field_word names (Holds number) = decimal number
 
 -- The words of an object: its name, its owner, its type and its fields.
-unfoldable pub object_words : NameLists → (ℕ → Heap) → Object → List Text
+unfoldable pub object_words : DeclaredNames → (ℕ → Heap) → Object → List Text
 object_words names own o =
     name_word names o.name ∷ heap_word names (own o.name.seg.0) ∷ type_word names o.ty ∷ map (field_word names) o.fields
 
 -- The lines of the graph, by rising segment and serial of the objects.
-unfoldable pub graph_lines : NameLists → Trace → State → List (List Text)
+unfoldable pub graph_lines : DeclaredNames → Trace → State → List (List Text)
 graph_lines names trace st = (codes "graph" ∷ []) ∷ map (object_words names (owner_of trace st)) st.objects
 
 -- The line of a register; none where it is null.
-unfoldable pub root_lines : NameLists → ℕ → ℕ → Option Name → List (List Text)
+unfoldable pub root_lines : DeclaredNames → ℕ → ℕ → Option Name → List (List Text)
 root_lines names p r None = []
 root_lines names p r (Some n) = (word_at names.procs p ∷ register_word r ∷ name_word names n ∷ []) ∷ []
 
@@ -45,19 +46,19 @@ unfoldable pub register_numbers : List ℕ
 register_numbers = numbers_below 16
 
 -- The lines of the registers of a process.
-unfoldable pub roots_of_process : NameLists → State → ℕ → List (List Text)
+unfoldable pub roots_of_process : DeclaredNames → State → ℕ → List (List Text)
 roots_of_process names st p = flat_map (λ r. root_lines names p r (register st.registers p r)) register_numbers
 
 -- The lines of the registers, by process and register.
-unfoldable pub roots_lines : NameLists → Trace → State → List (List Text)
+unfoldable pub roots_lines : DeclaredNames → Trace → State → List (List Text)
 roots_lines names trace st = (codes "roots" ∷ []) ∷ flat_map (roots_of_process names st) (numbers_below (process_count trace))
 
 -- The lines of the exit items of a heap, by segment and serial of their targets.
-unfoldable pub exits_of_heap : NameLists → State → Heap → List (List Text)
+unfoldable pub exits_of_heap : DeclaredNames → State → Heap → List (List Text)
 exits_of_heap names st h = map (λ n. heap_word names h ∷ name_word names n ∷ []) (exits_of st.exits h)
 
 -- The lines of the exit items: the kernel's, those of the processes, those of the shared heaps.
-unfoldable pub exits_lines : NameLists → Trace → State → List (List Text)
+unfoldable pub exits_lines : DeclaredNames → Trace → State → List (List Text)
 exits_lines names trace st =
     (codes "exits" ∷ [])
     ∷ exits_of_heap names st Kernel
@@ -65,15 +66,15 @@ exits_lines names trace st =
     ++ flat_map (λ s. exits_of_heap names st (shared s)) (numbers_below trace.shared_heaps)
 
 -- The line of a process and a shared heap; none where the process does not share it.
-unfoldable pub share_lines : NameLists → ℕ → ℕ → Bool → List (List Text)
+unfoldable pub share_lines : DeclaredNames → ℕ → ℕ → Bool → List (List Text)
 share_lines names p s shares = if shares then (word_at names.procs p ∷ word_at names.shared s ∷ []) ∷ [] else []
 
 -- The lines of the shares of a process.
-unfoldable pub shares_of_process : NameLists → Trace → State → ℕ → List (List Text)
+unfoldable pub shares_of_process : DeclaredNames → Trace → State → ℕ → List (List Text)
 shares_of_process names trace st p = flat_map (λ s. share_lines names p s (has_share st.shares p s)) (numbers_below trace.shared_heaps)
 
 -- The lines of the shares, by process and shared heap.
-unfoldable pub shares_lines : NameLists → Trace → State → List (List Text)
+unfoldable pub shares_lines : DeclaredNames → Trace → State → List (List Text)
 shares_lines names trace st = (codes "shares" ∷ []) ∷ flat_map (shares_of_process names trace st) (numbers_below (process_count trace))
 
 -- The event is an operation of the process that was answered by a fault.
@@ -82,11 +83,11 @@ is_fault_of p (Done pid op (Refused fault)) = pid.0 == p
 is_fault_of p _ = false
 
 -- The line of the faults of a process.
-abbrev pub fault_line : NameLists → List Event → ℕ → List Text
+abbrev pub fault_line : DeclaredNames → List Event → ℕ → List Text
 fault_line names events p = word_at names.procs p ∷ decimal (count_by (is_fault_of p) events) ∷ []
 
 -- The lines of the faults, one for each process.
-unfoldable pub faults_lines : NameLists → Trace → List Event → List (List Text)
+unfoldable pub faults_lines : DeclaredNames → Trace → List Event → List (List Text)
 faults_lines names trace events = (codes "faults" ∷ []) ∷ map (fault_line names events) (numbers_below (process_count trace))
 
 -- The line of the kernel's bytes and its ceiling.
@@ -94,28 +95,28 @@ abbrev pub kernel_line : Trace → State → List Text
 kernel_line trace st = codes "kernel" ∷ decimal (bytes_of trace st Kernel) ∷ codes "of" ∷ decimal trace.ceiling ∷ []
 
 -- The line of the use of a limit and its maximum.
-abbrev pub limit_line : NameLists → Trace → State → ℕ → List Text
+abbrev pub limit_line : DeclaredNames → Trace → State → ℕ → List Text
 limit_line names trace st m =
     codes "limit" ∷ word_at names.limits m ∷ decimal (use_of trace st m) ∷ codes "of" ∷ decimal (max_of (limits_in trace st) m) ∷ []
 
 -- The line of the charge of a process.
-abbrev pub process_line : NameLists → Trace → State → ℕ → List Text
+abbrev pub process_line : DeclaredNames → Trace → State → ℕ → List Text
 process_line names trace st p = codes "process" ∷ word_at names.procs p ∷ decimal (charge_of trace st p) ∷ []
 
 -- The words of the phase of a shared heap.
-unfoldable pub phase_words : NameLists → Phase → List Text
+unfoldable pub phase_words : DeclaredNames → Phase → List Text
 phase_words names Unmade = codes "unmade" ∷ []
-phase_words names (Populating p) = codes "populating" ∷ word_at names.procs p.0 ∷ []
+phase_words names (Populating p) = codes "populating" ∷ proc_name names p ∷ []
 phase_words names (Frozen root) = codes "frozen" ∷ name_word names root ∷ []
 phase_words names Absorbed = codes "absorbed" ∷ []
 
 -- The line of the bytes and the phase of a shared heap.
-abbrev pub shared_line : NameLists → Trace → State → ℕ → List Text
+abbrev pub shared_line : DeclaredNames → Trace → State → ℕ → List Text
 shared_line names trace st s =
     codes "shared" ∷ word_at names.shared s ∷ decimal (bytes_of trace st (shared s)) ∷ phase_words names (phase_of st.phases s)
 
 -- The lines of the charges: the kernel's, and those of the limits, the processes and the shared heaps.
-unfoldable pub charges_lines : NameLists → Trace → State → List (List Text)
+unfoldable pub charges_lines : DeclaredNames → Trace → State → List (List Text)
 charges_lines names trace st =
     (codes "charges" ∷ [])
     ∷ kernel_line trace st
@@ -124,7 +125,7 @@ charges_lines names trace st =
     ++ map (shared_line names trace st) (numbers_below trace.shared_heaps)
 
 -- The lines of the report of a history and the state that it left.
-unfoldable pub report_lines : NameLists → Trace → List Event → State → List (List Text)
+unfoldable pub report_lines : DeclaredNames → Trace → List Event → State → List (List Text)
 report_lines names trace history st =
     (codes "report" ∷ codes "1" ∷ [])
     ∷ event_lines names history
@@ -137,9 +138,9 @@ report_lines names trace history st =
     ++ (codes "end" ∷ []) ∷ []
 
 -- The text of the report of a history and a state.
-abbrev pub text_over : NameLists → Trace → List Event → State → Text
+abbrev pub text_over : DeclaredNames → Trace → List Event → State → Text
 text_over names trace history st = text_of (report_lines names trace history st)
 
 -- The text of the report of a history of the trace.
-abbrev pub report_text : NameLists → Trace → List Event → Text
+abbrev pub report_text : DeclaredNames → Trace → List Event → Text
 report_text names trace history = text_over names trace history (state_after trace history)

@@ -4,9 +4,8 @@
 #![tactic(auto)]
 
 mod line;
-mod names;
 mod view;
+mod words;
 
 pub use line::LineBuffer;
-pub use names::Names;
 pub use view::View;

@@ -3,7 +3,7 @@ ghost use Rattle.k_io.specs.Writing.{Writes};
 
 use arrayvec::ArrayVec;
 use itoa::Buffer;
-use k_io::{Sink, WriteFailed};
+use k_io::{Sink, WriteFailed, write_all};
 use std::marker::Model;
 
 /// A line that is being made, with room for the longest, which is that of an object. Source: own.
@@ -65,5 +65,17 @@ impl LineBuffer {
     {
         self.push_text(b" ");
         self.push_digits(number);
+    }
+
+    /// Ends the line with a line feed, hands it over as one piece, and begins the next. Source: own.
+    pub fn write_to<K: Sink>(&mut self, out: &mut K) -> Result<(), WriteFailed>
+        requires { length self.old < 1024 }
+        ensures written { Writes (K.Holds out.old) (K.Holds out.new) (K.faults out.old) (K.faults out.new) result (self.old ++ 10 ∷ []) }
+        ensures empty { self.new ≡ [] }
+    {
+        self.push_text(b"\n");
+        let result = write_all(out, self.bytes.as_slice());
+        self.bytes.clear();
+        result
     }
 }
