@@ -4,6 +4,8 @@
 #![tactic(auto)]
 
 mod line;
+mod events;
+mod operations;
 mod view;
 mod words;
 

@@ -1,5 +1,6 @@
 ghost use Rattle.std.specs.Prelude.{◌≡◌, ℕ, ◌<◌, ◌≤◌, ◌+◌, ◌++◌, ◌∷◌, [], List, length, decimal};
 ghost use Rattle.k_io.specs.Writing.{Writes};
+ghost use Rattle.k_text.specs.Spaced.{spaced};
 
 use arrayvec::ArrayVec;
 use itoa::Buffer;
@@ -45,6 +46,16 @@ impl LineBuffer {
     {
         self.push_text(b" ");
         self.push_text(word);
+    }
+
+    /// Adds two words, each with a space before it. Source: own.
+    pub fn push_words(&mut self, first: &[u8], second: &[u8])
+        requires { length self.old + length first.now + length second.now < 1023 }
+        ensures text { self.new ≡ self.old ++ spaced (first.now ∷ second.now ∷ []) }
+        ensures len { length self.new ≡ length self.old + length first.now + length second.now + 2 }
+    {
+        self.push_word(first);
+        self.push_word(second);
     }
 
     /// Adds the digits of a number. Source: own.

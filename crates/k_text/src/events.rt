@@ -1,0 +1,62 @@
+ghost use Rattle.std.specs.Prelude.{◌≡◌, ℕ, ◌<◌, ◌≤◌, ◌+◌, ◌++◌, ◌∷◌, [], List, length};
+ghost use Rattle.k_io.specs.Writing.{Writes};
+ghost use Rattle.k_words.specs.Words.{text_of};
+ghost use Rattle.k_text.specs.Named.{AreNamed};
+ghost use Rattle.k_text.specs.Shown.{IsKnownFault, IsKnownReply, IsKnownEvent};
+ghost use Rattle.k_text.specs.Spaced.{spaced};
+ghost use Rattle.k_text.specs.EventLines.{fault_words, reply_words, event_words, event_lines};
+
+use crate::line::LineBuffer;
+use crate::operations::push_op;
+use crate::view::View;
+use crate::words::{heap_name, push_reference};
+use k_io::{Sink, WriteFailed};
+use k_trace::Names;
+use k_types::{Event, Fault, Op, Pid, Reply};
+
+/// Adds the words of a fault.
+#[tactic(auto, unfolding(crate::specs::EventLines::fault_words))]
+fn push_fault<V: View>(line: &mut LineBuffer, names: &Names, view: &V, fault: Fault)
+    requires named { AreNamed names.now (V.trace view.now) }
+    requires known { IsKnownFault (V.trace view.now) fault }
+    requires room { length line.old + 50 ≤ 1024 }
+    ensures text { line.new ≡ line.old ++ spaced (fault_words names.now fault) }
+    ensures short { length line.new ≤ length line.old + 50 }
+{
+    let _ = view;
+    match fault {
+        Fault::Null => line.push_word(b"Null"),
+        Fault::Foreign => line.push_word(b"Foreign"),
+        Fault::NotSharer(shared) => line.push_words(b"NotSharer", names.shared_name(shared)),
+        Fault::NoField => line.push_word(b"NoField"),
+        Fault::WrongKind => line.push_word(b"WrongKind"),
+        Fault::Frozen => line.push_word(b"Frozen"),
+        Fault::Segv => line.push_word(b"Segv"),
+        Fault::NotPopulating(shared) => line.push_words(b"NotPopulating", names.shared_name(shared)),
+        Fault::NotFrozen(shared) => line.push_words(b"NotFrozen", names.shared_name(shared)),
+        Fault::Taken(shared) => line.push_words(b"Taken", names.shared_name(shared)),
+        Fault::LimitFull(limit) => line.push_words(b"LimitFull", names.limit_name(limit)),
+        Fault::KernelFull => line.push_word(b"KernelFull"),
+    }
+}
+
+/// Adds the words of a reply.
+#[tactic(auto, unfolding(crate::specs::EventLines::reply_words))]
+fn push_reply<V: View>(line: &mut LineBuffer, names: &Names, view: &V, reply: Reply)
+    requires named { AreNamed names.now (V.trace view.now) }
+    requires known { IsKnownReply (V.trace view.now) reply }
+    requires room { length line.old + 60 ≤ 1024 }
+    ensures text { line.new ≡ line.old ++ spaced (reply_words names.now reply) }
+    ensures short { length line.new ≤ length line.old + 60 }
+{
+    match reply {
+        Reply::Done => line.push_word(b"ok"),
+        Reply::Made(name) => push_reference(line, names, view, Some(name)),
+        Reply::Loaded(reference) => push_reference(line, names, view, reference),
+        Reply::Value(number) => line.push_number(number),
+        Reply::Refused(fault) => {
+            line.push_word(b"fault");
+            push_fault(line, names, view, fault);
+        }
+    }
+}
