@@ -1,1 +1,120 @@
--- Lines.
+-- Lines as their words, and lists of lines written one after the other.
+use Rattle.std.proofs.Common.{◌≡◌, ◌∙◌, ℕ, zero, suc, ◌+◌, ◌-◌, ◌<◌, ◌≤◌, List, [], ◌∷◌, ◌++◌, length, take, drop, map, refl, sym, ap, subst, arith, append_assoc, add-one, zero-add, Result, Ok, Err, Some, slice_get, codes}
+use Rattle.std.specs.Prelude.{IsErr}
+use Rattle.std.specs.List.{flat_map, join_with_byte}
+use Rattle.std.proofs.lemmas.List.{append-nil, take_more}
+use Rattle.std.proofs.lemmas.List.Concat.{flat_map_single}
+use Rattle.std.proofs.lemmas.Grind.{common_steps, flat_map-append}
+use Rattle.std.proofs.lemmas.Option.{slice_get_within, get_or_from_slice_get}
+use Rattle.k_io.specs.Taking.{Takes}
+use Rattle.k_io.specs.Writing.{Writes}
+use Rattle.k_io.proofs.Takings.{takes_nothing, takes_then, takes_front_then, takes_front_longer}
+use Rattle.k_io.proofs.Writings.{rose_since, writes_same}
+use Rattle.k_types.specs.Numbers.{numbers_from, numbers_below}
+use Rattle.k_words.specs.Words.{Text, line_text, text_of}
+use Rattle.k_text.specs.Spaced.{spaced}
+use Rattle.k_text.specs.Writing.{HasWritten}
+
+-- words joined by spaces are the first, and the others each behind a space
+pub joined : (w : Text) (ws : List Text) → join_with_byte 32 (w ∷ ws) ≡ w ++ spaced ws
+joined w [] = sym (append-nil w)
+joined w (v ∷ vs) = ap (λ (t : Text). w ++ (32 ∷ t)) (joined v vs)
+
+pub spaced-append : (xs ys : List Text) → spaced (xs ++ ys) ≡ spaced xs ++ spaced ys
+spaced-append xs ys = flat_map-append (λ (word : Text). 32 ∷ word) xs ys
+
+-- the text of one line, by its words
+pub one_line : (w : Text) (ws : List Text) → (w ++ spaced ws) ++ 10 ∷ [] ≡ text_of ((w ∷ ws) ∷ [])
+one_line w ws = sym (append-nil (line_text (w ∷ ws)) ∙ ap (λ (t : Text). t ++ 10 ∷ []) (joined w ws))
+
+-- an operation's line: its name, its words, an equals sign and the reply's words
+pub operation_line : (name a b c d : Text) (ops replies : List Text) → a ≡ name → b ≡ a ++ spaced ops → c ≡ b ++ 32 ∷ codes "=" → d ≡ c ++ spaced replies → d ≡ join_with_byte 32 (name ∷ ops ++ codes "=" ∷ replies)
+operation_line name a b c d ops replies ea eb ec ed =
+    let whole : d ≡ ((name ++ spaced ops) ++ 32 ∷ codes "=") ++ spaced replies = cc in
+    whole ∙ append_assoc (name ++ spaced ops) (32 ∷ codes "=") (spaced replies)
+        ∙ append_assoc name (spaced ops) (spaced (codes "=" ∷ replies))
+        ∙ ap (λ (t : Text). name ++ t) (sym (spaced-append ops (codes "=" ∷ replies)))
+        ∙ sym (joined name (ops ++ codes "=" ∷ replies))
+
+pub text_of-append : (xs ys : List (List Text)) → text_of (xs ++ ys) ≡ text_of xs ++ text_of ys
+text_of-append xs ys = flat_map-append line_text xs ys
+
+-- ---- numbers below a bound
+
+numbers_from_more : (first n : ℕ) → numbers_from first (suc n) ≡ numbers_from first n ++ (first + n) ∷ []
+numbers_from_more first zero = ap (λ (k : ℕ). k ∷ []) (let e : first ≡ first + 0 = omega arith in e)
+numbers_from_more first (suc n) =
+    let e : suc first + n ≡ first + suc n = omega arith in
+    ap (λ (ks : List ℕ). first ∷ ks) (numbers_from_more (suc first) n ∙ ap (λ (k : ℕ). numbers_from (suc first) n ++ k ∷ []) e)
+
+pub numbers_more : (n : ℕ) → numbers_below (n + 1) ≡ numbers_below n ++ n ∷ []
+numbers_more n = rw add-one (numbers_from_more 0 n ∙ ap (λ (k : ℕ). numbers_below n ++ k ∷ []) (zero-add n))
+
+numbers_begin : (n d : ℕ) → (rest : List ℕ) × (numbers_below (d + n) ≡ numbers_below n ++ rest)
+numbers_begin n zero = ([], rw zero-add (sym (append-nil (numbers_below n))))
+numbers_begin n (suc d) =
+    let more = numbers_begin n d in
+    let e : suc d + n ≡ d + n + 1 = omega arith in
+    (more.0 ++ (d + n) ∷ [], rw e (numbers_more (d + n) ∙ ap (λ (ks : List ℕ). ks ++ (d + n) ∷ []) more.1 ∙ append_assoc (numbers_below n) more.0 ((d + n) ∷ [])))
+
+pub numbers_after : (i n : ℕ) → i < n → (rest : List ℕ) × (numbers_below n ≡ (numbers_below i ++ i ∷ []) ++ rest)
+numbers_after i n lt =
+    let split = numbers_begin (i + 1) (n - (i + 1)) in
+    let e : n - (i + 1) + (i + 1) ≡ n = omega arith in
+    (split.0, ap numbers_below (sym e) ∙ split.1 ∙ ap (λ (ks : List ℕ). ks ++ split.0) (numbers_more i))
+
+-- ---- texts one after the other
+
+-- nothing was written
+pub written_none : (a : List ℕ → List ℕ → Type 0) (x : ℕ) → HasWritten a a x x []
+written_none a x = record { taken = takes_nothing a; later = omega arith }
+
+pub written_same : (a b : List ℕ → List ℕ → Type 0) (x y : ℕ) (text other : List ℕ) → text ≡ other → HasWritten a b x y text → HasWritten a b x y other
+written_same a b x y text other e h = subst (λ (t : List ℕ). HasWritten a b x y t) e h
+
+-- one more text was written
+pub written_then : {E : Type 0} (a b c : List ℕ → List ℕ → Type 0) (x y z : ℕ) (u : Unit {0}) (first second : List ℕ) → HasWritten a b x y first → Writes {T = Unit {0}} {E = E} b c y z (Ok u) second → HasWritten a c x z (first ++ second)
+written_then a b c x y z u first second h w = record { taken = takes_then a b c first second h.taken w.ok; later = omega (arith, h.later, w.cause.later) }
+
+-- a text failed behind what was written
+pub failed_behind : {E : Type 0} (a b c : List ℕ → List ℕ → Type 0) (x y z : ℕ) (r : Result (Unit {0}) E) (e : E) (first second rest : List ℕ) → IsErr r → HasWritten a b x y first → Writes {T = Unit {0}} b c y z (Err e) second → Writes a c x z r ((first ++ second) ++ rest)
+failed_behind a b c x y z (Ok v) e first second rest is h w = absurd cc
+failed_behind a b c x y z (Err d) e first second rest is h w =
+    record {
+      ok = tt;
+      err = takes_front_longer a c (first ++ second) rest (takes_front_then a b c first second h.taken w.err);
+      cause = record { later = omega (arith, h.later, w.cause.later); failed = rose_since x y z h.later w.cause.failed };
+    }
+
+-- what was written is all
+pub written_all : {E : Type 0} (a b : List ℕ → List ℕ → Type 0) (x y : ℕ) (u : Unit {0}) (text : List ℕ) → HasWritten a b x y text → Writes {T = Unit {0}} {E = E} a b x y (Ok u) text
+written_all a b x y u text h = record { ok = h.taken; err = tt; cause = record { later = h.later; failed = tt } }
+
+-- ---- the lines of the numbers below a bound
+
+flat_numbers_more : (f : ℕ → List (List Text)) (i : ℕ) → text_of (flat_map f (numbers_below i)) ++ text_of (f i) ≡ text_of (flat_map f (numbers_below (i + 1)))
+flat_numbers_more f i =
+    sym (ap (λ (ks : List ℕ). text_of (flat_map f ks)) (numbers_more i)
+        ∙ ap text_of (flat_map-append f (numbers_below i) (i ∷ []) ∙ ap (λ (ls : List (List Text)). flat_map f (numbers_below i) ++ ls) (append-nil (f i)))
+        ∙ text_of-append (flat_map f (numbers_below i)) (f i))
+
+flat_numbers_after : (f : ℕ → List (List Text)) (i n : ℕ) → i < n → (rest : List ℕ) × ((text_of (flat_map f (numbers_below i)) ++ text_of (f i)) ++ rest ≡ text_of (flat_map f (numbers_below n)))
+flat_numbers_after f i n lt =
+    let split = numbers_after i n lt in
+    (text_of (flat_map f split.0)
+    , ap (λ (t : List ℕ). t ++ text_of (flat_map f split.0)) (flat_numbers_more f i)
+        ∙ sym (text_of-append (flat_map f (numbers_below (i + 1))) (flat_map f split.0))
+        ∙ ap text_of (sym (flat_map-append f (numbers_below (i + 1)) split.0))
+        ∙ ap (λ (ks : List ℕ). text_of (flat_map f ks)) (ap (λ (ks : List ℕ). ks ++ split.0) (numbers_more i) ∙ sym split.1))
+
+pub numbers_next : {E : Type 0} (f : ℕ → List (List Text)) (i : ℕ) (a b c : List ℕ → List ℕ → Type 0) (x y z : ℕ) (u : Unit {0})
+    → HasWritten a b x y (text_of (flat_map f (numbers_below i))) → Writes {T = Unit {0}} {E = E} b c y z (Ok u) (text_of (f i))
+    → HasWritten a c x z (text_of (flat_map f (numbers_below (i + 1))))
+numbers_next f i a b c x y z u h w = written_same a c x z _ _ (flat_numbers_more f i) (written_then a b c x y z u _ _ h w)
+
+pub numbers_failed : {E : Type 0} (f : ℕ → List (List Text)) (i n : ℕ) (a b c : List ℕ → List ℕ → Type 0) (x y z : ℕ) (r : Result (Unit {0}) E) (e : E)
+    → IsErr r → i < n → HasWritten a b x y (text_of (flat_map f (numbers_below i))) → Writes {T = Unit {0}} b c y z (Err e) (text_of (f i))
+    → Writes a c x z r (text_of (flat_map f (numbers_below n)))
+numbers_failed f i n a b c x y z r e is lt h w =
+    let split = flat_numbers_after f i n lt in
+    writes_same a c x z r _ _ split.1 (failed_behind a b c x y z r e _ _ split.0 is h w)

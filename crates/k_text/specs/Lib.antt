@@ -3,3 +3,4 @@ pub mod Named
 pub mod EventLines
 pub mod Report
 pub mod Spaced
+pub mod Writing

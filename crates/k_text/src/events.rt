@@ -1,5 +1,6 @@
 ghost use Rattle.std.specs.Prelude.{◌≡◌, ℕ, ◌<◌, ◌≤◌, ◌+◌, ◌++◌, ◌∷◌, [], List, length};
 ghost use Rattle.k_io.specs.Writing.{Writes};
+ghost use Rattle.std.specs.List.{join_with_byte};
 ghost use Rattle.k_words.specs.Words.{text_of};
 ghost use Rattle.k_text.specs.Named.{AreNamed};
 ghost use Rattle.k_text.specs.Shown.{IsKnownFault, IsKnownReply, IsKnownEvent};
@@ -58,5 +59,43 @@ fn push_reply<V: View>(line: &mut LineBuffer, names: &Names, view: &V, reply: Re
             line.push_word(b"fault");
             push_fault(line, names, view, fault);
         }
+    }
+}
+
+/// Adds the words of an event's line.
+#[tactic(auto, unfolding(crate::specs::EventLines::event_words))]
+fn push_event<V: View>(line: &mut LineBuffer, names: &Names, view: &V, event: &Event)
+    requires named { AreNamed names.now (V.trace view.now) }
+    requires known { IsKnownEvent (V.trace view.now) event.now }
+    requires empty { line.old ≡ [] }
+    ensures text { line.new ≡ join_with_byte 32 (event_words names.now event.now) }
+    ensures short { length line.new ≤ 200 }
+{
+    match *event {
+        Event::Done { pid, op, reply } => {
+            line.push_text(names.proc_name(pid));
+            push_op(line, names, view, &op);
+            line.push_word(b"=");
+            push_reply(line, names, view, reply);
+        }
+        Event::Ended {
+            heap,
+            freed_objects,
+            freed_bytes,
+            exits_dropped,
+            shares_dropped,
+        } => {
+            line.push_text(b"ended");
+            line.push_word(heap_name(names, view, heap));
+            line.push_number(u64::from(freed_objects));
+            line.push_number(freed_bytes);
+            line.push_number(u64::from(exits_dropped));
+            line.push_number(u64::from(shares_dropped));
+        }
+        Event::Absorbed { shared } => {
+            line.push_text(b"absorbed");
+            line.push_word(names.shared_name(shared));
+        }
+        Event::Closing => line.push_text(b"closing"),
     }
 }
