@@ -2,7 +2,7 @@
 use Rattle.std.proofs.Common.{◌≡◌, ◌∙◌, ℕ, zero, suc, ◌+◌, ◌-◌, ◌<◌, ◌≤◌, List, [], ◌∷◌, ◌++◌, length, take, drop, map, refl, sym, ap, subst, arith, append_assoc, add-one, zero-add, Result, Ok, Err, Some, slice_get, codes}
 use Rattle.std.specs.Prelude.{IsErr}
 use Rattle.std.specs.List.{flat_map, join_with_byte}
-use Rattle.std.proofs.lemmas.List.{append-nil, take_more}
+use Rattle.std.proofs.lemmas.List.{append-nil, take_more, take_all, take-append-drop, map-append}
 use Rattle.std.proofs.lemmas.List.Concat.{flat_map_single}
 use Rattle.std.proofs.lemmas.Grind.{common_steps, flat_map-append}
 use Rattle.std.proofs.lemmas.Option.{slice_get_within, get_or_from_slice_get}
@@ -118,3 +118,67 @@ pub numbers_failed : {E : Type 0} (f : ℕ → List (List Text)) (i n : ℕ) (a 
 numbers_failed f i n a b c x y z r e is lt h w =
     let split = flat_numbers_after f i n lt in
     writes_same a c x z r _ _ split.1 (failed_behind a b c x y z r e _ _ split.0 is h w)
+
+-- all numbers were gone through
+pub numbers_all : {E : Type 0} (f : ℕ → List (List Text)) (i n : ℕ) (a b : List ℕ → List ℕ → Type 0) (x y : ℕ) (u : Unit {0})
+    → i ≡ n → HasWritten a b x y (text_of (flat_map f (numbers_below i))) → Writes {T = Unit {0}} {E = E} a b x y (Ok u) (text_of (flat_map f (numbers_below n)))
+numbers_all f i n a b x y u e h = written_all a b x y u _ (written_same a b x y _ _ (ap (λ (k : ℕ). text_of (flat_map f (numbers_below k))) e) h)
+
+-- ---- the same with one line for each number
+
+single : (f : ℕ → List Text) (ks : List ℕ) → text_of (flat_map (λ k. f k ∷ []) ks) ≡ text_of (map f ks)
+single f ks = ap text_of (flat_map_single f ks)
+
+pub lines_next : {E : Type 0} (f : ℕ → List Text) (i : ℕ) (a b c : List ℕ → List ℕ → Type 0) (x y z : ℕ) (u : Unit {0})
+    → HasWritten a b x y (text_of (map f (numbers_below i))) → Writes {T = Unit {0}} {E = E} b c y z (Ok u) (text_of (f i ∷ []))
+    → HasWritten a c x z (text_of (map f (numbers_below (i + 1))))
+lines_next f i a b c x y z u h w =
+    written_same a c x z _ _ (single f (numbers_below (i + 1)))
+    (numbers_next (λ k. f k ∷ []) i a b c x y z u (written_same a b x y _ _ (sym (single f (numbers_below i))) h) w)
+
+pub lines_failed : {E : Type 0} (f : ℕ → List Text) (i n : ℕ) (a b c : List ℕ → List ℕ → Type 0) (x y z : ℕ) (r : Result (Unit {0}) E) (e : E)
+    → IsErr r → i < n → HasWritten a b x y (text_of (map f (numbers_below i))) → Writes {T = Unit {0}} b c y z (Err e) (text_of (f i ∷ []))
+    → Writes a c x z r (text_of (map f (numbers_below n)))
+lines_failed f i n a b c x y z r e is lt h w =
+    writes_same a c x z r _ _ (single f (numbers_below n))
+    (numbers_failed (λ k. f k ∷ []) i n a b c x y z r e is lt (written_same a b x y _ _ (sym (single f (numbers_below i))) h) w)
+
+pub lines_all : {E : Type 0} (f : ℕ → List Text) (i n : ℕ) (a b : List ℕ → List ℕ → Type 0) (x y : ℕ) (u : Unit {0})
+    → i ≡ n → HasWritten a b x y (text_of (map f (numbers_below i))) → Writes {T = Unit {0}} {E = E} a b x y (Ok u) (text_of (map f (numbers_below n)))
+lines_all f i n a b x y u e h = written_all a b x y u _ (written_same a b x y _ _ (ap (λ (k : ℕ). text_of (map f (numbers_below k))) e) h)
+
+-- ---- one line for each element of a list
+
+listed_more : {A : Type 0} (f : A → List Text) (xs : List A) (i : ℕ) (v : A) → slice_get xs i ≡ Some v → text_of (map f (take i xs)) ++ text_of (f v ∷ []) ≡ text_of (map f (take (i + 1) xs))
+listed_more f xs i v at =
+    sym (ap (λ ys. text_of (map f ys)) (take_more xs i v (slice_get_within xs i v at) ∙ ap (λ w. take i xs ++ w ∷ []) (get_or_from_slice_get xs i v v at))
+        ∙ ap text_of (map-append f (take i xs) (v ∷ []))
+        ∙ text_of-append (map f (take i xs)) (f v ∷ []))
+
+listed_after : {A : Type 0} (f : A → List Text) (xs : List A) (i : ℕ) (v : A) → slice_get xs i ≡ Some v → (text_of (map f (take i xs)) ++ text_of (f v ∷ [])) ++ text_of (map f (drop (i + 1) xs)) ≡ text_of (map f xs)
+listed_after f xs i v at =
+    ap (λ (t : List ℕ). t ++ text_of (map f (drop (i + 1) xs))) (listed_more f xs i v at)
+    ∙ sym (text_of-append (map f (take (i + 1) xs)) (map f (drop (i + 1) xs)))
+    ∙ ap text_of (sym (map-append f (take (i + 1) xs) (drop (i + 1) xs)))
+    ∙ ap (λ ys. text_of (map f ys)) (take-append-drop (i + 1) xs)
+
+pub listed_next : {A E : Type 0} (f : A → List Text) (xs : List A) (i : ℕ) (v : A) (a b c : List ℕ → List ℕ → Type 0) (x y z : ℕ) (u : Unit {0})
+    → slice_get xs i ≡ Some v → HasWritten a b x y (text_of (map f (take i xs))) → Writes {T = Unit {0}} {E = E} b c y z (Ok u) (text_of (f v ∷ []))
+    → HasWritten a c x z (text_of (map f (take (i + 1) xs)))
+listed_next f xs i v a b c x y z u at h w = written_same a c x z _ _ (listed_more f xs i v at) (written_then a b c x y z u _ _ h w)
+
+pub listed_failed : {A E : Type 0} (f : A → List Text) (xs : List A) (i : ℕ) (v : A) (a b c : List ℕ → List ℕ → Type 0) (x y z : ℕ) (r : Result (Unit {0}) E) (e : E)
+    → IsErr r → slice_get xs i ≡ Some v → HasWritten a b x y (text_of (map f (take i xs))) → Writes {T = Unit {0}} b c y z (Err e) (text_of (f v ∷ []))
+    → Writes a c x z r (text_of (map f xs))
+listed_failed f xs i v a b c x y z r e is at h w =
+    writes_same a c x z r _ _ (listed_after f xs i v at) (failed_behind a b c x y z r e _ _ (text_of (map f (drop (i + 1) xs))) is h w)
+
+pub listed_all : {A E : Type 0} (f : A → List Text) (xs : List A) (i : ℕ) (a b : List ℕ → List ℕ → Type 0) (x y : ℕ) (u : Unit {0})
+    → length xs ≤ i → HasWritten a b x y (text_of (map f (take i xs))) → Writes {T = Unit {0}} {E = E} a b x y (Ok u) (text_of (map f xs))
+listed_all f xs i a b x y u le h = written_all a b x y u _ (written_same a b x y _ _ (ap (λ ys. text_of (map f ys)) (take_all i xs le)) h)
+
+-- ---- a line
+
+pub writes_line : {E : Type 0} (a b : List ℕ → List ℕ → Type 0) (x y : ℕ) (r : Result (Unit {0}) E) (line : Text) (words : List Text)
+    → line ≡ join_with_byte 32 words → Writes a b x y r (line ++ 10 ∷ []) → Writes a b x y r (text_of (words ∷ []))
+writes_line a b x y r line words e w = writes_same a b x y r _ _ (ap (λ (t : Text). t ++ 10 ∷ []) e ∙ sym (append-nil (line_text words))) w

@@ -83,7 +83,7 @@ is_fault_of p (Done pid op (Refused fault)) = pid.0 == p
 is_fault_of p _ = false
 
 -- The line of the faults of a process.
-abbrev pub fault_line : DeclaredNames → List Event → ℕ → List Text
+unfoldable pub fault_line : DeclaredNames → List Event → ℕ → List Text
 fault_line names events p = word_at names.procs p ∷ decimal (count_by (is_fault_of p) events) ∷ []
 
 -- The lines of the faults, one for each process.
@@ -91,16 +91,16 @@ unfoldable pub faults_lines : DeclaredNames → Trace → List Event → List (L
 faults_lines names trace events = (codes "faults" ∷ []) ∷ map (fault_line names events) (numbers_below (process_count trace))
 
 -- The line of the kernel's bytes and its ceiling.
-abbrev pub kernel_line : Trace → State → List Text
+unfoldable pub kernel_line : Trace → State → List Text
 kernel_line trace st = codes "kernel" ∷ decimal (bytes_of trace st Kernel) ∷ codes "of" ∷ decimal trace.ceiling ∷ []
 
 -- The line of the use of a limit and its maximum.
-abbrev pub limit_line : DeclaredNames → Trace → State → ℕ → List Text
+unfoldable pub limit_line : DeclaredNames → Trace → State → ℕ → List Text
 limit_line names trace st m =
     codes "limit" ∷ word_at names.limits m ∷ decimal (use_of trace st m) ∷ codes "of" ∷ decimal (max_of (limits_in trace st) m) ∷ []
 
 -- The line of the charge of a process.
-abbrev pub process_line : DeclaredNames → Trace → State → ℕ → List Text
+unfoldable pub process_line : DeclaredNames → Trace → State → ℕ → List Text
 process_line names trace st p = codes "process" ∷ word_at names.procs p ∷ decimal (charge_of trace st p) ∷ []
 
 -- The words of the phase of a shared heap.
@@ -111,7 +111,7 @@ phase_words names (Frozen root) = codes "frozen" ∷ name_word names root ∷ []
 phase_words names Absorbed = codes "absorbed" ∷ []
 
 -- The line of the bytes and the phase of a shared heap.
-abbrev pub shared_line : DeclaredNames → Trace → State → ℕ → List Text
+unfoldable pub shared_line : DeclaredNames → Trace → State → ℕ → List Text
 shared_line names trace st s =
     codes "shared" ∷ word_at names.shared s ∷ decimal (bytes_of trace st (shared s)) ∷ phase_words names (phase_of st.phases s)
 

@@ -13,7 +13,7 @@ use crate::view::View;
 use crate::words::{heap_name, push_reference};
 use k_io::{Sink, WriteFailed};
 use k_trace::Names;
-use k_types::{Event, Fault, Op, Pid, Reply};
+use k_types::{Event, Fault, Reply};
 
 /// Adds the words of a fault.
 #[tactic(auto, unfolding(crate::specs::EventLines::fault_words))]
@@ -98,4 +98,40 @@ fn push_event<V: View>(line: &mut LineBuffer, names: &Names, view: &V, event: &E
         }
         Event::Closing => line.push_text(b"closing"),
     }
+}
+
+/// Writes the line of an event.
+fn put_event<K: Sink, V: View>(
+    out: &mut K,
+    line: &mut LineBuffer,
+    names: &Names,
+    view: &V,
+    event: &Event,
+) -> Result<(), WriteFailed>
+    requires empty { line.old ≡ [] }
+    requires named { AreNamed names.now (V.trace view.now) }
+    requires known { IsKnownEvent (V.trace view.now) event.now }
+    ensures written { Writes (K.Holds out.old) (K.Holds out.new) (K.faults out.old) (K.faults out.new) result (text_of (event_words names.now event.now ∷ [])) }
+    ensures empty { line.new ≡ [] }
+{
+    push_event(line, names, view, event);
+    line.write_to(out)
+}
+
+/// Writes the lines of the history.
+pub fn events<K: Sink, V: View>(
+    out: &mut K,
+    line: &mut LineBuffer,
+    names: &Names,
+    view: &V,
+) -> Result<(), WriteFailed>
+    requires empty { line.old ≡ [] }
+    requires named { AreNamed names.now (V.trace view.now) }
+    ensures written { Writes (K.Holds out.old) (K.Holds out.new) (K.faults out.old) (K.faults out.new) result (text_of (event_lines names.now (V.events view.now))) }
+    ensures empty { line.new ≡ [] }
+{
+    for i in 0..view.events() {
+        put_event(out, line, names, view, view.event(i))?;
+    }
+    Ok(())
 }

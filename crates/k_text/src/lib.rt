@@ -1,13 +1,26 @@
 //! The report of a run: what it says, and the writing of it.
 //!
-//! A [`View`] shows the trace, the history and the last state of a run.
+//! A [`View`] shows the trace, the history and the last state of a run. [`report`] writes the text
+//! that the definitions give for what the view shows: all of it, or, after a fault of the sink, a
+//! front of it. Neither takes memory.
+//!
+//! Below stand `k_types` with the machine, `k_words` and `k_trace` with the words and names of the
+//! texts, and `k_io` with sinks.
 #![tactic(auto)]
 
-mod line;
+mod charges;
 mod events;
+mod exits;
+mod faults;
+mod graph;
+mod heading;
+mod line;
 mod operations;
+mod reporting;
+mod roots;
+mod shares;
 mod view;
 mod words;
 
-pub use line::LineBuffer;
+pub use reporting::report;
 pub use view::View;

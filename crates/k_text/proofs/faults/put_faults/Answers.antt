@@ -1,0 +1,12 @@
+use Rattle.std.proofs.Common.{◌≡◌, ◌++◌, ◌∷◌, [], ℕ, List, map, take, length, arith, sym, ap, ◌∙◌, codes, rules}
+use Rattle.std.specs.List.{join_with_byte}
+use Rattle.std.proofs.lemmas.Grind.{common_steps}
+use Rattle.k_text.specs.Report.{fault_line}
+use Rattle.k_text.proofs.LineLemmas.{writes_line}
+use Rattle.k_text.proofs.faults.put_faults.Goals as goal
+
+pub returns-clause-written : goal.returns-clause-written
+unfolding fault_line
+returns-clause-written g c =
+    writes_line _ _ _ _ _ _ (fault_line c.args.names.now (g.V.View.events c.args.view.now) c.args.pid.0)
+    (grind (arith, common_steps)) c.write_to.ensures.written
