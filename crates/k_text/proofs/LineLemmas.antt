@@ -6,10 +6,10 @@ use Rattle.std.proofs.lemmas.List.{append-nil, take_more, take_all, take-append-
 use Rattle.std.proofs.lemmas.List.Concat.{flat_map_single}
 use Rattle.std.proofs.lemmas.Grind.{common_steps, flat_map-append}
 use Rattle.std.proofs.lemmas.Option.{slice_get_within, get_or_from_slice_get}
-use Rattle.k_io.specs.Taking.{Takes}
+use Rattle.k_io.specs.Taking.{Takes, TakesFront}
 use Rattle.k_io.specs.Writing.{Writes}
 use Rattle.k_io.proofs.Takings.{takes_nothing, takes_then, takes_front_then, takes_front_longer}
-use Rattle.k_io.proofs.Writings.{rose_since, writes_same}
+use Rattle.k_io.proofs.Writings.{rose_since, writes_same, writes_then}
 use Rattle.k_types.specs.Numbers.{numbers_from, numbers_below}
 use Rattle.k_words.specs.Words.{Text, line_text, text_of}
 use Rattle.k_text.specs.Spaced.{spaced}
@@ -35,6 +35,14 @@ operation_line name a b c d ops replies ea eb ec ed =
         ∙ append_assoc name (spaced ops) (spaced (codes "=" ∷ replies))
         ∙ ap (λ (t : Text). name ++ t) (sym (spaced-append ops (codes "=" ∷ replies)))
         ∙ sym (joined name (ops ++ codes "=" ∷ replies))
+
+-- three words, and others
+pub line_behind_three : (first second third x y z v : Text) (rest : List Text) → x ≡ first → y ≡ x ++ 32 ∷ second → z ≡ y ++ 32 ∷ third → v ≡ z ++ spaced rest → v ≡ join_with_byte 32 (first ∷ second ∷ third ∷ rest)
+line_behind_three first second third x y z v rest ex ey ez ev =
+    let whole : v ≡ ((first ++ 32 ∷ second) ++ 32 ∷ third) ++ spaced rest = cc in
+    whole ∙ append_assoc (first ++ 32 ∷ second) (32 ∷ third) (spaced rest)
+        ∙ append_assoc first (32 ∷ second) ((32 ∷ third) ++ spaced rest)
+        ∙ sym (joined first (second ∷ third ∷ rest))
 
 pub text_of-append : (xs ys : List (List Text)) → text_of (xs ++ ys) ≡ text_of xs ++ text_of ys
 text_of-append xs ys = flat_map-append line_text xs ys
@@ -182,3 +190,44 @@ listed_all f xs i a b x y u le h = written_all a b x y u _ (written_same a b x y
 pub writes_line : {E : Type 0} (a b : List ℕ → List ℕ → Type 0) (x y : ℕ) (r : Result (Unit {0}) E) (line : Text) (words : List Text)
     → line ≡ join_with_byte 32 words → Writes a b x y r (line ++ 10 ∷ []) → Writes a b x y r (text_of (words ∷ []))
 writes_line a b x y r line words e w = writes_same a b x y r _ _ (ap (λ (t : Text). t ++ 10 ∷ []) e ∙ sym (append-nil (line_text words))) w
+
+-- ---- parts, each a list of lines
+
+-- the first part
+pub part_first : {E : Type 0} (a b : List ℕ → List ℕ → Type 0) (x y : ℕ) (u : Unit {0}) (first : List (List Text)) → Writes {T = Unit {0}} {E = E} a b x y (Ok u) (text_of first) → HasWritten a b x y (text_of first)
+part_first a b x y u first w = record { taken = w.ok; later = w.cause.later }
+
+-- one more part
+pub part_then : {E : Type 0} (a b c : List ℕ → List ℕ → Type 0) (x y z : ℕ) (u : Unit {0}) (first second : List (List Text))
+    → HasWritten a b x y (text_of first) → Writes {T = Unit {0}} {E = E} b c y z (Ok u) (text_of second) → HasWritten a c x z (text_of (first ++ second))
+part_then a b c x y z u first second h w = written_same a c x z _ _ (sym (text_of-append first second)) (written_then a b c x y z u (text_of first) (text_of second) h w)
+
+-- the last part
+pub part_last : {E : Type 0} (a b c : List ℕ → List ℕ → Type 0) (x y z : ℕ) (r : Result (Unit {0}) E) (first second : List (List Text))
+    → HasWritten a b x y (text_of first) → Writes b c y z r (text_of second) → Writes a c x z r (text_of (first ++ second))
+part_last {E} a b c x y z r first second h w =
+    writes_same a c x z r _ _ (sym (text_of-append first second))
+    (writes_then {E = E} a b c x y z tt r (text_of first) (text_of second) (written_all a b x y tt (text_of first) h) w)
+
+-- the first part failed
+pub part_failed_first : {E : Type 0} (a b : List ℕ → List ℕ → Type 0) (x y : ℕ) (r : Result (Unit {0}) E) (e : E) (first : List (List Text)) → IsErr r → Writes {T = Unit {0}} a b x y (Err e) (text_of first) → Writes a b x y r (text_of first)
+part_failed_first a b x y (Ok v) e first is w = absurd cc
+part_failed_first a b x y (Err d) e first is w = record { ok = tt; err = w.err; cause = record { later = w.cause.later; failed = w.cause.failed } }
+
+-- a part failed
+pub part_failed : {E : Type 0} (a b c : List ℕ → List ℕ → Type 0) (x y z : ℕ) (r : Result (Unit {0}) E) (e : E) (first second : List (List Text))
+    → IsErr r → HasWritten a b x y (text_of first) → Writes {T = Unit {0}} b c y z (Err e) (text_of second) → Writes a c x z r (text_of (first ++ second))
+part_failed a b c x y z (Ok v) e first second is h w = absurd cc
+part_failed a b c x y z (Err d) e first second is h w =
+    writes_same a c x z (Err d) _ _ (append-nil (text_of first ++ text_of second) ∙ sym (text_of-append first second))
+    (failed_behind a b c x y z (Err d) e (text_of first) (text_of second) [] is h w)
+
+-- a part that would have come is missing too
+pub part_missing : {E : Type 0} (a b : List ℕ → List ℕ → Type 0) (x y : ℕ) (r : Result (Unit {0}) E) (first more : List (List Text)) → IsErr r → Writes a b x y r (text_of first) → Writes a b x y r (text_of (first ++ more))
+part_missing a b x y (Ok v) first more is w = absurd cc
+part_missing a b x y (Err d) first more is w =
+    record {
+      ok = tt;
+      err = subst (λ (t : List ℕ). TakesFront a b t) (sym (text_of-append first more)) (takes_front_longer a b (text_of first) (text_of more) w.err);
+      cause = w.cause;
+    }

@@ -34,13 +34,15 @@ fn put_root<K: Sink, V: View>(
     ensures written { Writes (K.Holds out.old) (K.Holds out.new) (K.faults out.old) (K.faults out.new) result (text_of (root_lines names.now pid.0 r.0 held)) }
     ensures empty { line.new ≡ [] }
 {
-    let Some(name) = held else {
-        return Ok(());
-    };
-    line.push_text(names.proc_name(pid));
-    push_register(line, r);
-    push_name_word(line, names, view, name);
-    line.write_to(out)
+    match held {
+        None => Ok(()),
+        Some(name) => {
+            line.push_text(names.proc_name(pid));
+            push_register(line, r);
+            push_name_word(line, names, view, name);
+            line.write_to(out)
+        }
+    }
 }
 
 /// Writes the lines of the registers of a process.

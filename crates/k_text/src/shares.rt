@@ -32,12 +32,13 @@ fn put_share<K: Sink, V: View>(
     ensures empty { line.new ≡ [] }
 {
     let _ = view;
-    if !shares {
-        return Ok(());
+    if shares {
+        line.push_text(names.proc_name(pid));
+        line.push_word(names.shared_name(shared));
+        line.write_to(out)
+    } else {
+        Ok(())
     }
-    line.push_text(names.proc_name(pid));
-    line.push_word(names.shared_name(shared));
-    line.write_to(out)
 }
 
 /// Writes the lines of the shares of a process.

@@ -11,14 +11,14 @@ loop-id-init g c = record { written = written_none _ _; empty = c.requires.empty
 
 pub loop-id-preserved : goal.loop-id-preserved
 loop-id-preserved g c = record {
-  written = numbers_next (λ s. share_lines c.args.names.now c.args.pid.0 s (has_share (g.V.View.state c.args.view.now).shares c.args.pid.0 s)) c.loop-id.id _ _ _ _ _ _ _ c.loop-id.invariant.written c.in_ok-put_share.ensures.written;
+  written = numbers_next (λ s. share_lines c.args.names.now c.args.pid.0 s (has_share (g.V.View.state c.args.view.now).shares c.args.pid.0 s)) c.loop-id.id _ _ _ _ _ _ _ c.loop-id.invariant.written (rw c.shares.ensures at c.in_ok-put_share.ensures.written);
   empty = c.put_share.ensures.empty;
 }
 
 pub returns-in_err-put_share-clause-written : goal.returns-in_err-put_share-clause-written
 unfolding shares_of_process
 returns-in_err-put_share-clause-written g c =
-    numbers_failed (λ s. share_lines c.args.names.now c.args.pid.0 s (has_share (g.V.View.state c.args.view.now).shares c.args.pid.0 s)) c.loop-id.id ((g.V.View.trace c.args.view.now).shared_heaps) _ _ _ _ _ _ c.from_residual.result _ c.from_residual.ensures.0 (omega (arith, c.shared_heaps-id-end.ensures.count)) c.loop-id.invariant.written c.in_err-put_share.ensures.written
+    numbers_failed (λ s. share_lines c.args.names.now c.args.pid.0 s (has_share (g.V.View.state c.args.view.now).shares c.args.pid.0 s)) c.loop-id.id ((g.V.View.trace c.args.view.now).shared_heaps) _ _ _ _ _ _ c.from_residual.result _ c.from_residual.ensures.0 (omega (arith, c.shared_heaps-id-end.ensures.count)) c.loop-id.invariant.written (rw c.shares.ensures at c.in_err-put_share.ensures.written)
 
 pub returns-clause-written : goal.returns-clause-written
 unfolding shares_of_process
