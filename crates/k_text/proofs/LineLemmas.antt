@@ -231,3 +231,23 @@ part_missing a b x y (Err d) first more is w =
       err = subst (λ (t : List ℕ). TakesFront a b t) (sym (text_of-append first more)) (takes_front_longer a b (text_of first) (text_of more) w.err);
       cause = w.cause;
     }
+
+-- ---- one line for each element, the next behind those before it
+
+pub mapped_next : {A E : Type 0} (f : A → List Text) (xs ys : List A) (v : A) (a b c : List ℕ → List ℕ → Type 0) (x y z : ℕ) (u : Unit {0})
+    → ys ≡ xs ++ v ∷ [] → HasWritten a b x y (text_of (map f xs)) → Writes {T = Unit {0}} {E = E} b c y z (Ok u) (text_of (f v ∷ []))
+    → HasWritten a c x z (text_of (map f ys))
+mapped_next f xs ys v a b c x y z u e h w =
+    written_same a c x z _ _ (ap text_of (sym (map-append f xs (v ∷ [])) ∙ ap (map f) (sym e))) (part_then a b c x y z u (map f xs) (f v ∷ []) h w)
+
+pub mapped_failed : {A E : Type 0} (f : A → List Text) (xs ys rest : List A) (v : A) (a b c : List ℕ → List ℕ → Type 0) (x y z : ℕ) (r : Result (Unit {0}) E) (e : E)
+    → IsErr r → ys ≡ (xs ++ v ∷ []) ++ rest → HasWritten a b x y (text_of (map f xs)) → Writes {T = Unit {0}} b c y z (Err e) (text_of (f v ∷ []))
+    → Writes a c x z r (text_of (map f ys))
+mapped_failed f xs ys rest v a b c x y z r e is all h w =
+    writes_same a c x z r _ _
+    (ap text_of (ap (λ ls. ls ++ map f rest) (sym (map-append f xs (v ∷ []))) ∙ sym (map-append f (xs ++ v ∷ []) rest) ∙ ap (map f) (sym all)))
+    (part_missing a c x z r (map f xs ++ f v ∷ []) (map f rest) is (part_failed a b c x y z r e (map f xs) (f v ∷ []) is h w))
+
+pub mapped_all : {A E : Type 0} (f : A → List Text) (xs ys : List A) (a b : List ℕ → List ℕ → Type 0) (x y : ℕ) (u : Unit {0})
+    → xs ≡ ys → HasWritten a b x y (text_of (map f xs)) → Writes {T = Unit {0}} {E = E} a b x y (Ok u) (text_of (map f ys))
+mapped_all f xs ys a b x y u e h = written_all a b x y u _ (written_same a b x y _ _ (ap (λ zs. text_of (map f zs)) e) h)

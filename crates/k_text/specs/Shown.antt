@@ -15,7 +15,7 @@ use Rattle.k_types.specs.declared.event.Event.{Event}
 use Rattle.k_types.specs.declared.event.Event.TheVariants.{Done, Ended, Absorbed as AbsorbedEvent, Closing}
 use Rattle.k_types.specs.Names.{name_eq, name_lt, heap_eq}
 use Rattle.k_types.specs.Trace.{Trace, process_count, segment_count, IsHeap}
-use Rattle.k_types.specs.State.{State, Object, ExitItem, object_at, fields_of}
+use Rattle.k_types.specs.State.{Object, ExitItem, object_at, fields_of}
 use Rattle.k_types.specs.Steps.{in_range}
 
 -- The object comes after that name, or there is no such name.
@@ -32,8 +32,8 @@ abbrev pub type_at : List Object → Name → Option TypeId
 type_at objects n = option_and_then (λ o. o.ty) (object_at objects n)
 
 -- The object of that name, as a view shows it.
-abbrev pub shown_object : State → Name → Object
-shown_object st n = record { name = n; ty = type_at st.objects n; fields = fields_of (object_at st.objects n) }
+abbrev pub shown_object : List Object → Name → Object
+shown_object objects n = record { name = n; ty = type_at objects n; fields = fields_of (object_at objects n) }
 
 -- The name in its place among names in order, where it is not there yet.
 abbrev pub with_name : Name → List Name → List Name

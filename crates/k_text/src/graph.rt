@@ -40,7 +40,7 @@ fn push_fields<V: View>(line: &mut LineBuffer, names: &Names, view: &V, name: Na
     requires named { AreNamed names.now (V.trace view.now) }
     requires object { IsTrue (has (V.state view.now).objects name) }
     requires room { length line.old ≤ 120 }
-    ensures text { line.new ≡ line.old ++ spaced (map (field_word names.now) (shown_object (V.state view.now) name).fields) }
+    ensures text { line.new ≡ line.old ++ spaced (map (field_word names.now) (shown_object (V.state view.now).objects name).fields) }
     ensures short { length line.new < 1024 }
 {
     for field in 0..view.fields(name) {
@@ -60,7 +60,7 @@ fn put_object<K: Sink, V: View>(
     requires named { AreNamed names.now (V.trace view.now) }
     requires object { IsTrue (has (V.state view.now).objects name) }
     requires known { IsKnownName (V.trace view.now) name }
-    ensures written { Writes (K.Holds out.old) (K.Holds out.new) (K.faults out.old) (K.faults out.new) result (text_of (object_words names.now (owner_of (V.trace view.now) (V.state view.now)) (shown_object (V.state view.now) name) ∷ [])) }
+    ensures written { Writes (K.Holds out.old) (K.Holds out.new) (K.faults out.old) (K.faults out.new) result (text_of (object_words names.now (owner_of (V.trace view.now) (V.state view.now)) (shown_object (V.state view.now).objects name) ∷ [])) }
     ensures empty { line.new ≡ [] }
 {
     push_name(line, names, view, name);

@@ -14,6 +14,3 @@ loop-i-preserved g c =
     | else-is_fault_of w ↦ w.count-is ∙ c.loop-i.invariant
         ∙ sym (count_no (is_fault_of c.args.pid.0) (g.V.View.events c.args.view.now) c.loop-i.i c.event.result.now c.event.ensures.there (sym c.is_fault_of.ensures ∙ w.if-is_fault_of.false))
     ]
-
-pub returns : goal.returns
-returns g c = ?

@@ -6,6 +6,6 @@ use Rattle.k_text.proofs.graph.push_fields.Given as goal
 
 abbrev pub invariant-loop-field : goal.invariant-loop-field
 invariant-loop-field g l = record {
-  text : l.line ≡ l.fn.line ++ spaced (map (field_word l.names) (take l.field (shown_object (g.V.View.state l.view) l.name).fields));
+  text : l.line ≡ l.fn.line ++ spaced (map (field_word l.names) (take l.field (shown_object (g.V.View.state l.view).objects l.name).fields));
   room : length l.line ≤ length l.fn.line + 54 * l.field;
 }

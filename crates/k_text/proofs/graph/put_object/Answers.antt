@@ -14,12 +14,12 @@ heap_name-requires-clause-known g c = rw c.owner.ensures (known_owner (g.V.View.
 pub returns-clause-written : goal.returns-clause-written
 unfolding object_words
 returns-clause-written g c =
-    writes_line _ _ _ _ _ _ (object_words c.args.names.now (owner_of (g.V.View.trace c.args.view.now) (g.V.View.state c.args.view.now)) (shown_object (g.V.View.state c.args.view.now) c.args.name))
+    writes_line _ _ _ _ _ _ (object_words c.args.names.now (owner_of (g.V.View.trace c.args.view.now) (g.V.View.state c.args.view.now)) (shown_object (g.V.View.state c.args.view.now).objects c.args.name))
     (line_behind_three (name_word c.args.names.now c.args.name)
       (heap_word c.args.names.now (owner_of (g.V.View.trace c.args.view.now) (g.V.View.state c.args.view.now) c.args.name.seg.0))
       (type_word c.args.names.now (type_at (g.V.View.state c.args.view.now).objects c.args.name))
       _ _ _ _
-      (map (field_word c.args.names.now) (shown_object (g.V.View.state c.args.view.now) c.args.name).fields)
+      (map (field_word c.args.names.now) (shown_object (g.V.View.state c.args.view.now).objects c.args.name).fields)
       (rw c.requires.empty at c.push_name.ensures.text)
       (rw (c.heap_name.ensures.name, c.owner.ensures) at c.push_word.ensures)
       (rw (c.type_label.ensures.name, c.object_type.ensures.exact) at c.push_word-2.ensures)
