@@ -1,0 +1,89 @@
+-- Writes to a sink, one after the other, for any relation that a sink tells.
+use Rattle.std.proofs.Common.{◌≡◌, ◌∙◌, ℕ, zero, suc, ◌+◌, ◌-◌, ◌<◌, ◌≤◌, List, [], ◌∷◌, ◌++◌, length, take, drop, min, get_or, Option, Some, None, sym, ap, subst, arith, append_assoc, add-one, zero-add}
+use Rattle.std.proofs.lemmas.List.{take-append-le, take_min, append-nil, take_more}
+use Rattle.std.specs.Io.KnownBytes.{Appends, Keeps}
+use Rattle.k_io.specs.Taking.{Takes, TakesFront}
+use Rattle.k_io.specs.Known.{IsKnown}
+use Rattle.k_io.specs.Writing.{up_to}
+use Rattle.k_io.proofs.Fronts.{take_add, take_past}
+
+-- No write is a write of nothing.
+pub takes_nothing : (a : List ℕ → List ℕ → Type 0) → Takes a a []
+takes_nothing a given xs p = subst (λ (t : List ℕ). a given t) (sym (append-nil xs)) p
+
+-- A text, and then another.
+pub takes_then : (a b c : List ℕ → List ℕ → Type 0) (first second : List ℕ) → Takes a b first → Takes b c second → Takes a c (first ++ second)
+takes_then a b c first second h k given xs p =
+    subst (λ (t : List ℕ). c given t) (append_assoc xs first second) (k given (xs ++ first) (h given xs p))
+
+-- The same text under another name.
+pub takes_same : (a b : List ℕ → List ℕ → Type 0) (text other : List ℕ) → text ≡ other → Takes a b text → Takes a b other
+takes_same a b text other e h = subst (λ (t : List ℕ). Takes a b t) e h
+
+-- A sink that keeps what it agreed with took nothing.
+pub keeps_takes_nothing : (a b : List ℕ → List ℕ → Type 0) → ((given xs : List ℕ) → a given xs → b given xs) → Takes a b []
+keeps_takes_nothing a b h given xs p = subst (λ (t : List ℕ). b given t) (sym (append-nil xs)) (h given xs p)
+
+-- The first i bytes, and then n more of them.
+pub takes_more : (a b c : List ℕ → List ℕ → Type 0) (bytes : List ℕ) (i n : ℕ) → Takes a b (take i bytes) → Takes b c (take n (drop i bytes)) → Takes a c (take (i + n) bytes)
+takes_more a b c bytes i n h k =
+    takes_same a c (take i bytes ++ take n (drop i bytes)) (take (i + n) bytes) (take_add bytes i n) (takes_then a b c (take i bytes) (take n (drop i bytes)) h k)
+
+-- The first i bytes, and then the one at i.
+pub takes_next : (a b c : List ℕ → List ℕ → Type 0) (bytes : List ℕ) (i : ℕ) → i < length bytes → Takes a b (take i bytes) → Takes b c (get_or bytes i 0 ∷ []) → Takes a c (take (i + 1) bytes)
+takes_next a b c bytes i lt h k =
+    takes_same a c (take i bytes ++ (get_or bytes i 0 ∷ [])) (take (i + 1) bytes) (sym (take_more bytes i 0 lt)) (takes_then a b c (take i bytes) (get_or bytes i 0 ∷ []) h k)
+
+-- A whole text, and then a front of another.
+pub takes_front_then : (a b c : List ℕ → List ℕ → Type 0) (first second : List ℕ) → Takes a b first → TakesFront b c second → TakesFront a c (first ++ second)
+takes_front_then a b c first second h k =
+    (length first + k.0, takes_same a c (first ++ take k.0 second) (take (length first + k.0) (first ++ second)) (sym (take_past first second k.0)) (takes_then a b c first (take k.0 second) h k.1))
+
+-- A front of a text is a front of the text with more behind it.
+pub takes_front_longer : (a b : List ℕ → List ℕ → Type 0) (first second : List ℕ) → TakesFront a b first → TakesFront a b (first ++ second)
+takes_front_longer a b first second k =
+    let le : min k.0 (length first) ≤ length first = omega arith in
+    (min k.0 (length first), takes_same a b (take k.0 first) (take (min k.0 (length first)) (first ++ second)) (sym (take-append-le (min k.0 (length first)) first second le ∙ take_min k.0 first)) k.1)
+
+-- The empty front.
+pub takes_front_nothing : (a b : List ℕ → List ℕ → Type 0) (text : List ℕ) → Takes a b [] → TakesFront a b text
+takes_front_nothing a b text h = (0, h)
+
+-- ---- the texts of the numbers below n
+
+pub takes_up_to_none : (f : ℕ → List ℕ) (a : List ℕ → List ℕ → Type 0) → Takes a a (up_to f 0)
+unfolding up_to
+takes_up_to_none f a = takes_nothing a
+
+pub takes_up_to_next : (f : ℕ → List ℕ) (i : ℕ) (a b c : List ℕ → List ℕ → Type 0) → Takes a b (up_to f i) → Takes b c (f i) → Takes a c (up_to f (i + 1))
+unfolding up_to
+takes_up_to_next f i a b c h k = rw add-one (takes_then a b c (up_to f i) (f i) h k)
+
+begins_with : (f : ℕ → List ℕ) (i d : ℕ) → (rest : List ℕ) × (up_to f (d + i) ≡ up_to f i ++ rest)
+unfolding up_to
+begins_with f i zero = ([], rw zero-add (sym (append-nil (up_to f i))))
+begins_with f i (suc d) =
+    let more = begins_with f i d in
+    let k : suc d + i ≡ suc (d + i) = omega arith in
+    (more.0 ++ f (d + i), rw (k, more.1) (append_assoc (up_to f i) more.0 (f (d + i))))
+
+-- A front of the text of i, behind those below i, is a front of all n.
+pub takes_front_up_to : (f : ℕ → List ℕ) (i n : ℕ) (a b c : List ℕ → List ℕ → Type 0) → i < n → Takes a b (up_to f i) → TakesFront b c (f i) → TakesFront a c (up_to f n)
+unfolding up_to
+takes_front_up_to f i n a b c lt h k =
+    let split = begins_with f (suc i) (n - suc i) in
+    let whole : n - suc i + suc i ≡ n = omega arith in
+    let e : up_to f n ≡ up_to f (suc i) ++ split.0 = ap (up_to f) (sym whole) ∙ split.1 in
+    subst (λ (t : List ℕ). TakesFront a c t) (sym e) (takes_front_longer a c (up_to f (suc i)) split.0 (takes_front_then a b c (up_to f i) (f i) h k))
+
+-- ---- sinks that tell their bytes by an optional list
+
+pub known_takes : (a b : Option (List ℕ)) (bs : List ℕ) → Appends a b bs → Takes (λ given xs. IsKnown a xs) (λ given xs. IsKnown b xs) bs
+known_takes None b bs h given xs p = absurd cc
+known_takes (Some zs) None bs h given xs p = absurd h
+known_takes (Some zs) (Some ys) bs h given xs p = cc
+
+pub known_keeps : (a b : Option (List ℕ)) → Keeps a b → (given xs : List ℕ) → IsKnown a xs → IsKnown b xs
+known_keeps None b h given xs p = absurd cc
+known_keeps (Some zs) None h given xs p = absurd h
+known_keeps (Some zs) (Some ys) h given xs p = cc
