@@ -1,0 +1,9 @@
+pub mod Named
+pub mod Numbered
+pub mod Spelling
+pub mod Rules
+pub mod Meaning
+pub mod FirstForm
+pub use Rattle.k_words.specs.Words
+pub use Rattle.k_words.specs.Numbers
+pub use Rattle.k_words.specs.Names

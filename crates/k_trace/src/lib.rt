@@ -1,0 +1,13 @@
+//! Traces as text.
+//!
+//! A [`Trace`] is what a text of a trace says: a setup, the declared names, the operations of each
+//! process and their order in the file. Its spelling is defined as a function of it, with each
+//! line's words, and independently of that the judgement of bytes, line by line, with the reason
+//! of the first bad line. Below stand `k_types`, whose machine a trace is run on, and `k_words`.
+#![tactic(auto)]
+
+mod names;
+mod trace;
+
+pub use names::Names;
+pub use trace::Trace;

@@ -1,0 +1,13 @@
+use crate::names::Names;
+use k_types::{Op, Pid, Setup};
+
+/// What a text of a trace says. Source: own.
+#[derive(Drop)]
+pub struct Trace {
+    pub setup: Setup,
+    pub names: Names,
+    /// The operations of each process, in order.
+    pub ops: Vec<Vec<Op>>,
+    /// The process of each operation, in the order of the file.
+    pub order: Vec<Pid>,
+}
