@@ -1,6 +1,7 @@
 pub mod NameTests
 pub mod Lists
 pub mod Objects
+pub mod Histories
 pub mod Kept
 pub mod OwnerOf
 pub mod Elsewhere

@@ -26,6 +26,7 @@ use Rattle.k_frame.proofs.OwnerOf.{owner_user}
 use Rattle.k_frame.proofs.LocalEffects.{effect_same, part_done}
 use Rattle.k_types.specs.PartUpdates.{with_done}
 use Rattle.k_frame.proofs.LocalBook.{KeepsBook, effect_keeps_book}
+use Rattle.k_frame.proofs.Histories.{run_append, legal_rest, legal_append}
 use Rattle.k_frame.proofs.FrameSteps.{frame, after_operation_elsewhere}
 
 book_done : (trace : Trace) (st : State) (p : ℕ) → book_part trace (count_done p st) ≡ book_part trace st
@@ -207,28 +208,15 @@ module _ (trace : Trace) (p : ℕ) where
         | false ↦ λ f n. part_kept (step trace st event) events legal.1 (omega arith) ∙ frame trace st event (user p) legal.0 f
       ] refl none
 
--- a run of one list after another
-pub run_append : (trace : Trace) (st : State) (xs ys : List Event) → run trace st (xs ++ ys) ≡ run trace (run trace st xs) ys
-run_append trace st [] ys = refl
-run_append trace st (x ∷ xs) ys = run_append trace (step trace st x) xs ys
-
-pub run_split : (trace : Trace) (st : State) (xs ys : List Event) → IsRun trace st (xs ++ ys) → IsRun trace st xs × IsRun trace (run trace st xs) ys
-run_split trace st [] ys legal = (tt, legal)
-run_split trace st (x ∷ xs) ys legal = let rest = run_split trace (step trace st x) xs ys legal.1 in ((legal.0, rest.0), rest.1)
-
-pub run_join : (trace : Trace) (st : State) (xs ys : List Event) → IsRun trace st xs → IsRun trace (run trace st xs) ys → IsRun trace st (xs ++ ys)
-run_join trace st [] ys a b = b
-run_join trace st (x ∷ xs) ys a b = (a.0, run_join trace (step trace st x) xs ys a.1 b)
-
 -- the law on tails, of histories: what is alike after the shorter one is alike after the longer one
 pub tail_law : (trace : Trace) (p : ℕ) (known rest tail : List Event) → IsLegalHistory trace (known ++ rest) → IsLegalHistory trace (known ++ tail) → AreLocal trace p (state_after trace known) tail →
     touch_count_from trace (state_after trace known) (user p) rest ≡ 0 → Alike trace p (state_after trace known) (state_after trace known) → IsFalse (among p (state_after trace (known ++ rest)).ended) → p < length (state_after trace (known ++ rest)).done →
     IsLegalHistory trace ((known ++ rest) ++ tail)
 tail_law trace p known rest tail longer short local apart alike lives counted =
-    let middle = run_split trace (opening trace) known rest longer in
-    let legal = run_split trace (opening trace) known tail short in
+    let middle = legal_rest trace (opening trace) known rest longer in
+    let legal = legal_rest trace (opening trace) known tail short in
     let moved : state_after trace (known ++ rest) ≡ run trace (state_after trace known) rest = run_append trace (opening trace) known rest in
-    run_join trace (opening trace) (known ++ rest) tail longer
+    legal_append trace (opening trace) (known ++ rest) tail longer
     (tail_follows trace p (state_after trace known) (state_after trace (known ++ rest)) tail
     (record {
       known = alike.known;
@@ -236,6 +224,6 @@ tail_law trace p known rest tail longer short local apart alike lives counted =
       lives_too = lives;
       counted = alike.counted;
       counted_too = counted;
-      same = sym (ap (λ s. part trace s (user p)) moved ∙ part_kept trace p (state_after trace known) rest middle.1 apart);
+      same = sym (ap (λ s. part trace s (user p)) moved ∙ part_kept trace p (state_after trace known) rest middle apart);
     })
-    local legal.1).legal
+    local legal).legal

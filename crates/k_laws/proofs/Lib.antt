@@ -3,6 +3,7 @@ pub mod Entries
 pub mod Means
 pub mod Merge
 pub mod PartsTell
+pub mod Raised
 pub mod Safe
 pub mod Shielded
 pub mod SoundAbsorbed
@@ -11,10 +12,13 @@ pub mod SoundCreate
 pub mod SoundExit
 pub mod SoundExited
 pub mod SoundNew
+pub mod SoundEffects
 pub mod SoundOpening
+pub mod SoundPopulating
 pub mod SoundRegister
 pub mod SoundScan
 pub mod SoundShare
+pub mod SoundSharing
 pub mod SoundSteps
 pub mod SoundStore
 pub mod SoundWrite

@@ -9,7 +9,7 @@ mod parts;
 mod soundness;
 
 pub use charges::charges_go_up_the_path;
-pub use collections::collections_are_safe;
+pub use collections::collections_free_nothing_live;
 pub use meaning::definitions_mean;
 pub use parts::parts_determine_the_state;
-pub use soundness::{changes_are_sound, opening_is_sound, steps_are_sound};
+pub use soundness::{opening_is_sound, states_are_sound, steps_are_sound};
