@@ -45,3 +45,7 @@ note_value table Spent = blank_note table 0
 
 abbrev pub note_view : NoteValue → View
 note_view note = Note (cell_view note.cell note.list note.share)
+
+-- the name of no table
+abbrev pub no_table : TableId
+no_table = record { words = 0; slots = 0; views_name = 0; atom = 0; block = 0; offset = 0; slot_names = [] }

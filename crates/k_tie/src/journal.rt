@@ -48,7 +48,9 @@ impl JournalSeat {
         requires room { length self.old.list < 2 ^ 32 - 1 }
         ensures { self.new ≡ record self.old { list = self.old.list ++ E.event ∷ [] } }
     {
-        tie.table.shared.fetch_add::<AppendEvent<E>>(&mut self.seat, 0, 1);
+        tie.table
+            .shared
+            .fetch_add::<AppendEvent<E>>(&mut self.seat, 0, 1);
     }
 
     /// Tells that the note's list is a prefix of the journal and that its share is its cell's total, so that no event has

@@ -13,6 +13,8 @@
 mod journal;
 mod note;
 mod steps;
+#[cfg(test)]
+mod tests;
 mod tie;
 mod view;
 

@@ -41,7 +41,11 @@ impl Tie {
         let Ok(mut notes) = Vec::with_capacity(alloc, cells as usize) else {
             return Err(NoMemory);
         };
-        let Ok((table, mut seat)) = Table::<(), View, u32, JournalRule, Global>::of_words(alloc, &[0], &cells) else {
+        let Ok((table, mut seat)) = Table::<(), View, u32, JournalRule, Global>::of_words(
+            alloc,
+            &[0],
+            &cells,
+        ) else {
             return Err(NoMemory);
         };
         for _ in 0..cells {
