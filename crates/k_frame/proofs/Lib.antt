@@ -10,8 +10,10 @@ pub mod ElsewhereOther
 pub mod LocalSteps
 pub mod LocalEffects
 pub mod LocalBook
+pub mod Sizes
 pub mod Tails
 pub mod Charges
 pub mod Exact
 pub mod Maxima
 pub mod Bytes
+pub mod Untouched
