@@ -24,4 +24,5 @@ pub mod SoundStore
 pub mod SoundWrite
 pub mod Turned
 pub mod UseShown
+pub mod UsesRaised
 pub mod Uses

@@ -9,7 +9,8 @@ use Rattle.k_types.specs.declared.names.Heap.TheVariants.{Kernel, User, Shared}
 use Rattle.k_types.specs.Names.{heap_eq, among, name_lt, name_eq}
 use Rattle.k_types.specs.Totals.{total}
 use Rattle.k_types.specs.TraceRules.{AreLimits}
-use Rattle.k_types.specs.Trace.{Trace, process_count, limit_of, kinds_of, size_of_type, object_size}
+use Rattle.k_types.specs.Trace.{Trace, process_count, limit_of, kinds_of, size_of_type}
+use Rattle.k_types.specs.Types.{object_size}
 use Rattle.k_types.specs.State.{State, Object, scan_of, has, fresh, has_share}
 use Rattle.k_types.specs.Owners.{owner_of, user, shared, is_absorbed, bytes_by, bytes_of, object_bytes, charge_of, phase_of}
 use Rattle.k_types.specs.Limits.{limits_in, full_limit}
