@@ -1,4 +1,6 @@
+pub mod Charged
 pub mod Closure
+pub mod Ending
 pub mod Entries
 pub mod Means
 pub mod Merge

@@ -1,3 +1,5 @@
 pub mod Changes
 pub mod Meaning
 pub mod Parts
+pub mod Charges
+pub mod Termination
