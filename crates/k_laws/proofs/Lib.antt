@@ -6,6 +6,7 @@ pub mod Means
 pub mod Merge
 pub mod PartsTell
 pub mod Raised
+pub mod Refusing
 pub mod Safe
 pub mod Shielded
 pub mod SoundAbsorbed

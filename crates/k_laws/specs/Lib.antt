@@ -3,3 +3,4 @@ pub mod Meaning
 pub mod Parts
 pub mod Charges
 pub mod Termination
+pub mod Refusals

@@ -6,6 +6,7 @@ mod charges;
 mod collections;
 mod meaning;
 mod parts;
+mod refusals;
 mod soundness;
 mod termination;
 
@@ -16,5 +17,6 @@ pub use charges::{
 pub use collections::collections_free_nothing_live;
 pub use meaning::definitions_mean;
 pub use parts::parts_determine_the_state;
+pub use refusals::no_hidden_refusals;
 pub use soundness::{opening_is_sound, states_are_sound, steps_are_sound};
 pub use termination::{termination_credits_the_whole_charge, termination_leaves_the_rest};
