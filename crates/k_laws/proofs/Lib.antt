@@ -25,6 +25,7 @@ pub mod SoundSharing
 pub mod SoundSteps
 pub mod SoundStore
 pub mod SoundWrite
+pub mod Surviving
 pub mod Turned
 pub mod UseShown
 pub mod UsesRaised

@@ -1,6 +1,5 @@
 -- By what an operation is refused.
-use Rattle.std.proofs.Common.{◌≡◌, ℕ, ◌+◌, ◌<◌, not, nat_lt, Bool, true, false, cond, refl, sym, ap, ◌∙◌, List, [], ◌∷◌, ◌++◌, Option, Some, None, inl, inr, ◌⊎◌, IsTrue, IsFalse, subst, ltb-true}
-use Rattle.std.proofs.lemmas.Bool.{false≢true, not-true}
+use Rattle.std.proofs.Common.{◌≡◌, ℕ, ◌+◌, ◌<◌, not, nat_lt, Bool, true, false, refl, sym, List, [], ◌∷◌, Option, Some, None, inl, inr, ◌⊎◌, IsTrue, IsFalse, subst, ltb-true}
 use Rattle.k_types.specs.declared.names.Name.{Name}
 use Rattle.k_types.specs.declared.names.Reg.{Reg}
 use Rattle.k_types.specs.declared.names.LimitId.{LimitId}
@@ -8,12 +7,11 @@ use Rattle.k_types.specs.declared.names.SharedId.{SharedId}
 use Rattle.k_types.specs.declared.names.TypeId.{TypeId}
 use Rattle.k_types.specs.declared.names.Heap.{Heap}
 use Rattle.k_types.specs.declared.names.Heap.TheVariants.{Kernel, User, Shared}
-use Rattle.k_types.specs.declared.op.Op.{Op}
 use Rattle.k_types.specs.declared.op.Op.TheVariants.{New, KNew, SNew, Store}
 use Rattle.k_types.specs.declared.event.Fault.{Fault}
-use Rattle.k_types.specs.declared.event.Fault.TheVariants.{Null, Foreign, NotSharer, NoField, WrongKind, Frozen, Segv, LimitFull, KernelFull, NotPopulating}
+use Rattle.k_types.specs.declared.event.Fault.TheVariants.{Foreign, NotSharer, NoField, WrongKind, Frozen, Segv, LimitFull, KernelFull, NotPopulating}
 use Rattle.k_types.specs.declared.event.Reply.{Reply}
-use Rattle.k_types.specs.declared.event.Reply.TheVariants.{Refused, Made, Done}
+use Rattle.k_types.specs.declared.event.Reply.TheVariants.{Refused, Done}
 use Rattle.k_types.specs.Trace.{Trace, limit_of, size_of_type}
 use Rattle.k_types.specs.State.{State, register}
 use Rattle.k_types.specs.Owners.{owner_of, bytes_of, phase_of}

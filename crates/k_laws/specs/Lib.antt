@@ -4,3 +4,4 @@ pub mod Parts
 pub mod Charges
 pub mod Termination
 pub mod Refusals
+pub mod Survivors

@@ -14,7 +14,7 @@ pub use charges::{
     charges_go_up_the_path, nobody_raises_the_charge_of_another, operations_charge_their_process,
     uses_fit,
 };
-pub use collections::collections_free_nothing_live;
+pub use collections::{collections_free_nothing_live, collections_keep_exactly_the_survivors};
 pub use meaning::definitions_mean;
 pub use parts::parts_determine_the_state;
 pub use refusals::no_hidden_refusals;
