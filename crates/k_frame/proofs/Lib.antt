@@ -4,6 +4,7 @@ pub mod Objects
 pub mod Histories
 pub mod Kept
 pub mod OwnerOf
+pub mod Constant
 pub mod Elsewhere
 pub mod FrameSteps
 pub mod ElsewhereOther

@@ -1,9 +1,12 @@
+pub mod Charged
 pub mod Closure
+pub mod Ending
 pub mod Entries
 pub mod Means
 pub mod Merge
 pub mod PartsTell
 pub mod Raised
+pub mod Refusing
 pub mod Safe
 pub mod Shielded
 pub mod SoundAbsorbed
@@ -22,6 +25,7 @@ pub mod SoundSharing
 pub mod SoundSteps
 pub mod SoundStore
 pub mod SoundWrite
+pub mod Surviving
 pub mod Turned
 pub mod UseShown
 pub mod UsesRaised

@@ -51,19 +51,19 @@ none_limit : (o : Option ℕ) → limit_fault o ≡ None → o ≡ None
 none_limit None e = refl
 none_limit (Some q) e = absurd (cc e)
 
-is_populating_by : (phase : Phase) (p : ℕ) → IsTrue (is_populating phase p) → (q : Pid) × (phase ≡ Populating q) × (q.0 ≡ p)
+pub is_populating_by : (phase : Phase) (p : ℕ) → IsTrue (is_populating phase p) → (q : Pid) × (phase ≡ Populating q) × (q.0 ≡ p)
 is_populating_by Unmade p t = absurd (false≢true t)
 is_populating_by (Populating q) p t = (q, refl, eqb-true q.0 p t)
 is_populating_by (Frozen root) p t = absurd (false≢true t)
 is_populating_by Absorbed p t = absurd (false≢true t)
 
-is_unmade_so : (phase : Phase) → IsTrue (is_unmade phase) → phase ≡ Unmade
+pub is_unmade_so : (phase : Phase) → IsTrue (is_unmade phase) → phase ≡ Unmade
 is_unmade_so Unmade t = refl
 is_unmade_so (Populating q) t = absurd (false≢true t)
 is_unmade_so (Frozen root) t = absurd (false≢true t)
 is_unmade_so Absorbed t = absurd (false≢true t)
 
-is_frozen_so : (phase : Phase) → IsTrue (is_frozen phase) → (root : Name) × (phase ≡ Frozen root)
+pub is_frozen_so : (phase : Phase) → IsTrue (is_frozen phase) → (root : Name) × (phase ≡ Frozen root)
 is_frozen_so Unmade t = absurd (false≢true t)
 is_frozen_so (Populating q) t = absurd (false≢true t)
 is_frozen_so (Frozen root) t = (root, refl)

@@ -1,26 +1,16 @@
 -- By how much the uses rise where a process is charged more.
-use Rattle.std.proofs.Common.{◌≡◌, ◌≢◌, ℕ, ◌+◌, ◌*◌, ◌<◌, ◌==◌, Bool, true, false, cond, refl, sym, ap, ap₂, ◌∙◌, List, [], ◌∷◌, ◌++◌, length, Option, Some, None, arith, ne_eqb, inl, inr, IsTrue, IsFalse, subst, if◌then◌else◌}
-use Rattle.std.proofs.lemmas.Bool.{false≢true, cases_Bool}
-use Rattle.k_types.specs.declared.names.Name.{Name}
-use Rattle.k_types.specs.declared.names.Pid.{Pid}
-use Rattle.k_types.specs.declared.names.TypeId.{TypeId}
-use Rattle.k_types.specs.declared.names.Heap.{Heap}
-use Rattle.k_types.specs.declared.names.Heap.TheVariants.{Kernel}
-use Rattle.k_types.specs.declared.names.Phase.TheVariants.{Populating}
-use Rattle.k_types.specs.Names.{heap_eq, among}
-use Rattle.k_types.specs.Trace.{Trace, process_count, limit_of, kinds_of, size_of_type}
+use Rattle.std.proofs.Common.{◌≡◌, ℕ, ◌+◌, ◌*◌, ◌<◌, ◌==◌, Bool, true, false, cond, sym, ap, ◌∙◌, length, arith, subst, if◌then◌else◌}
+use Rattle.k_types.specs.Names.{among}
+use Rattle.k_types.specs.Trace.{Trace, process_count, limit_of}
 use Rattle.k_types.specs.TraceRules.{AreLimits}
-use Rattle.k_types.specs.State.{State, has_share}
-use Rattle.k_types.specs.Owners.{owner_of, user, shared, bytes_of, charge_of, charge_by, phase_of, is_absorbed}
-use Rattle.k_types.specs.Limits.{limits_in, use_of, use_by, direct_by, path_of}
-use Rattle.k_types.specs.Updates.{create}
-use Rattle.k_types.specs.Sound.{IsSound}
+use Rattle.k_types.specs.State.{State}
+use Rattle.k_types.specs.Limits.{limits_in, use_by, direct_by, path_of}
 use Rattle.k_frame.proofs.Charges.{bit, use_added}
 use Rattle.k_frame.proofs.Exact.{counted_exact}
 use Rattle.k_frame.proofs.Maxima.{length_in, tree_in}
 use Rattle.k_laws.proofs.Raised.{direct_added}
 
-times : (b : Bool) (n : ℕ) → n * bit b ≡ cond b n 0
+pub times : (b : Bool) (n : ℕ) → n * bit b ≡ cond b n 0
 times true n = omega arith
 times false n = omega arith
 

@@ -1,7 +1,10 @@
 ghost use Rattle.std.specs.Prelude.{IsTrue, List, [], ◌∷◌, ◌++◌, ℕ};
+ghost use Rattle.k_laws.specs.Survivors.{KeepsTheSurvivors};
+ghost use Rattle.k_types.specs.Effects.{step};
 ghost use Rattle.k_types.specs.Reach.{live_everywhere};
-ghost use Rattle.k_types.specs.State.{has};
-ghost use Rattle.k_types.specs.Steps.{IsLegalHistory, state_after};
+ghost use Rattle.k_types.specs.Sound.{IsSound};
+ghost use Rattle.k_types.specs.State.{State, has};
+ghost use Rattle.k_types.specs.Steps.{IsLegalHistory, IsPossible, state_after};
 ghost use Rattle.k_types.specs.Trace.{Trace};
 ghost use Rattle.k_types.specs.TraceRules.{KeepsRules};
 ghost use Rattle.k_types.specs.declared.event.Event.{Event};
@@ -16,4 +19,13 @@ pub fn collections_free_nothing_live()
         IsLegalHistory trace (history ++ Ended h objects bytes exits shares ∷ []) → (n : Name) →
         IsTrue (has (live_everywhere trace (state_after trace history)) n) →
         IsTrue (has (state_after trace (history ++ Ended h objects bytes exits shares ∷ [])).objects n) }
+{}
+
+/// Exact survivors: the end of a collection of a heap frees exactly the objects of the heap that the recorded roots do not
+/// reach inside it. Its exit items are then exactly the targets outside the heap of its objects' fields, and the shares of its
+/// process that are left are exactly those into whose heap the process still has a way, or which it populates.
+pub fn collections_keep_exactly_the_survivors()
+    ensures { (trace : Trace) (st : State) (h : Heap) (objects bytes exits shares : ℕ) → IsSound trace st →
+        IsPossible trace st (Ended h objects bytes exits shares) →
+        KeepsTheSurvivors trace st h (step trace st (Ended h objects bytes exits shares)) }
 {}
