@@ -49,7 +49,7 @@ process_ended ended p q c apart kernel =
       | inr ne ↦ ap (λ b. heap_eq (cond b Kernel (user q)) c) (among-push ended p q ne)
     ]
 
-owner_ended : (procs : ℕ) (ended : List ℕ) (phases : List Phase) (p seg : ℕ) (c : Cell) → IsFalse (heap_eq (user p) c) → IsFalse (heap_eq Kernel c) →
+pub owner_ended : (procs : ℕ) (ended : List ℕ) (phases : List Phase) (p seg : ℕ) (c : Cell) → IsFalse (heap_eq (user p) c) → IsFalse (heap_eq Kernel c) →
     heap_eq (owner_of_segment procs (ended ++ p ∷ []) phases seg) c ≡ heap_eq (owner_of_segment procs ended phases seg) c
 unfolding owner_of_segment
 owner_ended procs ended phases p seg c apart kernel =

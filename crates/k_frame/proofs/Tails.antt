@@ -1,5 +1,5 @@
 -- The law on tails: a list of local events does the same after more events that don't touch its cell.
-use Rattle.std.proofs.Common.{◌≡◌, ℕ, ◌+◌, ◌<◌, ◌==◌, ◌||◌, ◌&&◌, not, true, false, refl, sym, ap, ◌∙◌, List, [], ◌∷◌, ◌++◌, length, Option, Some, None, arith, eqb-true, IsTrue, IsFalse, length-set, subst, get_or, nat_le, is_some, cond}
+use Rattle.std.proofs.Common.{◌≡◌, ℕ, ◌+◌, ◌<◌, ◌==◌, ◌||◌, ◌&&◌, not, Bool, true, false, refl, sym, ap, ◌∙◌, List, [], ◌∷◌, ◌++◌, length, Option, Some, None, eqb-true, IsTrue, IsFalse, length-set, subst, get_or, nat_le, is_some}
 use Rattle.std.specs.List.{list_any, list_all}
 use Rattle.std.proofs.lemmas.Bool.{false≢true, and_parts, and_from, or_left, not_from_false}
 use Rattle.k_types.specs.declared.names.Pid.{Pid}
@@ -18,7 +18,9 @@ use Rattle.k_types.specs.Owners.{owner_of, user}
 use Rattle.k_types.specs.Updates.{count_done}
 use Rattle.k_types.specs.Replies.{is_ref, reference, first_fault, faults, reply_to}
 use Rattle.k_types.specs.Effects.{step, effect_unless, after_operation}
-use Rattle.k_types.specs.Cells.{part, Cell, cells_touched, touches, other_cells, access_cell, base_cell, book_part}
+use Rattle.k_frame.specs.Tails.{TailFollows}
+use Rattle.k_frame.proofs.Sizes.{history_sized}
+use Rattle.k_types.specs.Cells.{ProcessPart, part, Cell, cells_touched, touches, other_cells, access_cell, base_cell, book_part}
 use Rattle.k_types.specs.Steps.{IsPossible, IsRun, run, IsLegalHistory, state_after, waits_for_orphans, touch_count_from}
 use Rattle.k_types.specs.Local.{is_local, AreLocal, Alike, is_local_load, is_local_store, is_own}
 use Rattle.k_frame.proofs.LocalSteps.{reply_same, faults_same, same_register, same_object}
@@ -26,7 +28,9 @@ use Rattle.k_frame.proofs.OwnerOf.{owner_user}
 use Rattle.k_frame.proofs.LocalEffects.{effect_same, part_done}
 use Rattle.k_types.specs.PartUpdates.{with_done}
 use Rattle.k_frame.proofs.LocalBook.{KeepsBook, effect_keeps_book}
-use Rattle.k_frame.proofs.FrameSteps.{frame, after_operation_elsewhere}
+use Rattle.k_frame.proofs.Untouched.{part_kept}
+use Rattle.k_frame.proofs.Histories.{run_append, legal_rest, legal_append}
+use Rattle.k_frame.proofs.FrameSteps.{after_operation_elsewhere}
 
 book_done : (trace : Trace) (st : State) (p : ℕ) → book_part trace (count_done p st) ≡ book_part trace st
 unfolding book_part count_done
@@ -67,6 +71,16 @@ local_beside trace st p (Freeze s root) known lives l = absurd (false≢true l)
 local_beside trace st p (Attach r s) known lives l = absurd (false≢true l)
 local_beside trace st p Exit known lives l = absurd (false≢true l)
 
+pub local_touches : (trace : Trace) (st : State) (pid : Pid) (op : Op) (said : Reply) (c : Cell) → pid.0 < process_count trace → IsFalse (among pid.0 st.ended) → IsTrue (is_local st pid.0 op) →
+    touches trace st (Done pid op said) c ≡ heap_eq (user pid.0) c
+unfolding cells_touched
+local_touches trace st pid op said c known lives l =
+    ap (λ cells. heap_eq (user pid.0) c || list_any (λ d. heap_eq d c) cells) (local_beside trace st pid.0 op known lives l) ∙ or_right_none (heap_eq (user pid.0) c)
+  where
+    or_right_none : (b : Bool) → (b || false) ≡ b
+    or_right_none true = refl
+    or_right_none false = refl
+
 module _ (trace : Trace) (p : ℕ) where
   kept : (st : State) (op : Op) → p < process_count trace → IsFalse (among p st.ended) → IsTrue (is_local st p op) →
       KeepsBook trace st (effect_unless (first_fault (faults trace st p op)) trace p op st)
@@ -77,7 +91,7 @@ module _ (trace : Trace) (p : ℕ) where
       go (Some f) e = record { ended = refl; done = refl; book = refl }
 
   -- the two states are alike after a local operation
-  after_alike : (st su : State) (op : Op) → Alike trace p st su → IsTrue (is_local st p op) → IsTrue (is_local su p op) → Alike trace p (after_operation trace p op st) (after_operation trace p op su)
+  pub after_alike : (st su : State) (op : Op) → Alike trace p st su → IsTrue (is_local st p op) → IsTrue (is_local su p op) → Alike trace p (after_operation trace p op st) (after_operation trace p op su)
   unfolding after_operation count_done
   after_alike st su op alike l m =
       let ks = kept st op alike.known alike.lives l in
@@ -103,7 +117,7 @@ module _ (trace : Trace) (p : ℕ) where
           ∙ ap with_done (same_effect (first_fault (faults trace st p op)) refl ∙ ap (λ f. part trace (effect_unless f trace p op su) (user p)) (faults_same trace p st su alike op l))
           ∙ sym (part_done trace p (effect_unless (first_fault (faults trace su p op)) trace p op su) (subst (λ n. p < n) (sym (ap length ku.done)) alike.counted_too))
 
-  local_same : (st su : State) (op : Op) → Alike trace p st su → IsTrue (is_local st p op) → IsTrue (is_local su p op)
+  pub local_same : (st su : State) (op : Op) → Alike trace p st su → IsTrue (is_local st p op) → IsTrue (is_local su p op)
   unfolding is_local
   local_same st su (Load r base i) alike l =
       rw (← same_register trace p st su alike base.0, ← same_register trace p st su alike r.0) (go (register st.registers p base.0) (register st.registers p r.0) l)
@@ -138,7 +152,7 @@ module _ (trace : Trace) (p : ℕ) where
   local_same st su (Attach r s) alike l = l
   local_same st su Exit alike l = l
 
-  possible_too : (st su : State) (pid : Pid) (op : Op) (said : Reply) → pid.0 ≡ p → Alike trace p st su → IsTrue (is_local st p op) →
+  pub possible_too : (st su : State) (pid : Pid) (op : Op) (said : Reply) → pid.0 ≡ p → Alike trace p st su → IsTrue (is_local st p op) →
       IsPossible trace st (Done pid op said) → IsPossible trace su (Done pid op said)
   unfolding part is_local cells_touched
   possible_too st su pid op said same alike l may = record {
@@ -173,7 +187,7 @@ module _ (trace : Trace) (p : ℕ) where
     pub book : book_part trace (run trace su events) ≡ book_part trace su
     pub others : (c : Cell) → IsFalse (heap_eq (user p) c) → part trace (run trace su events) c ≡ part trace su c
 
-  book_after : (s : State) (op : Op) → p < process_count trace → IsFalse (among p s.ended) → IsTrue (is_local s p op) → book_part trace (after_operation trace p op s) ≡ book_part trace s
+  pub book_after : (s : State) (op : Op) → p < process_count trace → IsFalse (among p s.ended) → IsTrue (is_local s p op) → book_part trace (after_operation trace p op s) ≡ book_part trace s
   unfolding after_operation
   book_after s op known lives l = book_done trace (effect_unless (first_fault (faults trace s p op)) trace p op s) p ∙ (kept s op known lives l).book
 
@@ -198,44 +212,52 @@ module _ (trace : Trace) (p : ℕ) where
             ∙ after_operation_elsewhere trace su p c apart op alike.known alike.lives_too (ap (list_any (λ d. heap_eq d c)) (local_beside trace su p op alike.known alike.lives_too m));
       }
 
-  -- events that don't touch the cell leave it as it was
-  pub part_kept : (st : State) (events : List Event) → IsRun trace st events → touch_count_from trace st (user p) events ≡ 0 → part trace (run trace st events) (user p) ≡ part trace st (user p)
-  part_kept st [] legal none = refl
-  part_kept st (event ∷ events) legal none =
-      elim (touches trace st event (user p)) as (λ b. touches trace st event (user p) ≡ b → cond b 1 0 + touch_count_from trace (step trace st event) (user p) events ≡ 0 → part trace (run trace (step trace st event) events) (user p) ≡ part trace st (user p)) [
-        | true ↦ λ t n. absurd (omega arith)
-        | false ↦ λ f n. part_kept (step trace st event) events legal.1 (omega arith) ∙ frame trace st event (user p) legal.0 f
-      ] refl none
+-- whether the cell's process has ended
+ended_in : Option ProcessPart → Bool
+ended_in None = false
+ended_in (Some q) = q.has_ended
 
--- a run of one list after another
-pub run_append : (trace : Trace) (st : State) (xs ys : List Event) → run trace st (xs ++ ys) ≡ run trace (run trace st xs) ys
-run_append trace st [] ys = refl
-run_append trace st (x ∷ xs) ys = run_append trace (step trace st x) xs ys
-
-pub run_split : (trace : Trace) (st : State) (xs ys : List Event) → IsRun trace st (xs ++ ys) → IsRun trace st xs × IsRun trace (run trace st xs) ys
-run_split trace st [] ys legal = (tt, legal)
-run_split trace st (x ∷ xs) ys legal = let rest = run_split trace (step trace st x) xs ys legal.1 in ((legal.0, rest.0), rest.1)
-
-pub run_join : (trace : Trace) (st : State) (xs ys : List Event) → IsRun trace st xs → IsRun trace (run trace st xs) ys → IsRun trace st (xs ++ ys)
-run_join trace st [] ys a b = b
-run_join trace st (x ∷ xs) ys a b = (a.0, run_join trace (step trace st x) xs ys a.1 b)
+same_ended : (trace : Trace) (p : ℕ) (st su : State) → part trace su (user p) ≡ part trace st (user p) → among p su.ended ≡ among p st.ended
+unfolding part ended_in
+same_ended trace p st su same = ap (λ c. ended_in c.process) same
 
 -- the law on tails, of histories: what is alike after the shorter one is alike after the longer one
 pub tail_law : (trace : Trace) (p : ℕ) (known rest tail : List Event) → IsLegalHistory trace (known ++ rest) → IsLegalHistory trace (known ++ tail) → AreLocal trace p (state_after trace known) tail →
-    touch_count_from trace (state_after trace known) (user p) rest ≡ 0 → Alike trace p (state_after trace known) (state_after trace known) → IsFalse (among p (state_after trace (known ++ rest)).ended) → p < length (state_after trace (known ++ rest)).done →
-    IsLegalHistory trace ((known ++ rest) ++ tail)
-tail_law trace p known rest tail longer short local apart alike lives counted =
-    let middle = run_split trace (opening trace) known rest longer in
-    let legal = run_split trace (opening trace) known tail short in
-    let moved : state_after trace (known ++ rest) ≡ run trace (state_after trace known) rest = run_append trace (opening trace) known rest in
-    run_join trace (opening trace) (known ++ rest) tail longer
-    (tail_follows trace p (state_after trace known) (state_after trace (known ++ rest)) tail
-    (record {
-      known = alike.known;
-      lives = alike.lives;
-      lives_too = lives;
-      counted = alike.counted;
-      counted_too = counted;
-      same = sym (ap (λ s. part trace s (user p)) moved ∙ part_kept trace p (state_after trace known) rest middle.1 apart);
-    })
-    local legal.1).legal
+    touch_count_from trace (state_after trace known) (user p) rest ≡ 0 → TailFollows trace p known rest tail
+tail_law trace p known rest tail longer short local apart = go tail (legal_rest trace (opening trace) known tail short) local
+  where
+    moved : state_after trace (known ++ rest) ≡ run trace (state_after trace known) rest
+    moved = run_append trace (opening trace) known rest
+
+    same : part trace (state_after trace (known ++ rest)) (user p) ≡ part trace (state_after trace known) (user p)
+    same = ap (λ s. part trace s (user p)) moved ∙ part_kept trace (user p) (state_after trace known) rest (legal_rest trace (opening trace) known rest longer) apart
+
+    follow : (tail : List Event) → Follows trace p (state_after trace (known ++ rest)) tail (run trace (state_after trace known) tail) → TailFollows trace p known rest tail
+    follow tail f =
+        let after = run_append trace (opening trace) (known ++ rest) tail in record {
+          legal = legal_append trace (opening trace) (known ++ rest) tail longer f.legal;
+          local = f.local;
+          cell = ap (λ s. part trace s (user p)) after ∙ f.cell ∙ sym (ap (λ s. part trace s (user p)) (run_append trace (opening trace) known tail));
+          book = ap (book_part trace) after ∙ f.book;
+          others = λ c other. ap (λ s. part trace s c) after ∙ f.others c other;
+        }
+
+    go : (tail : List Event) → IsRun trace (state_after trace known) tail → AreLocal trace p (state_after trace known) tail → TailFollows trace p known rest tail
+    go [] legal local = follow [] (record { legal = tt; local = tt; cell = same; book = refl; others = λ c other. refl })
+    go (Ended h a b c d ∷ events) legal local = absurd local
+    go (Absorbed s ∷ events) legal local = absurd local
+    go (Closing ∷ events) legal local = absurd local
+    go (Done pid op said ∷ events) legal local =
+        let inside = subst (λ q. q < process_count trace) local.0 legal.0.known in
+        let lives = ap (λ q. among q (state_after trace known).ended) (sym local.0) ∙ legal.0.lives in
+        follow (Done pid op said ∷ events)
+        (tail_follows trace p (state_after trace known) (state_after trace (known ++ rest)) (Done pid op said ∷ events)
+        (record {
+          known = inside;
+          lives = lives;
+          lives_too = same_ended trace p (state_after trace known) (state_after trace (known ++ rest)) same ∙ lives;
+          counted = rw (history_sized trace known).done inside;
+          counted_too = rw (history_sized trace (known ++ rest)).done inside;
+          same = sym same;
+        })
+        local legal)

@@ -5,5 +5,5 @@
 mod frame;
 mod locality;
 
-pub use frame::steps_leave_other_cells;
-pub use locality::{local_replies, move_changes_its_cell, tails_follow};
+pub use frame::{lists_keep_their_lengths, steps_leave_other_cells};
+pub use locality::{local_operations_go_by_their_cell, tails_follow};

@@ -15,7 +15,8 @@ use Rattle.k_types.specs.Effects.{open_roots, survives, exit_stays, after_ended,
 use Rattle.k_types.specs.Updates.{keep_objects, keep_exits, keep_shares, close_scan, clear_registers, end_process, turn_exits}
 use Rattle.k_types.specs.Local.{is_own}
 use Rattle.k_types.specs.Sound.{IsSound}
-use Rattle.k_laws.specs.Meaning.{RefersOut, StaysOrPasses}
+use Rattle.k_laws.specs.Survivors.{RefersOut}
+use Rattle.k_laws.specs.Termination.{StaysOrPasses}
 use Rattle.k_frame.proofs.NameTests.{heap_eq-true, heap_eq_refl}
 use Rattle.k_laws.proofs.Closure.{set, set_closed, set_refers, length-kept}
 use Rattle.k_frame.proofs.Objects.{referrer, refers_in-kept, refers_in_has}

@@ -50,7 +50,7 @@ pub merged_fewer : (g h k : Heap) → IsFalse (heap_eq Kernel h) → IsTrue (hea
 merged_fewer g h k kernel = elim (heap_eq k g) as (λ b. IsTrue (heap_eq (cond b Kernel k) h) → IsTrue (heap_eq k h)) [ true ↦ λ t. absurd (false≢true (sym kernel ∙ t)) | false ↦ λ t. t ]
 
 module _ (trace : Trace) (st : State) (s : ℕ) (sound : IsSound trace st) (may : MayAbsorb trace st s) where
-  after : State
+  abbrev pub after : State
   after = after_absorbed trace s st
 
   inside : s < length st.phases
@@ -68,7 +68,7 @@ module _ (trace : Trace) (st : State) (s : ℕ) (sound : IsSound trace st) (may 
   process_merged : (p : ℕ) → owner_of_process st.ended p ≡ merged (shared s) (owner_of_process st.ended p)
   process_merged p = elim (among p st.ended) as (λ b. cond b Kernel (user p) ≡ merged (shared s) (cond b Kernel (user p))) [ true ↦ refl | false ↦ refl ]
 
-  is_merged : (seg : ℕ) → owner_of trace after seg ≡ merged (shared s) (owner_of trace st seg)
+  pub is_merged : (seg : ℕ) → owner_of trace after seg ≡ merged (shared s) (owner_of trace st seg)
   unfolding after after_absorbed set_phase keep_exits owner_of_segment
   is_merged seg =
       elim (seg == 0) as (λ a. cond a Kernel (cond (nat_le seg (process_count trace)) (owner_of_process st.ended (seg - 1)) (owner_of_shared (set st.phases s Absorbed) (seg - 1 - process_count trace)))

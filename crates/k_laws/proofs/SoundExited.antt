@@ -45,7 +45,7 @@ none_in zero x = refl
 none_in (suc n) x = none_in n x
 
 module _ (trace : Trace) (st : State) (p : ℕ) (sound : IsSound trace st) (may : MayExit trace st p) where
-  after : State
+  abbrev pub after : State
   after = after_end_of trace p st
 
   registers' : List (List (Option Name))
@@ -83,7 +83,7 @@ module _ (trace : Trace) (st : State) (p : ℕ) (sound : IsSound trace st) (may 
   shared_merged : (q : ℕ) → owner_of_shared st.phases q ≡ merged (user p) (owner_of_shared st.phases q)
   shared_merged q = elim (is_absorbed (phase_of st.phases q)) as (λ b. cond b Kernel (shared q) ≡ merged (user p) (cond b Kernel (shared q))) [ true ↦ refl | false ↦ refl ]
 
-  is_merged : (seg : ℕ) → owner_of trace after seg ≡ merged (user p) (owner_of trace st seg)
+  pub is_merged : (seg : ℕ) → owner_of trace after seg ≡ merged (user p) (owner_of trace st seg)
   unfolding after after_end_of keep_shares turn_exits clear_registers end_process owner_of_segment
   is_merged seg =
       elim (seg == 0) as (λ a. cond a Kernel (cond (nat_le seg (process_count trace)) (owner_of_process (st.ended ++ p ∷ []) (seg - 1)) (owner_of_shared st.phases (seg - 1 - process_count trace)))

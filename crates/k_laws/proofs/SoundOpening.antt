@@ -1,5 +1,5 @@
 -- The opening state of a trace is sound.
-use Rattle.std.proofs.Common.{◌≡◌, ℕ, zero, suc, ◌+◌, ◌<◌, ◌≤◌, ◌==◌, ◌&&◌, false, refl, inl, inr, subst, sym, ap, ◌∙◌, List, [], ◌∷◌, length, filter, replicate, None, arith, get_or, le_trans, IsTrue}
+use Rattle.std.proofs.Common.{◌≡◌, ℕ, zero, suc, ◌<◌, ◌≤◌, ◌==◌, ◌&&◌, false, refl, inl, inr, subst, sym, ap, ◌∙◌, List, [], ◌∷◌, length, filter, replicate, None, arith, get_or, le_trans, IsTrue}
 use Rattle.std.specs.List.{list_any}
 use Rattle.std.proofs.lemmas.Bool.{and_parts, or_cases, false≢true}
 use Rattle.k_types.specs.Totals.{total}
@@ -14,17 +14,9 @@ use Rattle.k_types.specs.Numbers.{numbers_below}
 use Rattle.k_types.specs.Limits.{limits_in, direct_by, use_by, use_of, max_of}
 use Rattle.k_types.specs.Sound.{IsSound}
 use Rattle.k_frame.proofs.NameTests.{name_eq-true}
-use Rattle.k_frame.proofs.Maxima.{own_maxima, maxima_count}
+use Rattle.k_frame.proofs.Sizes.{opening_sized}
+use Rattle.k_frame.proofs.Maxima.{own_maxima}
 use Rattle.k_laws.proofs.Uses.{use_less, total_less}
-
-length-same : {A : Type 0} (n : ℕ) (x : A) → length (replicate n x) ≡ n
-length-same zero x = refl
-length-same (suc n) x = ap suc (length-same n x)
-
-get_or-same : {A : Type 0} (n k : ℕ) (x d : A) → k < n → get_or (replicate n x) k d ≡ x
-get_or-same zero k x d h = absurd (omega arith)
-get_or-same (suc n) zero x d h = refl
-get_or-same (suc n) (suc k) x d h = get_or-same n k x d (omega (arith, h))
 
 all_unmade : (n s : ℕ) → phase_of (replicate n Unmade) s ≡ Unmade
 all_unmade zero s = refl
@@ -80,14 +72,7 @@ module _ (trace : Trace) (limits : AreLimits trace) where
   unfolding owner_of_segment
   opening_sound = record {
     shape = record {
-      sized = record {
-        made = omega (arith, length-same {A = ℕ} (length trace.procs + trace.shared_heaps) 0);
-        registers = length-same (process_count trace) _;
-        each = λ p known. ap length (get_or-same (process_count trace) p (replicate 16 None) [] known);
-        done = length-same {A = ℕ} (process_count trace) 0;
-        phases = length-same trace.shared_heaps Unmade;
-        maxima = maxima_count trace.limits;
-      };
+      sized = opening_sized trace;
       distinct_exits = tt;
       distinct_shares = tt;
       distinct_scans = tt;

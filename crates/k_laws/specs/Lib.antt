@@ -1,3 +1,7 @@
 pub mod Changes
 pub mod Meaning
 pub mod Parts
+pub mod Charges
+pub mod Termination
+pub mod Refusals
+pub mod Survivors

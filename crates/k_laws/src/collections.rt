@@ -1,17 +1,31 @@
-ghost use Rattle.std.specs.Prelude.{IsTrue, ℕ};
+ghost use Rattle.std.specs.Prelude.{IsTrue, List, [], ◌∷◌, ◌++◌, ℕ};
+ghost use Rattle.k_laws.specs.Survivors.{KeepsTheSurvivors};
 ghost use Rattle.k_types.specs.Effects.{step};
 ghost use Rattle.k_types.specs.Reach.{live_everywhere};
 ghost use Rattle.k_types.specs.Sound.{IsSound};
 ghost use Rattle.k_types.specs.State.{State, has};
-ghost use Rattle.k_types.specs.Steps.{IsPossible};
+ghost use Rattle.k_types.specs.Steps.{IsLegalHistory, IsPossible, state_after};
 ghost use Rattle.k_types.specs.Trace.{Trace};
+ghost use Rattle.k_types.specs.TraceRules.{KeepsRules};
+ghost use Rattle.k_types.specs.declared.event.Event.{Event};
 ghost use Rattle.k_types.specs.declared.event.Event.TheVariants.{Ended};
 ghost use Rattle.k_types.specs.declared.names.Heap.{Heap};
 ghost use Rattle.k_types.specs.declared.names.Name.{Name};
 
-/// The end of a collection of a sound state frees no object that can still be used.
-pub fn collections_are_safe()
-    ensures { (trace : Trace) (st : State) (h : Heap) (a b c d : ℕ) →
-        IsSound trace st → IsPossible trace st (Ended h a b c d) → (n : Name) →
-        IsTrue (has (live_everywhere trace st) n) → IsTrue (has (step trace st (Ended h a b c d)).objects n) }
+/// No collection frees a live object: in a legal history each object that can still be used just before the end of a
+/// collection is there after it, whatever happened since the collection began.
+pub fn collections_free_nothing_live()
+    ensures { (trace : Trace) (history : List Event) (h : Heap) (objects bytes exits shares : ℕ) → KeepsRules trace →
+        IsLegalHistory trace (history ++ Ended h objects bytes exits shares ∷ []) → (n : Name) →
+        IsTrue (has (live_everywhere trace (state_after trace history)) n) →
+        IsTrue (has (state_after trace (history ++ Ended h objects bytes exits shares ∷ [])).objects n) }
+{}
+
+/// Exact survivors: the end of a collection of a heap frees exactly the objects of the heap that the recorded roots do not
+/// reach inside it. Its exit items are then exactly the targets outside the heap of its objects' fields, and the shares of its
+/// process that are left are exactly those into whose heap the process still has a way, or which it populates.
+pub fn collections_keep_exactly_the_survivors()
+    ensures { (trace : Trace) (st : State) (h : Heap) (objects bytes exits shares : ℕ) → IsSound trace st →
+        IsPossible trace st (Ended h objects bytes exits shares) →
+        KeepsTheSurvivors trace st h (step trace st (Ended h objects bytes exits shares)) }
 {}

@@ -6,10 +6,17 @@ mod charges;
 mod collections;
 mod meaning;
 mod parts;
+mod refusals;
 mod soundness;
+mod termination;
 
-pub use charges::charges_go_up_the_path;
-pub use collections::collections_are_safe;
+pub use charges::{
+    charges_go_up_the_path, nobody_raises_the_charge_of_another, operations_charge_their_process,
+    uses_fit,
+};
+pub use collections::{collections_free_nothing_live, collections_keep_exactly_the_survivors};
 pub use meaning::definitions_mean;
 pub use parts::parts_determine_the_state;
-pub use soundness::{changes_are_sound, opening_is_sound, steps_are_sound};
+pub use refusals::no_hidden_refusals;
+pub use soundness::{opening_is_sound, states_are_sound, steps_are_sound};
+pub use termination::{termination_credits_the_whole_charge, termination_leaves_the_rest};

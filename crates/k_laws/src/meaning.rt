@@ -1,7 +1,7 @@
 ghost use Rattle.std.specs.Prelude.{IsFalse, IsTrue, List, Some, if◌then◌else◌, ◌<◌, ◌≡◌, ◌↔◌, ℕ};
-ghost use Rattle.k_laws.specs.Meaning.{RefersOut, StaysOrPasses, heaps_of};
+ghost use Rattle.k_laws.specs.Meaning.{heaps_of};
 ghost use Rattle.k_types.specs.Cells.{entries};
-ghost use Rattle.k_types.specs.Effects.{after_end_of, after_ended};
+ghost use Rattle.k_types.specs.Effects.{after_ended};
 ghost use Rattle.k_types.specs.Local.{is_own};
 ghost use Rattle.k_types.specs.Names.{among};
 ghost use Rattle.k_types.specs.Owners.{objects_of, owner_of, user};
@@ -13,18 +13,13 @@ ghost use Rattle.k_types.specs.Trace.{Trace, process_count};
 ghost use Rattle.k_types.specs.declared.names.Heap.{Heap};
 ghost use Rattle.k_types.specs.declared.names.Name.{Name};
 
-/// What the definitions mean in sound states: reach is found among the heap's own objects, after a collection the heap's exit
-/// items are the targets outside the heap of its survivors' fields, the entries of an object are the heaps with an exit item to it, the test of a segment is the test of its owner, and an
-/// exit item stays or passes to the kernel when a process ends.
+/// What the definitions mean in sound states: reach is found among the heap's own objects, the entries of an object are the heaps with an exit item to it, and the test of a segment is the test of
+/// its owner.
 pub fn definitions_mean()
     ensures reach { (trace : Trace) (st : State) (h : Heap) (rs : List Name) →
         reach_in trace st h rs ≡ reach_among (objects_of (owner_of trace st) h st.objects) rs }
-    ensures exits { (trace : Trace) (st : State) (h : Heap) (rs : List Name) (n : Name) → IsSound trace st → scan_of st.scans h ≡ Some rs →
-        (IsTrue (has_exit (after_ended trace h st).exits h n) ↔ RefersOut trace (after_ended trace h st) h n) }
     ensures entries { (trace : Trace) (st : State) (n : Name) → IsSound trace st →
         entries st n ≡ total (λ h. if has_exit st.exits h n then 1 else 0) (heaps_of trace) }
     ensures own { (trace : Trace) (st : State) (p : ℕ) (n : Name) → p < process_count trace → IsFalse (among p st.ended) →
         (IsTrue (is_own p (Some n)) ↔ (owner_of trace st n.seg.0 ≡ user p)) }
-    ensures left { (trace : Trace) (st : State) (p : ℕ) (h : Heap) (n : Name) → IsSound trace st →
-        (IsTrue (has_exit (after_end_of trace p st).exits h n) ↔ StaysOrPasses trace st p h n) }
 {}

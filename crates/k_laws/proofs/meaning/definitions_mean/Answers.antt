@@ -1,18 +1,12 @@
-use Rattle.k_laws.proofs.Means.{reach_is, exit_needed, exit_there_still, own_is, is_own_if, exit_from, exit_comes}
+use Rattle.k_laws.proofs.Means.{reach_is, own_is, is_own_if}
 use Rattle.k_laws.proofs.Entries.{entries_are}
 use Rattle.k_laws.proofs.meaning.definitions_mean.Goals as goal
 
 pub returns-clause-reach : goal.returns-clause-reach
 returns-clause-reach c = reach_is
 
-pub returns-clause-exits : goal.returns-clause-exits
-returns-clause-exits c = λ trace st h rs n sound opened. (exit_needed trace st sound h rs opened n, exit_there_still trace st sound h rs opened n)
-
 pub returns-clause-own : goal.returns-clause-own
 returns-clause-own c = λ trace st p n known lives. (own_is trace st p n known lives, is_own_if trace st p n)
-
-pub returns-clause-left : goal.returns-clause-left
-returns-clause-left c = λ trace st p h n sound. (exit_from trace st p sound h n, exit_comes trace st p sound h n)
 
 pub returns-clause-entries : goal.returns-clause-entries
 returns-clause-entries c = entries_are

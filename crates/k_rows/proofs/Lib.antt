@@ -1,0 +1,12 @@
+pub mod Machine
+pub mod BoundaryOfAHardLimit
+pub mod Barrier
+pub mod KeptFromOutside
+pub mod StaleExitItem
+pub mod CycleWithTheKernel
+pub mod EverySharerPays
+pub mod OrphanedAndAbsorbed
+pub mod ObjectOfADeadProcess
+pub mod OrderOfFaults
+pub mod PhasesOfASharedHeap
+pub mod LastCollection

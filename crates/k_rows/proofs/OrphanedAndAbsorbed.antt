@@ -1,0 +1,67 @@
+-- A frozen heap takes integers and no references; a sharer without a way into it gives up its share; its last sharer ends, and the kernel absorbs it.
+use Rattle.std.proofs.Common.{◌≡◌, refl, lit<}
+use Rattle.k_types.specs.Steps.{IsLegalHistory}
+use Rattle.k_types.specs.FileOrder.{file_order, file_order_from}
+use Rattle.k_rows.specs.Words.{trace_doing, left_by}
+use Rattle.k_rows.specs.Rows.{orphaned_and_absorbed, orphaned_and_absorbed_left}
+use Rattle.k_rows.proofs.Machine.{machine}
+
+pub legal : IsLegalHistory (trace_doing orphaned_and_absorbed) orphaned_and_absorbed
+unfolding machine
+legal = (
+  record { known = lit< tt; lives = refl; in_range = refl; idle = refl; orphans = refl; replied = refl },
+  (
+    record { known = lit< tt; lives = refl; in_range = refl; idle = refl; orphans = refl; replied = refl },
+    (
+      record { known = lit< tt; lives = refl; in_range = refl; idle = refl; orphans = refl; replied = refl },
+      (
+        record { known = lit< tt; lives = refl; in_range = refl; idle = refl; orphans = refl; replied = refl },
+        (
+          record { known = lit< tt; lives = refl; in_range = refl; idle = refl; orphans = refl; replied = refl },
+          (
+            record { known = lit< tt; lives = refl; in_range = refl; idle = refl; orphans = refl; replied = refl },
+            (
+              record { known = lit< tt; lives = refl; in_range = refl; idle = refl; orphans = refl; replied = refl },
+              (
+                record { known = lit< tt; lives = refl; in_range = refl; idle = refl; orphans = refl; replied = refl },
+                (
+                  record { known = lit< tt; lives = refl; in_range = refl; idle = refl; orphans = refl; replied = refl },
+                  (
+                    record { known = lit< tt; lives = refl; in_range = refl; idle = refl; orphans = refl; replied = refl },
+                    (
+                      record { known = lit< tt; lives = refl; in_range = refl; idle = refl; orphans = refl; replied = refl },
+                      (
+                        record { scanned = refl; objects_gone = refl; bytes_gone = refl; exits_gone = refl; shares_gone = refl },
+                        (
+                          record { known = lit< tt; lives = refl; in_range = refl; idle = refl; orphans = refl; replied = refl },
+                          (
+                            record { known = lit< tt; orphan = refl; idle = refl },
+                            (
+                              record { known = lit< tt; lives = refl; in_range = refl; idle = refl; orphans = refl; replied = refl },
+                              (
+                                record { scanned = refl; objects_gone = refl; bytes_gone = refl; exits_gone = refl; shares_gone = refl },
+                                tt,
+                              ),
+                            ),
+                          ),
+                        ),
+                      ),
+                    ),
+                  ),
+                ),
+              ),
+            ),
+          ),
+        ),
+      ),
+    ),
+  ),
+)
+
+pub filed : file_order (trace_doing orphaned_and_absorbed) ≡ orphaned_and_absorbed
+unfolding machine file_order_from
+filed = refl
+
+pub left : left_by (trace_doing orphaned_and_absorbed) orphaned_and_absorbed ≡ orphaned_and_absorbed_left
+unfolding machine
+left = refl

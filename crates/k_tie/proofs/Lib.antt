@@ -1,0 +1,4 @@
+pub mod Totals
+pub mod RuleKept
+pub mod Opening
+pub mod Seats

@@ -1,0 +1,78 @@
+-- The five kinds of step on the journal's word, each as what it does to a view: the opening, an addition, a split, a join
+-- and a load.
+use Rattle.std.specs.Prelude.{◌≡◌, ℕ, suc, ◌≤◌, List, [], ◌∷◌, ◌++◌, map}
+use Rattle.atomic_table.specs.Table.{Step, Me}
+use Rattle.k_types.specs.Numbers.{numbers_below}
+use Rattle.k_types.specs.declared.event.Event.{Event}
+use Rattle.k_tie.specs.declared.view.CellView.{CellView}
+use Rattle.k_tie.specs.declared.view.View.{View}
+use Rattle.k_tie.specs.declared.view.View.TheVariants.{Journal, Note, Spent}
+use Rattle.k_tie.specs.Rule.{CellsFit, times_among}
+
+abbrev pub cell_view : ℕ → List Event → ℕ → CellView
+cell_view cell list share = record { cell = cell; list = list; share = share }
+
+-- a cell that no event has touched, of an empty journal
+abbrev pub blank_cell : ℕ → CellView
+blank_cell cell = cell_view cell [] 0
+
+-- make: the journal is empty, and every cell below the number is in hand
+abbrev pub opening_view : ℕ → View
+opening_view cells = Journal [] [] (map blank_cell (numbers_below cells))
+
+-- append: the journal's list grows by the event
+abbrev pub after_append : Event → View → View
+after_append event (Journal list touches in_hand) = Journal (list ++ event ∷ []) touches in_hand
+after_append event (Note known) = Note known
+after_append event Spent = Spent
+
+abbrev pub Appends : {S : Type 0} → Event → Step S → Me S View → ℕ → Me S View → Type 0
+Appends event step before word after = after ≡ (after_append event before.0, before.1)
+
+-- split: the first cell in hand is in hand no longer
+abbrev pub after_give : View → View
+after_give (Journal list touches (known ∷ others)) = Journal list touches others
+after_give (Journal list touches []) = Journal list touches []
+after_give (Note known) = Note known
+after_give Spent = Spent
+
+-- and its note has the list in hand and the share in hand; where no cell is in hand the new seat is spent
+abbrev pub note_as_held : View → View
+note_as_held (Journal list touches (known ∷ others)) = Note known
+note_as_held (Journal list touches []) = Spent
+note_as_held (Note known) = Spent
+note_as_held Spent = Spent
+
+-- or the journal's whole list and the share in hand
+abbrev pub note_of_whole : View → View
+note_of_whole (Journal list touches (known ∷ others)) = Note (cell_view known.cell list known.share)
+note_of_whole (Journal list touches []) = Spent
+note_of_whole (Note known) = Spent
+note_of_whole Spent = Spent
+
+-- or the list in hand and the share in hand plus one, and the cell's total rises by one
+abbrev pub after_touch : View → View
+after_touch (Journal list touches (known ∷ others)) = Journal list (known.cell ∷ touches) others
+after_touch (Journal list touches []) = Journal list touches []
+after_touch (Note known) = Note known
+after_touch Spent = Spent
+
+abbrev pub note_touched : View → View
+note_touched (Journal list touches (known ∷ others)) = Note (cell_view known.cell known.list (suc known.share))
+note_touched (Journal list touches []) = Spent
+note_touched (Note known) = Spent
+note_touched Spent = Spent
+
+-- join: the journal's view has the note's cell in hand, with its list and share
+abbrev pub after_take : View → View → View
+after_take (Journal list touches in_hand) (Note known) = Journal list touches (known ∷ in_hand)
+after_take view other = view
+
+-- load: no view changes; each cell in hand has a prefix of the journal and its total, and the cells in hand are distinct
+abbrev pub IsToldOf : View → Type 0
+IsToldOf (Journal list touches in_hand) = CellsFit list touches in_hand × ((cell : ℕ) → times_among cell in_hand ≤ 1)
+IsToldOf (Note known) = Unit {0}
+IsToldOf Spent = Unit {0}
+
+abbrev pub Reads : {S : Type 0} → Step S → Me S View → ℕ → Me S View → Type 0
+Reads step before word after = (after ≡ before) × IsToldOf before.0
