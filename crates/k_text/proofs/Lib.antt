@@ -2,3 +2,5 @@ pub mod Known
 pub mod LineLemmas
 pub mod Counting
 pub mod Objects
+pub mod Machine
+pub mod Reports

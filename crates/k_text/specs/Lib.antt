@@ -4,3 +4,4 @@ pub mod EventLines
 pub mod Report
 pub mod Spaced
 pub mod Writing
+pub mod Worked

@@ -21,6 +21,8 @@ mod roots;
 mod shares;
 mod view;
 mod words;
+mod worked;
 
 pub use reporting::report;
 pub use view::View;
+pub use worked::{barrier_row, every_sharer_pays_row, first_run_row, no_operations_row};
