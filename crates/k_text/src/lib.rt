@@ -25,4 +25,7 @@ mod worked;
 
 pub use reporting::report;
 pub use view::View;
-pub use worked::{barrier_row, every_sharer_pays_row, first_run_row, no_operations_row};
+pub use worked::{
+    barrier_row, every_sharer_pays_row, first_run_row, no_operations_row,
+    object_of_a_dead_process_row, orphaned_and_absorbed_row,
+};
