@@ -14,6 +14,7 @@ mod exits;
 mod faults;
 mod graph;
 mod heading;
+mod laws;
 mod line;
 mod operations;
 mod reporting;
@@ -23,6 +24,7 @@ mod view;
 mod words;
 mod worked;
 
+pub use laws::exits_are_told_by_their_targets;
 pub use reporting::report;
 pub use view::View;
 pub use worked::{
