@@ -5,3 +5,4 @@ pub mod Objects
 pub mod Machine
 pub mod Reports
 pub mod InOrder
+pub mod NameOrder

@@ -1,5 +1,5 @@
 -- What a view shows of its state, and that it shows only what its trace declares.
-use Rattle.std.specs.Prelude.{◌≡◌, ℕ, ◌<◌, ◌&&◌, Bool, true, IsTrue, List, [], ◌∷◌, map, filter, find, length, Option, Some, None, IfSome, option_map, option_and_then, if◌then◌else◌}
+use Rattle.std.specs.Prelude.{◌<◌, Bool, true, IsTrue, List, [], ◌∷◌, map, filter, find, length, Option, Some, None, IfSome, option_map, option_and_then, if◌then◌else◌}
 use Rattle.k_types.specs.declared.names.Name.{Name}
 use Rattle.k_types.specs.declared.names.Heap.{Heap}
 use Rattle.k_types.specs.declared.names.TypeId.{TypeId}

@@ -9,10 +9,9 @@ use Rattle.k_types.specs.declared.names.Field.TheVariants.{Ref, Int}
 use Rattle.k_types.specs.declared.setup.LimitRow.{LimitRow}
 use Rattle.k_types.specs.declared.op.Op.{Op}
 use Rattle.k_types.specs.declared.op.Op.TheVariants.{New, SNew, Store, Load, Clear, Dir, Put, Get, Collect, KCollect, Share, Freeze, Attach, Exit}
-use Rattle.k_types.specs.Trace.{Trace}
 use Rattle.k_types.specs.FileOrder.{file_order}
 use Rattle.k_words.specs.Words.{Text}
-use Rattle.k_trace.specs.Named.{DeclaredNames, NamedTrace}
+use Rattle.k_trace.specs.Named.{NamedTrace}
 use Rattle.k_text.specs.Report.{report_text}
 
 -- The report of the history in the order of the file.
@@ -56,6 +55,7 @@ first_run = record {
   };
 }
 
+-- The report of the first run.
 abbrev pub first_report : Text
 first_report = of_lines (
     codes "report 1"
@@ -106,9 +106,11 @@ two_processes first second order = record {
   };
 }
 
+-- The trace without operations.
 abbrev pub no_operations : NamedTrace
 no_operations = two_processes [] [] []
 
+-- Its report.
 abbrev pub no_operations_report : Text
 no_operations_report = of_lines (
     codes "report 1"
@@ -139,6 +141,7 @@ barrier =
     (Dir (r 1) ∷ Load (r 2) (r 1) 0 ∷ New (r 0) node ∷ Store (r 0) 0 (r 2) ∷ Load (r 3) (r 2) 0 ∷ [])
     (0 ∷ 0 ∷ 0 ∷ 1 ∷ 1 ∷ 1 ∷ 1 ∷ 1 ∷ [])
 
+-- The report of the barrier.
 abbrev pub barrier_report : Text
 barrier_report = of_lines (
     codes "report 1"
@@ -185,6 +188,7 @@ every_sharer_pays =
     (Attach (r 0) table ∷ [])
     (0 ∷ 0 ∷ 0 ∷ 0 ∷ 0 ∷ 1 ∷ [])
 
+-- The report where every sharer pays in full.
 abbrev pub every_sharer_pays_report : Text
 every_sharer_pays_report = of_lines (
     codes "report 1"
@@ -228,6 +232,7 @@ object_of_a_dead_process =
     (Dir (r 0) ∷ Load (r 1) (r 0) 0 ∷ Load (r 2) (r 1) 0 ∷ Store (r 0) 0 (r 3) ∷ KCollect ∷ [])
     (0 ∷ 0 ∷ 0 ∷ 0 ∷ 0 ∷ 1 ∷ 1 ∷ 0 ∷ 1 ∷ 1 ∷ 1 ∷ [])
 
+-- The report with the object of a dead process.
 abbrev pub object_of_a_dead_process_report : Text
 object_of_a_dead_process_report = of_lines (
     codes "report 1"
@@ -275,6 +280,7 @@ orphaned_and_absorbed =
     (Attach (r 0) table ∷ Get (r 0) 2 ∷ Clear (r 0) ∷ Collect ∷ KCollect ∷ [])
     (0 ∷ 0 ∷ 0 ∷ 0 ∷ 0 ∷ 1 ∷ 0 ∷ 0 ∷ 1 ∷ 1 ∷ 1 ∷ 0 ∷ 1 ∷ [])
 
+-- The report with the heap that was orphaned and absorbed.
 abbrev pub orphaned_and_absorbed_report : Text
 orphaned_and_absorbed_report = of_lines (
     codes "report 1"

@@ -11,5 +11,4 @@ ghost use Rattle.k_text.specs.Shown.{exits_of, AreRising};
 pub fn exits_are_told_by_their_targets()
     ensures { (exits : List ExitItem) (h : Heap) (names : List Name) → AreRising names
         → ((n : Name) → name_among n names ≡ has_exit exits h n) → names ≡ exits_of exits h }
-{
-}
+{}
