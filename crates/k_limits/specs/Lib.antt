@@ -1,0 +1,3 @@
+pub mod Limits
+pub mod Rows
+pub mod Paths
