@@ -1,5 +1,5 @@
 -- What a known operation names.
-use Rattle.std.proofs.Common.{◌≡◌, ◌<◌, ◌≤◌, ◌+◌, ◌-◌, ◌==◌, ◌&&◌, ℕ, Bool, true, false, nat_lt, nat_le, IsTrue, List, length, arith, refl, if◌then◌else◌}
+use Rattle.std.proofs.Common.{◌≡◌, ◌<◌, ◌+◌, ◌-◌, ◌==◌, ℕ, Bool, true, false, nat_le, IsTrue, List, arith, refl, if◌then◌else◌}
 use Rattle.k_types.specs.declared.op.Op.{Op}
 use Rattle.k_types.specs.declared.op.Op.TheVariants.{New, KNew, SNew, Store, Load, Move, Clear, Dir, Put, Get, Collect, KCollect, Share, Freeze, Attach, Exit}
 use Rattle.k_types.specs.Trace.{Trace, IsHeap, process_count, segment_count}
@@ -56,5 +56,5 @@ known_owner trace st seg lt =
     choose (IsHeap trace) (seg == 0) Kernel (if nat_le seg (process_count trace) then owner_of_process st.ended (seg - 1) else owner_of_shared st.phases (seg - 1 - process_count trace))
     (λ e. tt)
     (λ e. choose (IsHeap trace) (nat_le seg (process_count trace)) (owner_of_process st.ended (seg - 1)) (owner_of_shared st.phases (seg - 1 - process_count trace))
-      (λ h. known_process trace st.ended (seg - 1) (first_below seg (process_count trace) e h))
-      (λ h. known_shared trace st.phases (seg - 1 - process_count trace) (second_below seg (process_count trace) trace.shared_heaps e h lt)))
+    (λ h. known_process trace st.ended (seg - 1) (first_below seg (process_count trace) e h))
+    (λ h. known_shared trace st.phases (seg - 1 - process_count trace) (second_below seg (process_count trace) trace.shared_heaps e h lt)))

@@ -4,3 +4,5 @@ pub mod Counting
 pub mod Objects
 pub mod Machine
 pub mod Reports
+pub mod InOrder
+pub mod NameOrder

@@ -1,12 +1,12 @@
 -- Lines as their words, and lists of lines written one after the other.
-use Rattle.std.proofs.Common.{◌≡◌, ◌∙◌, ℕ, zero, suc, ◌+◌, ◌-◌, ◌<◌, ◌≤◌, List, [], ◌∷◌, ◌++◌, length, take, drop, map, refl, sym, ap, subst, arith, append_assoc, add-one, zero-add, Result, Ok, Err, Some, slice_get, codes}
+use Rattle.std.proofs.Common.{◌≡◌, ◌∙◌, ℕ, zero, suc, ◌+◌, ◌-◌, ◌<◌, ◌≤◌, List, [], ◌∷◌, ◌++◌, length, take, drop, map, sym, ap, subst, arith, append_assoc, add-one, zero-add, Result, Ok, Err, Some, slice_get, codes}
 use Rattle.std.specs.Prelude.{IsErr}
 use Rattle.std.specs.List.{flat_map, join_with_byte}
 use Rattle.std.proofs.lemmas.List.{append-nil, take_more, take_all, take-append-drop, map-append}
 use Rattle.std.proofs.lemmas.List.Concat.{flat_map_single}
-use Rattle.std.proofs.lemmas.Grind.{common_steps, flat_map-append}
+use Rattle.std.proofs.lemmas.Grind.{flat_map-append}
 use Rattle.std.proofs.lemmas.Option.{slice_get_within, get_or_from_slice_get}
-use Rattle.k_io.specs.Taking.{Takes, TakesFront}
+use Rattle.k_io.specs.Taking.{TakesFront}
 use Rattle.k_io.specs.Writing.{Writes}
 use Rattle.k_io.proofs.Takings.{takes_nothing, takes_then, takes_front_then, takes_front_longer}
 use Rattle.k_io.proofs.Writings.{rose_since, writes_same, writes_then}
@@ -32,17 +32,17 @@ pub operation_line : (name a b c d : Text) (ops replies : List Text) → a ≡ n
 operation_line name a b c d ops replies ea eb ec ed =
     let whole : d ≡ ((name ++ spaced ops) ++ 32 ∷ codes "=") ++ spaced replies = cc in
     whole ∙ append_assoc (name ++ spaced ops) (32 ∷ codes "=") (spaced replies)
-        ∙ append_assoc name (spaced ops) (spaced (codes "=" ∷ replies))
-        ∙ ap (λ (t : Text). name ++ t) (sym (spaced-append ops (codes "=" ∷ replies)))
-        ∙ sym (joined name (ops ++ codes "=" ∷ replies))
+    ∙ append_assoc name (spaced ops) (spaced (codes "=" ∷ replies))
+    ∙ ap (λ (t : Text). name ++ t) (sym (spaced-append ops (codes "=" ∷ replies)))
+    ∙ sym (joined name (ops ++ codes "=" ∷ replies))
 
 -- three words, and others
 pub line_behind_three : (first second third x y z v : Text) (rest : List Text) → x ≡ first → y ≡ x ++ 32 ∷ second → z ≡ y ++ 32 ∷ third → v ≡ z ++ spaced rest → v ≡ join_with_byte 32 (first ∷ second ∷ third ∷ rest)
 line_behind_three first second third x y z v rest ex ey ez ev =
     let whole : v ≡ ((first ++ 32 ∷ second) ++ 32 ∷ third) ++ spaced rest = cc in
     whole ∙ append_assoc (first ++ 32 ∷ second) (32 ∷ third) (spaced rest)
-        ∙ append_assoc first (32 ∷ second) ((32 ∷ third) ++ spaced rest)
-        ∙ sym (joined first (second ∷ third ∷ rest))
+    ∙ append_assoc first (32 ∷ second) ((32 ∷ third) ++ spaced rest)
+    ∙ sym (joined first (second ∷ third ∷ rest))
 
 pub text_of-append : (xs ys : List (List Text)) → text_of (xs ++ ys) ≡ text_of xs ++ text_of ys
 text_of-append xs ys = flat_map-append line_text xs ys
@@ -103,17 +103,18 @@ written_all a b x y u text h = record { ok = h.taken; err = tt; cause = record {
 flat_numbers_more : (f : ℕ → List (List Text)) (i : ℕ) → text_of (flat_map f (numbers_below i)) ++ text_of (f i) ≡ text_of (flat_map f (numbers_below (i + 1)))
 flat_numbers_more f i =
     sym (ap (λ (ks : List ℕ). text_of (flat_map f ks)) (numbers_more i)
-        ∙ ap text_of (flat_map-append f (numbers_below i) (i ∷ []) ∙ ap (λ (ls : List (List Text)). flat_map f (numbers_below i) ++ ls) (append-nil (f i)))
-        ∙ text_of-append (flat_map f (numbers_below i)) (f i))
+    ∙ ap text_of (flat_map-append f (numbers_below i) (i ∷ []) ∙ ap (λ (ls : List (List Text)). flat_map f (numbers_below i) ++ ls) (append-nil (f i)))
+    ∙ text_of-append (flat_map f (numbers_below i)) (f i))
 
 flat_numbers_after : (f : ℕ → List (List Text)) (i n : ℕ) → i < n → (rest : List ℕ) × ((text_of (flat_map f (numbers_below i)) ++ text_of (f i)) ++ rest ≡ text_of (flat_map f (numbers_below n)))
 flat_numbers_after f i n lt =
-    let split = numbers_after i n lt in
-    (text_of (flat_map f split.0)
-    , ap (λ (t : List ℕ). t ++ text_of (flat_map f split.0)) (flat_numbers_more f i)
-        ∙ sym (text_of-append (flat_map f (numbers_below (i + 1))) (flat_map f split.0))
-        ∙ ap text_of (sym (flat_map-append f (numbers_below (i + 1)) split.0))
-        ∙ ap (λ (ks : List ℕ). text_of (flat_map f ks)) (ap (λ (ks : List ℕ). ks ++ split.0) (numbers_more i) ∙ sym split.1))
+    let split = numbers_after i n lt in (
+      text_of (flat_map f split.0),
+      ap (λ (t : List ℕ). t ++ text_of (flat_map f split.0)) (flat_numbers_more f i)
+          ∙ sym (text_of-append (flat_map f (numbers_below (i + 1))) (flat_map f split.0))
+          ∙ ap text_of (sym (flat_map-append f (numbers_below (i + 1)) split.0))
+          ∙ ap (λ (ks : List ℕ). text_of (flat_map f ks)) (ap (λ (ks : List ℕ). ks ++ split.0) (numbers_more i) ∙ sym split.1),
+    )
 
 pub numbers_next : {E : Type 0} (f : ℕ → List (List Text)) (i : ℕ) (a b c : List ℕ → List ℕ → Type 0) (x y z : ℕ) (u : Unit {0})
     → HasWritten a b x y (text_of (flat_map f (numbers_below i))) → Writes {T = Unit {0}} {E = E} b c y z (Ok u) (text_of (f i))
@@ -160,8 +161,8 @@ lines_all f i n a b x y u e h = written_all a b x y u _ (written_same a b x y _ 
 listed_more : {A : Type 0} (f : A → List Text) (xs : List A) (i : ℕ) (v : A) → slice_get xs i ≡ Some v → text_of (map f (take i xs)) ++ text_of (f v ∷ []) ≡ text_of (map f (take (i + 1) xs))
 listed_more f xs i v at =
     sym (ap (λ ys. text_of (map f ys)) (take_more xs i v (slice_get_within xs i v at) ∙ ap (λ w. take i xs ++ w ∷ []) (get_or_from_slice_get xs i v v at))
-        ∙ ap text_of (map-append f (take i xs) (v ∷ []))
-        ∙ text_of-append (map f (take i xs)) (f v ∷ []))
+    ∙ ap text_of (map-append f (take i xs) (v ∷ []))
+    ∙ text_of-append (map f (take i xs)) (f v ∷ []))
 
 listed_after : {A : Type 0} (f : A → List Text) (xs : List A) (i : ℕ) (v : A) → slice_get xs i ≡ Some v → (text_of (map f (take i xs)) ++ text_of (f v ∷ [])) ++ text_of (map f (drop (i + 1) xs)) ≡ text_of (map f xs)
 listed_after f xs i v at =

@@ -1,29 +1,11 @@
 -- The objects, one after the other in the order of their names.
-use Rattle.std.proofs.Common.{◌≡◌, ◌∙◌, ℕ, ◌+◌, ◌-◌, ◌<◌, ◌≤◌, ◌==◌, ◌&&◌, ◌||◌, not, Bool, true, false, nat_lt, IsTrue, List, [], ◌∷◌, ◌++◌, length, map, filter, find, Option, Some, None, refl, sym, ap, subst, arith, append_assoc, length-append, is_some, option_map, cond}
-use Rattle.std.specs.Bool.{IsFalse}
-use Rattle.std.specs.List.{list_any}
-use Rattle.std.proofs.lemmas.Bool.Decides.{nat_tests}
-use Rattle.std.proofs.lemmas.List.{map-append}
+use Rattle.std.proofs.Common.{◌≡◌, ◌∙◌, ℕ, ◌+◌, ◌-◌, ◌<◌, ◌||◌, not, Bool, true, false, IsTrue, List, [], ◌∷◌, ◌++◌, length, filter, find, Option, Some, None, refl, sym, ap, subst, arith, length-append, option_map, cond}
 use Rattle.k_types.specs.declared.names.Name.{Name}
 use Rattle.k_types.specs.Names.{name_eq, name_lt}
 use Rattle.k_types.specs.State.{Object, object_at, has}
 use Rattle.k_types.specs.Sound.{IsOrdered, IsOrderedFrom}
+use Rattle.k_text.proofs.NameOrder.{lt_irrefl, lt_asym, lt_trans, eq_refl, lt_not_eq}
 use Rattle.k_text.specs.Shown.{comes_after, next_name_after, shown_object}
-
-lt_irrefl : (n : Name) → name_lt n n ≡ false
-lt_irrefl n = grind (arith, nat_tests)
-
-lt_asym : (a b : Name) → name_lt a b ≡ true → name_lt b a ≡ false
-lt_asym a b h = grind (arith, nat_tests)
-
-lt_trans : (a b c : Name) → name_lt a b ≡ true → name_lt b c ≡ true → name_lt a c ≡ true
-lt_trans a b c h k = grind (arith, nat_tests)
-
-eq_refl : (n : Name) → name_eq n n ≡ true
-eq_refl n = grind (arith, nat_tests)
-
-lt_not_eq : (a b : Name) → name_lt a b ≡ true → name_eq a b ≡ false
-lt_not_eq a b h = grind (arith, nat_tests)
 
 -- the objects that do not pass
 abbrev pub before : (Object → Bool) → List Object → List Object
@@ -62,8 +44,8 @@ found_later : (p : Object → Bool) (n : Name) (objects : List Object) (o : Obje
 found_later p n [] o h e = absurd cc
 found_later p n (x ∷ xs) o h e =
     elim (p x) as (λ b. cond b (Some x) (find p xs) ≡ Some o → name_lt n o.name ≡ true) [
-      true ↦ λ f. let same : x ≡ o = cc in subst (λ (y : Object). name_lt n y.name ≡ true) same h.0
-    | false ↦ λ f. lt_trans n x.name o.name h.0 (found_later p x.name xs o h.1 f)
+      | true ↦ λ f. let same : x ≡ o = cc in subst (λ (y : Object). name_lt n y.name ≡ true) same h.0
+      | false ↦ λ f. lt_trans n x.name o.name h.0 (found_later p x.name xs o h.1 f)
     ] e
 
 -- the first object that passes, among objects in order: what stands before it, and what is found by its name
@@ -97,16 +79,16 @@ pub found : (p : Object → Bool) (objects : List Object) (o : Object) → IsRis
 found p [] o rises h e = absurd cc
 found p (x ∷ xs) o rises h e =
     (elim (p x) as (λ b. p x ≡ b → cond b (Some x) (find p xs) ≡ Some o → Found p (x ∷ xs) o) [
-      true ↦ λ t f. let same : x ≡ o = cc in subst (λ (y : Object). Found p (x ∷ xs) y) same (found_here p x xs rises h t)
-    | false ↦ λ t f. found_there p x xs o t (found_later p x.name xs o h f) (found p xs o rises (ordered_tail x.name xs h) f)
+      | true ↦ λ t f. let same : x ≡ o = cc in subst (λ (y : Object). Found p (x ∷ xs) y) same (found_here p x xs rises h t)
+      | false ↦ λ t f. found_there p x xs o t (found_later p x.name xs o h f) (found p xs o rises (ordered_tail x.name xs h) f)
     ]) refl e
 
 pub none_found : (p : Object → Bool) (objects : List Object) → find p objects ≡ None → before p objects ≡ objects
 none_found p [] e = refl
 none_found p (x ∷ xs) e =
     (elim (p x) as (λ b. cond b (Some x) (find p xs) ≡ None → cond (not b) (x ∷ before p xs) (before p xs) ≡ x ∷ xs) [
-      true ↦ λ f. absurd cc
-    | false ↦ λ f. ap (λ ys. x ∷ ys) (none_found p xs f)
+      | true ↦ λ f. absurd cc
+      | false ↦ λ f. ap (λ ys. x ∷ ys) (none_found p xs f)
     ]) e
 
 -- ---- by names
@@ -126,8 +108,8 @@ has_at : (objects : List Object) (n : Name) (o : Object) → object_at objects n
 has_at [] n o e = absurd cc
 has_at (x ∷ xs) n o e =
     (elim (name_eq x.name n) as (λ b. cond b (Some x) (object_at xs n) ≡ Some o → (b || has xs n) ≡ true) [
-      true ↦ λ f. refl
-    | false ↦ λ f. has_at xs n o f
+      | true ↦ λ f. refl
+      | false ↦ λ f. has_at xs n o f
     ]) e
 
 shown_at : (objects : List Object) (o : Object) → object_at objects o.name ≡ Some o → shown_object objects o.name ≡ o
@@ -146,28 +128,28 @@ next_of after objects o f =
 pub next_object : (after : Option Name) (objects : List Object) (n : Name) → IsOrdered objects → next_name_after after objects ≡ Some n → Next after objects n
 next_object after objects n h e =
     (elim (find (comes_after after) objects) as (λ r. find (comes_after after) objects ≡ r → option_map (λ (o : Object). o.name) r ≡ Some n → Next after objects n) [
-      None ↦ λ s f. absurd cc
-    | Some o ↦ λ s f.
-        let same : o.name ≡ n = cc in
-        subst (λ (m : Name). Next after objects m) same (next_of after objects o (found (comes_after after) objects o (after_rises after) h s))
+      | None ↦ λ s f. absurd cc
+      | Some o ↦ λ s f.
+          let same : o.name ≡ n = cc in
+          subst (λ (m : Name). Next after objects m) same (next_of after objects o (found (comes_after after) objects o (after_rises after) h s))
     ]) refl e
 
 pub no_next_object : (after : Option Name) (objects : List Object) → next_name_after after objects ≡ None → up_to_name after objects ≡ objects
 no_next_object after objects e =
     none_found (comes_after after) objects
     ((elim (find (comes_after after) objects) as (λ r. option_map (λ (o : Object). o.name) r ≡ None → r ≡ None) [
-      None ↦ λ f. refl
-    | Some o ↦ λ f. absurd cc
+      | None ↦ λ f. refl
+      | Some o ↦ λ f. absurd cc
     ]) e)
 
 -- each object is nearer to the last
 pub fewer_left : (after : Option Name) (objects : List Object) (n : Name) → Next after objects n → length objects - length (up_to_name (Some n) objects) < length objects - length (up_to_name after objects)
 fewer_left after objects n k =
     let counted : length objects ≡ length (up_to_name after objects) + 1 + length k.rest =
-        ap length k.whole ∙ length-append (up_to_name after objects ++ shown_object objects n ∷ []) k.rest
-        ∙ ap (λ (m : ℕ). m + length k.rest) (length-append (up_to_name after objects) (shown_object objects n ∷ [])) in
+    ap length k.whole ∙ length-append (up_to_name after objects ++ shown_object objects n ∷ []) k.rest
+    ∙ ap (λ (m : ℕ). m + length k.rest) (length-append (up_to_name after objects) (shown_object objects n ∷ [])) in
     let more : length (up_to_name (Some n) objects) ≡ length (up_to_name after objects) + 1 =
-        ap length k.next ∙ length-append (up_to_name after objects) (shown_object objects n ∷ []) in
+    ap length k.next ∙ length-append (up_to_name after objects) (shown_object objects n ∷ []) in
     omega arith
 
 pub none_up_to : (objects : List Object) → up_to_name None objects ≡ []

@@ -1,5 +1,5 @@
 -- The words of the report's lines on events.
-use Rattle.std.specs.Prelude.{ℕ, List, [], ◌∷◌, ◌++◌, map, decimal, codes}
+use Rattle.std.specs.Prelude.{List, [], ◌∷◌, ◌++◌, map, decimal, codes}
 use Rattle.k_types.specs.declared.event.Fault.{Fault}
 use Rattle.k_types.specs.declared.event.Fault.TheVariants.{Null, Foreign, NotSharer, NoField, WrongKind, Frozen, Segv, NotPopulating, NotFrozen, Taken, LimitFull, KernelFull}
 use Rattle.k_types.specs.declared.event.Reply.{Reply}

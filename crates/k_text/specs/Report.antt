@@ -3,7 +3,7 @@ use Rattle.std.specs.Prelude.{ℕ, ◌==◌, Bool, false, List, [], ◌∷◌, �
 use Rattle.std.specs.List.{flat_map}
 use Rattle.k_types.specs.declared.names.Name.{Name}
 use Rattle.k_types.specs.declared.names.Heap.{Heap}
-use Rattle.k_types.specs.declared.names.Heap.TheVariants.{Kernel, User, Shared}
+use Rattle.k_types.specs.declared.names.Heap.TheVariants.{Kernel}
 use Rattle.k_types.specs.declared.names.Phase.{Phase}
 use Rattle.k_types.specs.declared.names.Phase.TheVariants.{Unmade, Populating, Frozen, Absorbed}
 use Rattle.k_types.specs.declared.event.Reply.TheVariants.{Refused}
@@ -11,7 +11,7 @@ use Rattle.k_types.specs.declared.event.Event.{Event}
 use Rattle.k_types.specs.declared.event.Event.TheVariants.{Done}
 use Rattle.k_types.specs.Numbers.{numbers_below}
 use Rattle.k_types.specs.Trace.{Trace, process_count}
-use Rattle.k_types.specs.State.{State, Object, Content, Refers, Holds, ExitItem, register, has_share}
+use Rattle.k_types.specs.State.{State, Object, Content, Refers, Holds, register, has_share}
 use Rattle.k_types.specs.Owners.{owner_of, user, shared, bytes_of, charge_of, phase_of}
 use Rattle.k_types.specs.Limits.{use_of, max_of, limits_in}
 use Rattle.k_types.specs.Steps.{state_after}

@@ -1,5 +1,5 @@
 -- What a view shows of its state, and that it shows only what its trace declares.
-use Rattle.std.specs.Prelude.{◌≡◌, ℕ, ◌<◌, ◌&&◌, Bool, true, IsTrue, List, [], ◌∷◌, map, filter, find, length, Option, Some, None, IfSome, option_map, option_and_then, if◌then◌else◌}
+use Rattle.std.specs.Prelude.{◌<◌, Bool, true, IsTrue, List, [], ◌∷◌, map, filter, find, length, Option, Some, None, IfSome, option_map, option_and_then, if◌then◌else◌}
 use Rattle.k_types.specs.declared.names.Name.{Name}
 use Rattle.k_types.specs.declared.names.Heap.{Heap}
 use Rattle.k_types.specs.declared.names.TypeId.{TypeId}
@@ -48,6 +48,16 @@ in_order (n ∷ names) = with_name n (in_order names)
 -- The targets of the heap's exit items, in order by segment and serial.
 abbrev pub exits_of : List ExitItem → Heap → List Name
 exits_of exits h = in_order (map (λ e. e.target) (filter (λ e. heap_eq e.heap h) exits))
+
+-- The names come after that name, and rise by segment and serial.
+abbrev pub AreRisingFrom : Name → List Name → Type 0
+AreRisingFrom n [] = Unit {0}
+AreRisingFrom n (m ∷ names) = IsTrue (name_lt n m) × AreRisingFrom m names
+
+-- The names rise by segment and serial, so that none stands twice.
+abbrev pub AreRising : List Name → Type 0
+AreRising [] = Unit {0}
+AreRising (n ∷ names) = AreRisingFrom n names
 
 -- The name lies in a segment of the trace.
 abbrev pub IsKnownName : Trace → Name → Type 0

@@ -33,7 +33,10 @@ fn push_fault<V: View>(line: &mut LineBuffer, names: &Names, view: &V, fault: Fa
         Fault::WrongKind => line.push_word(b"WrongKind"),
         Fault::Frozen => line.push_word(b"Frozen"),
         Fault::Segv => line.push_word(b"Segv"),
-        Fault::NotPopulating(shared) => line.push_words(b"NotPopulating", names.shared_name(shared)),
+        Fault::NotPopulating(shared) => line.push_words(
+            b"NotPopulating",
+            names.shared_name(shared),
+        ),
         Fault::NotFrozen(shared) => line.push_words(b"NotFrozen", names.shared_name(shared)),
         Fault::Taken(shared) => line.push_words(b"Taken", names.shared_name(shared)),
         Fault::LimitFull(limit) => line.push_words(b"LimitFull", names.limit_name(limit)),

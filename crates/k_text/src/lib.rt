@@ -14,6 +14,7 @@ mod exits;
 mod faults;
 mod graph;
 mod heading;
+mod laws;
 mod line;
 mod operations;
 mod reporting;
@@ -23,6 +24,10 @@ mod view;
 mod words;
 mod worked;
 
+pub use laws::exits_are_told_by_their_targets;
 pub use reporting::report;
 pub use view::View;
-pub use worked::{barrier_row, every_sharer_pays_row, first_run_row, no_operations_row};
+pub use worked::{
+    barrier_row, every_sharer_pays_row, first_run_row, no_operations_row,
+    object_of_a_dead_process_row, orphaned_and_absorbed_row,
+};

@@ -62,7 +62,11 @@ pub fn push_op<V: View>(line: &mut LineBuffer, names: &Names, view: &V, op: &Op)
             line.push_word(b"dir");
             push_register(line, reg);
         }
-        Op::Put { base, field, number } => {
+        Op::Put {
+            base,
+            field,
+            number,
+        } => {
             line.push_word(b"put");
             push_register(line, base);
             line.push_number(u64::from(field));

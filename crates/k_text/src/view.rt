@@ -20,7 +20,9 @@ pub trait View {
 
     // The trace whose setup is shown; its operations are not read.
     ghost trace: { Self → Trace };
+
     ghost events: { Self → List Event };
+
     ghost state: { Self → State };
 
     /// The ceiling of the kernel heap, in bytes.

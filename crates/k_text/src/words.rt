@@ -80,7 +80,12 @@ pub fn push_name_word<V: View>(line: &mut LineBuffer, names: &Names, view: &V, n
 }
 
 /// Adds a space and a reference.
-pub fn push_reference<V: View>(line: &mut LineBuffer, names: &Names, view: &V, reference: Option<Name>)
+pub fn push_reference<V: View>(
+    line: &mut LineBuffer,
+    names: &Names,
+    view: &V,
+    reference: Option<Name>,
+)
     requires named { AreNamed names.now (V.trace view.now) }
     requires known { IfSome reference (IsKnownName (V.trace view.now)) }
     requires room { length line.old + 54 ≤ 1024 }

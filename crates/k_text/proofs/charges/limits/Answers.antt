@@ -1,6 +1,4 @@
-use Rattle.std.proofs.Common.{◌≡◌, ◌++◌, ◌∷◌, [], ℕ, List, map, take, length, arith, sym, ap, ◌∙◌, codes, rules}
-use Rattle.std.specs.List.{flat_map}
-use Rattle.k_types.specs.Numbers.{numbers_below}
+use Rattle.std.proofs.Common.{length, arith}
 use Rattle.k_text.proofs.LineLemmas.{written_none, lines_next, lines_failed, lines_all}
 use Rattle.k_text.specs.Report.{limit_line}
 use Rattle.k_text.proofs.charges.limits.Goals as goal

@@ -1,9 +1,7 @@
-use Rattle.std.proofs.Common.{◌≡◌, [], ℕ, List, map, take, length}
-use Rattle.std.specs.List.{flat_map}
+use Rattle.std.proofs.Common.{◌≡◌, [], map}
 use Rattle.k_words.specs.Words.{text_of}
 use Rattle.k_text.specs.Writing.{HasWritten}
 use Rattle.k_types.specs.Numbers.{numbers_below}
-use Rattle.k_types.specs.Trace.{process_count}
 use Rattle.k_text.specs.Report.{process_line}
 use Rattle.k_text.proofs.charges.processes.Given as goal
 

@@ -1,4 +1,3 @@
-use Rattle.std.proofs.Common.{◌≡◌, ◌++◌, ◌∷◌, [], ℕ, List, map, take, length, arith, sym, ap, ◌∙◌, codes, rules}
 use Rattle.k_text.specs.Report.{phase_words}
 use Rattle.k_text.proofs.charges.push_phase.Goals as goal
 

@@ -1,5 +1,4 @@
-use Rattle.std.proofs.Common.{◌≡◌, [], ℕ, List, map, take, length}
-use Rattle.std.specs.List.{flat_map}
+use Rattle.std.proofs.Common.{◌≡◌, [], map}
 use Rattle.k_words.specs.Words.{text_of}
 use Rattle.k_text.specs.Writing.{HasWritten}
 use Rattle.k_types.specs.Numbers.{numbers_below}

@@ -1,8 +1,7 @@
-use Rattle.std.proofs.Common.{◌≡◌, [], ℕ, List, map, take, length}
-use Rattle.std.specs.List.{flat_map}
+use Rattle.std.proofs.Common.{◌≡◌, [], map, take}
 use Rattle.k_words.specs.Words.{text_of}
 use Rattle.k_text.specs.Writing.{HasWritten}
-use Rattle.k_text.specs.EventLines.{event_words, event_lines}
+use Rattle.k_text.specs.EventLines.{event_words}
 use Rattle.k_text.proofs.events.events.Given as goal
 
 abbrev pub invariant-loop-i : goal.invariant-loop-i

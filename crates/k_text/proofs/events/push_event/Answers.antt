@@ -1,7 +1,3 @@
-use Rattle.std.proofs.Common.{◌≡◌, ◌∙◌, ap, sym, ◌++◌, ◌∷◌, List, codes}
-use Rattle.std.specs.List.{join_with_byte}
-use Rattle.k_types.specs.declared.event.Event.{Event}
-use Rattle.k_words.specs.Words.{Text}
 use Rattle.k_text.specs.EventLines.{event_words, reply_words}
 use Rattle.k_text.proofs.Known.{known_op}
 use Rattle.k_text.proofs.LineLemmas.{operation_line}

@@ -1,4 +1,4 @@
-use Rattle.std.proofs.Common.{◌≡◌, ◌++◌, ◌∷◌, [], ℕ, List, map, take, length, arith, sym, ap, ◌∙◌, codes, rules}
+use Rattle.std.proofs.Common.{◌∷◌, [], arith}
 use Rattle.k_text.proofs.LineLemmas.{written_none, listed_next, listed_failed, listed_all}
 use Rattle.k_text.specs.Shown.{exits_of}
 use Rattle.k_text.specs.Named.{heap_word, name_word}

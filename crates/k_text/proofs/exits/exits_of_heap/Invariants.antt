@@ -1,10 +1,8 @@
-use Rattle.std.proofs.Common.{◌≡◌, ◌∷◌, [], ℕ, List, map, take, length}
-use Rattle.std.specs.List.{flat_map}
+use Rattle.std.proofs.Common.{◌≡◌, ◌∷◌, [], map, take}
 use Rattle.k_words.specs.Words.{text_of}
 use Rattle.k_text.specs.Writing.{HasWritten}
 use Rattle.k_text.specs.Shown.{exits_of}
 use Rattle.k_text.specs.Named.{heap_word, name_word}
-use Rattle.k_text.specs.Report.{exits_of_heap}
 use Rattle.k_text.proofs.exits.exits_of_heap.Given as goal
 
 abbrev pub invariant-loop-i : goal.invariant-loop-i

@@ -1,6 +1,5 @@
-use Rattle.std.proofs.Common.{◌≡◌, ◌++◌, ◌∷◌, [], ℕ, List, map, take, length, arith, sym, ap, ◌∙◌, codes, rules}
-use Rattle.std.specs.List.{flat_map}
-use Rattle.k_text.proofs.LineLemmas.{part_first, part_then, part_last, part_failed_first, part_failed, part_missing}
+use Rattle.std.proofs.Common.{◌∷◌, [], map, codes}
+use Rattle.k_text.proofs.LineLemmas.{part_first, part_last, part_failed_first, part_missing}
 use Rattle.k_types.specs.Owners.{owner_of}
 use Rattle.k_text.specs.Report.{graph_lines, object_words}
 use Rattle.k_text.proofs.graph.graph.Goals as goal

@@ -1,7 +1,6 @@
-use Rattle.std.proofs.Common.{◌≡◌, ◌∷◌, [], List, Some, None, sym, ◌∙◌, map}
+use Rattle.std.proofs.Common.{Some, sym, ◌∙◌}
 use Rattle.k_types.specs.Owners.{owner_of}
-use Rattle.k_types.specs.State.{Object}
-use Rattle.k_text.specs.Shown.{shown_object, next_name_after}
+use Rattle.k_text.specs.Shown.{shown_object}
 use Rattle.k_text.specs.Report.{object_words}
 use Rattle.k_text.proofs.LineLemmas.{written_none, mapped_next, mapped_failed, mapped_all}
 use Rattle.k_text.proofs.Objects.{up_to_name, none_up_to, next_object, no_next_object, fewer_left}
@@ -32,10 +31,10 @@ loop-name-preserved g c =
     let next = next_object c.loop-name.after (g.V.View.state c.args.view.now).objects c.in-Some.name c.in-Some.ensures.ordered (sym c.in-Some.ensures.next) in
     record {
       written = mapped_next (object_words c.args.names.now (owner_of (g.V.View.trace c.args.view.now) (g.V.View.state c.args.view.now)))
-        (up_to_name c.loop-name.after (g.V.View.state c.args.view.now).objects)
-        (up_to_name (Some c.in-Some.name) (g.V.View.state c.args.view.now).objects)
-        (shown_object (g.V.View.state c.args.view.now).objects c.in-Some.name)
-        _ _ _ _ _ _ _ next.next c.loop-name.invariant.written c.in_ok-put_object.ensures.written;
+          (up_to_name c.loop-name.after (g.V.View.state c.args.view.now).objects)
+          (up_to_name (Some c.in-Some.name) (g.V.View.state c.args.view.now).objects)
+          (shown_object (g.V.View.state c.args.view.now).objects c.in-Some.name)
+          _ _ _ _ _ _ _ next.next c.loop-name.invariant.written c.in_ok-put_object.ensures.written;
       empty = c.put_object.ensures.empty;
     }
 

@@ -1,4 +1,4 @@
-use Rattle.std.proofs.Common.{◌≡◌, ◌-◌, [], ℕ, length, map}
+use Rattle.std.proofs.Common.{◌≡◌, ◌-◌, [], length, map}
 use Rattle.k_types.specs.Owners.{owner_of}
 use Rattle.k_words.specs.Words.{text_of}
 use Rattle.k_text.specs.Writing.{HasWritten}

@@ -1,5 +1,4 @@
-use Rattle.std.proofs.Common.{◌≡◌, ◌∷◌, map}
-use Rattle.std.specs.List.{join_with_byte}
+use Rattle.std.proofs.Common.{map}
 use Rattle.k_types.specs.Owners.{owner_of}
 use Rattle.k_text.specs.Shown.{shown_object, type_at}
 use Rattle.k_text.specs.Named.{name_word, heap_word, type_word}
@@ -16,12 +15,12 @@ unfolding object_words
 returns-clause-written g c =
     writes_line _ _ _ _ _ _ (object_words c.args.names.now (owner_of (g.V.View.trace c.args.view.now) (g.V.View.state c.args.view.now)) (shown_object (g.V.View.state c.args.view.now).objects c.args.name))
     (line_behind_three (name_word c.args.names.now c.args.name)
-      (heap_word c.args.names.now (owner_of (g.V.View.trace c.args.view.now) (g.V.View.state c.args.view.now) c.args.name.seg.0))
-      (type_word c.args.names.now (type_at (g.V.View.state c.args.view.now).objects c.args.name))
-      _ _ _ _
-      (map (field_word c.args.names.now) (shown_object (g.V.View.state c.args.view.now).objects c.args.name).fields)
-      (rw c.requires.empty at c.push_name.ensures.text)
-      (rw (c.heap_name.ensures.name, c.owner.ensures) at c.push_word.ensures)
-      (rw (c.type_label.ensures.name, c.object_type.ensures.exact) at c.push_word-2.ensures)
-      c.push_fields.ensures.text)
+    (heap_word c.args.names.now (owner_of (g.V.View.trace c.args.view.now) (g.V.View.state c.args.view.now) c.args.name.seg.0))
+    (type_word c.args.names.now (type_at (g.V.View.state c.args.view.now).objects c.args.name))
+    _ _ _ _
+    (map (field_word c.args.names.now) (shown_object (g.V.View.state c.args.view.now).objects c.args.name).fields)
+    (rw c.requires.empty at c.push_name.ensures.text)
+    (rw (c.heap_name.ensures.name, c.owner.ensures) at c.push_word.ensures)
+    (rw (c.type_label.ensures.name, c.object_type.ensures.exact) at c.push_word-2.ensures)
+    c.push_fields.ensures.text)
     c.write_to.ensures.written

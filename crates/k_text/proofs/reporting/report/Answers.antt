@@ -1,5 +1,4 @@
-use Rattle.std.proofs.Common.{◌≡◌, ◌++◌, ◌∷◌, [], ℕ, List, map, take, length, arith, sym, ap, ◌∙◌, codes, rules}
-use Rattle.std.specs.List.{flat_map}
+use Rattle.std.proofs.Common.{◌++◌, ◌∷◌, [], codes}
 use Rattle.k_text.proofs.LineLemmas.{part_first, part_then, part_last, part_failed_first, part_failed, part_missing}
 use Rattle.k_text.specs.Report.{report_lines, graph_lines, roots_lines, exits_lines, shares_lines, faults_lines, charges_lines}
 use Rattle.k_text.specs.EventLines.{event_lines}

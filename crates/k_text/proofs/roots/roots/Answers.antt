@@ -1,6 +1,6 @@
-use Rattle.std.proofs.Common.{◌≡◌, ◌++◌, ◌∷◌, [], ℕ, List, map, take, length, arith, sym, ap, ◌∙◌, codes, rules}
+use Rattle.std.proofs.Common.{◌∷◌, [], codes}
 use Rattle.std.specs.List.{flat_map}
-use Rattle.k_text.proofs.LineLemmas.{part_first, part_then, part_last, part_failed_first, part_failed, part_missing}
+use Rattle.k_text.proofs.LineLemmas.{part_first, part_last, part_failed_first, part_missing}
 use Rattle.k_types.specs.Numbers.{numbers_below}
 use Rattle.k_types.specs.Trace.{process_count}
 use Rattle.k_text.specs.Report.{roots_lines, roots_of_process}

@@ -1,10 +1,10 @@
-use Rattle.std.proofs.Common.{◌≡◌, [], ℕ, List, map, take, length}
+use Rattle.std.proofs.Common.{◌≡◌, []}
 use Rattle.std.specs.List.{flat_map}
 use Rattle.k_words.specs.Words.{text_of}
 use Rattle.k_text.specs.Writing.{HasWritten}
 use Rattle.k_types.specs.Numbers.{numbers_below}
 use Rattle.k_types.specs.State.{register}
-use Rattle.k_text.specs.Report.{root_lines, roots_of_process, register_numbers}
+use Rattle.k_text.specs.Report.{root_lines}
 use Rattle.k_text.proofs.roots.roots_of_process.Given as goal
 
 abbrev pub invariant-loop-r : goal.invariant-loop-r

@@ -1,9 +1,8 @@
-use Rattle.std.proofs.Common.{◌≡◌, [], ℕ, List, map, take, length}
+use Rattle.std.proofs.Common.{◌≡◌, []}
 use Rattle.std.specs.List.{flat_map}
 use Rattle.k_words.specs.Words.{text_of}
 use Rattle.k_text.specs.Writing.{HasWritten}
 use Rattle.k_types.specs.Numbers.{numbers_below}
-use Rattle.k_types.specs.Trace.{process_count}
 use Rattle.k_text.specs.Report.{shares_of_process}
 use Rattle.k_text.proofs.shares.all_shares.Given as goal
 

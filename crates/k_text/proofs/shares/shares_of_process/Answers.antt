@@ -1,6 +1,4 @@
-use Rattle.std.proofs.Common.{◌≡◌, ◌++◌, ◌∷◌, [], ℕ, List, map, take, length, arith, sym, ap, ◌∙◌, codes, rules}
-use Rattle.std.specs.List.{flat_map}
-use Rattle.k_types.specs.Numbers.{numbers_below}
+use Rattle.std.proofs.Common.{arith}
 use Rattle.k_text.proofs.LineLemmas.{written_none, numbers_next, numbers_failed, numbers_all}
 use Rattle.k_types.specs.State.{has_share}
 use Rattle.k_text.specs.Report.{share_lines, shares_of_process}
