@@ -10,6 +10,8 @@
 
 mod error;
 mod paths;
+#[cfg(test)]
+mod tests;
 mod tree;
 
 pub use error::MakeError;
