@@ -6,3 +6,5 @@ pub mod Slices
 pub mod Reserves
 pub mod Adding
 pub mod Making
+pub mod MachineUses
+pub mod Fits

@@ -6,6 +6,7 @@ use Rattle.std.specs.Result.{IsErrAnd}
 use Rattle.k_types.specs.Numbers.{numbers_from}
 use Rattle.k_types.specs.declared.setup.LimitRow.{LimitRow}
 use Rattle.k_types.specs.Trace.{row_of, no_row}
+use Rattle.k_types.specs.TraceRules.{IsTree}
 use Rattle.k_limits.specs.Limits.{ChargedLimits, charged_limits}
 use Rattle.k_limits.specs.Rows.{AreRows, uncharged, is_refused, first_refused, Explains, ExplainsRow}
 use Rattle.k_limits.specs.declared.error.MakeError.{MakeError}
@@ -24,11 +25,30 @@ find_from p first (suc n) at low high none here =
           ap (λ b. cond b (Some first) (find p (numbers_from (suc first) n))) (ap p same ∙ here) ∙ ap (λ (k : ℕ). Some k) same)
     ]
 
-find_none_from : (p : ℕ → Bool) (first n : ℕ) → ((k : ℕ) → first ≤ k → k < first + n → p k ≡ false) → find p (numbers_from first n) ≡ None
+pub find_none_from : (p : ℕ → Bool) (first n : ℕ) → ((k : ℕ) → first ≤ k → k < first + n → p k ≡ false) → find p (numbers_from first n) ≡ None
 find_none_from p first zero none = refl
 find_none_from p first (suc n) none =
     ap (λ b. cond b (Some first) (find p (numbers_from (suc first) n))) (none first (omega arith) (omega arith))
     ∙ find_none_from p (suc first) n (λ k low high. none k (omega (arith, low)) (omega (arith, high)))
+
+-- what a search that finds nothing tells of each number
+pub none_from : (p : ℕ → Bool) (first n : ℕ) → find p (numbers_from first n) ≡ None → (k : ℕ) → first ≤ k → k < first + n → p k ≡ false
+none_from p first zero none k low high = absurd (omega (arith, low, high))
+none_from p first (suc n) none k low high = go (p first) refl none (none_from p (suc first) n)
+  where
+    go : (b : Bool) → p first ≡ b → cond b (Some first) (find p (numbers_from (suc first) n)) ≡ None →
+        (find p (numbers_from (suc first) n) ≡ None → (k : ℕ) → suc first ≤ k → k < suc first + n → p k ≡ false) → p k ≡ false
+    go true is found ih = absurd (cc)
+    go false is found ih =
+        elim (cases_lt first k) [
+          | inl after ↦ ih found k (omega (arith, after)) (omega (arith, high))
+          | inr past ↦ (let same : first ≡ k = omega (arith, low, past) in subst (λ (z : ℕ). p z ≡ false) same is)
+        ]
+
+pub take_tree : (rows : List LimitRow) → IsTree rows → (n : ℕ) → n ≤ length rows → IsTree (take n rows)
+take_tree rows tree n le m parent known is =
+    let count = length-take-le n rows le in
+    tree m parent (omega (arith, known, count, le)) (ap (λ (r : LimitRow). r.parent) (sym (get_or-take n rows m no_row (omega (arith, known, count)))) ∙ is)
 
 module _ (rows : List LimitRow) (fine : AreRows rows) where
   row_taken : (n m : ℕ) → m < n → row_of (take n rows) m ≡ row_of rows m
@@ -36,7 +56,7 @@ module _ (rows : List LimitRow) (fine : AreRows rows) where
 
   taken_rows : (n : ℕ) → n ≤ length rows → AreRows (take n rows)
   taken_rows n le = record {
-    tree = λ m parent known is. fine.tree m parent (let count = length-take-le n rows le in omega (arith, known, count, le)) (ap (λ (r : LimitRow). r.parent) (sym (row_taken n m (let count = length-take-le n rows le in omega (arith, known, count)))) ∙ is);
+    tree = take_tree rows fine.tree n le;
     small = λ m known.
         let count = length-take-le n rows le in
         let same = ap (λ (r : LimitRow). r.max) (row_taken n m (omega (arith, known, count))) in

@@ -102,7 +102,7 @@ module _ (limits : ChargedLimits) (uses : List ℕ) (kept : AreUses limits uses)
   pub room_from : (from : Option LimitId) → InRows limits.rows from → (n : ℕ) → find (is_full_at limits n) (path_from limits.rows from) ≡ None → (m : ℕ) → m < length limits.rows →
       use_at limits m + n * times_on (path_from limits.rows from) m ≤ max_of limits.rows m
   room_from None inside n none m known = omega (arith, kept.fit m known)
-  room_from (Some r) inside n none m known = room_for limits uses kept r.0 inside n none m known
+  room_from (Some r) inside n none m known = room_for limits kept.rows.tree r.0 inside kept.fit n none m known
 
 -- a row is refused where a limit on the path of its reservation is full
 pub refused_is : (limits : ChargedLimits) (row : LimitRow) → is_refused limits row ≡ is_some (find (is_full_at limits row.max) (path_from limits.rows (reserved_from row)))
@@ -120,7 +120,7 @@ past_zero [] (suc q) past = get_or_past {X = ℕ} [] q 0 zero-le
 past_zero (x ∷ xs) zero past = absurd (omega (arith, past))
 past_zero (x ∷ xs) (suc q) past = past_zero xs q (omega (arith, past))
 
-module _ (limits : ChargedLimits) (uses : List ℕ) (kept : AreUses limits uses) (row : LimitRow) (fine : AreRows (limits.rows ++ row ∷ [])) where
+module _ (limits : ChargedLimits) (row : LimitRow) (tree : IsTree (limits.rows ++ row ∷ [])) (charges : length limits.direct ≡ length limits.rows) where
   direct_same : (q : ℕ) → slice_index (limits.direct ++ 0 ∷ []) q ≡ slice_index limits.direct q
   direct_same q =
       elim (cases_lt q (length limits.direct)) [
@@ -128,18 +128,13 @@ module _ (limits : ChargedLimits) (uses : List ℕ) (kept : AreUses limits uses)
         | inr after ↦ past_zero limits.direct q after ∙ sym (get_or_past limits.direct q 0 after)
       ]
 
-  pub max_small : row.max < 2 ^ 40
-  max_small =
-      let small = fine.small (length limits.rows) (let more = length_more limits.rows row in omega (arith, more)) in
-      let last = ap (λ (r : LimitRow). r.max) (row_last limits.rows row) in omega (arith, small, last)
-
   -- what the reservation adds to each use
   pub use_reserved : (m : ℕ) → m < length limits.rows → use_at (charged_limits (limits.rows ++ row ∷ []) (limits.direct ++ 0 ∷ [])) m ≡ use_at limits m + row.max * times_on (path_from limits.rows (reserved_from row)) m
   use_reserved m known =
       let more = length_more limits.rows row in
-      use_before limits.rows row fine.tree (slice_index (limits.direct ++ 0 ∷ [])) (direct_same (length limits.rows) ∙ get_or_past limits.direct (length limits.rows) 0 (omega (arith, kept.charges))) (length (limits.rows ++ row ∷ [])) m known
-      ∙ use_deep limits.rows kept.rows.tree (λ q. slice_index (limits.direct ++ 0 ∷ []) q + reservation row q) (length (limits.rows ++ row ∷ [])) (length limits.rows) m known (omega (arith, more)) (omega arith)
-      ∙ go row.hard row.parent (parent_before limits.rows row fine.tree)
+      use_before limits.rows row tree (slice_index (limits.direct ++ 0 ∷ [])) (direct_same (length limits.rows) ∙ get_or_past limits.direct (length limits.rows) 0 (omega (arith, charges))) (length (limits.rows ++ row ∷ [])) m known
+      ∙ use_deep limits.rows (tree_before limits.rows row tree) (λ q. slice_index (limits.direct ++ 0 ∷ []) q + reservation row q) (length (limits.rows ++ row ∷ [])) (length limits.rows) m known (omega (arith, more)) (omega arith)
+      ∙ go row.hard row.parent (parent_before limits.rows row tree)
     where
       same_uses : (e : ℕ → ℕ) → ((q : ℕ) → e q ≡ slice_index limits.direct q) → use_within limits.rows e (length limits.rows) m ≡ use_at limits m + row.max * 0
       same_uses e same = let all = ap (λ d. use_within limits.rows d (length limits.rows) m) (fun_ext same) in omega (arith, all)
@@ -149,7 +144,7 @@ module _ (limits : ChargedLimits) (uses : List ℕ) (kept : AreUses limits uses)
           ≡ use_at limits m + row.max * times_on (path_from limits.rows (cond hard parent None)) m
       go true None inside = same_uses (λ q. slice_index (limits.direct ++ 0 ∷ []) q + 0) (λ q. omega (arith, direct_same q))
       go true (Some r) inside =
-          use_charged limits.rows kept.rows.tree r.0 inside (slice_index limits.direct) (λ q. slice_index (limits.direct ++ 0 ∷ []) q + cond (r.0 == q) row.max 0) row.max (λ q. at_parent q) m
+          use_charged limits.rows (tree_before limits.rows row tree) r.0 inside (slice_index limits.direct) (λ q. slice_index (limits.direct ++ 0 ∷ []) q + cond (r.0 == q) row.max 0) row.max (λ q. at_parent q) m
         where
           at_parent : (q : ℕ) → slice_index (limits.direct ++ 0 ∷ []) q + cond (r.0 == q) row.max 0 ≡ slice_index limits.direct q + row.max * bit (q == r.0)
           at_parent q =
@@ -161,7 +156,13 @@ module _ (limits : ChargedLimits) (uses : List ℕ) (kept : AreUses limits uses)
       go false (Some r) inside = same_uses (λ q. slice_index (limits.direct ++ 0 ∷ []) q + cond (r.0 == q) 0 0) (λ q. let nothing = neither (r.0 == q) in omega (arith, direct_same q, nothing))
 
   pub use_of_last : use_at (charged_limits (limits.rows ++ row ∷ []) (limits.direct ++ 0 ∷ [])) (length limits.rows) ≡ 0
-  use_of_last = use_last limits.rows row fine.tree (slice_index (limits.direct ++ 0 ∷ [])) (direct_same (length limits.rows) ∙ get_or_past limits.direct (length limits.rows) 0 (omega (arith, kept.charges))) (length (limits.rows ++ row ∷ []))
+  use_of_last = use_last limits.rows row tree (slice_index (limits.direct ++ 0 ∷ [])) (direct_same (length limits.rows) ∙ get_or_past limits.direct (length limits.rows) 0 (omega (arith, charges))) (length (limits.rows ++ row ∷ []))
+
+module _ (limits : ChargedLimits) (uses : List ℕ) (kept : AreUses limits uses) (row : LimitRow) (fine : AreRows (limits.rows ++ row ∷ [])) where
+  pub max_small : row.max < 2 ^ 40
+  max_small =
+      let small = fine.small (length limits.rows) (let more = length_more limits.rows row in omega (arith, more)) in
+      let last = ap (λ (r : LimitRow). r.max) (row_last limits.rows row) in omega (arith, small, last)
 
   pub added : (uses' : List ℕ) → length limits.rows + 1 < 2 ^ 32 → find (is_full_at limits row.max) (path_from limits.rows (reserved_from row)) ≡ None → length uses' ≡ length uses
       → ((m : ℕ) → m < length limits.rows → slice_index uses' m ≡ slice_index uses m + row.max * times_on (path_from limits.rows (reserved_from row)) m)
@@ -181,13 +182,13 @@ module _ (limits : ChargedLimits) (uses : List ℕ) (kept : AreUses limits uses)
       each' : (m : ℕ) → m < length (limits.rows ++ row ∷ []) → slice_index (uses' ++ 0 ∷ []) m ≡ use_at (charged_limits (limits.rows ++ row ∷ []) (limits.direct ++ 0 ∷ [])) m
       each' m inside =
           elim (cases_lt m (length limits.rows)) [
-            | inl before ↦ (let read = get_or_append_left uses' (0 ∷ []) 0 m (omega (arith, before, same, kept.all)) in omega (arith, read, raised m before, kept.each m before, use_reserved m before))
-            | inr after ↦ past_zero uses' m (omega (arith, after, same, kept.all)) ∙ sym (ap (use_at (charged_limits (limits.rows ++ row ∷ []) (limits.direct ++ 0 ∷ []))) (at_last m after inside) ∙ use_of_last)
+            | inl before ↦ (let read = get_or_append_left uses' (0 ∷ []) 0 m (omega (arith, before, same, kept.all)) in omega (arith, read, raised m before, kept.each m before, use_reserved limits row fine.tree kept.charges m before))
+            | inr after ↦ past_zero uses' m (omega (arith, after, same, kept.all)) ∙ sym (ap (use_at (charged_limits (limits.rows ++ row ∷ []) (limits.direct ++ 0 ∷ []))) (at_last m after inside) ∙ use_of_last limits row fine.tree kept.charges)
           ]
 
       fit' : (m : ℕ) → m < length (limits.rows ++ row ∷ []) → use_at (charged_limits (limits.rows ++ row ∷ []) (limits.direct ++ 0 ∷ [])) m ≤ max_of (limits.rows ++ row ∷ []) m
       fit' m inside =
           elim (cases_lt m (length limits.rows)) [
-            | inl before ↦ (let max = ap (λ (r : LimitRow). r.max) (row_before limits.rows row m before) in omega (arith, max, use_reserved m before, room_from limits uses kept (reserved_from row) (reserved_in limits.rows row fine.tree) row.max none m before))
-            | inr after ↦ (let nothing = ap (use_at (charged_limits (limits.rows ++ row ∷ []) (limits.direct ++ 0 ∷ []))) (at_last m after inside) ∙ use_of_last in omega (arith, nothing))
+            | inl before ↦ (let max = ap (λ (r : LimitRow). r.max) (row_before limits.rows row m before) in omega (arith, max, use_reserved limits row fine.tree kept.charges m before, room_from limits uses kept (reserved_from row) (reserved_in limits.rows row fine.tree) row.max none m before))
+            | inr after ↦ (let nothing = ap (use_at (charged_limits (limits.rows ++ row ∷ []) (limits.direct ++ 0 ∷ []))) (at_last m after inside) ∙ use_of_last limits row fine.tree kept.charges in omega (arith, nothing))
           ]

@@ -9,8 +9,12 @@
 #![tactic(auto)]
 
 mod error;
+mod laws;
 mod paths;
+#[cfg(test)]
+mod tests;
 mod tree;
 
 pub use error::MakeError;
+pub use laws::{rows_that_fit_are_not_refused, uses_are_the_machines};
 pub use tree::LimitTree;

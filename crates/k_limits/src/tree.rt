@@ -1,4 +1,4 @@
-ghost use Rattle.std.specs.Prelude.{◌≡◌, ℕ, ◌+◌, ◌-◌, ◌^◌, ◌<◌, ◌≤◌, [], ◌∷◌, ◌++◌, length, slice_index, slice_set, Some, None, IsFalse, IfOk, IfErr};
+ghost use Rattle.std.specs.Prelude.{◌≡◌, ℕ, ◌+◌, ◌-◌, ◌^◌, ◌<◌, ◌≤◌, [], ◌∷◌, ◌++◌, length, slice_index, slice_set, Some, None, IsTrue, IsFalse, IfOk, IfErr};
 ghost use Rattle.k_types.specs.Names.{among};
 ghost use Rattle.k_types.specs.Limits.{max_of};
 ghost use Rattle.k_limits.specs.Limits.{use_at, full_at};
@@ -109,7 +109,8 @@ impl LimitTree {
     /// The bytes in use at the limit: what is charged at it, and for each child its maximum, where it is hard, or its use.
     pub fn use_of(&self, at: LimitId) -> u64
         requires { at.0 < length self.now.rows }
-        ensures { result ≡ use_at self.now at.0 }
+        ensures sum { result ≡ use_at self.now at.0 }
+        ensures fits { result ≤ max_of self.now.rows at.0 }
     {
         self.uses[at.0 as usize]
     }
@@ -117,7 +118,8 @@ impl LimitTree {
     /// The most bytes that may be in use at the limit.
     pub fn max_of(&self, at: LimitId) -> u64
         requires { at.0 < length self.now.rows }
-        ensures { result ≡ max_of self.now.rows at.0 }
+        ensures value { result ≡ max_of self.now.rows at.0 }
+        ensures small { result < 2 ^ 40 }
     {
         self.rows[at.0 as usize].max
     }
@@ -133,7 +135,8 @@ impl LimitTree {
     /// Whether `upper` is an ancestor of `lower`. No limit is its own ancestor.
     pub fn below(&self, lower: LimitId, upper: LimitId) -> bool
         requires { lower.0 < length self.now.rows }
-        ensures { result ≡ among upper.0 (ancestors_of self.now.rows lower.0) }
+        ensures above { result ≡ among upper.0 (ancestors_of self.now.rows lower.0) }
+        ensures before { IsTrue result → upper.0 < lower.0 }
     {
         is_below(&self.rows, lower, upper)
     }
