@@ -1,0 +1,4 @@
+pub mod Contents
+pub mod Machines
+pub mod Accesses
+pub mod Built
