@@ -16,3 +16,5 @@ pub mod Done
 pub mod Quiet
 pub mod Orders
 pub mod Follows
+pub mod Filed
+pub mod FirstForms

@@ -2,3 +2,4 @@ pub mod Contents
 pub mod Machines
 pub mod Accesses
 pub mod Built
+pub mod Runs

@@ -8,6 +8,7 @@
 mod access;
 mod allocation;
 mod bytes;
+mod ending;
 mod items;
 mod limits;
 mod names;
@@ -15,6 +16,11 @@ mod objects;
 mod opening;
 mod operation;
 mod registers;
+mod running;
+
 mod state;
 mod store;
 
+pub use ending::PlainEnd;
+pub use running::solo;
+pub use state::PlainState;
