@@ -1,12 +1,13 @@
 -- Histories that follow one another.
-use Rattle.std.proofs.Common.{◌≡◌, ℕ, ◌+◌, cond, refl, ap, ◌==◌, true, false, List, [], ◌∷◌, ◌++◌, arith}
+use Rattle.std.proofs.Common.{◌≡◌, ℕ, ◌+◌, ◌==◌, cond, true, false, refl, ap, sym, subst, List, [], ◌∷◌, ◌++◌, append-nil, arith}
+use Rattle.std.proofs.lemmas.List.{append_assoc}
 use Rattle.k_types.specs.declared.event.Event.{Event}
 use Rattle.k_types.specs.declared.event.Event.TheVariants.{Done, Ended, Absorbed, Closing}
 use Rattle.k_types.specs.Trace.{Trace}
-use Rattle.k_types.specs.State.{State}
+use Rattle.k_types.specs.State.{State, opening}
 use Rattle.k_types.specs.Effects.{step}
 use Rattle.k_types.specs.Cells.{Cell}
-use Rattle.k_types.specs.Steps.{IsRun, run, touch_count_from, done_by}
+use Rattle.k_types.specs.Steps.{IsRun, IsPossible, IsLegalHistory, run, state_after, touch_count_from, done_by}
 
 pub run_append : (trace : Trace) (st : State) (xs ys : List Event) → run trace st (xs ++ ys) ≡ run trace (run trace st xs) ys
 run_append trace st [] ys = refl
@@ -41,3 +42,22 @@ done_step p Closing xs ys ih = ih
 pub done_append : (p : ℕ) (xs ys : List Event) → done_by p (xs ++ ys) ≡ done_by p xs ++ done_by p ys
 done_append p [] ys = refl
 done_append p (x ∷ xs) ys = done_step p x xs ys (done_append p xs ys)
+
+-- what holds of the empty history, and after an event where it held before it, holds of every legal history
+pub history_induction : (trace : Trace) (P : List Event → Type 0) → P [] →
+    ((history : List Event) (event : Event) → IsLegalHistory trace history → IsPossible trace (state_after trace history) event → P history → P (history ++ event ∷ [])) →
+    (history : List Event) → IsLegalHistory trace history → P history
+history_induction trace P first next history legal = go [] history tt legal first
+  where
+    go : (front rest : List Event) → IsLegalHistory trace front → IsRun trace (state_after trace front) rest → P front → P (front ++ rest)
+    go front [] before legal held = subst P (sym (append-nil front)) held
+    go front (event ∷ rest) before legal held =
+        subst P (append_assoc front (event ∷ []) rest)
+        (go (front ++ event ∷ []) rest
+        (legal_append trace (opening trace) front (event ∷ []) before (legal.0, tt))
+        (subst (λ st. IsRun trace st rest) (sym (run_append trace (opening trace) front (event ∷ []))) legal.1)
+        (next front event before legal.0 held))
+
+-- the state after one more event
+pub state_next : (trace : Trace) (history : List Event) (event : Event) → state_after trace (history ++ event ∷ []) ≡ step trace (state_after trace history) event
+state_next trace history event = run_append trace (opening trace) history (event ∷ [])

@@ -48,15 +48,15 @@ nothing_more : (a b : ℕ) (t : Bool) → a ≡ b → a ≡ b + 0 * bit t
 nothing_more a b t e = omega (arith, e)
 
 module _ (trace : Trace) (st : State) (p : ℕ) (sound : IsSound trace st) (known : p < process_count trace) (lives : IsFalse (among p st.ended)) where
-  abbrev Same : State → ℕ → Type 0
+  abbrev pub Same : State → ℕ → Type 0
   Same su q = charge_of trace su q ≡ charge_of trace st q + 0 * bit (q == p)
 
-  new_charge : (ty : TypeId) (q : ℕ) → charge_of trace (create (p + 1) ty (kinds_of trace ty) st) q ≡ charge_of trace st q + size_of_type trace ty * bit (q == p)
+  pub new_charge : (ty : TypeId) (q : ℕ) → charge_of trace (create (p + 1) ty (kinds_of trace ty) st) q ≡ charge_of trace st q + size_of_type trace ty * bit (q == p)
   unfolding create
   new_charge ty q = charge_added (bytes_of trace st) (bytes_of trace (create (p + 1) ty (kinds_of trace ty) st)) st.ended st.shares p (size_of_type trace ty) lives
       (λ h. bytes_after trace st (p + 1) ty h ∙ ap (λ own. bytes_of trace st h + size_of_type trace ty * bit (heap_eq own h)) (owner_user trace st p known lives)) q
 
-  knew_charge : (ty : TypeId) (q : ℕ) → Same (create 0 ty (kinds_of trace ty) st) q
+  pub knew_charge : (ty : TypeId) (q : ℕ) → Same (create 0 ty (kinds_of trace ty) st) q
   unfolding create
   knew_charge ty q = nothing_more _ _ (q == p) (charge_same (bytes_of trace (create 0 ty (kinds_of trace ty) st)) (bytes_of trace st) st.ended st.shares (λ k. same (user k) refl) (λ k. same (shared k) refl) q)
     where
@@ -65,7 +65,7 @@ module _ (trace : Trace) (st : State) (p : ℕ) (sound : IsSound trace st) (know
           bytes_after trace st 0 ty h ∙ ap (λ own. bytes_of trace st h + size_of_type trace ty * bit (heap_eq own h)) (owner_kernel trace st)
           ∙ ap (λ b. bytes_of trace st h + size_of_type trace ty * bit b) apart ∙ (omega arith)
 
-  snew_charge : (s : ℕ) (pid : Pid) (ty : TypeId) → phase_of st.phases s ≡ Populating pid → pid.0 ≡ p → (q : ℕ) →
+  pub snew_charge : (s : ℕ) (pid : Pid) (ty : TypeId) → phase_of st.phases s ≡ Populating pid → pid.0 ≡ p → (q : ℕ) →
       charge_of trace (create (1 + process_count trace + s) ty (kinds_of trace ty) st) q ≡ charge_of trace st q + size_of_type trace ty * bit (q == p)
   unfolding create
   snew_charge s pid ty phase is q =
@@ -108,7 +108,7 @@ module _ (trace : Trace) (st : State) (p : ℕ) (sound : IsSound trace st) (know
   unfolding after_freeze
   freeze_nothing s = refl
 
-  attach_charge : (s q : ℕ) → charge_of trace (add_share p s st) q ≡ charge_of trace st q + cond (has_share st.shares p s) 0 (bytes_of trace st (shared s)) * bit (q == p)
+  pub attach_charge : (s q : ℕ) → charge_of trace (add_share p s st) q ≡ charge_of trace st q + cond (has_share st.shares p s) 0 (bytes_of trace st (shared s)) * bit (q == p)
   unfolding add_share
   attach_charge s q =
       elim (has_share st.shares p s) as (λ b. charge_by (bytes_of trace st) st.ended (cond b st.shares (st.shares ++ record { process = p; heap = s } ∷ [])) q ≡ charge_of trace st q + cond b 0 (bytes_of trace st (shared s)) * bit (q == p)) [
@@ -116,7 +116,7 @@ module _ (trace : Trace) (st : State) (p : ℕ) (sound : IsSound trace st) (know
         | false ↦ charge_sharing (bytes_of trace st) st.ended st.shares p s lives q
       ]
 
-  share_charge : (s q : ℕ) (pid : Pid) → phase_of st.phases s ≡ Unmade → Same (add_share p s (set_phase s (Populating pid) st)) q
+  pub share_charge : (s q : ℕ) (pid : Pid) → phase_of st.phases s ≡ Unmade → Same (add_share p s (set_phase s (Populating pid) st)) q
   unfolding add_share set_phase
   share_charge s q pid unmade =
       let own = owner_kept trace st s (Populating pid) (sym (ap is_absorbed unmade)) in

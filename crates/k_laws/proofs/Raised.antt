@@ -128,7 +128,7 @@ charge_shared_added b c ended shares p s n lives distinct shares_it alone more q
       | inr ne ↦ ap bit (false_from_ne_true _ (λ t. ne (alone q t)) ∙ sym (ne_eqb q p ne))
     ]
 
-total_append : {A : Type 0} (f : A → ℕ) (xs ys : List A) → total f (xs ++ ys) ≡ total f xs + total f ys
+pub total_append : {A : Type 0} (f : A → ℕ) (xs ys : List A) → total f (xs ++ ys) ≡ total f xs + total f ys
 total_append f [] ys = omega arith
 total_append f (x ∷ xs) ys = omega (arith, total_append f xs ys)
 

@@ -26,7 +26,7 @@ use Rattle.k_frame.proofs.Kept.{has_exit-kept, any-fewer, distinct_exits-kept}
 use Rattle.k_laws.proofs.Uses.{charged_less, use_by_less}
 
 -- a shared heap refers only to itself and to the kernel
-shared_to : (s : ℕ) (k : Heap) → IsLegalStore (shared s) k → IsFalse (heap_eq (shared s) k) → k ≡ Kernel
+pub shared_to : (s : ℕ) (k : Heap) → IsLegalStore (shared s) k → IsFalse (heap_eq (shared s) k) → k ≡ Kernel
 shared_to s Kernel t apart = refl
 shared_to s (User p) t apart = absurd (false≢true t)
 shared_to s (Shared q) t apart = absurd (false≢true (sym apart ∙ t))

@@ -32,7 +32,7 @@ use Rattle.k_laws.proofs.SoundAbsorbed.{bytes_fewer, merged_fewer}
 use Rattle.k_laws.proofs.Safe.{exit_enters}
 
 -- a user heap refers to itself, the kernel and shared heaps
-user_to : (p : ℕ) (k : Heap) → IsLegalStore (user p) k → IsFalse (heap_eq (user p) k) → (k ≡ Kernel) ⊎ IsTrue (is_shared_heap k)
+pub user_to : (p : ℕ) (k : Heap) → IsLegalStore (user p) k → IsFalse (heap_eq (user p) k) → (k ≡ Kernel) ⊎ IsTrue (is_shared_heap k)
 user_to p Kernel t apart = inl refl
 user_to p (User q) t apart = absurd (false≢true (sym apart ∙ t))
 user_to p (Shared s) t apart = inr refl

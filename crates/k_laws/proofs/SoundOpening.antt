@@ -18,7 +18,7 @@ use Rattle.k_frame.proofs.Sizes.{opening_sized}
 use Rattle.k_frame.proofs.Maxima.{own_maxima}
 use Rattle.k_laws.proofs.Uses.{use_less, total_less}
 
-all_unmade : (n s : ℕ) → phase_of (replicate n Unmade) s ≡ Unmade
+pub all_unmade : (n s : ℕ) → phase_of (replicate n Unmade) s ≡ Unmade
 all_unmade zero s = refl
 all_unmade (suc n) zero = refl
 all_unmade (suc n) (suc s) = all_unmade n s

@@ -1,0 +1,11 @@
+pub mod AllExits
+pub mod Counting
+pub mod ExitBounds
+pub mod ExitCounts
+pub mod Phases
+pub mod SharedBounds
+pub mod SerialBounds
+pub mod ScanCounts
+pub mod AbsorbedCounts
+pub mod Dones
+pub mod Distinct

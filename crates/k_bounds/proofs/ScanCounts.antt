@@ -1,0 +1,155 @@
+-- How many collections, absorptions and closings a history has.
+use Rattle.std.proofs.Common.{◌≡◌, ℕ, ◌+◌, not, true, false, cond, refl, ap, sym, ◌∙◌, inl, inr, List, [], ◌∷◌, ◌++◌, filter, find, length, Option, Some, None, option_map, arith, IsTrue}
+use Rattle.std.proofs.lemmas.Bool.{false≢true, cases_Bool}
+use Rattle.k_types.specs.declared.names.Name.{Name}
+use Rattle.k_types.specs.declared.names.Heap.{Heap}
+use Rattle.k_types.specs.declared.op.Op.{Op}
+use Rattle.k_types.specs.declared.op.Op.TheVariants.{New, KNew, SNew, Store, Load, Move, Clear, Dir, Put, Get, Collect, KCollect, Share, Freeze, Attach, Exit}
+use Rattle.k_types.specs.declared.event.Fault.{Fault}
+use Rattle.k_types.specs.declared.event.Event.{Event}
+use Rattle.k_types.specs.declared.event.Event.TheVariants.{Done, Ended, Absorbed as AbsorbedEvent, Closing}
+use Rattle.k_types.specs.Names.{heap_eq}
+use Rattle.k_types.specs.TraceRules.{KeepsRules}
+use Rattle.k_types.specs.Trace.{Trace}
+use Rattle.k_types.specs.State.{State, Scan, register, scan_of}
+use Rattle.k_types.specs.Owners.{owner_of}
+use Rattle.k_types.specs.Replies.{first_fault, faults}
+use Rattle.k_types.specs.Updates.{count_done, set_register, create, write, add_exit, open_scan, set_phase, add_share, keep_objects, keep_exits, keep_shares, close_scan, clear_registers, end_process, turn_exits, close}
+use Rattle.k_types.specs.Effects.{step, effect, effect_unless, after_operation, after_store, after_put, with_exit_of_store, after_freeze, after_end_of, after_ended, after_absorbed, after_closing}
+use Rattle.k_types.specs.Steps.{IsPossible, IsLegalHistory, state_after}
+use Rattle.k_types.specs.Sound.{IsSound, AreDistinctScans}
+use Rattle.k_bounds.specs.Counts.{one_if, begins_collection, has_begun, begun_count, is_end, ended_count}
+use Rattle.k_bounds.proofs.Counting.{total_push}
+use Rattle.k_frame.proofs.NameTests.{heap_eq-true}
+use Rattle.k_frame.proofs.Objects.{some_is}
+use Rattle.k_frame.proofs.Histories.{history_induction, state_next}
+use Rattle.k_laws.proofs.SoundSteps.{legal_sound}
+
+module _ (trace : Trace) where
+  link_scans : (st : State) (x : Name) (v : Option Name) → (with_exit_of_store trace x v st).scans ≡ st.scans
+  unfolding with_exit_of_store add_exit
+  link_scans st x None = refl
+  link_scans st x (Some y) = elim (heap_eq (owner_of trace st x.seg.0) (owner_of trace st y.seg.0)) as (λ b. (cond b st (add_exit (owner_of trace st x.seg.0) y st)).scans ≡ st.scans) [ true ↦ refl | false ↦ refl ]
+
+  store_scans : (st : State) (x : Option Name) (i : ℕ) (v : Option Name) → (after_store trace x i v st).scans ≡ st.scans
+  unfolding after_store write
+  store_scans st None i v = refl
+  store_scans st (Some x) i v = link_scans st x v
+
+  put_scans : (st : State) (x : Option Name) (i n : ℕ) → (after_put x i n st).scans ≡ st.scans
+  unfolding after_put write
+  put_scans st None i n = refl
+  put_scans st (Some x) i n = refl
+
+  freeze_scans : (st : State) (s : ℕ) (root : Option Name) → (after_freeze s root st).scans ≡ st.scans
+  unfolding after_freeze set_phase
+  freeze_scans st s None = refl
+  freeze_scans st s (Some root) = refl
+
+  effect_scans : (st : State) (p : ℕ) (op : Op) → length (effect trace p op st).scans ≡ length st.scans + one_if (begins_collection op)
+  unfolding effect set_register create open_scan add_share set_phase after_end_of end_process clear_registers keep_shares turn_exits
+  effect_scans st p (New r ty) = omega arith
+  effect_scans st p (KNew r ty) = omega arith
+  effect_scans st p (SNew r s ty) = omega arith
+  effect_scans st p (Store base i value) = let same = ap length (store_scans st (register st.registers p base.0) i (register st.registers p value.0)) in omega arith
+  effect_scans st p (Load r base i) = omega arith
+  effect_scans st p (Move r from) = omega arith
+  effect_scans st p (Clear r) = omega arith
+  effect_scans st p (Dir r) = omega arith
+  effect_scans st p (Put base i number) = let same = ap length (put_scans st (register st.registers p base.0) i number) in omega arith
+  effect_scans st p (Get base i) = omega arith
+  effect_scans st p Collect = omega arith
+  effect_scans st p KCollect = omega arith
+  effect_scans st p (Share s) = omega arith
+  effect_scans st p (Freeze s root) = let same = ap length (freeze_scans st s.0 (register st.registers p root.0)) in omega arith
+  effect_scans st p (Attach r s) = omega arith
+  effect_scans st p Exit = omega arith
+
+  -- a collection is never refused
+  never_refused : (st : State) (p : ℕ) (op : Op) → IsTrue (begins_collection op) → first_fault (faults trace st p op) ≡ None
+  unfolding faults first_fault
+  never_refused st p Collect t = refl
+  never_refused st p KCollect t = refl
+  never_refused st p (New r ty) t = absurd (false≢true t)
+  never_refused st p (KNew r ty) t = absurd (false≢true t)
+  never_refused st p (SNew r s ty) t = absurd (false≢true t)
+  never_refused st p (Store base i value) t = absurd (false≢true t)
+  never_refused st p (Load r base i) t = absurd (false≢true t)
+  never_refused st p (Move r from) t = absurd (false≢true t)
+  never_refused st p (Clear r) t = absurd (false≢true t)
+  never_refused st p (Dir r) t = absurd (false≢true t)
+  never_refused st p (Put base i number) t = absurd (false≢true t)
+  never_refused st p (Get base i) t = absurd (false≢true t)
+  never_refused st p (Share s) t = absurd (false≢true t)
+  never_refused st p (Freeze s root) t = absurd (false≢true t)
+  never_refused st p (Attach r s) t = absurd (false≢true t)
+  never_refused st p Exit t = absurd (false≢true t)
+
+  done_scans : (st : State) (p : ℕ) (op : Op) → length (after_operation trace p op st).scans ≡ length st.scans + one_if (begins_collection op)
+  unfolding after_operation count_done
+  done_scans st p op = go (first_fault (faults trace st p op)) refl
+    where
+      go : (f : Option Fault) → first_fault (faults trace st p op) ≡ f → length (effect_unless f trace p op st).scans ≡ length st.scans + one_if (begins_collection op)
+      go None e = effect_scans st p op
+      go (Some f) e = elim (cases_Bool (begins_collection op)) [
+        | inl begins ↦ absurd (cc (sym (never_refused st p op begins) ∙ e))
+        | inr other ↦ let none = ap one_if other in omega arith
+      ]
+
+-- no scan of the heap, so none is closed
+none_closed : (h : Heap) (scans : List Scan) → scan_of scans h ≡ None → filter (λ s. not (heap_eq s.heap h)) scans ≡ scans
+none_closed h [] none = refl
+none_closed h (scan ∷ scans) none =
+    elim (cases_Bool (heap_eq scan.heap h)) [
+      | inl same ↦ absurd (found same none)
+      | inr apart ↦ rw apart (ap (λ rest. scan ∷ rest) (none_closed h scans (ap (λ b. option_map (λ (s : Scan). s.roots) (cond b (Some scan) (find (λ s. heap_eq s.heap h) scans))) (sym apart) ∙ none)))
+    ]
+  where
+    found : IsTrue (heap_eq scan.heap h) → scan_of (scan ∷ scans) h ≡ None → ⊥
+    found same none = cc (sym (ap (λ b. option_map (λ (s : Scan). s.roots) (cond b (Some scan) (find (λ s. heap_eq s.heap h) scans))) same) ∙ none)
+
+one_closed : (h : Heap) (scans : List Scan) (roots : List Name) → AreDistinctScans scans → scan_of scans h ≡ Some roots → length (filter (λ s. not (heap_eq s.heap h)) scans) + 1 ≡ length scans
+one_closed h [] roots distinct opened = absurd (cc opened)
+one_closed h (scan ∷ scans) roots distinct opened =
+    elim (cases_Bool (heap_eq scan.heap h)) [
+      | inl same ↦
+          let none = none_closed h scans (ap (scan_of scans) (sym (heap_eq-true scan.heap h same)) ∙ distinct.0) in
+          rw same (let all = ap length none in omega arith)
+      | inr apart ↦
+          let rest = one_closed h scans roots distinct.1 (ap (λ b. option_map (λ (s : Scan). s.roots) (cond b (Some scan) (find (λ s. heap_eq s.heap h) scans))) (sym apart) ∙ opened) in
+          rw apart (omega (arith, rest))
+    ]
+
+module _ (trace : Trace) (keeps : KeepsRules trace) where
+  -- each collection that was begun has ended or is open
+  Balanced : List Event → Type 0
+  Balanced history = ended_count history + length (state_after trace history).scans ≡ begun_count history
+
+  ended_scans : (st : State) (h : Heap) (roots : List Name) → IsSound trace st → scan_of st.scans h ≡ Some roots → length (after_ended trace h st).scans + 1 ≡ length st.scans
+  unfolding after_ended close_scan keep_shares keep_exits keep_objects
+  ended_scans st h roots sound opened = one_closed h st.scans roots sound.shape.distinct_scans opened
+
+  absorbed_scans : (st : State) (s : ℕ) → (after_absorbed trace s st).scans ≡ st.scans
+  unfolding after_absorbed set_phase keep_exits
+  absorbed_scans st s = refl
+
+  closing_scans : (st : State) → length (after_closing trace st).scans ≡ length st.scans + 1
+  unfolding after_closing close open_scan
+  closing_scans st = omega arith
+
+  balanced_next : (history : List Event) (event : Event) → IsLegalHistory trace history → IsPossible trace (state_after trace history) event → Balanced history → Balanced (history ++ event ∷ [])
+  unfolding Balanced step
+  balanced_next history event legal may before =
+      rw (state_next trace history event, total_push (λ e. one_if (is_end e)) history event, total_push (λ e. one_if (has_begun e)) history event) (go event may)
+    where
+      go : (event : Event) → IsPossible trace (state_after trace history) event → ended_count history + one_if (is_end event) + length (step trace (state_after trace history) event).scans ≡ begun_count history + one_if (has_begun event)
+      go (Done pid op said) may = omega (arith, before, done_scans trace (state_after trace history) pid.0 op)
+      go (Ended h a b c d) may =
+          let scan = some_is (scan_of (state_after trace history).scans h) may.scanned in
+          omega (arith, before, ended_scans (state_after trace history) h scan.0 (legal_sound trace history keeps legal) scan.1)
+      go (AbsorbedEvent s) may = let same = ap length (absorbed_scans (state_after trace history) s.0) in omega (arith, before, same)
+      go Closing may = omega (arith, before, closing_scans (state_after trace history))
+
+  pub collections_balance : (history : List Event) → IsLegalHistory trace history → ended_count history + length (state_after trace history).scans ≡ begun_count history
+  unfolding Balanced
+  collections_balance history legal = history_induction trace Balanced (omega arith) balanced_next history legal

@@ -1,0 +1,2 @@
+pub mod CellChanges
+pub mod BookChanges

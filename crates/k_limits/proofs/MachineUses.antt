@@ -1,0 +1,64 @@
+-- The machine's uses, and those over a list of what is charged directly.
+use Rattle.std.proofs.Common.{◌≡◌, ℕ, zero, suc, ◌+◌, ◌<◌, nat_lt, cond, refl, ap, ◌∙◌, sym, List, [], ◌∷◌, length, slice_index, arith}
+use Rattle.k_types.specs.Numbers.{numbers_below}
+use Rattle.k_types.specs.declared.setup.LimitRow.{LimitRow}
+use Rattle.k_types.specs.Trace.{Trace, row_of}
+use Rattle.k_types.specs.TraceRules.{IsTree}
+use Rattle.k_types.specs.State.{State}
+use Rattle.k_types.specs.Owners.{charge_of}
+use Rattle.k_types.specs.Limits.{max_of, is_parent, use_within, path_of, direct_by, with_maxima, limits_in, use_of, full_limit}
+use Rattle.k_limits.specs.Limits.{use_at, is_full_at, full_at}
+use Rattle.k_limits.specs.Laws.{limits_of, AreCharges}
+use Rattle.k_limits.proofs.Sums.{total_filter, total_range}
+use Rattle.k_limits.proofs.Uses.{find_same, on_path_in}
+
+-- uses look at the charges of the tree's limits alone
+pub use_same : (rows : List LimitRow) (d e : ℕ → ℕ) → ((q : ℕ) → q < length rows → d q ≡ e q) → (depth m : ℕ) → m < length rows → use_within rows d depth m ≡ use_within rows e depth m
+unfolding use_within
+use_same rows d e same zero m known = refl
+use_same rows d e same (suc depth) m known =
+    let f : ℕ → ℕ = λ c. cond (row_of rows c).hard (max_of rows c) (use_within rows d depth c) in
+    let g : ℕ → ℕ = λ c. cond (row_of rows c).hard (max_of rows c) (use_within rows e depth c) in
+    let left = total_filter (λ c. is_parent (row_of rows c).parent m) f (numbers_below (length rows)) in
+    let right = total_filter (λ c. is_parent (row_of rows c).parent m) g (numbers_below (length rows)) in
+    let mid = total_range (λ c. cond (is_parent (row_of rows c).parent m) (f c) 0) (λ c. cond (is_parent (row_of rows c).parent m) (g c) 0) 0 (length rows)
+    (λ c below. ap (λ (used : ℕ). cond (is_parent (row_of rows c).parent m) (cond (row_of rows c).hard (max_of rows c) used) 0) (use_same rows d e same depth c (omega (arith, below)))) in
+    omega (arith, same m known, left, right, mid)
+
+-- other maxima leave the tree as it is
+pub length_with : (rows : List LimitRow) (maxima : List ℕ) → length (with_maxima rows maxima) ≡ length rows
+length_with [] maxima = refl
+length_with (row ∷ rows) [] = refl
+length_with (row ∷ rows) (max ∷ maxima) = ap suc (length_with rows maxima)
+
+parent_with : (rows : List LimitRow) (maxima : List ℕ) (m : ℕ) → (row_of (with_maxima rows maxima) m).parent ≡ (row_of rows m).parent
+parent_with [] maxima m = refl
+parent_with (row ∷ rows) [] m = refl
+parent_with (row ∷ rows) (max ∷ maxima) zero = refl
+parent_with (row ∷ rows) (max ∷ maxima) (suc m) = parent_with rows maxima m
+
+pub tree_with : (rows : List LimitRow) (maxima : List ℕ) → IsTree rows → IsTree (with_maxima rows maxima)
+tree_with rows maxima tree m parent known is = tree m parent (let same = length_with rows maxima in omega (arith, known, same)) (sym (parent_with rows maxima m) ∙ is)
+
+module _ (trace : Trace) (st : State) (direct : List ℕ) (charges : AreCharges trace st direct) where
+  inside : (m : ℕ) → m < length (limits_in trace st) → m < length trace.limits
+  inside m known = let same = length_with trace.limits st.maxima in omega (arith, known, same)
+
+  inside_back : (m : ℕ) → m < length trace.limits → m < length (limits_in trace st)
+  inside_back m known = let same = length_with trace.limits st.maxima in omega (arith, known, same)
+
+  pub machine_use : (m : ℕ) → m < length trace.limits → use_at (limits_of trace st direct) m ≡ use_of trace st m
+  machine_use m known =
+      use_same (limits_in trace st) (slice_index direct) (direct_by trace (charge_of trace st)) (λ q there. charges q (inside q there)) (length (limits_in trace st)) m (inside_back m known)
+
+  pub machine_full : IsTree trace.limits → (m n : ℕ) → m < length trace.limits → full_at (limits_of trace st direct) m n ≡ full_limit trace st m n
+  machine_full tree m n known =
+      find_same (is_full_at (limits_of trace st direct) n) (λ q. nat_lt (max_of (limits_in trace st) q) (use_of trace st q + n)) (path_of (limits_in trace st) m)
+      (λ q there. ap (λ used. nat_lt (max_of (limits_in trace st) q) (used + n))
+      (machine_use q (inside q (on_path_in (limits_of trace st direct) (tree_with trace.limits st.maxima tree) m (inside_back m known) q there))))
+
+pub machine_uses : (trace : Trace) (st : State) (direct : List ℕ) → AreCharges trace st direct → (m : ℕ) → m < length trace.limits → use_at (limits_of trace st direct) m ≡ use_of trace st m
+machine_uses trace st direct charges = machine_use trace st direct charges
+
+pub machine_fulls : (trace : Trace) (st : State) (direct : List ℕ) → IsTree trace.limits → AreCharges trace st direct → (m n : ℕ) → m < length trace.limits → full_at (limits_of trace st direct) m n ≡ full_limit trace st m n
+machine_fulls trace st direct tree charges = machine_full trace st direct charges tree

@@ -1,0 +1,24 @@
+ghost use Rattle.std.specs.Prelude.{List, None, length, ◌<◌, ◌≡◌, ◌↔◌, ℕ};
+ghost use Rattle.k_types.specs.Limits.{full_limit, use_of};
+ghost use Rattle.k_types.specs.State.{State};
+ghost use Rattle.k_types.specs.Trace.{Trace};
+ghost use Rattle.k_types.specs.TraceRules.{IsTree};
+ghost use Rattle.k_limits.specs.Laws.{AreCharges, ReservesFit, limits_of};
+ghost use Rattle.k_limits.specs.Limits.{full_at, use_at};
+ghost use Rattle.k_limits.specs.Rows.{first_refused};
+
+use k_types::LimitRow;
+
+/// Where each limit is charged directly what the machine charges the processes on it, uses and full limits are those of
+/// the machine.
+#[tactic(auto, using(crate::proofs::MachineUses::machine_uses, crate::proofs::MachineUses::machine_fulls))]
+pub fn uses_are_the_machines()
+    ensures uses { (trace : Trace) (st : State) (direct : List ℕ) → AreCharges trace st direct → (m : ℕ) → m < length trace.limits → use_at (limits_of trace st direct) m ≡ use_of trace st m }
+    ensures full { (trace : Trace) (st : State) (direct : List ℕ) → IsTree trace.limits → AreCharges trace st direct → (m n : ℕ) → m < length trace.limits → full_at (limits_of trace st direct) m n ≡ full_limit trace st m n }
+{}
+
+/// No row of a tree is refused exactly where, with nothing charged, what is reserved at each limit fits into its maximum.
+#[tactic(auto, using(crate::proofs::Fits::none_refused))]
+pub fn rows_that_fit_are_not_refused()
+    ensures { (rows : List LimitRow) → IsTree rows → (first_refused rows ≡ None) ↔ ReservesFit rows }
+{}

@@ -1,0 +1,20 @@
+//! The tree of limits on memory, after the KaffeOS paper's section on memlimits; the exact arithmetic is our own.
+//!
+//! A hard limit reserves its whole maximum from its parent when it is made, and what is charged at it stops there. A soft
+//! limit reserves nothing, and what is charged at it is charged at its parent too. The contract sees the rows and the bytes
+//! charged directly at each limit, and promises that the use of a limit is the sum over the tree below it, computed afresh,
+//! after any charges and credits; and that a charge is refused exactly where the first limit on its path is full.
+//!
+//! Below stand the definitions of `k_types` alone.
+#![tactic(auto)]
+
+mod error;
+mod laws;
+mod paths;
+#[cfg(test)]
+mod tests;
+mod tree;
+
+pub use error::MakeError;
+pub use laws::{rows_that_fit_are_not_refused, uses_are_the_machines};
+pub use tree::LimitTree;

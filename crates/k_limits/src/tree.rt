@@ -1,0 +1,143 @@
+ghost use Rattle.std.specs.Prelude.{◌≡◌, ℕ, ◌+◌, ◌-◌, ◌^◌, ◌<◌, ◌≤◌, [], ◌∷◌, ◌++◌, length, slice_index, slice_set, Some, None, IsTrue, IsFalse, IfOk, IfErr};
+ghost use Rattle.k_types.specs.Names.{among};
+ghost use Rattle.k_types.specs.Limits.{max_of};
+ghost use Rattle.k_limits.specs.Limits.{use_at, full_at};
+ghost use Rattle.k_limits.specs.Rows.{AreRows, Explains, ExplainsRow, ancestors_of, first_refused, is_refused, uncharged};
+
+use crate::error::MakeError;
+use crate::paths::{first_full, is_below, lower, raise, reserved_from};
+use k_types::{LimitId, LimitRow};
+use std::alloc::Global;
+use std::marker::Model;
+
+/// The limits of a trace, and the bytes charged at them. A call takes time in the length of the path that it walks, and
+/// only `make` takes memory.
+#[derive(Drop)]
+pub struct LimitTree {
+    rows: Vec<LimitRow>,
+    direct: Vec<u64>,
+    uses: Vec<u64>,
+}
+
+impl Model for LimitTree {
+    ghost use Rattle.k_limits.specs.Limits.{ChargedLimits, charged_limits};
+    ghost use Rattle.k_limits.specs.Paths.{AreUses};
+
+    ghost Value = { ChargedLimits };
+
+    ghost view = { λ t. charged_limits t.rows.items t.direct.items };
+
+    ghost invariant = { λ t. AreUses (charged_limits t.rows.items t.direct.items) t.uses.items };
+}
+
+impl LimitTree {
+    /// The tree of these rows, with nothing charged. The row of number i is the limit of number i. `ReserveFull` names the
+    /// first hard row whose maximum doesn't fit on its parent's path.
+    pub fn make(alloc: Global, rows: &[LimitRow]) -> Result<LimitTree, MakeError>
+        requires { AreRows rows.now }
+        ensures made { IfOk result (λ tree. (tree ≡ uncharged rows.now) × (first_refused rows.now ≡ None)) }
+        ensures refused { IfErr result (λ why. Explains rows.now why) }
+    {
+        let mut tree = LimitTree::empty(alloc);
+        for row in rows {
+            tree = tree.with_row(row)?;
+        }
+        Ok(tree)
+    }
+
+    fn empty(alloc: Global) -> LimitTree
+        ensures { result ≡ uncharged [] }
+    {
+        LimitTree {
+            rows: Vec::new(alloc),
+            direct: Vec::new(alloc),
+            uses: Vec::new(alloc),
+        }
+    }
+
+    // The same tree with one more limit, which reserves its maximum where it is hard.
+    fn with_row(self, row: &LimitRow) -> Result<LimitTree, MakeError>
+        requires { AreRows (self.rows ++ row.now ∷ []) }
+        ensures added { IfOk result (λ tree. (tree.rows ≡ self.rows ++ row.now ∷ []) × (tree.direct ≡ self.direct ++ 0 ∷ []) × IsFalse (is_refused self row.now)) }
+        ensures refused { IfErr result (λ why. ExplainsRow self row.now why) }
+    {
+        let LimitTree {
+            mut rows,
+            mut direct,
+            mut uses,
+        } = self;
+        let Ok(at) = u32::try_from(rows.len() + 1) else {
+            return Err(MakeError::NoMemory);
+        };
+        let parent = reserved_from(row);
+        if first_full(&rows, &uses, parent, row.max).is_some() {
+            return Err(MakeError::ReserveFull(at - 1));
+        }
+        raise(&rows, &mut uses, parent, row.max);
+        let (Ok(()), Ok(()), Ok(())) = (rows.push(*row), direct.push(0), uses.push(0)) else {
+            return Err(MakeError::NoMemory);
+        };
+        Ok(LimitTree { rows, direct, uses })
+    }
+
+    /// Charges `n` bytes at the limit. The error is the first limit on its path, from the limit upwards, where they don't
+    /// fit; then nothing is charged.
+    pub fn charge(&mut self, at: LimitId, n: u64) -> Result<(), LimitId>
+        requires there { at.0 < length self.old.rows }
+        requires small { n < 2 ^ 40 }
+        ensures charged { IfOk result (λ _. (self.new ≡ record self.old { direct = slice_set self.old.direct at.0 (slice_index self.old.direct at.0 + n) }) × (full_at self.old at.0 n ≡ None)) }
+        ensures full { IfErr result (λ m. (self.new ≡ self.old) × (full_at self.old at.0 n ≡ Some m.0)) }
+    {
+        if let Some(full) = first_full(&self.rows, &self.uses, Some(at), n) {
+            return Err(full);
+        }
+        raise(&self.rows, &mut self.uses, Some(at), n);
+        self.direct[at.0 as usize] += n;
+        Ok(())
+    }
+
+    /// Takes back `n` bytes that were charged at the limit.
+    pub fn credit(&mut self, at: LimitId, n: u64)
+        requires there { at.0 < length self.old.rows }
+        requires charged { n ≤ slice_index self.old.direct at.0 }
+        ensures { self.new ≡ record self.old { direct = slice_set self.old.direct at.0 (slice_index self.old.direct at.0 - n) } }
+    {
+        lower(&self.rows, &mut self.uses, Some(at), n);
+        self.direct[at.0 as usize] -= n;
+    }
+
+    /// The bytes in use at the limit: what is charged at it, and for each child its maximum, where it is hard, or its use.
+    pub fn use_of(&self, at: LimitId) -> u64
+        requires { at.0 < length self.now.rows }
+        ensures sum { result ≡ use_at self.now at.0 }
+        ensures fits { result ≤ max_of self.now.rows at.0 }
+    {
+        self.uses[at.0 as usize]
+    }
+
+    /// The most bytes that may be in use at the limit.
+    pub fn max_of(&self, at: LimitId) -> u64
+        requires { at.0 < length self.now.rows }
+        ensures value { result ≡ max_of self.now.rows at.0 }
+        ensures small { result < 2 ^ 40 }
+    {
+        self.rows[at.0 as usize].max
+    }
+
+    /// The bytes charged at the limit itself.
+    pub fn charged(&self, at: LimitId) -> u64
+        requires { at.0 < length self.now.rows }
+        ensures { result ≡ slice_index self.now.direct at.0 }
+    {
+        self.direct[at.0 as usize]
+    }
+
+    /// Whether `upper` is an ancestor of `lower`. No limit is its own ancestor.
+    pub fn below(&self, lower: LimitId, upper: LimitId) -> bool
+        requires { lower.0 < length self.now.rows }
+        ensures above { result ≡ among upper.0 (ancestors_of self.now.rows lower.0) }
+        ensures before { IsTrue result → upper.0 < lower.0 }
+    {
+        is_below(&self.rows, lower, upper)
+    }
+}

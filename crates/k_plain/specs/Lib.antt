@@ -1,0 +1,5 @@
+pub mod Contents
+pub mod Machines
+pub mod Accesses
+pub mod Built
+pub mod Runs

@@ -1,0 +1,609 @@
+-- What the rows of a segment are after a change.
+use Rattle.std.proofs.Common.{◌≡◌, ◌≢◌, ℕ, zero, suc, ◌+◌, ◌<◌, ◌≤◌, ◌⊎◌, Bool, true, false, cond, refl, sym, ap, ap₂, subst, ◌∙◌, inl, inr, List, [], ◌∷◌, ◌++◌, length, map, take, get_or, set, Option, Some, None, is_some, count_by, arith}
+use Rattle.std.proofs.Math.ListN.{get_or-map}
+use Rattle.std.proofs.lemmas.Bool.{cases_eq}
+use Rattle.std.proofs.lemmas.List.Sums.{sum_by-cons}
+use Rattle.std.proofs.lemmas.List.{get_or-set_same, get_or-set_other, get_or_append_left, get_or_push, length-set, map-set, set-get_or, map-append, length-append}
+use Rattle.slab.specs.Slab.{Slab, get, slab_len, with_value, Updates}
+use Rattle.k_space.specs.declared.segment.Place.{Place}
+use Rattle.k_space.specs.declared.segment.Place.TheVariants.{Empty, At}
+use Rattle.k_space.specs.declared.segment.Mark.{Mark}
+use Rattle.k_space.specs.declared.segment.Mark.TheVariants.{White as MarkWhite, Gray as MarkGray, Black as MarkBlack}
+use Rattle.k_space.specs.declared.segment.Cell.{Cell}
+use Rattle.k_space.specs.Segments.{White, Gray, Black, Row, SegmentValue, LiesAt, row_at, with_row, new_row, placed, some_gray, unmarked_row, is_marked}
+use Rattle.k_space.specs.Sweeping.{IsUnmarkedAt}
+use Rattle.k_space.specs.Places.{row_of, row_in, color_of, IsSound, IsPlaced, IsKept, IsGrayList, is_gray_place, white_place, is_white_place}
+use Rattle.k_space.proofs.GrayLists.{At_inside, list_pushed, count_pushed, list_kept, count-set, head_gray}
+
+pub map_len : {A B : Type 0} (f : A → B) (xs : List A) → length (map f xs) ≡ length xs
+map_len f [] = refl
+map_len f (x ∷ xs) = ap suc (map_len f xs)
+
+pub front_whole : {A : Type 0} (xs ys : List A) (n : ℕ) → length xs ≡ n → take n (xs ++ ys) ≡ xs
+front_whole [] ys zero e = refl
+front_whole [] ys (suc n) e = absurd (omega arith)
+front_whole (x ∷ xs) ys zero e = absurd (omega arith)
+front_whole (x ∷ xs) ys (suc n) e = ap (λ zs. x ∷ zs) (front_whole xs ys n (omega (arith, e)))
+
+-- two maps of one list that agree at each place
+pub maps_agree : {A B : Type 0} (f g : A → B) (xs : List A) (d : A) → ((j : ℕ) → f (get_or xs j d) ≡ g (get_or xs j d)) → map f xs ≡ map g xs
+maps_agree f g [] d h = refl
+maps_agree f g (x ∷ xs) d h = ap₂ (λ y ys. y ∷ ys) (h 0) (maps_agree f g xs d (λ j. h (suc j)))
+
+-- two maps of one list that agree at each place but one
+pub maps_agree_but : {A B : Type 0} (f g : A → B) (xs : List A) (d : A) (i : ℕ) (y : B) → i < length xs → f (get_or xs i d) ≡ y → ((j : ℕ) → j ≢ i → f (get_or xs j d) ≡ g (get_or xs j d)) → map f xs ≡ set (map g xs) i y
+maps_agree_but f g [] d i y within here h = absurd (omega arith)
+maps_agree_but f g (x ∷ xs) d zero y within here h = ap₂ (λ y ys. y ∷ ys) here (maps_agree f g xs d (λ j. h (suc j) (omega arith)))
+maps_agree_but f g (x ∷ xs) d (suc i) y within here h =
+    ap₂ (λ y ys. y ∷ ys) (h 0 (omega arith)) (maps_agree_but f g xs d i y (omega (arith, within)) here (λ j ne. h (suc j) (omega (arith, ne))))
+
+-- lists that agree at each place but one, where both have the same
+pub set_agree : {A : Type 0} (xs ys : List A) (i : ℕ) (y d : A) → length xs ≡ length ys → ((j : ℕ) → j ≢ i → get_or xs j d ≡ get_or ys j d) → set xs i y ≡ set ys i y
+set_agree [] [] i y d len h = refl
+set_agree [] (b ∷ ys) i y d len h = absurd (omega arith)
+set_agree (a ∷ xs) [] i y d len h = absurd (omega arith)
+set_agree (a ∷ xs) (b ∷ ys) zero y d len h = ap (λ rest. y ∷ rest) (all_agree xs ys d (omega (arith, len)) (λ j. h (suc j) (omega arith)))
+  where
+    all_agree : {A : Type 0} (xs ys : List A) (d : A) → length xs ≡ length ys → ((j : ℕ) → get_or xs j d ≡ get_or ys j d) → xs ≡ ys
+    all_agree [] [] d len h = refl
+    all_agree [] (b ∷ ys) d len h = absurd (omega arith)
+    all_agree (a ∷ xs) [] d len h = absurd (omega arith)
+    all_agree (a ∷ xs) (b ∷ ys) d len h = ap₂ (λ z zs. z ∷ zs) (h 0) (all_agree xs ys d (omega (arith, len)) (λ j. h (suc j)))
+set_agree (a ∷ xs) (b ∷ ys) (suc i) y d len h = ap₂ (λ z zs. z ∷ zs) (h 0 (omega arith)) (set_agree xs ys i y d (omega (arith, len)) (λ j ne. h (suc j) (omega (arith, ne))))
+
+-- what the segment has at a serial
+pub row_at_view : (cells : Slab Cell) (places : List Place) (i : ℕ) → get_or (map (row_of cells) places) i None ≡ row_of cells (get_or places i Empty)
+row_at_view cells places i = get_or-map (row_of cells) places i Empty
+
+same_At : (s t : ℕ) (m n : Mark) → At s m ≡ At t n → (s ≡ t) × (m ≡ n)
+same_At s t m n e = (cc, cc)
+
+-- another mark at one place
+pub recolored : (places : List Place) (cells : Slab Cell) (room capacity : ℕ) (head after : Option ℕ) (i slot : ℕ) (m n : Mark) → IsSound places cells room capacity head → get_or places i Empty ≡ At slot m →
+    IsGrayList (set places i (At slot n)) (count_by is_gray_place (set places i (At slot n))) after → IsSound (set places i (At slot n)) cells room capacity after
+recolored places cells room capacity head after i slot m n sound here grays =
+    let not_first : 0 ≢ i = λ e. apart e in
+    record {
+      first = get_or-set_other places i 0 (At slot n) Empty not_first ∙ sound.first;
+      begun = omega (arith, length-set places i (At slot n), sound.begun);
+      within = omega (arith, length-set places i (At slot n), sound.within);
+      reserved = sound.reserved;
+      small = sound.small;
+      keys = sound.keys;
+      fits = omega (arith, length-set places i (At slot n), sound.fits);
+      placed = placed_after;
+      kept = kept_after;
+      grays = grays;
+    }
+  where
+    within : i < length places
+    within = At_inside places i slot m here
+
+    apart : 0 ≡ i → ⊥
+    apart e = let at : get_or places i Empty ≡ Empty = ap (λ k. get_or places k Empty) (sym e) ∙ sound.first in cc
+
+    placed_after : (j s : ℕ) (mark : Mark) → get_or (set places i (At slot n)) j Empty ≡ At s mark → IsPlaced cells j s
+    placed_after j s mark e =
+        elim (cases_eq j i) [
+          | inl same ↦
+              let at : At slot n ≡ At s mark = sym (get_or-set_same places i (At slot n) Empty within) ∙ ap (λ k. get_or (set places i (At slot n)) k Empty) (sym same) ∙ e in
+              sound.placed j s m (ap (λ k. get_or places k Empty) same ∙ here ∙ ap (λ t. At t m) (same_At slot s n mark at).0)
+          | inr differs ↦ sound.placed j s mark (sym (get_or-set_other places i j (At slot n) Empty differs) ∙ e)
+        ]
+
+    kept_after : (s : ℕ) (cell : Cell) → get cells s ≡ Some cell → IsKept (set places i (At slot n)) s cell
+    kept_after s cell e =
+        let was = sound.kept s cell e in
+        elim (cases_eq cell.serial.0 i) [
+          | inl same ↦
+              let at : At s was.mark ≡ At slot m = sym was.there ∙ ap (λ k. get_or places k Empty) same ∙ here in
+              record {
+                mark = n;
+                there = ap (λ k. get_or (set places i (At slot n)) k Empty) same ∙ get_or-set_same places i (At slot n) Empty within ∙ ap (λ t. At t n) (sym (same_At s slot was.mark m at).0);
+              }
+          | inr differs ↦ record { mark = was.mark; there = get_or-set_other places i cell.serial.0 (At slot n) Empty differs ∙ was.there }
+        ]
+
+row_in_recolored : (slot : ℕ) (m n : Mark) (row : Row) (o : Option Cell) → row_in slot m o ≡ Some row → row_in slot n o ≡ Some (record row { color = color_of n })
+row_in_recolored slot m n row None e = absurd (cc)
+row_in_recolored slot m n row (Some cell) e =
+    let same : record { slot = slot; color = color_of m; ty = cell.body.ty; fields = cell.body.fields } ≡ row = same_row e in
+    ap (λ (r : Row). Some (record r { color = color_of n })) same
+  where
+    same_row : {x y : Row} → ◌≡◌ {A = Option Row} (Some x) (Some y) → x ≡ y
+    same_row e = cc
+
+-- what a contract sees of it
+pub recolored_view : (number room : ℕ) (places : List Place) (cells : Slab Cell) (i slot : ℕ) (m n : Mark) (s : SegmentValue) (row : Row) →
+    record { number = number; room = room; rows = map (row_of cells) places } ≡ s → get_or places i Empty ≡ At slot m → row_at s i ≡ Some row →
+    record { number = number; room = room; rows = map (row_of cells) (set places i (At slot n)) } ≡ with_row s i (Some (record row { color = color_of n }))
+recolored_view number room places cells i slot m n s row is here at =
+    let had : row_in slot m (get cells slot) ≡ Some row = ap (row_of cells) (sym here) ∙ sym (row_at_view cells places i) ∙ ap (λ (x : SegmentValue). row_at x i) is ∙ at in
+    let rows : map (row_of cells) (set places i (At slot n)) ≡ set (map (row_of cells) places) i (Some (record row { color = color_of n })) =
+    map-set (row_of cells) places i (At slot n) ∙ ap (set (map (row_of cells) places) i) (row_in_recolored slot m n row (get cells slot) had) in
+    let step : record { number = number; room = room; rows = map (row_of cells) (set places i (At slot n)) } ≡ with_row (record { number = number; room = room; rows = map (row_of cells) places }) i (Some (record row { color = color_of n })) =
+    ap (λ (rs : List (Option Row)). record { number = number; room = room; rows = rs }) rows in
+    step ∙ ap (λ (x : SegmentValue). with_row x i (Some (record row { color = color_of n }))) is
+
+-- how a live object lies in the segment
+pub record Lies (places : List Place) (cells : Slab Cell) (slot serial : ℕ) (row : Row) : Type 0 where
+  pub mark : Mark
+  pub cell : Cell
+  pub at : get_or places serial Empty ≡ At slot mark
+  pub there : get cells slot ≡ Some cell
+  pub row_is : row ≡ record { slot = slot; color = color_of mark; ty = cell.body.ty; fields = cell.body.fields }
+
+lies_place : (places : List Place) (cells : Slab Cell) (slot serial : ℕ) (row : Row) (p : Place) → get_or places serial Empty ≡ p → row_of cells p ≡ Some row → row.slot ≡ slot → Lies places cells slot serial row
+lies_place places cells slot serial row Empty e r at = absurd (cc)
+lies_place places cells slot serial row (At s mark) e r at = lies_cell (get cells s) refl r
+  where
+    lies_cell : (o : Option Cell) → get cells s ≡ o → row_in s mark o ≡ Some row → Lies places cells slot serial row
+    lies_cell None g r = absurd (cc)
+    lies_cell (Some cell) g r =
+        let same : record { slot = s; color = color_of mark; ty = cell.body.ty; fields = cell.body.fields } ≡ row = same_row r in
+        let slots : s ≡ slot = ap (λ (x : Row). x.slot) same ∙ at in
+        record {
+          mark = mark;
+          cell = cell;
+          at = e ∙ ap (λ t. At t mark) slots;
+          there = ap (get cells) (sym slots) ∙ g;
+          row_is = sym same ∙ ap (λ t. record { slot = t; color = color_of mark; ty = cell.body.ty; fields = cell.body.fields }) slots;
+        }
+      where
+        same_row : {x y : Row} → ◌≡◌ {A = Option Row} (Some x) (Some y) → x ≡ y
+        same_row e = cc
+
+pub lies_in : (number room : ℕ) (places : List Place) (cells : Slab Cell) (s : SegmentValue) (slot serial : ℕ) (row : Row) →
+    record { number = number; room = room; rows = map (row_of cells) places } ≡ s → LiesAt s slot serial row → Lies places cells slot serial row
+lies_in number room places cells s slot serial row is lies =
+    lies_place places cells slot serial row (get_or places serial Empty) refl
+    (sym (row_at_view cells places serial) ∙ ap (λ (x : SegmentValue). row_at x serial) is ∙ lies.there) lies.slot_is
+
+-- a row that is gray
+pub gray_row : (cells : Slab Cell) (p : Place) → is_gray_place p ≡ false → some_gray (row_of cells p) ≡ false
+gray_row cells Empty e = refl
+gray_row cells (At slot mark) e = by_cell mark (get cells slot) e
+  where
+    by_cell : (mark : Mark) (o : Option Cell) → is_gray_place (At slot mark) ≡ false → some_gray (row_in slot mark o) ≡ false
+    by_cell mark None e = refl
+    by_cell MarkWhite (Some cell) e = refl
+    by_cell (MarkGray next) (Some cell) e = absurd (cc)
+    by_cell MarkBlack (Some cell) e = refl
+
+pub slot_of_row : (slot : ℕ) (mark : Mark) (o : Option Cell) (row : Row) → row_in slot mark o ≡ Some row → row.slot ≡ slot
+slot_of_row slot mark None row e = absurd (cc)
+slot_of_row slot mark (Some cell) row e = sym (ap (λ (x : Row). x.slot) (same_row e))
+  where
+    same_row : {x y : Row} → ◌≡◌ {A = Option Row} (Some x) (Some y) → x ≡ y
+    same_row e = cc
+
+-- the row of a place in use
+pub row_there : (number room : ℕ) (places : List Place) (cells : Slab Cell) (s : SegmentValue) (i slot : ℕ) (mark : Mark) (o : Option Cell) →
+    record { number = number; room = room; rows = map (row_of cells) places } ≡ s → get_or places i Empty ≡ At slot mark → get cells slot ≡ o → row_at s i ≡ row_in slot mark o
+row_there number room places cells s i slot mark o is here found =
+    ap (λ (x : SegmentValue). row_at x i) (sym is) ∙ row_at_view cells places i ∙ ap (row_of cells) here ∙ ap (row_in slot mark) found
+
+pub no_row : (number room : ℕ) (places : List Place) (cells : Slab Cell) (s : SegmentValue) (i : ℕ) →
+    record { number = number; room = room; rows = map (row_of cells) places } ≡ s → get_or places i Empty ≡ Empty → row_at s i ≡ None
+no_row number room places cells s i is here = ap (λ (x : SegmentValue). row_at x i) (sym is) ∙ row_at_view cells places i ∙ ap (row_of cells) here
+
+-- a row that stays as it was
+pub kept_view : (s : SegmentValue) (i : ℕ) (row : Row) → row_at s i ≡ Some row → s ≡ with_row s i (Some row)
+kept_view s i row at = ap (λ (rs : List (Option Row)). record s { rows = rs }) (sym (set-get_or s.rows i None) ∙ ap (set s.rows i) at)
+
+pub any_default : {A : Type 0} (xs : List A) (i : ℕ) (d e : A) → i < length xs → get_or xs i d ≡ get_or xs i e
+any_default [] i d e within = absurd (omega arith)
+any_default (x ∷ xs) zero d e within = refl
+any_default (x ∷ xs) (suc i) d e within = any_default xs i d e (omega (arith, within))
+
+-- a place that was read
+pub read_at : (places : List Place) (i : ℕ) (p q : Place) → i < length places → p ≡ get_or places i p → p ≡ q → get_or places i Empty ≡ q
+read_at places i p q within read is = any_default places i Empty p within ∙ sym read ∙ is
+
+-- the first gray object, made black
+pub taken : (number room : ℕ) (places : List Place) (cells : Slab Cell) (s : SegmentValue) (i k slot : ℕ) (next : Option ℕ) (cell : Cell) →
+    record { number = number; room = room; rows = map (row_of cells) places } ≡ s → get_or places i Empty ≡ At slot (MarkGray next) → get cells slot ≡ Some cell → i ≡ k →
+    (row : Row) × LiesAt s row.slot k row × (row.color ≡ Gray) × (record { number = number; room = room; rows = map (row_of cells) (set places i (At slot MarkBlack)) } ≡ with_row s k (Some (record row { color = Black })))
+taken number room places cells s i k slot next cell is here found e =
+    let row : Row = record { slot = slot; color = Gray; ty = cell.body.ty; fields = cell.body.fields } in
+    let at : row_at s i ≡ Some row = row_there number room places cells s i slot (MarkGray next) (Some cell) is here found in
+    let view = recolored_view number room places cells i slot (MarkGray next) MarkBlack s row is here at in
+    (row, record { there = ap (row_at s) (sym e) ∙ at; slot_is = refl }, refl, view ∙ ap (λ k. with_row s k (Some (record row { color = Black }))) e)
+
+abbrev bit : Bool → ℕ
+bit b = cond b 1 0
+
+count_some : (slots : List (Option Cell)) (key : ℕ) (cell new : Cell) → get_or slots key None ≡ Some cell → count_by is_some (set slots key (Some new)) ≡ count_by is_some slots
+count_some [] key cell new e = refl
+count_some (x ∷ xs) zero cell new e =
+    let on : is_some x ≡ true = ap is_some e in
+    omega (arith, sum_by-cons (λ o. bit (is_some o)) x xs, sum_by-cons (λ (o : Option Cell). bit (is_some o)) (Some new) xs, ap bit on)
+count_some (x ∷ xs) (suc key) cell new e =
+    omega (arith, sum_by-cons (λ (o : Option Cell). cond (is_some o) 1 0) x xs, sum_by-cons (λ (o : Option Cell). cond (is_some o) 1 0) x (set xs key (Some new)), count_some xs key cell new e)
+
+pub slot_inside : (slots : List (Option Cell)) (key : ℕ) (cell : Cell) → get_or slots key None ≡ Some cell → key < length slots
+slot_inside [] key cell e = absurd (cc)
+slot_inside (x ∷ xs) zero cell e = omega arith
+slot_inside (x ∷ xs) (suc key) cell e = omega (arith, slot_inside xs key cell e)
+
+pub same_cell : {x y : Cell} → ◌≡◌ {A = Option Cell} (Some x) (Some y) → x ≡ y
+same_cell e = cc
+
+-- another body in one slot
+pub rewritten : (places : List Place) (cells : Slab Cell) (room capacity : ℕ) (head : Option ℕ) (slot : ℕ) (cell new : Cell) → IsSound places cells room capacity head → get cells slot ≡ Some cell → new.serial.0 ≡ cell.serial.0 →
+    IsSound places (with_value cells slot new) room capacity head
+rewritten places cells room capacity head slot cell new sound found serial =
+    record {
+      first = sound.first;
+      begun = sound.begun;
+      within = sound.within;
+      reserved = sound.reserved;
+      small = sound.small;
+      keys = sound.keys;
+      fits = omega (arith, count_some cells.slots slot cell new found, sound.fits);
+      placed = placed_after;
+      kept = kept_after;
+      grays = sound.grays;
+    }
+  where
+    inside : slot < length cells.slots
+    inside = slot_inside cells.slots slot cell found
+
+    here : get (with_value cells slot new) slot ≡ Some new
+    here = get_or-set_same cells.slots slot (Some new) None inside
+
+    placed_after : (j s : ℕ) (mark : Mark) → get_or places j Empty ≡ At s mark → IsPlaced (with_value cells slot new) j s
+    placed_after j s mark e =
+        let was = sound.placed j s mark e in
+        elim (cases_eq s slot) [
+          | inl same ↦
+              let one : was.cell ≡ cell = same_cell (sym was.there ∙ ap (get cells) same ∙ found) in
+              record { cell = new; there = ap (get (with_value cells slot new)) same ∙ here; serial_is = serial ∙ ap (λ (x : Cell). x.serial.0) (sym one) ∙ was.serial_is }
+          | inr differs ↦ record { cell = was.cell; there = get_or-set_other cells.slots slot s (Some new) None differs ∙ was.there; serial_is = was.serial_is }
+        ]
+
+    kept_after : (s : ℕ) (x : Cell) → get (with_value cells slot new) s ≡ Some x → IsKept places s x
+    kept_after s x e =
+        elim (cases_eq s slot) [
+          | inl same ↦
+              let one : new ≡ x = same_cell (sym here ∙ ap (get (with_value cells slot new)) (sym same) ∙ e) in
+              let was = sound.kept slot cell found in
+              record { mark = was.mark; there = ap (λ (c : Cell). get_or places c.serial.0 Empty) (sym one) ∙ ap (λ k. get_or places k Empty) serial ∙ was.there ∙ ap (λ t. At t was.mark) (sym same) }
+          | inr differs ↦ sound.kept s x (sym (get_or-set_other cells.slots slot s (Some new) None differs) ∙ e)
+        ]
+
+-- what a contract sees of it
+pub rewritten_view : (number room capacity : ℕ) (places : List Place) (cells : Slab Cell) (head : Option ℕ) (s : SegmentValue) (slot serial : ℕ) (cell new : Cell) (row : Row) → IsSound places cells room capacity head →
+    record { number = number; room = room; rows = map (row_of cells) places } ≡ s → get cells slot ≡ Some cell → LiesAt s slot serial row → new.body.ty ≡ row.ty →
+    record { number = number; room = room; rows = map (row_of (with_value cells slot new)) places } ≡ with_row s serial (Some (record row { fields = new.body.fields }))
+rewritten_view number room capacity places cells head s slot serial cell new row sound is found lies tys =
+    let l = lies_in number room places cells s slot serial row is lies in
+    let inside = slot_inside cells.slots slot cell found in
+    let here : row_of (with_value cells slot new) (get_or places serial Empty) ≡ Some (record row { fields = new.body.fields }) =
+    ap (row_of (with_value cells slot new)) l.at ∙ ap (row_in slot l.mark) (get_or-set_same cells.slots slot (Some new) None inside)
+    ∙ ap (λ (r : Row). Some (record r { ty = new.body.ty; fields = new.body.fields })) (sym l.row_is)
+    ∙ ap (λ t. Some (record row { ty = t; fields = new.body.fields })) tys in
+    let rows : map (row_of (with_value cells slot new)) places ≡ set (map (row_of cells) places) serial (Some (record row { fields = new.body.fields })) =
+    maps_agree_but (row_of (with_value cells slot new)) (row_of cells) places Empty serial (Some (record row { fields = new.body.fields })) (At_inside places serial slot l.mark l.at) here (λ j differs. others j differs (get_or places j Empty) refl) in
+    ap (λ (rs : List (Option Row)). record { number = number; room = room; rows = rs }) rows
+    ∙ ap (λ (x : SegmentValue). with_row x serial (Some (record row { fields = new.body.fields }))) is
+  where
+    others : (j : ℕ) → j ≢ serial → (p : Place) → get_or places j Empty ≡ p → row_of (with_value cells slot new) p ≡ row_of cells p
+    others j differs Empty e = refl
+    others j differs (At t mark) e =
+        ap (row_in t mark) (get_or-set_other cells.slots slot t (Some new) None apart)
+      where
+        apart : t ≢ slot
+        apart same =
+            let l = lies_in number room places cells s slot serial row is lies in
+            let a = sound.placed j t mark e in
+            let b = sound.placed serial slot l.mark l.at in
+            let one : a.cell ≡ b.cell = same_cell (sym a.there ∙ ap (get cells) same ∙ b.there) in
+            differs (sym a.serial_is ∙ ap (λ (x : Cell). x.serial.0) one ∙ b.serial_is)
+
+-- one object more
+at_pushed : (places : List Place) (x : Place) (i slot : ℕ) (mark : Mark) → get_or (places ++ x ∷ []) i Empty ≡ At slot mark → (get_or places i Empty ≡ At slot mark) ⊎ ((i ≡ length places) × (x ≡ At slot mark))
+at_pushed [] x zero slot mark e = inr (refl, e)
+at_pushed [] x (suc i) slot mark e = absurd (cc)
+at_pushed (y ∷ ys) x zero slot mark e = inl e
+at_pushed (y ∷ ys) x (suc i) slot mark e = elim (at_pushed ys x i slot mark e) [ inl there ↦ inl there | inr here ↦ inr (ap suc here.0, here.1) ]
+
+pub pushed : (places : List Place) (cells after : Slab Cell) (room capacity : ℕ) (head : Option ℕ) (slot : ℕ) (cell : Cell) → IsSound places cells room capacity head → length places ≤ room →
+    get cells slot ≡ None → Updates cells after slot (Some cell) → slab_len after ≡ slab_len cells + 1 → after.capacity ≡ cells.capacity → cell.serial.0 ≡ length places →
+    IsSound (places ++ At slot MarkWhite ∷ []) after room capacity head
+pushed places cells after room capacity head slot cell sound more vacant updates len stays serial =
+    record {
+      first = get_or_append_left places (At slot MarkWhite ∷ []) Empty 0 sound.begun ∙ sound.first;
+      begun = omega (arith, length-append places (At slot MarkWhite ∷ []));
+      within = omega (arith, length-append places (At slot MarkWhite ∷ []), more);
+      reserved = sound.reserved;
+      small = sound.small;
+      keys = omega (arith, stays, sound.keys);
+      fits = omega (arith, length-append places (At slot MarkWhite ∷ []), more, len, stays, sound.fits);
+      placed = placed_after;
+      kept = kept_after;
+      grays = subst (λ (n : ℕ). IsGrayList (places ++ At slot MarkWhite ∷ []) n head) (sym (count_pushed places (At slot MarkWhite) refl)) (list_pushed places (count_by is_gray_place places) head (At slot MarkWhite) sound.grays);
+    }
+  where
+    placed_after : (j s : ℕ) (mark : Mark) → get_or (places ++ At slot MarkWhite ∷ []) j Empty ≡ At s mark → IsPlaced after j s
+    placed_after j s mark e =
+        elim (at_pushed places (At slot MarkWhite) j s mark e) [
+          | inl there ↦
+              let was = sound.placed j s mark there in
+              let apart : s ≢ slot = λ same. taken_slot was.cell (sym was.there ∙ ap (get cells) same ∙ vacant) in
+              record { cell = was.cell; there = updates.others s apart ∙ was.there; serial_is = was.serial_is }
+          | inr here ↦ record { cell = cell; there = ap (get after) (sym (same_At slot s MarkWhite mark here.1).0) ∙ updates.changed; serial_is = serial ∙ sym here.0 }
+        ]
+      where
+        taken_slot : (x : Cell) → Some x ≡ None → ⊥
+        taken_slot x e = cc
+
+    kept_after : (s : ℕ) (x : Cell) → get after s ≡ Some x → IsKept (places ++ At slot MarkWhite ∷ []) s x
+    kept_after s x e =
+        elim (cases_eq s slot) [
+          | inl same ↦
+              let one : cell ≡ x = same_cell (sym updates.changed ∙ ap (get after) (sym same) ∙ e) in
+              record {
+                mark = MarkWhite;
+                there = ap (λ (c : Cell). get_or (places ++ At slot MarkWhite ∷ []) c.serial.0 Empty) (sym one) ∙ get_or_push places (At slot MarkWhite) Empty cell.serial.0 (sym serial) ∙ ap (λ t. At t MarkWhite) (sym same);
+              }
+          | inr differs ↦
+              let was = sound.kept s x (sym (updates.others s differs) ∙ e) in
+              record { mark = was.mark; there = get_or_append_left places (At slot MarkWhite ∷ []) Empty x.serial.0 (At_inside places x.serial.0 s was.mark was.there) ∙ was.there }
+        ]
+
+-- the rows that were there
+pub rows_kept : (places : List Place) (cells after : Slab Cell) (room capacity : ℕ) (head : Option ℕ) (slot : ℕ) (o : Option Cell) → IsSound places cells room capacity head →
+    get cells slot ≡ None → Updates cells after slot o → map (row_of after) places ≡ map (row_of cells) places
+rows_kept places cells after room capacity head slot o sound vacant updates =
+    maps_agree (row_of after) (row_of cells) places Empty (λ j. others j (get_or places j Empty) refl)
+  where
+    others : (j : ℕ) (p : Place) → get_or places j Empty ≡ p → row_of after p ≡ row_of cells p
+    others j Empty e = refl
+    others j (At t mark) e = ap (row_in t mark) (updates.others t apart)
+      where
+        apart : t ≢ slot
+        apart same =
+            let a = sound.placed j t mark e in
+            let none : Some a.cell ≡ None = sym a.there ∙ ap (get cells) same ∙ vacant in
+            cc
+
+-- what a contract sees of it
+pub pushed_view : (number room capacity : ℕ) (places : List Place) (cells after : Slab Cell) (head : Option ℕ) (s : SegmentValue) (slot : ℕ) (cell : Cell) → IsSound places cells room capacity head →
+    record { number = number; room = room; rows = map (row_of cells) places } ≡ s → get cells slot ≡ None → Updates cells after slot (Some cell) →
+    record { number = number; room = room; rows = map (row_of after) (places ++ At slot MarkWhite ∷ []) } ≡ placed s slot cell.body
+pushed_view number room capacity places cells after head s slot cell sound is vacant updates =
+    let old = rows_kept places cells after room capacity head slot (Some cell) sound vacant updates in
+    let new : row_of after (At slot MarkWhite) ≡ Some (new_row slot cell.body) = ap (row_in slot MarkWhite) updates.changed in
+    let rows : map (row_of after) (places ++ At slot MarkWhite ∷ []) ≡ map (row_of cells) places ++ Some (new_row slot cell.body) ∷ [] =
+    map-append (row_of after) places (At slot MarkWhite ∷ []) ∙ ap₂ (λ front x. front ++ x ∷ []) old new in
+    ap (λ (rs : List (Option Row)). record { number = number; room = room; rows = rs }) rows ∙ ap (λ (x : SegmentValue). placed x slot cell.body) is
+
+pub same_row : {x y : Row} → ◌≡◌ {A = Option Row} (Some x) (Some y) → x ≡ y
+same_row e = cc
+
+-- the object of one slot is gone
+count_none : (slots : List (Option Cell)) (key : ℕ) (cell : Cell) → get_or slots key None ≡ Some cell → count_by is_some (set slots key None) + 1 ≡ count_by is_some slots
+count_none [] key cell e = absurd (cc)
+count_none (x ∷ xs) zero cell e =
+    let on : is_some x ≡ true = ap is_some e in
+    omega (arith, sum_by-cons (λ o. bit (is_some o)) x xs, sum_by-cons (λ (o : Option Cell). bit (is_some o)) None xs, ap bit on)
+count_none (x ∷ xs) (suc key) cell e =
+    omega (arith, sum_by-cons (λ (o : Option Cell). bit (is_some o)) x xs, sum_by-cons (λ (o : Option Cell). bit (is_some o)) x (set xs key None), count_none xs key cell e)
+
+pub freed : (places : List Place) (cells after : Slab Cell) (room capacity : ℕ) (head : Option ℕ) (i slot : ℕ) (cell : Cell) → IsSound places cells room capacity head → get_or places i Empty ≡ At slot MarkWhite → get cells slot ≡ Some cell →
+    Updates cells after slot None → slab_len after + 1 ≡ slab_len cells → after.capacity ≡ cells.capacity → IsSound (set places i Empty) after room capacity head
+freed places cells after room capacity head i slot cell sound here found updates len stays =
+    let not_first : 0 ≢ i = λ e. apart e in
+    record {
+      first = get_or-set_other places i 0 Empty Empty not_first ∙ sound.first;
+      begun = omega (arith, length-set places i Empty, sound.begun);
+      within = omega (arith, length-set places i Empty, sound.within);
+      reserved = sound.reserved;
+      small = sound.small;
+      keys = omega (arith, stays, sound.keys);
+      fits = omega (arith, length-set places i Empty, sound.fits, len, stays);
+      placed = placed_after;
+      kept = kept_after;
+      grays = subst (λ (n : ℕ). IsGrayList (set places i Empty) n head) (sym same_count) (list_kept places (count_by is_gray_place places) head i Empty (λ m w q. not_gray m q) sound.grays);
+    }
+  where
+    within : i < length places
+    within = At_inside places i slot MarkWhite here
+
+    apart : 0 ≡ i → ⊥
+    apart e = let at : At slot MarkWhite ≡ Empty = sym here ∙ ap (λ k. get_or places k Empty) (sym e) ∙ sound.first in cc
+
+    plain : is_gray_place (get_or places i Empty) ≡ false
+    plain = ap is_gray_place here
+
+    same_count : count_by is_gray_place (set places i Empty) ≡ count_by is_gray_place places
+    same_count = let off : bit (is_gray_place (get_or places i Empty)) ≡ 0 = ap bit plain in omega (arith, count-set places i Empty within, off)
+
+    not_gray : (m : ℕ) → IsGrayList places m (Some i) → ⊥
+    not_gray zero q = cc
+    not_gray (suc m) q =
+        let first = head_gray places (suc m) i q in
+        let both : At first.0 (MarkGray first.1) ≡ At slot MarkWhite = sym first.2 ∙ here in
+        cc
+
+    -- no other place has the slot
+    one_place : (j s : ℕ) (mark : Mark) → get_or places j Empty ≡ At s mark → s ≡ slot → j ≡ i
+    one_place j s mark e same =
+        let a = sound.placed j s mark e in
+        let b = sound.placed i slot MarkWhite here in
+        let one : a.cell ≡ b.cell = same_cell (sym a.there ∙ ap (get cells) same ∙ b.there) in
+        sym a.serial_is ∙ ap (λ (x : Cell). x.serial.0) one ∙ b.serial_is
+
+    placed_after : (j s : ℕ) (mark : Mark) → get_or (set places i Empty) j Empty ≡ At s mark → IsPlaced after j s
+    placed_after j s mark e =
+        elim (cases_eq j i) [
+          | inl same ↦
+              let at : Empty ≡ At s mark = sym (get_or-set_same places i Empty Empty within) ∙ ap (λ k. get_or (set places i Empty) k Empty) (sym same) ∙ e in
+              absurd (cc)
+          | inr differs ↦
+              let was = sound.placed j s mark (sym (get_or-set_other places i j Empty Empty differs) ∙ e) in
+              let other : s ≢ slot = λ same. differs (one_place j s mark (sym (get_or-set_other places i j Empty Empty differs) ∙ e) same) in
+              record { cell = was.cell; there = updates.others s other ∙ was.there; serial_is = was.serial_is }
+        ]
+
+    kept_after : (s : ℕ) (x : Cell) → get after s ≡ Some x → IsKept (set places i Empty) s x
+    kept_after s x e =
+        elim (cases_eq s slot) [
+          | inl same ↦ let none : None ≡ Some x = sym updates.changed ∙ ap (get after) (sym same) ∙ e in absurd (cc)
+          | inr differs ↦
+              let was = sound.kept s x (sym (updates.others s differs) ∙ e) in
+              let other : x.serial.0 ≢ i = λ same.
+              differs (same_At s slot was.mark MarkWhite (sym was.there ∙ ap (λ k. get_or places k Empty) same ∙ here)).0 in
+              record { mark = was.mark; there = get_or-set_other places i x.serial.0 Empty Empty other ∙ was.there }
+        ]
+
+-- what a contract sees of it
+pub freed_rows : (places : List Place) (cells after : Slab Cell) (room capacity : ℕ) (head : Option ℕ) (i slot : ℕ) (mark : Mark) → IsSound places cells room capacity head → get_or places i Empty ≡ At slot mark →
+    Updates cells after slot None → map (row_of after) (set places i Empty) ≡ set (map (row_of cells) places) i None
+freed_rows places cells after room capacity head i slot mark sound here updates =
+    map-set (row_of after) places i Empty ∙ sets (map (row_of after) places) (map (row_of cells) places) (map_len (row_of after) places ∙ sym (map_len (row_of cells) places)) agree
+  where
+    sets : (xs ys : List (Option Row)) → length xs ≡ length ys → ((j : ℕ) → j ≢ i → get_or xs j None ≡ get_or ys j None) → set xs i None ≡ set ys i None
+    sets xs ys len agree = set_agree xs ys i None None len agree
+
+    agree : (j : ℕ) → j ≢ i → get_or (map (row_of after) places) j None ≡ get_or (map (row_of cells) places) j None
+    agree j differs = row_at_view after places j ∙ others j differs (get_or places j Empty) refl ∙ sym (row_at_view cells places j)
+      where
+        others : (j : ℕ) → j ≢ i → (p : Place) → get_or places j Empty ≡ p → row_of after p ≡ row_of cells p
+        others j differs Empty e = refl
+        others j differs (At t m) e = ap (row_in t m) (updates.others t apart)
+          where
+            apart : t ≢ slot
+            apart same =
+                let a = sound.placed j t m e in
+                let b = sound.placed i slot mark here in
+                let one : a.cell ≡ b.cell = same_cell (sym a.there ∙ ap (get cells) same ∙ b.there) in
+                differs (sym a.serial_is ∙ ap (λ (x : Cell). x.serial.0) one ∙ b.serial_is)
+
+-- no marks
+white_there : (places : List Place) (j s : ℕ) (mark : Mark) → get_or (map white_place places) j Empty ≡ At s mark → (was : Mark) × (get_or places j Empty ≡ At s was)
+white_there places j s mark e = by_place (get_or places j Empty) refl
+  where
+    by_place : (p : Place) → get_or places j Empty ≡ p → (was : Mark) × (get_or places j Empty ≡ At s was)
+    by_place Empty is = let none : Empty ≡ At s mark = sym (get_or-map white_place places j Empty ∙ ap white_place is) ∙ e in absurd (cc)
+    by_place (At t m) is =
+        let at : At t MarkWhite ≡ At s mark = sym (get_or-map white_place places j Empty ∙ ap white_place is) ∙ e in
+        (m, is ∙ ap (λ x. At x m) (same_At t s MarkWhite mark at).0)
+
+no_gray_left : (places : List Place) → count_by is_gray_place (map white_place places) ≡ 0
+no_gray_left [] = refl
+no_gray_left (p ∷ places) = omega (arith, sum_by-cons (λ x. bit (is_gray_place x)) (white_place p) (map white_place places), not_gray p, no_gray_left places)
+  where
+    not_gray : (p : Place) → bit (is_gray_place (white_place p)) ≡ 0
+    not_gray Empty = refl
+    not_gray (At slot mark) = refl
+
+pub whitened : (places : List Place) (cells : Slab Cell) (room capacity : ℕ) (head : Option ℕ) → IsSound places cells room capacity head → IsSound (map white_place places) cells room capacity None
+whitened places cells room capacity head sound =
+    record {
+      first = get_or-map white_place places 0 Empty ∙ ap white_place sound.first;
+      begun = omega (arith, map_len white_place places, sound.begun);
+      within = omega (arith, map_len white_place places, sound.within);
+      reserved = sound.reserved;
+      small = sound.small;
+      keys = sound.keys;
+      fits = omega (arith, map_len white_place places, sound.fits);
+      placed = λ j s mark e. let was = white_there places j s mark e in sound.placed j s was.0 was.1;
+      kept = λ s x e. let was = sound.kept s x e in record { mark = MarkWhite; there = get_or-map white_place places x.serial.0 Empty ∙ ap white_place was.there };
+      grays = subst (λ (n : ℕ). IsGrayList (map white_place places) n None) (sym (no_gray_left places)) refl;
+    }
+
+white_row : (cells : Slab Cell) (p : Place) → row_of cells (white_place p) ≡ unmarked_row (row_of cells p)
+white_row cells Empty = refl
+white_row cells (At slot mark) = by_cell (get cells slot)
+  where
+    by_cell : (o : Option Cell) → row_in slot MarkWhite o ≡ unmarked_row (row_in slot mark o)
+    by_cell None = refl
+    by_cell (Some cell) = refl
+
+pub whitened_rows : (cells : Slab Cell) (places : List Place) → map (row_of cells) (map white_place places) ≡ map unmarked_row (map (row_of cells) places)
+whitened_rows cells [] = refl
+whitened_rows cells (p ∷ places) = ap₂ (λ y ys. y ∷ ys) (white_row cells p) (whitened_rows cells places)
+
+-- the object of a slot, by the place of its serial
+at_slot : (number room : ℕ) (places : List Place) (cells : Slab Cell) (capacity : ℕ) (head : Option ℕ) (s : SegmentValue) (slot : ℕ) (cell : Cell) (mark : Mark) → IsSound places cells room capacity head →
+    record { number = number; room = room; rows = map (row_of cells) places } ≡ s → get cells slot ≡ Some cell → get_or places cell.serial.0 Empty ≡ At slot mark →
+    LiesAt s slot cell.serial.0 (record { slot = slot; color = color_of mark; ty = cell.body.ty; fields = cell.body.fields })
+at_slot number room places cells capacity head s slot cell mark sound is found here =
+    record { there = row_there number room places cells s cell.serial.0 slot mark (Some cell) is here found; slot_is = refl }
+
+white_mark : (slot : ℕ) (mark : Mark) → is_white_place (At slot mark) ≡ true → color_of mark ≡ White
+white_mark slot MarkWhite e = refl
+white_mark slot (MarkGray next) e = absurd (cc)
+white_mark slot MarkBlack e = absurd (cc)
+
+other_mark : (slot : ℕ) (mark : Mark) → is_white_place (At slot mark) ≡ false → is_marked (color_of mark) ≡ true
+other_mark slot MarkWhite e = absurd (cc)
+other_mark slot (MarkGray next) e = refl
+other_mark slot MarkBlack e = refl
+
+pub unmarked_there : (number room : ℕ) (places : List Place) (cells : Slab Cell) (capacity : ℕ) (head : Option ℕ) (s : SegmentValue) (slot : ℕ) (cell : Cell) → IsSound places cells room capacity head →
+    record { number = number; room = room; rows = map (row_of cells) places } ≡ s → get cells slot ≡ Some cell → is_white_place (get_or places cell.serial.0 Empty) ≡ true →
+    IsUnmarkedAt s slot
+unmarked_there number room places cells capacity head s slot cell sound is found white =
+    let kept = sound.kept slot cell found in
+    record {
+      serial = cell.serial.0;
+      row = record { slot = slot; color = color_of kept.mark; ty = cell.body.ty; fields = cell.body.fields };
+      lies = at_slot number room places cells capacity head s slot cell kept.mark sound is found kept.there;
+      unmarked = white_mark slot kept.mark (sym (ap is_white_place kept.there) ∙ white);
+    }
+
+pub marked_there : (number room : ℕ) (places : List Place) (cells : Slab Cell) (capacity : ℕ) (head : Option ℕ) (s : SegmentValue) (slot : ℕ) (cell : Cell) → IsSound places cells room capacity head →
+    record { number = number; room = room; rows = map (row_of cells) places } ≡ s → get cells slot ≡ Some cell → is_white_place (get_or places cell.serial.0 Empty) ≡ false →
+    (serial : ℕ) (row : Row) → row_at s serial ≡ Some row → row.slot ≡ slot → is_marked row.color ≡ true
+marked_there number room places cells capacity head s slot cell sound is found dark serial row at slot_is =
+    let l = lies_in number room places cells s slot serial row is (record { there = at; slot_is = slot_is }) in
+    let one : l.cell ≡ cell = same_cell (sym l.there ∙ found) in
+    let placed = sound.placed serial slot l.mark l.at in
+    let two : placed.cell ≡ cell = same_cell (sym placed.there ∙ found) in
+    let serials : cell.serial.0 ≡ serial = ap (λ (x : Cell). x.serial.0) (sym two) ∙ placed.serial_is in
+    let off : is_white_place (At slot l.mark) ≡ false = sym (ap (λ k. is_white_place (get_or places k Empty)) serials ∙ ap is_white_place l.at) ∙ dark in
+    ap (λ (r : Row). is_marked r.color) l.row_is ∙ other_mark slot l.mark off
+
+pub none_there : (number room : ℕ) (places : List Place) (cells : Slab Cell) (s : SegmentValue) (slot : ℕ) → record { number = number; room = room; rows = map (row_of cells) places } ≡ s → get cells slot ≡ None →
+    (serial : ℕ) (row : Row) → row_at s serial ≡ Some row → row.slot ≡ slot → ⊥
+none_there number room places cells s slot is none serial row at slot_is =
+    let l = lies_in number room places cells s slot serial row is (record { there = at; slot_is = slot_is }) in
+    let both : None ≡ Some l.cell = sym none ∙ l.there in
+    cc
+
+-- what the freed object was
+pub freed_view : (number room : ℕ) (places : List Place) (cells after : Slab Cell) (capacity : ℕ) (head : Option ℕ) (s : SegmentValue) (slot i : ℕ) (cell : Cell) (mark : Mark) → IsSound places cells room capacity head →
+    record { number = number; room = room; rows = map (row_of cells) places } ≡ s → get_or places i Empty ≡ At slot mark → Updates cells after slot None →
+    record { number = number; room = room; rows = map (row_of after) (set places i Empty) } ≡ with_row s i None
+freed_view number room places cells after capacity head s slot i cell mark sound is here updates =
+    ap (λ (rs : List (Option Row)). record { number = number; room = room; rows = rs }) (freed_rows places cells after room capacity head i slot mark sound here updates)
+    ∙ ap (λ (x : SegmentValue). with_row x i None) is
+
+-- where a live object lies, by what the slab has there
+pub record Placed (places : List Place) (slot serial : ℕ) (row : Row) (cell : Cell) : Type 0 where
+  pub mark : Mark
+  pub at : get_or places serial Empty ≡ At slot mark
+  pub serial_is : cell.serial.0 ≡ serial
+  pub row_is : row ≡ record { slot = slot; color = color_of mark; ty = cell.body.ty; fields = cell.body.fields }
+
+pub place_there : (number room : ℕ) (places : List Place) (cells : Slab Cell) (capacity : ℕ) (head : Option ℕ) (s : SegmentValue) (slot serial : ℕ) (row : Row) (cell : Cell) → IsSound places cells room capacity head →
+    record { number = number; room = room; rows = map (row_of cells) places } ≡ s → LiesAt s slot serial row → get cells slot ≡ Some cell → Placed places slot serial row cell
+place_there number room places cells capacity head s slot serial row cell sound is lies found =
+    let l = lies_in number room places cells s slot serial row is lies in
+    let one : l.cell ≡ cell = same_cell (sym l.there ∙ found) in
+    let placed = sound.placed serial slot l.mark l.at in
+    let two : placed.cell ≡ cell = same_cell (sym placed.there ∙ found) in
+    record {
+      mark = l.mark;
+      at = l.at;
+      serial_is = ap (λ (x : Cell). x.serial.0) (sym two) ∙ placed.serial_is;
+      row_is = l.row_is ∙ ap (λ (x : Cell). record { slot = slot; color = color_of l.mark; ty = x.body.ty; fields = x.body.fields }) one;
+    }
+
+pub white_place_is : (slot : ℕ) (mark : Mark) → color_of mark ≡ White → mark ≡ MarkWhite
+white_place_is slot MarkWhite e = refl
+white_place_is slot (MarkGray next) e = absurd (cc)
+white_place_is slot MarkBlack e = absurd (cc)

@@ -1,0 +1,44 @@
+-- A segment that is put back as it was.
+use Rattle.std.proofs.Common.{◌≡◌, ℕ, Option, Some, None, List, ◌<◌, ◌≤◌, cond, ltb, false, arith, refl, sym, ap, ◌∙◌, get_or, set, slice_get, length}
+use Rattle.std.proofs.lemmas.Bool.Decides.{nat_tests}
+use Rattle.std.proofs.lemmas.List.{set-get_or}
+use Rattle.std.proofs.lemmas.Option.{get_or_from_slice_get}
+use Rattle.std.proofs.lemmas.Option.{slice_get_within}
+use Rattle.k_types.specs.declared.names.Name.{Name}
+use Rattle.k_space.specs.Segments.{SegmentValue, Row, row_at, with_row, gray_or_black, some_gray}
+use Rattle.k_space.specs.Areas.{AreaValue, place_of, segment_at, with_segment, row_in_segment, row_of_name, with_row_in, grayed, grayed_row}
+
+pub put_back : (a : AreaValue) (number : ℕ) (s : SegmentValue) → Some s ≡ segment_at a.segments number → with_segment a number s ≡ a
+put_back a number s e =
+    let at : get_or a.segments (place_of a.segments number) s ≡ s = get_or_from_slice_get a.segments (place_of a.segments number) s s (sym e) in
+    ap (λ (l : List SegmentValue). record a { segments = l }) (ap (set a.segments (place_of a.segments number)) (sym at) ∙ set-get_or a.segments (place_of a.segments number) s)
+
+pub none_below : (p n : ℕ) → p ≤ n → ◌≡◌ {A = Option ℕ} (cond (ltb p n) (Some p) None) None → n ≡ p
+none_below p n within e = grind (arith, nat_tests)
+
+-- a segment in which an object was made gray, put back
+pub grayed_in : (a : AreaValue) (n : Name) (s t : SegmentValue) → Some s ≡ segment_at a.segments n.seg.0 →
+    ((row : Row) → row_at s n.serial.0 ≡ Some row → t ≡ with_row s n.serial.0 (Some (record row { color = gray_or_black row.color }))) →
+    (row_at s n.serial.0 ≡ None → t ≡ s) → with_segment a n.seg.0 t ≡ grayed a n
+grayed_in a n s t at some none = by_row (row_at s n.serial.0) refl
+  where
+    there : row_of_name a.segments n ≡ row_at s n.serial.0
+    there = ap (λ (o : Option SegmentValue). row_in_segment o n.serial.0) (sym at)
+
+    by_row : (o : Option Row) → row_at s n.serial.0 ≡ o → with_segment a n.seg.0 t ≡ grayed a n
+    by_row None e = ap (with_segment a n.seg.0) (none e) ∙ put_back a n.seg.0 s at ∙ sym (ap (grayed_row a n) (there ∙ e))
+    by_row (Some row) e =
+        ap (with_segment a n.seg.0) (some row e)
+        ∙ ap (λ (o : Option SegmentValue). with_row_in a n (Some (record row { color = gray_or_black row.color })) o) at
+        ∙ sym (ap (grayed_row a n) (there ∙ e))
+
+-- a segment that is as it was
+pub as_before : (items segments : List SegmentValue) (i : ℕ) (x new : SegmentValue) → items ≡ segments → x ≡ get_or items i x → new ≡ x → set items i new ≡ segments
+as_before items segments i x new same read kept = ap (set items i) (kept ∙ read) ∙ set-get_or items i x ∙ same
+
+pub no_grays : (segments : List SegmentValue) (n : Name) → ((k : ℕ) (s : SegmentValue) → k < length segments → slice_get segments k ≡ Some s → (serial : ℕ) → some_gray (row_at s serial) ≡ false) → some_gray (row_of_name segments n) ≡ false
+no_grays segments n h = by_segment (segment_at segments n.seg.0) refl
+  where
+    by_segment : (o : Option SegmentValue) → segment_at segments n.seg.0 ≡ o → some_gray (row_of_name segments n) ≡ false
+    by_segment None e = ap (λ (x : Option SegmentValue). some_gray (row_in_segment x n.serial.0)) e
+    by_segment (Some s) e = ap (λ (x : Option SegmentValue). some_gray (row_in_segment x n.serial.0)) e ∙ h (place_of segments n.seg.0) s (slice_get_within segments (place_of segments n.seg.0) s e) e n.serial.0

@@ -1,0 +1,81 @@
+-- How a segment keeps its objects. No public clause cites this file.
+use Rattle.std.specs.Prelude.{◌≡◌, ℕ, zero, suc, ◌+◌, ◌-◌, ◌*◌, ◌<◌, ◌≤◌, ◌^◌, Bool, true, false, List, length, map, count_by, slice_index_or, Option, Some, None}
+use Rattle.slab.specs.Slab.{Slab, get, slab_len}
+use Rattle.k_types.specs.Totals.{total}
+use Rattle.k_types.specs.Types.{object_size}
+use Rattle.k_space.specs.declared.segment.Place.{Place}
+use Rattle.k_space.specs.declared.segment.Place.TheVariants.{Empty, At}
+use Rattle.k_space.specs.declared.segment.Mark.{Mark}
+use Rattle.k_space.specs.declared.segment.Mark.TheVariants.{White as MarkWhite, Gray as MarkGray, Black as MarkBlack}
+use Rattle.k_space.specs.declared.segment.Cell.{Cell}
+use Rattle.k_space.specs.Segments.{Color, White, Gray, Black, Row}
+
+abbrev pub color_of : Mark → Color
+color_of MarkWhite = White
+color_of (MarkGray next) = Gray
+color_of MarkBlack = Black
+
+-- the object that the slab has there
+abbrev pub row_in : ℕ → Mark → Option Cell → Option Row
+row_in slot mark None = None
+row_in slot mark (Some cell) = Some (record { slot = slot; color = color_of mark; ty = cell.body.ty; fields = cell.body.fields })
+
+abbrev pub row_of : Slab Cell → Place → Option Row
+row_of cells Empty = None
+row_of cells (At slot mark) = row_in slot mark (get cells slot)
+
+abbrev pub is_gray_place : Place → Bool
+is_gray_place (At slot (MarkGray next)) = true
+is_gray_place _ = false
+
+-- so many gray places, each with the next
+abbrev pub IsGrayList : List Place → ℕ → Option ℕ → Type 0
+IsGrayList places zero head = head ≡ None
+IsGrayList places (suc n) head = (i : ℕ) × (slot : ℕ) × (next : Option ℕ) × (head ≡ Some i)
+    × (slice_index_or places i Empty ≡ At slot (MarkGray next)) × IsGrayList places n next
+
+-- the slot has the object of that serial
+pub record IsPlaced (cells : Slab Cell) (serial slot : ℕ) : Type 0 where
+  pub cell : Cell
+  pub there : get cells slot ≡ Some cell
+  pub serial_is : cell.serial.0 ≡ serial
+
+-- the object's serial has the slot
+pub record IsKept (places : List Place) (slot : ℕ) (cell : Cell) : Type 0 where
+  pub mark : Mark
+  pub there : slice_index_or places cell.serial.0 Empty ≡ At slot mark
+
+abbrev pub row_bytes : Option Row → ℕ
+row_bytes None = 0
+row_bytes (Some row) = object_size (length row.fields)
+
+-- places and slots name each other, the gray places are one list, there is room for every serial, and the bytes are kept
+pub record IsSound (places : List Place) (cells : Slab Cell) (room capacity : ℕ) (head : Option ℕ) : Type 0 where
+  pub first : slice_index_or places 0 Empty ≡ Empty
+  pub begun : 0 < length places
+  pub within : length places ≤ room + 1
+  pub reserved : room + 1 ≤ capacity
+  pub small : room < 2 ^ 32
+  pub keys : cells.capacity < 2 ^ 64
+  pub fits : slab_len cells + (room + 1 - length places) ≤ cells.capacity
+  pub placed : (i slot : ℕ) (mark : Mark) → slice_index_or places i Empty ≡ At slot mark → IsPlaced cells i slot
+  pub kept : (slot : ℕ) (cell : Cell) → get cells slot ≡ Some cell → IsKept places slot cell
+  pub grays : IsGrayList places (count_by is_gray_place places) head
+
+-- the bytes are those of the objects
+pub record AreBytes (places : List Place) (cells : Slab Cell) (bytes : ℕ) : Type 0 where
+  pub counted : bytes ≡ total row_bytes (map (row_of cells) places)
+  pub small : bytes ≤ 144 * length places
+
+-- no slot from that one on has an object
+pub record AreBelow (cells : Slab Cell) (end : ℕ) : Type 0 where
+  pub below : (slot : ℕ) (cell : Cell) → get cells slot ≡ Some cell → slot < end
+
+-- the place with no mark
+abbrev pub white_place : Place → Place
+white_place Empty = Empty
+white_place (At slot mark) = At slot MarkWhite
+
+abbrev pub is_white_place : Place → Bool
+is_white_place (At slot MarkWhite) = true
+is_white_place _ = false

@@ -1,0 +1,170 @@
+ghost use Rattle.std.specs.Prelude.{◌≡◌, ◌≢◌, ◌<◌, ◌+◌, ◌==◌, ◌++◌, ◌∷◌, [], ℕ, length, map, Some, None, IfOk, IfNone, IfSome, OnSome, slice_get, slice_set, slice_index_or, position, option_copied, IsFalse};
+ghost use Rattle.std.specs.Option.{option_copied_mut};
+ghost use Rattle.std.specs.Borrow.{sem};
+ghost use Rattle.std.specs.List.{position_or_len};
+ghost use Rattle.k_space.specs.Segments.{SegmentValue, Row, Black, Gray, some_gray, unmarked_segment};
+ghost use Rattle.k_space.specs.Areas.{place_of, segment_at, row_of_name, with_row_of, HasDistinct, gray_at, grayed, unmarked};
+ghost use Rattle.k_types.specs.Names.{name_of};
+
+use crate::segment::Segment;
+use k_io::NoMemory;
+use k_types::{Link, Name, Seg};
+use std::alloc::Global;
+use std::marker::Model;
+
+/// The segments of one heap. Their numbers are different, which each call but `make` needs.
+#[derive(Drop)]
+pub struct Area {
+    segments: Vec<Segment>,
+    room: u32,
+}
+
+impl Model for Area {
+    ghost use Rattle.k_space.specs.Areas.{AreaValue};
+
+    ghost Value = { AreaValue };
+
+    ghost use Rattle.std.specs.Prelude.{vec_capacity, ◌≤◌, length};
+
+    ghost view = { λ a. record { segments = a.segments.items; room = a.room } };
+
+    ghost invariant = { λ a. a.room ≤ vec_capacity a.segments };
+}
+
+fn first(segments: &[Segment], seg: Seg) -> Option<usize>
+    ensures { result ≡ position (λ s. s.number == seg.0) segments.now }
+{
+    segments.iter().position(|s| s.number().0 == seg.0)
+}
+
+fn place(segments: &[Segment], seg: Seg) -> usize
+    ensures { result ≡ position_or_len (λ s. s.number == seg.0) segments.now }
+{
+    match first(segments, seg) {
+        Some(at) => at,
+        None => segments.len(),
+    }
+}
+
+/// Takes the marks of all objects away.
+fn unmark(segments: &mut [Segment])
+    ensures { segments.new ≡ map unmarked_segment segments.old }
+{
+    for segment in segments.iter_mut() {
+        segment.unmark_all();
+    }
+}
+
+impl Area {
+    ghost use Rattle.k_space.specs.AreaLends.{lends_segment};
+
+    /// An area with no segment, and room for so many.
+    pub fn make(alloc: Global, room: u32) -> Result<Area, NoMemory>
+        ensures { IfOk result (λ a. a ≡ record { segments = []; room = room }) }
+    {
+        Ok(Area {
+            segments: Vec::with_capacity(alloc, room as usize)?,
+            room,
+        })
+    }
+
+    /// The number of segments.
+    pub fn len(&self) -> usize
+        ensures { result ≡ length self.now.segments }
+    {
+        self.segments.len()
+    }
+
+    /// The number of the segment at place `i`, counted from 0.
+    pub fn seg_at(&self, i: usize) -> Seg
+        requires { i < length self.now.segments }
+        ensures { (s : SegmentValue) → slice_get self.now.segments i ≡ Some s → result.0 ≡ s.number }
+    {
+        self.segments[i].number()
+    }
+
+    /// Adds a segment. It comes last.
+    pub fn add(&mut self, segment: Segment)
+        requires distinct { HasDistinct self.old.segments }
+        requires room { length self.old.segments < self.old.room }
+        requires new { segment_at self.old.segments segment.number ≡ None }
+        ensures added { self.new ≡ record self.old { segments = self.old.segments ++ segment ∷ [] } }
+        ensures distinct { HasDistinct self.new.segments }
+    {
+        self.segments.push_reserved(segment);
+    }
+
+    /// The segment of that number.
+    pub fn get(&self, seg: Seg) -> Option<&Segment>
+        requires { HasDistinct self.now.segments }
+        ensures { option_copied result ≡ segment_at self.now.segments seg.0 }
+    {
+        let at = place(&self.segments, seg);
+        self.segments.get(at)
+    }
+
+    /// The segment of that number, for writing. The others stay.
+    pub fn get_mut(&mut self, seg: Seg) -> Option<&mut Segment>
+        requires { HasDistinct self.old.segments }
+        ensures* writes_back { sem 𝓛 (lends_segment self.entry seg.0 result) }
+        ensures value { option_copied_mut result ≡ segment_at self.old.segments seg.0 }
+    {
+        let at = place(&self.segments, seg);
+        self.segments.get_mut(at)
+    }
+
+    /// Takes the segment of that number out, with its objects. The others stay, in any order.
+    pub fn take(&mut self, seg: Seg) -> Option<Segment>
+        requires { HasDistinct self.old.segments }
+        ensures value { result ≡ segment_at self.old.segments seg.0 }
+        ensures room { self.new.room ≡ self.old.room }
+        ensures distinct { HasDistinct self.new.segments }
+        ensures gone { segment_at self.new.segments seg.0 ≡ None }
+        ensures others { (number : ℕ) → number ≢ seg.0 → segment_at self.new.segments number ≡ segment_at self.old.segments number }
+        ensures fewer { OnSome result (length self.new.segments + 1 ≡ length self.old.segments) }
+        ensures kept { IfNone result (self.new ≡ self.old) }
+    {
+        let at = place(&self.segments, seg);
+        if at < self.segments.len() {
+            Some(self.segments.swap_remove(at))
+        } else {
+            None
+        }
+    }
+
+    /// Makes a white object gray. A name that is no live object of the area changes nothing.
+    pub fn make_gray(&mut self, target: Link)
+        requires { HasDistinct self.old.segments }
+        ensures { self.new ≡ grayed self.old (name_of target) }
+    {
+        if let Some(segment) = self.get_mut(target.seg) {
+            segment.make_gray(target.serial);
+        }
+    }
+
+    /// Takes a gray object, and makes it black.
+    pub fn take_gray(&mut self) -> Option<Name>
+        requires { HasDistinct self.old.segments }
+        ensures some { IfSome result (λ n. (row : Row) × (row_of_name self.old.segments n ≡ Some row) × (row.color ≡ Gray)
+            × (self.new ≡ with_row_of self.old n (Some (record row { color = Black })))) }
+        ensures none { IfNone result ((n : Name) → IsFalse (gray_at self.old n)) }
+        ensures kept { IfNone result (self.new ≡ self.old) }
+    {
+        let len = self.segments.len();
+        for i in 0..len {
+            let segment = &mut self.segments[i];
+            let seg = segment.number();
+            if let Some(serial) = segment.take_gray() {
+                return Some(Name { seg, serial });
+            }
+        }
+        None
+    }
+
+    /// Takes the marks of all objects away.
+    pub fn unmark_all(&mut self)
+        ensures { self.new ≡ unmarked self.old }
+    {
+        unmark(&mut self.segments);
+    }
+}

@@ -1,0 +1,152 @@
+ghost use Rattle.std.specs.Prelude.{◌≡◌, length, slice_get, slice_set, Some, option_map, ◌<◌, ◌≤◌, IfOk};
+ghost use Rattle.k_types.specs.State.{Refers, Holds, field_kind, fresh};
+ghost use Rattle.k_types.specs.Types.{object_size};
+ghost use Rattle.k_space.specs.Objects.{HasRef, HasInt, content_of, new_body, new_directory};
+ghost use Rattle.k_types.specs.Names.{name_of};
+
+use k_io::NoMemory;
+use k_types::{Field, Link, TypeId, TypeTable};
+use std::alloc::Global;
+use std::marker::Model;
+
+/// What a field holds.
+#[derive(Clone, Copy, Debug)]
+pub enum Stored {
+    Refers(Option<Link>),
+    Holds(u64),
+}
+
+impl Stored {
+    /// A field as it is when its object is made.
+    fn fresh(kind: Field) -> Stored
+        ensures { content_of result ≡ fresh kind }
+    {
+        match kind {
+            Field::Ref => Stored::Refers(None),
+            Field::Int => Stored::Holds(0),
+        }
+    }
+}
+
+/// The content of one object.
+#[derive(Drop)]
+pub struct Body {
+    ty: Option<TypeId>,
+    fields: Vec<Stored>,
+}
+
+impl Model for Body {
+    ghost use Rattle.std.specs.Prelude.{map, length, ◌≤◌};
+    ghost use Rattle.k_space.specs.Objects.{BodyValue, content_of};
+
+    ghost Value = { BodyValue };
+
+    ghost view = { λ b. record { ty = b.ty; fields = map content_of b.fields.items } };
+
+    ghost invariant = { λ b. length b.fields.items ≤ 16 };
+}
+
+impl Body {
+    /// A new object of the type: references are null, integers are 0.
+    pub fn make(alloc: Global, types: &TypeTable, ty: TypeId) -> Result<Body, NoMemory>
+        requires { ty.0 < length types.now }
+        ensures { IfOk result (λ b. b ≡ new_body types.now ty) }
+    {
+        let count = (types.size_of(ty) as u32 - 16) / 8;
+        let mut fields = Vec::with_capacity(alloc, count as usize)?;
+        for i in 0..count {
+            let Some(kind) = types.kind_of(ty, i) else {
+                unreachable!()
+            };
+            fields.push_reserved(Stored::fresh(kind));
+        }
+        Ok(Body {
+            ty: Some(ty),
+            fields,
+        })
+    }
+
+    /// The directory, with so many references, all null.
+    pub fn directory(alloc: Global, fields: u32) -> Result<Body, NoMemory>
+        requires { fields ≤ 16 }
+        ensures { IfOk result (λ b. b ≡ new_directory fields) }
+    {
+        let fields = vec![in alloc; Stored::Refers(None); fields as usize]?;
+        Ok(Body { ty: None, fields })
+    }
+
+    /// The object's type. The directory alone has none.
+    pub fn type_of(&self) -> Option<TypeId>
+        ensures { result ≡ self.now.ty }
+    {
+        self.ty
+    }
+
+    /// The size of the object: 16 bytes, and 8 for each field.
+    pub fn bytes(&self) -> u64
+        ensures size { result ≡ object_size (length self.now.fields) }
+        ensures most { result ≤ 144 }
+    {
+        16 + 8 * self.fields.len() as u64
+    }
+
+    /// The number of fields.
+    pub(crate) fn len(&self) -> u32
+        ensures { result ≡ length self.now.fields }
+    {
+        self.fields.len() as u32
+    }
+
+    /// The kind of a field; nothing past the last one.
+    pub(crate) fn kind_of(&self, field: u32) -> Option<Field>
+        ensures { result ≡ option_map field_kind (slice_get self.now.fields field) }
+    {
+        match self.fields.get(field as usize) {
+            Some(Stored::Refers(_)) => Some(Field::Ref),
+            Some(Stored::Holds(_)) => Some(Field::Int),
+            None => None,
+        }
+    }
+
+    /// What the field holds.
+    pub(crate) fn stored(&self, field: u32) -> Stored
+        requires { field < length self.now.fields }
+        ensures { slice_get self.now.fields field ≡ Some (content_of result) }
+    {
+        self.fields[field as usize]
+    }
+
+    pub(crate) fn read_ref(&self, field: u32) -> Option<Link>
+        requires { HasRef self.now.fields field }
+        ensures { slice_get self.now.fields field ≡ Some (Refers (option_map name_of result)) }
+    {
+        match self.fields[field as usize] {
+            Stored::Refers(link) => link,
+            Stored::Holds(_) => None,
+        }
+    }
+
+    pub(crate) fn read_int(&self, field: u32) -> u64
+        requires { HasInt self.now.fields field }
+        ensures { slice_get self.now.fields field ≡ Some (Holds result) }
+    {
+        match self.fields[field as usize] {
+            Stored::Refers(_) => 0,
+            Stored::Holds(number) => number,
+        }
+    }
+
+    pub(crate) fn write_ref(&mut self, field: u32, value: Option<Link>)
+        requires { field < length self.old.fields }
+        ensures { self.new ≡ record self.old { fields = slice_set self.old.fields field (Refers (option_map name_of value)) } }
+    {
+        self.fields[field as usize] = Stored::Refers(value);
+    }
+
+    pub(crate) fn write_int(&mut self, field: u32, value: u64)
+        requires { field < length self.old.fields }
+        ensures { self.new ≡ record self.old { fields = slice_set self.old.fields field (Holds value) } }
+    {
+        self.fields[field as usize] = Stored::Holds(value);
+    }
+}

@@ -1,0 +1,22 @@
+//! The objects of heaps, in segments.
+//!
+//! A [`Segment`] is its number, its live objects by serial, how many serials were given, and its
+//! room. Serials count allocations and are never used again; the slots in which objects lie are.
+//! An [`Area`] is the segments of one heap, with different numbers. The contracts say what each
+//! call changes, and that everything else stays. Only the calls named `make` and
+//! [`Body::directory`] take memory.
+//!
+//! Looking an object up, reading, writing and placing take constant time in the number of objects.
+//!
+//! The crate stands on `k_types` for names and types of objects, and on `slab` for the slots.
+#![tactic(auto)]
+
+mod area;
+mod body;
+mod segment;
+#[cfg(test)]
+mod tests;
+
+pub use area::Area;
+pub use body::{Body, Stored};
+pub use segment::{Gone, Segment};

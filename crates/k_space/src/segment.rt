@@ -1,0 +1,389 @@
+ghost use Rattle.std.specs.Prelude.{◌≡◌, ◌<◌, ◌≤◌, ◌^◌, ℕ, length, map, vec_capacity, Some, None, option_map, IfOk, IfSome, IfNone, ◌∷◌, [], slice_set, slice_get, ◌==◌, IsFalse, IsTrue, OnSome};
+ghost use Rattle.k_types.specs.State.{Refers, Holds, field_kind};
+ghost use Rattle.k_types.specs.Types.{object_size};
+ghost use Rattle.k_space.specs.Objects.{HasRef, HasInt, content_of};
+ghost use Rattle.k_types.specs.Names.{name_of};
+ghost use Rattle.k_space.specs.Segments.{Row, White, Black, Gray, LiesAt, IsLive, row_at, made, with_row, placed, some_gray, is_gray, is_marked, gray_or_black, segment_bytes, unmarked_segment, body_of};
+ghost use Rattle.k_space.specs.Sweeping.{IsFreed, IsFree, IsFirstUnmarked, IsUnmarkedAt};
+ghost use Rattle.k_space.specs.Places.{white_place, is_white_place};
+
+use crate::body::{Body, Stored};
+use k_io::NoMemory;
+use k_types::{Field, Link, Seg, Serial, Slot, TypeId};
+use slab::Slab;
+use std::alloc::Global;
+use std::marker::Model;
+
+/// How far the marking of an object has come. A gray one names the next gray one by its serial.
+#[derive(Clone, Copy)]
+enum Mark {
+    White,
+    Gray(Option<usize>),
+    Black,
+}
+
+/// Where an object lies, by its serial.
+#[derive(Clone, Copy)]
+enum Place {
+    Empty,
+    At(usize, Mark),
+}
+
+impl Place {
+    /// The place with no mark.
+    fn whitened(self) -> Place
+        ensures { result ≡ white_place self }
+    {
+        match self {
+            Place::At(slot, _) => Place::At(slot, Mark::White),
+            Place::Empty => Place::Empty,
+        }
+    }
+
+    /// Whether it has an object without a mark.
+    fn is_white(self) -> bool
+        ensures { result ≡ is_white_place self }
+    {
+        matches!(self, Place::At(_, Mark::White))
+    }
+}
+
+#[derive(Drop)]
+struct Cell {
+    serial: Serial,
+    body: Body,
+}
+
+/// An object that was freed.
+#[derive(Clone, Copy, Debug)]
+pub struct Gone {
+    pub slot: Slot,
+    pub serial: Serial,
+    pub bytes: u64,
+}
+
+/// The objects that were made under one number. Each has a serial, which is never used again, and
+/// lies in a slot, which is.
+#[derive(Drop)]
+pub struct Segment {
+    number: Seg,
+    room: u32,
+    places: Vec<Place>,
+    cells: Slab<Cell>,
+    // The first gray object.
+    gray: Option<usize>,
+    // Those of the live objects.
+    bytes: u64,
+    // One more than the highest slot that was ever used.
+    end: usize,
+}
+
+impl Model for Segment {
+    ghost use Rattle.k_space.specs.Segments.{SegmentValue};
+
+    ghost Value = { SegmentValue };
+
+    ghost use Rattle.std.specs.Prelude.{map, vec_capacity};
+    ghost use Rattle.k_space.specs.Places.{row_of, IsSound, AreBytes, AreBelow};
+
+    ghost view = { λ s. record { number = s.number.0; room = s.room; rows = map (row_of s.cells) s.places.items } };
+
+    ghost invariant = { λ s. record {
+      sound : IsSound s.places.items s.cells s.room (vec_capacity s.places) s.gray;
+      bytes : AreBytes s.places.items s.cells s.bytes;
+      end : AreBelow s.cells s.end;
+    } };
+}
+
+/// Takes the marks of all places away.
+fn whiten(places: &mut [Place])
+    ensures { places.new ≡ map white_place places.old }
+{
+    for place in places.iter_mut() {
+        *place = place.whitened();
+    }
+}
+
+impl Segment {
+    /// A segment with no object, in which `room` serials can be given.
+    pub fn make(alloc: Global, seg: Seg, room: u32) -> Result<Segment, NoMemory>
+        ensures { IfOk result (λ s. s ≡ record { number = seg.0; room = room; rows = None ∷ [] }) }
+    {
+        let mut places = Vec::with_capacity(alloc, room as usize + 1)?;
+        places.push_reserved(Place::Empty);
+        let cells = Slab::with_capacity(alloc, room as usize)?;
+        // Read so that the proof has its range: the number of a slot, plus 1, fits.
+        let _slots = cells.capacity();
+        Ok(Segment {
+            number: seg,
+            room,
+            places,
+            cells,
+            gray: None,
+            bytes: 0,
+            end: 0,
+        })
+    }
+
+    /// The number of the segment.
+    pub fn number(&self) -> Seg
+        ensures { result.0 ≡ self.now.number }
+    {
+        self.number
+    }
+
+    /// How many serials were given.
+    pub fn made(&self) -> u32
+        ensures { result ≡ made self.now }
+    {
+        (self.places.len() - 1) as u32
+    }
+
+    /// The bytes of the live objects. They are kept, and not added up here.
+    pub fn bytes(&self) -> u64
+        ensures { result ≡ segment_bytes self.now }
+    {
+        self.bytes
+    }
+
+    /// Puts an object in, under the next serial, and in a slot that has none.
+    pub fn place(&mut self, body: Body) -> Link
+        requires { made self.old < self.old.room }
+        ensures seg { result.seg.0 ≡ self.old.number }
+        ensures serial { result.serial.0 ≡ length self.old.rows }
+        ensures placed { self.new ≡ placed self.old result.slot.0 body }
+    {
+        let serial = self.places.len() as u32;
+        self.bytes += body.bytes();
+        let slot = self.cells.insert_reserved(Cell {
+            serial: Serial(serial),
+            body,
+        });
+        self.places.push_reserved(Place::At(slot, Mark::White));
+        self.end = self.end.max(slot + 1);
+        Link {
+            seg: self.number,
+            slot: Slot(slot),
+            serial: Serial(serial),
+        }
+    }
+
+    /// Where the object of that serial lies.
+    pub fn find(&self, serial: Serial) -> Option<Slot>
+        ensures { option_map (λ s. s.0) result ≡ option_map (λ row. row.slot) (row_at self.now serial.0) }
+    {
+        let at = serial.0 as usize;
+        if at >= self.places.len() {
+            return None;
+        }
+        match self.places[at] {
+            Place::At(slot, _) => Some(Slot(slot)),
+            Place::Empty => None,
+        }
+    }
+
+    /// The serial of the object there.
+    pub fn serial_of(&self, slot: Slot) -> Serial
+        requires { IsLive self.now slot.0 }
+        ensures { (serial : ℕ) (row : Row) → LiesAt self.now slot.0 serial row → result.0 ≡ serial }
+    {
+        self.cells[slot.0].serial
+    }
+
+    /// The size of the object there.
+    pub fn bytes_of(&self, slot: Slot) -> u64
+        requires { IsLive self.now slot.0 }
+        ensures { (serial : ℕ) (row : Row) → LiesAt self.now slot.0 serial row → result ≡ object_size (length row.fields) }
+    {
+        self.body_at(slot).bytes()
+    }
+
+    /// The type of the object there. The directory alone has none.
+    pub fn type_of(&self, slot: Slot) -> Option<TypeId>
+        requires { IsLive self.now slot.0 }
+        ensures { (serial : ℕ) (row : Row) → LiesAt self.now slot.0 serial row → result ≡ row.ty }
+    {
+        self.body_at(slot).type_of()
+    }
+
+    /// The kind of a field of the object there; nothing past the last field.
+    pub fn kind_of(&self, slot: Slot, field: u32) -> Option<Field>
+        requires { IsLive self.now slot.0 }
+        ensures { (serial : ℕ) (row : Row) → LiesAt self.now slot.0 serial row → result ≡ option_map field_kind (slice_get row.fields field) }
+    {
+        self.body_at(slot).kind_of(field)
+    }
+
+    /// The number of fields of the object there.
+    pub fn field_count(&self, slot: Slot) -> u32
+        requires { IsLive self.now slot.0 }
+        ensures { (serial : ℕ) (row : Row) → LiesAt self.now slot.0 serial row → result ≡ length row.fields }
+    {
+        self.body_at(slot).len()
+    }
+
+    /// What a field of either kind holds.
+    pub fn stored(&self, slot: Slot, field: u32) -> Stored
+        requires live { IsLive self.now slot.0 }
+        requires field { (serial : ℕ) (row : Row) → LiesAt self.now slot.0 serial row → field < length row.fields }
+        ensures { (serial : ℕ) (row : Row) → LiesAt self.now slot.0 serial row → slice_get row.fields field ≡ Some (content_of result) }
+    {
+        self.body_at(slot).stored(field)
+    }
+
+    pub fn read_ref(&self, slot: Slot, field: u32) -> Option<Link>
+        requires live { IsLive self.now slot.0 }
+        requires kind { (serial : ℕ) (row : Row) → LiesAt self.now slot.0 serial row → HasRef row.fields field }
+        ensures { (serial : ℕ) (row : Row) → LiesAt self.now slot.0 serial row → slice_get row.fields field ≡ Some (Refers (option_map name_of result)) }
+    {
+        self.body_at(slot).read_ref(field)
+    }
+
+    pub fn read_int(&self, slot: Slot, field: u32) -> u64
+        requires live { IsLive self.now slot.0 }
+        requires kind { (serial : ℕ) (row : Row) → LiesAt self.now slot.0 serial row → HasInt row.fields field }
+        ensures { (serial : ℕ) (row : Row) → LiesAt self.now slot.0 serial row → slice_get row.fields field ≡ Some (Holds result) }
+    {
+        self.body_at(slot).read_int(field)
+    }
+
+    pub fn write_ref(&mut self, slot: Slot, field: u32, value: Option<Link>)
+        requires live { IsLive self.old slot.0 }
+        requires kind { (serial : ℕ) (row : Row) → LiesAt self.old slot.0 serial row → HasRef row.fields field }
+        ensures { (serial : ℕ) (row : Row) → LiesAt self.old slot.0 serial row →
+            self.new ≡ with_row self.old serial (Some (record row { fields = slice_set row.fields field (Refers (option_map name_of value)) })) }
+    {
+        self.cells[slot.0].body.write_ref(field, value);
+    }
+
+    pub fn write_int(&mut self, slot: Slot, field: u32, value: u64)
+        requires live { IsLive self.old slot.0 }
+        requires kind { (serial : ℕ) (row : Row) → LiesAt self.old slot.0 serial row → HasInt row.fields field }
+        ensures { (serial : ℕ) (row : Row) → LiesAt self.old slot.0 serial row →
+            self.new ≡ with_row self.old serial (Some (record row { fields = slice_set row.fields field (Holds value) })) }
+    {
+        self.cells[slot.0].body.write_int(field, value);
+    }
+
+    /// Makes a white object gray. Other objects, and serials with no object, stay as they are.
+    pub fn make_gray(&mut self, serial: Serial)
+        ensures grayed { (row : Row) → row_at self.old serial.0 ≡ Some row → self.new ≡ with_row self.old serial.0 (Some (record row { color = gray_or_black row.color })) }
+        ensures gone { row_at self.old serial.0 ≡ None → self.new ≡ self.old }
+    {
+        let at = serial.0 as usize;
+        if at >= self.places.len() {
+            return;
+        }
+        let place = self.places[at];
+        match place {
+            Place::At(slot, mark) => match mark {
+                Mark::White => {
+                    self.places[at] = Place::At(slot, Mark::Gray(self.gray));
+                    self.gray = Some(at);
+                }
+                Mark::Gray(_) => {}
+                Mark::Black => {}
+            },
+            Place::Empty => {}
+        }
+    }
+
+    /// Takes a gray object, and makes it black.
+    pub fn take_gray(&mut self) -> Option<Serial>
+        ensures some { (serial : Serial) → result ≡ Some serial → (row : Row) × LiesAt self.old row.slot serial.0 row × (row.color ≡ Gray)
+            × (self.new ≡ with_row self.old serial.0 (Some (record row { color = Black }))) }
+        ensures none { IfNone result ((serial : ℕ) → IsFalse (some_gray (row_at self.old serial))) }
+        ensures kept { IfNone result (self.new ≡ self.old) }
+    {
+        let Some(at) = self.gray else { return None };
+        let place = self.places[at];
+        match place {
+            Place::At(slot, mark) => match mark {
+                Mark::Gray(next) => {
+                    self.places[at] = Place::At(slot, Mark::Black);
+                    self.gray = next;
+                    Some(Serial(at as u32))
+                }
+                Mark::White => unreachable!(),
+                Mark::Black => unreachable!(),
+            },
+            Place::Empty => unreachable!(),
+        }
+    }
+
+    /// Takes the marks of all objects away.
+    pub fn unmark_all(&mut self)
+        ensures { self.new ≡ unmarked_segment self.old }
+    {
+        whiten(&mut self.places);
+        self.gray = None;
+    }
+
+    /// Frees the first object that isn't marked, by slots from that one on.
+    pub fn sweep_next(&mut self, from: Slot) -> Option<Gone>
+        ensures freed { IfSome result (λ gone. IsFreed self.old self.new from.0 gone) }
+        ensures none { IfNone result ((serial : ℕ) (row : Row) → row_at self.old serial ≡ Some row → from.0 ≤ row.slot → IsTrue (is_marked row.color)) }
+        ensures kept { IfNone result (self.new ≡ self.old) }
+    {
+        match self.first_unmarked(from.0) {
+            Some(slot) => Some(self.free(slot)),
+            None => None,
+        }
+    }
+
+    /// The content of the object there.
+    fn body_at(&self, slot: Slot) -> &Body
+        requires { IsLive self.now slot.0 }
+        ensures { (serial : ℕ) (row : Row) → LiesAt self.now slot.0 serial row → result.now ≡ body_of row }
+    {
+        &self.cells[slot.0].body
+    }
+
+    /// The first slot from that one on with an object that isn't marked.
+    fn first_unmarked(&self, from: usize) -> Option<usize>
+        ensures some { IfSome result (λ slot. IsFirstUnmarked self.now from slot) }
+        ensures none { IfNone result ((serial : ℕ) (row : Row) → row_at self.now serial ≡ Some row → from ≤ row.slot → IsTrue (is_marked row.color)) }
+    {
+        for slot in from..self.end() {
+            if self.is_unmarked(slot) {
+                return Some(slot);
+            }
+        }
+        None
+    }
+
+    /// No object lies at this slot or a higher one.
+    fn end(&self) -> usize
+        ensures { (serial : ℕ) (row : Row) → row_at self.now serial ≡ Some row → row.slot < result }
+    {
+        self.end
+    }
+
+    /// Whether an object without a mark lies there.
+    fn is_unmarked(&self, slot: usize) -> bool
+        ensures yes { IsTrue result → IsUnmarkedAt self.now slot }
+        ensures no { IsFalse result → (serial : ℕ) (row : Row) → row_at self.now serial ≡ Some row → row.slot ≡ slot → IsTrue (is_marked row.color) }
+    {
+        let Some(cell) = self.cells.get(slot) else {
+            return false;
+        };
+        self.places[cell.serial.0 as usize].is_white()
+    }
+
+    /// Frees the object there, which isn't marked.
+    fn free(&mut self, slot: usize) -> Gone
+        requires { IsUnmarkedAt self.old slot }
+        ensures slot { result.slot.0 ≡ slot }
+        ensures freed { (serial : ℕ) (row : Row) → LiesAt self.old slot serial row → IsFree self.old self.new serial row result }
+    {
+        let cell = self.cells.remove(slot);
+        let bytes = cell.body.bytes();
+        self.places[cell.serial.0 as usize] = Place::Empty;
+        self.bytes -= bytes;
+        Gone {
+            slot: Slot(slot),
+            serial: cell.serial,
+            bytes,
+        }
+    }
+}
