@@ -24,7 +24,8 @@ mod view;
 mod words;
 mod worked;
 
-pub use laws::exits_are_told_by_their_targets;
+pub use laws::{exits_are_told_by_their_targets, reports_read_the_setup_alone};
+pub use line::LineBuffer;
 pub use reporting::report;
 pub use view::View;
 pub use worked::{
