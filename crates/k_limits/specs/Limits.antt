@@ -8,6 +8,7 @@ pub record ChargedLimits : Type 0 where
   pub rows : List LimitRow
   pub direct : List ℕ
 
+-- the limits by their parts
 abbrev pub charged_limits : List LimitRow → List ℕ → ChargedLimits
 charged_limits rows direct = record { rows = rows; direct = direct }
 

@@ -47,6 +47,7 @@ abbrev pub ancestors_above : (ℕ → List ℕ) → Option LimitId → List ℕ
 ancestors_above ancestors None = []
 ancestors_above ancestors (Some parent) = parent.0 ∷ ancestors parent.0
 
+-- the ancestors of m, where the tree is at most so deep
 unfoldable pub ancestors_within : List LimitRow → ℕ → ℕ → List ℕ
 ancestors_within rows zero m = []
 ancestors_within rows (suc depth) m = ancestors_above (ancestors_within rows depth) (row_of rows m).parent

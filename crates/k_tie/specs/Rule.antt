@@ -24,6 +24,7 @@ total_of touches cell = total (λ touched. one_if_same touched cell) touches
 abbrev pub CellFits : List Event → List ℕ → CellView → Type 0
 CellFits list touches known = IsPrefixOf known.list list × (known.share ≡ total_of touches known.cell)
 
+-- so it is of each of the cells
 abbrev pub CellsFit : List Event → List ℕ → List CellView → Type 0
 CellsFit list touches [] = Unit {0}
 CellsFit list touches (known ∷ others) = CellFits list touches known × CellsFit list touches others
@@ -60,5 +61,6 @@ pub record KeepsRule (words : List ℕ) (views : List View) : Type 0 where
   pub fits : (seat : ℕ) (view : View) → get_elem? views seat ≡ some view → ViewFits list touches view
   pub distinct : (cell : ℕ) → total (times_in cell) views ≤ 1
 
+-- the rule as a fact about the table
 abbrev pub Holds : State (Unit {0}) View → Type 0
 Holds state = KeepsRule state.words state.views

@@ -43,6 +43,7 @@ note_value table (Journal list touches in_hand) = blank_note table 0
 note_value table (Note known) = record { table = table; cell = known.cell; list = known.list; share = known.share }
 note_value table Spent = blank_note table 0
 
+-- the view of the seat of a note
 abbrev pub note_view : NoteValue → View
 note_view note = Note (cell_view note.cell note.list note.share)
 

@@ -38,21 +38,15 @@ impl Tie {
         ensures journal { IfOk result (λ made. made.1 ≡ empty_journal made.0) }
         ensures notes { IfOk result (λ made. made.2.items ≡ map (blank_note made.0) (numbers_below cells)) }
     {
-        let Ok(mut notes) = Vec::with_capacity(alloc, cells as usize) else {
-            return Err(NoMemory);
-        };
-        let Ok((table, mut seat)) = Table::<(), View, u32, JournalRule, Global>::of_words(
+        let mut notes = Vec::with_capacity(alloc, cells as usize)?;
+        let (table, mut seat) = Table::<(), View, u32, JournalRule, Global>::of_words(
             alloc,
             &[0],
             &cells,
-        ) else {
-            return Err(NoMemory);
-        };
+        )?;
         for _ in 0..cells {
             let given = table.shared.split_seat::<GiveNote>(&mut seat);
-            let Ok(()) = notes.push(Note { seat: given }) else {
-                return Err(NoMemory);
-            };
+            notes.push(Note { seat: given })?;
         }
         Ok((Tie { table }, JournalSeat { seat }, notes))
     }

@@ -31,4 +31,4 @@ loop-preserved c =
     let t = c.split_seat-given.ensures.3 ∙ i.0 in
     let left = ap (λ m. m.0) c.split_seat-given.ensures.2 ∙ (ap (λ m. after_give m.0) i.2 ∙ rest_blank k c.args.cells below) in
     let none = ap (λ m. m.1) c.split_seat-given.ensures.2 ∙ ap (λ m. m.1) i.2 in
-    (c.split_seat-given.ensures.0 ∙ i.0, i.1, (λ j. (left j, none j)), c.in-Ok-push.ensures.items ∙ ((λ j. i.3 j ++ next_note _ _ _ k t v j ∷ []) ∙ sym (blank_push _ 0 k)))
+    (c.split_seat-given.ensures.0 ∙ i.0, i.1, (λ j. (left j, none j)), c.in_ok-push.ensures.items ∙ ((λ j. i.3 j ++ next_note _ _ _ k t v j ∷ []) ∙ sym (blank_push _ 0 k)))
