@@ -172,7 +172,7 @@ module _ (trace : Trace) where
   unless_closed None st p op = effect_closed st p op
   unless_closed (Some f) st p op = refl
 
-  done_closed : (st : State) (p : ℕ) (op : Op) → (after_operation trace p op st).closed ≡ st.closed
+  pub done_closed : (st : State) (p : ℕ) (op : Op) → (after_operation trace p op st).closed ≡ st.closed
   unfolding after_operation count_done
   done_closed st p op = unless_closed (first_fault (faults trace st p op)) st p op
 

@@ -66,7 +66,7 @@ module _ (trace : Trace) where
   effect_scans st p Exit = omega arith
 
   -- a collection is never refused
-  never_refused : (st : State) (p : ℕ) (op : Op) → IsTrue (begins_collection op) → first_fault (faults trace st p op) ≡ None
+  pub never_refused : (st : State) (p : ℕ) (op : Op) → IsTrue (begins_collection op) → first_fault (faults trace st p op) ≡ None
   unfolding faults first_fault
   never_refused st p Collect t = refl
   never_refused st p KCollect t = refl
@@ -85,7 +85,7 @@ module _ (trace : Trace) where
   never_refused st p (Attach r s) t = absurd (false≢true t)
   never_refused st p Exit t = absurd (false≢true t)
 
-  done_scans : (st : State) (p : ℕ) (op : Op) → length (after_operation trace p op st).scans ≡ length st.scans + one_if (begins_collection op)
+  pub done_scans : (st : State) (p : ℕ) (op : Op) → length (after_operation trace p op st).scans ≡ length st.scans + one_if (begins_collection op)
   unfolding after_operation count_done
   done_scans st p op = go (first_fault (faults trace st p op)) refl
     where

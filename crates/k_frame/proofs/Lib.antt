@@ -11,6 +11,7 @@ pub mod ElsewhereOther
 pub mod LocalSteps
 pub mod LocalEffects
 pub mod LocalBook
+pub mod Rest
 pub mod Sizes
 pub mod Tails
 pub mod Charges

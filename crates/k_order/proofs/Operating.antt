@@ -1,0 +1,117 @@
+-- What an operation leaves of scans, of who has ended and of the closing.
+use Rattle.std.proofs.Common.{◌≡◌, ◌⊎◌, ℕ, ◌==◌, not, false, cond, refl, sym, ap, ◌∙◌, inl, inr, List, [], ◌∷◌, ◌++◌, filter, length, Option, Some, None, is_some, option_map, arith, eqb-true, IsTrue}
+use Rattle.std.proofs.lemmas.Bool.{false≢true, or_cases}
+use Rattle.std.proofs.lemmas.List.Folds.{list_any-append}
+use Rattle.k_types.specs.declared.names.Heap.{Heap}
+use Rattle.k_types.specs.declared.names.Heap.TheVariants.{Kernel}
+use Rattle.k_types.specs.declared.op.Op.{Op}
+use Rattle.k_types.specs.declared.op.Op.TheVariants.{New, KNew, SNew, Store, Load, Move, Clear, Dir, Put, Get, Collect, KCollect, Share, Freeze, Attach, Exit}
+use Rattle.k_types.specs.declared.event.Fault.{Fault}
+use Rattle.k_types.specs.Names.{heap_eq, among}
+use Rattle.k_types.specs.Trace.{Trace}
+use Rattle.k_types.specs.TraceRules.{is_exit}
+use Rattle.k_types.specs.State.{State, Scan, register, is_scanned}
+use Rattle.k_types.specs.Owners.{user}
+use Rattle.k_types.specs.Reach.{roots_of}
+use Rattle.k_types.specs.Replies.{first_fault, faults}
+use Rattle.k_types.specs.Updates.{count_done, set_register, create, open_scan, add_share, set_phase, keep_objects, keep_exits, keep_shares, close_scan, clear_registers, end_process, turn_exits}
+use Rattle.k_types.specs.Effects.{effect, effect_unless, after_operation, after_end_of, after_ended}
+use Rattle.k_types.specs.FileOrder.{heap_begun}
+use Rattle.k_bounds.specs.Counts.{one_if, begins_collection}
+use Rattle.k_bounds.proofs.ScanCounts.{done_scans}
+use Rattle.k_frame.proofs.NameTests.{heap_eq_refl}
+use Rattle.k_frame.proofs.Rest.{store_rest, put_rest, freeze_rest}
+
+module _ (trace : Trace) where
+  ended_by : (ended : List ℕ) (p q : ℕ) → IsTrue (among q (ended ++ p ∷ [])) → IsTrue (among q ended) ⊎ (q ≡ p)
+  ended_by ended p q t =
+      elim (or_cases (among q ended) (among q (p ∷ [])) (sym (list_any-append (λ m. m == q) ended (p ∷ [])) ∙ t)) [
+        | inl before ↦ inl before
+        | inr new ↦ elim (or_cases (p == q) false new) [ inl same ↦ inr (sym (eqb-true p q same)) | inr never ↦ absurd (false≢true never) ]
+      ]
+
+  effect_ended : (st : State) (p : ℕ) (op : Op) (q : ℕ) → IsTrue (among q (effect trace p op st).ended) → IsTrue (among q st.ended) ⊎ ((q ≡ p) × IsTrue (is_exit op))
+  unfolding effect set_register create open_scan add_share set_phase after_end_of end_process clear_registers keep_shares turn_exits
+  effect_ended st p (New r ty) q t = inl t
+  effect_ended st p (KNew r ty) q t = inl t
+  effect_ended st p (SNew r s ty) q t = inl t
+  effect_ended st p (Store base i value) q t = inl (ap (λ (s : State). among q s.ended) (sym (store_rest trace st (register st.registers p base.0) i (register st.registers p value.0))) ∙ t)
+  effect_ended st p (Load r base i) q t = inl t
+  effect_ended st p (Move r from) q t = inl t
+  effect_ended st p (Clear r) q t = inl t
+  effect_ended st p (Dir r) q t = inl t
+  effect_ended st p (Put base i number) q t = inl (ap (λ (s : State). among q s.ended) (sym (put_rest st (register st.registers p base.0) i number)) ∙ t)
+  effect_ended st p (Get base i) q t = inl t
+  effect_ended st p Collect q t = inl t
+  effect_ended st p KCollect q t = inl t
+  effect_ended st p (Share s) q t = inl t
+  effect_ended st p (Freeze s root) q t = inl (ap (λ (s : State). among q s.ended) (sym (freeze_rest st s.0 (register st.registers p root.0))) ∙ t)
+  effect_ended st p (Attach r s) q t = inl t
+  effect_ended st p Exit q t = elim (ended_by st.ended p q t) [ inl before ↦ inl before | inr now ↦ inr (now, refl) ]
+
+  unless_ended : (f : Option Fault) (st : State) (p : ℕ) (op : Op) (q : ℕ) → IsTrue (among q (effect_unless f trace p op st).ended) → IsTrue (among q st.ended) ⊎ ((q ≡ p) × IsTrue (is_exit op))
+  unless_ended None st p op q t = effect_ended st p op q t
+  unless_ended (Some f) st p op q t = inl t
+
+  -- who has ended after an operation had ended before, or ends by it
+  pub done_ended : (st : State) (p : ℕ) (op : Op) (q : ℕ) → IsTrue (among q (after_operation trace p op st).ended) → IsTrue (among q st.ended) ⊎ ((q ≡ p) × IsTrue (is_exit op))
+  unfolding after_operation count_done
+  done_ended st p op q t = unless_ended (first_fault (faults trace st p op)) st p op q t
+
+  -- a collection that begins is open after its operation
+  pub begun_scans : (st : State) (p : ℕ) (op : Op) (h : Heap) → heap_begun p op ≡ Some h → (after_operation trace p op st).scans ≡ record { heap = h; roots = roots_of trace st h } ∷ st.scans
+  unfolding after_operation count_done faults first_fault effect open_scan
+  begun_scans st p Collect h e = let is : user p ≡ h = cc e in ap (λ g. let scan : Scan = record { heap = g; roots = roots_of trace st g } in scan ∷ st.scans) is
+  begun_scans st p KCollect h e = let is : Kernel ≡ h = cc e in ap (λ g. let scan : Scan = record { heap = g; roots = roots_of trace st g } in scan ∷ st.scans) is
+  begun_scans st p (New r ty) h e = absurd (cc e)
+  begun_scans st p (KNew r ty) h e = absurd (cc e)
+  begun_scans st p (SNew r s ty) h e = absurd (cc e)
+  begun_scans st p (Store base i value) h e = absurd (cc e)
+  begun_scans st p (Load r base i) h e = absurd (cc e)
+  begun_scans st p (Move r from) h e = absurd (cc e)
+  begun_scans st p (Clear r) h e = absurd (cc e)
+  begun_scans st p (Dir r) h e = absurd (cc e)
+  begun_scans st p (Put base i number) h e = absurd (cc e)
+  begun_scans st p (Get base i) h e = absurd (cc e)
+  begun_scans st p (Share s) h e = absurd (cc e)
+  begun_scans st p (Freeze s root) h e = absurd (cc e)
+  begun_scans st p (Attach r s) h e = absurd (cc e)
+  begun_scans st p Exit h e = absurd (cc e)
+
+  none_begun : (p : ℕ) (op : Op) → heap_begun p op ≡ None → begins_collection op ≡ false
+  none_begun p Collect e = absurd (cc e)
+  none_begun p KCollect e = absurd (cc e)
+  none_begun p (New r ty) e = refl
+  none_begun p (KNew r ty) e = refl
+  none_begun p (SNew r s ty) e = refl
+  none_begun p (Store base i value) e = refl
+  none_begun p (Load r base i) e = refl
+  none_begun p (Move r from) e = refl
+  none_begun p (Clear r) e = refl
+  none_begun p (Dir r) e = refl
+  none_begun p (Put base i number) e = refl
+  none_begun p (Get base i) e = refl
+  none_begun p (Share s) e = refl
+  none_begun p (Freeze s root) e = refl
+  none_begun p (Attach r s) e = refl
+  none_begun p Exit e = refl
+
+  empty : {A : Type 0} (xs : List A) → length xs ≡ 0 → xs ≡ []
+  empty [] e = refl
+  empty (x ∷ xs) e = absurd (omega (arith, e))
+
+  -- any other operation leaves no scan where there was none
+  pub no_scans : (st : State) (p : ℕ) (op : Op) → heap_begun p op ≡ None → st.scans ≡ [] → (after_operation trace p op st).scans ≡ []
+  no_scans st p op none quiet =
+      let count = done_scans trace st p op in
+      let zero' = ap one_if (none_begun p op none) in
+      let was = ap length quiet in
+      empty _ (omega arith)
+
+  -- the one open scan ends
+  pub scan_ends : (st : State) (h : Heap) (scan : Scan) → scan.heap ≡ h → st.scans ≡ scan ∷ [] → (after_ended trace h st).scans ≡ []
+  unfolding after_ended close_scan keep_shares keep_exits keep_objects
+  scan_ends st h scan is one = ap (λ scans. filter (λ s. not (heap_eq s.heap h)) scans) one ∙ ap (λ g. cond (not (heap_eq g h)) (scan ∷ []) []) is ∙ ap (λ b. cond (not b) (scan ∷ []) []) (heap_eq_refl h)
+
+  pub scan_is_open : (st : State) (h : Heap) (scan : Scan) → scan.heap ≡ h → st.scans ≡ scan ∷ [] → IsTrue (is_scanned st.scans h)
+  scan_is_open st h scan is one = ap (λ scans. is_scanned scans h) one ∙ ap (λ g. is_some (option_map (λ (s : Scan). s.roots) (cond (heap_eq g h) (Some scan) None))) is ∙ ap (λ b. is_some (option_map (λ (s : Scan). s.roots) (cond b (Some scan) None))) (heap_eq_refl h)
