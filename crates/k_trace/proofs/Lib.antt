@@ -1,0 +1,3 @@
+pub mod Short
+pub mod Exits
+pub mod Readers
