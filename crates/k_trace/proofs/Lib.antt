@@ -1,3 +1,4 @@
 pub mod Short
 pub mod Exits
 pub mod Readers
+pub mod Judging

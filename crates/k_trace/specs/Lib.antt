@@ -13,3 +13,4 @@ pub mod Grown
 pub mod Judgement
 pub mod OperationLists
 pub mod Outcome
+pub mod Reading

@@ -42,6 +42,25 @@ impl<T: Drop> From<AllocFailed<T>> for LineError {
     }
 }
 
+/// Why bytes aren't read: memory ran out, that is the first bad line with its lowest reason, or
+/// there is a limit below the root.
+#[derive(Debug, Drop)]
+pub enum ReadError {
+    NoMemory,
+    Bad { line: u32, reason: u32 },
+    LaterLimit,
+}
+
+impl From<NoMemory> for ReadError {
+    ghost use Rattle.k_trace.specs.declared.errors.ReadError.TheVariants.{NoMemory};
+
+    ghost from_gives = { λ _ e. e ≡ NoMemory };
+
+    fn from(_e: NoMemory) -> ReadError {
+        ReadError::NoMemory
+    }
+}
+
 /// Why bytes are no trace that can be read. Source: own.
 #[derive(Debug, Drop)]
 pub enum TraceError {

@@ -12,6 +12,7 @@ mod names;
 mod operations;
 mod place;
 mod reader;
+mod reading;
 mod trace;
 
 pub use errors::TraceError;
