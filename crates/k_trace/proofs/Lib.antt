@@ -2,3 +2,8 @@ pub mod Short
 pub mod Exits
 pub mod Readers
 pub mod Judging
+pub mod OpForms
+pub mod OpAgain
+pub mod Steps
+pub mod Found
+pub mod Again

@@ -8,6 +8,7 @@
 
 mod errors;
 mod forms;
+mod laws;
 mod names;
 mod operations;
 mod place;
@@ -17,6 +18,7 @@ mod trace;
 
 pub use errors::TraceError;
 pub use forms::read_op;
+pub use laws::law;
 pub use names::Names;
 
 pub use trace::Trace;
