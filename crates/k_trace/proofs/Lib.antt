@@ -7,3 +7,6 @@ pub mod OpAgain
 pub mod Steps
 pub mod Found
 pub mod Again
+pub mod Pushed
+pub mod OpLists
+pub mod OpRules
