@@ -10,3 +10,5 @@ pub mod Again
 pub mod Pushed
 pub mod OpLists
 pub mod OpRules
+pub mod Reserved
+pub mod Keeps
