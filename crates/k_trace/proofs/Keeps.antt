@@ -166,12 +166,15 @@ root_push rows row old (inl lt) some = rw (row_before rows row 0 lt) old
 root_push rows row old (inr hard) (inl lt) = rw (row_before rows row 0 lt) old
 root_push rows row old (inr hard) (inr none) = rw none hard
 
+pub tree_push : (rows : List LimitRow) (row : LimitRow) → IsTree rows → ((parent : LimitId) → row.parent ≡ Some parent → parent.0 < length rows) → IsTree (rows ++ row ∷ [])
+tree_push rows row old known m parent lt is = each_row (λ k r. (p : LimitId) → r.parent ≡ Some p → p.0 < k) rows row (λ k below p. old k p below) known m lt parent is
+
 limits_push : (names : List Text) (rows : List LimitRow) (name : Text) (row : LimitRow) → AreRows names rows → is_name name ≡ true → declares names name ≡ false
     → length names < 128 → row.max < 2 ^ 40 → ((parent : LimitId) → row.parent ≡ Some parent → parent.0 < length rows) → (row.parent ≡ None → length rows ≡ 0)
     → (row_of (rows ++ row ∷ []) 0).hard ≡ true → AllFit (rows ++ row ∷ []) → AreRows (names ++ name ∷ []) (rows ++ row ∷ [])
 limits_push names rows name row old good fresh room small known rooted root fits = record {
   few = rw (length_push rows row) (omega (arith, old.named, room));
-  tree = λ m parent lt is. each_row (λ k r. (p : LimitId) → r.parent ≡ Some p → p.0 < k) rows row (λ k below p. old.tree k p below) known m lt parent is;
+  tree = tree_push rows row old.tree known;
   root = root;
   rooted = each_row (λ k r. r.parent ≡ None → k ≡ 0) rows row old.rooted rooted;
   fits = fits;
@@ -364,7 +367,7 @@ limit_said t name parent hard max wss h good fresh small known room fit =
         kernel = begun.kernel;
         types = begun.types;
         limits = limits_push t.names.limits t.trace.limits name row begun.limits good fresh room small (parent_is parent (length t.trace.limits) within) (λ is. absurd cc)
-          (rw (row_before t.trace.limits row 0 h.1) begun.limits.root) (fit_limit t.trace.limits parent hard max begun.limits.tree within begun.limits.fits fit);
+          (rw (row_before t.trace.limits row 0 h.1) begun.limits.root) (fit_limit t.trace.limits parent hard max (tree_push t.trace.limits row begun.limits.tree (parent_is parent (length t.trace.limits) within)) within begun.limits.fits fit);
         heaps = wider t (length (t.trace.limits ++ row ∷ [])) begun.heaps (omega (arith, length_push t.trace.limits row));
         operations = nothing_operated (with_limit t name row) h.4.each h.4.order;
       };
