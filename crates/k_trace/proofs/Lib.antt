@@ -12,3 +12,4 @@ pub mod OpLists
 pub mod OpRules
 pub mod Reserved
 pub mod Keeps
+pub mod Sound

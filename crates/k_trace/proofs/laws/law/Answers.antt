@@ -2,7 +2,7 @@ use Rattle.std.proofs.Common.{refl}
 use Rattle.k_trace.proofs.Found.{step_found}
 use Rattle.k_trace.proofs.Again.{step_again}
 use Rattle.k_trace.proofs.Pushed.{AreNames_push}
-use Rattle.k_trace.proofs.Keeps.{step_keeps}
+use Rattle.k_trace.proofs.Sound.{sound}
 use Rattle.k_trace.proofs.OpAgain.{op_again}
 use Rattle.k_trace.proofs.laws.law.Goals as goal
 
