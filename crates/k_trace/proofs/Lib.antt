@@ -13,3 +13,5 @@ pub mod OpRules
 pub mod Reserved
 pub mod Keeps
 pub mod Sound
+pub mod Tidy
+pub mod Judged
