@@ -15,3 +15,7 @@ pub mod Keeps
 pub mod Sound
 pub mod Tidy
 pub mod Judged
+pub mod Runs
+pub mod LaterRuns
+pub mod OpRuns
+pub mod Whole

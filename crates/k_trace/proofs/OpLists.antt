@@ -45,7 +45,7 @@ empty_is : (xs : List Op) → 0 ≡ length xs → xs ≡ []
 empty_is [] e = refl
 empty_is (x ∷ xs) e = absurd cc
 
-times_head : (p q : ℕ) (order : List ℕ) → times p (q ∷ order) ≡ times p order + cond (eqb q p) 1 0
+pub times_head : (p q : ℕ) (order : List ℕ) → times p (q ∷ order) ≡ times p order + cond (eqb q p) 1 0
 times_head p q order = grind (arith, common_steps)
 
 -- at one process: the first operation goes, whether one more stands at the end or not
