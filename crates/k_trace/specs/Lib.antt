@@ -7,3 +7,10 @@ pub mod FirstForm
 pub use Rattle.k_words.specs.Words
 pub use Rattle.k_words.specs.Numbers
 pub use Rattle.k_words.specs.Names
+pub mod Demands
+pub mod Forms
+pub mod Grown
+pub mod Judgement
+pub mod OperationLists
+pub mod Outcome
+pub mod Reading

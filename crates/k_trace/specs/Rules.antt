@@ -1,6 +1,5 @@
 -- Which traces have a spelling, and which bytes spell them.
 use Rattle.std.specs.Prelude.{◌≡◌, ◌≢◌, ℕ, ◌<◌, ◌≤◌, ◌++◌, List, length, IsTrue, IsFalse, None, All}
-use Rattle.k_types.specs.Trace.{Trace, row_of}
 use Rattle.k_types.specs.TraceRules.{KeepsRules}
 use Rattle.k_words.specs.Words.{Text, word_at, AreText}
 use Rattle.k_words.specs.Names.{is_name}
@@ -13,7 +12,7 @@ pub record AreNames (names : List Text) : Type 0 where
   pub apart : (i k : ℕ) → k < i → i < length names → word_at names i ≢ word_at names k
 
 -- the trace keeps the rules of the machine, and declares a name for each type, limit, process and shared heap; processes and
--- shared heaps have no name in common; the root is spelled without the word for it, and is hard
+-- shared heaps have no name in common
 pub record IsTrace (t : NamedTrace) : Type 0 where
   pub rules : KeepsRules t.trace
   pub type_names : AreNames t.names.types
@@ -23,7 +22,6 @@ pub record IsTrace (t : NamedTrace) : Type 0 where
   pub limits_named : length t.names.limits ≡ length t.trace.limits
   pub procs_named : length t.names.procs ≡ length t.trace.procs
   pub shared_named : length t.names.shared ≡ t.trace.shared_heaps
-  pub root_hard : IsTrue (row_of t.trace.limits 0).hard
   pub has_root : 0 < length t.trace.limits
 
 -- the bytes spell the trace: they are few enough, and are its text but for the last line feed, which may be missing

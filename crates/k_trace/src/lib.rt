@@ -6,8 +6,19 @@
 //! of the first bad line. Below stand `k_types`, whose machine a trace is run on, and `k_words`.
 #![tactic(auto)]
 
+mod errors;
+mod forms;
+mod laws;
 mod names;
+mod operations;
+mod place;
+mod reader;
+mod reading;
 mod trace;
 
+pub use errors::TraceError;
+pub use forms::read_op;
+pub use laws::law;
 pub use names::Names;
+
 pub use trace::Trace;

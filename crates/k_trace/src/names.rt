@@ -1,9 +1,12 @@
-ghost use Rattle.std.specs.Prelude.{◌≡◌, ◌<◌, ◌≤◌, length};
-ghost use Rattle.k_trace.specs.Named.{type_name, limit_name, proc_name, shared_name};
+ghost use Rattle.std.specs.Prelude.{◌≡◌, ◌<◌, ◌≤◌, ◌++◌, ◌∷◌, [], length, OnOk, OnErr, IfSome, IsTrue, IsFalse};
+ghost use Rattle.k_words.specs.Names.{declares, is_name};
+ghost use Rattle.k_trace.specs.Named.{no_names, type_name, limit_name, proc_name, shared_name};
 ghost use Rattle.k_trace.specs.Numbered.{type_named, limit_named, proc_named, shared_named};
 
+use k_io::NoMemory;
 use k_types::{LimitId, Pid, SharedId, TypeId};
 use k_words::NameList;
+use std::alloc::Global;
 use std::marker::Model;
 
 /// The names that a trace declares, by the numbers of what they name. Source: own.
@@ -11,10 +14,10 @@ use std::marker::Model;
 /// Each name has at most 32 bytes.
 #[derive(Drop)]
 pub struct Names {
-    pub(crate) types: NameList,
-    pub(crate) limits: NameList,
-    pub(crate) procs: NameList,
-    pub(crate) shared: NameList,
+    types: NameList,
+    limits: NameList,
+    procs: NameList,
+    shared: NameList,
 }
 
 impl Model for Names {
@@ -29,6 +32,61 @@ impl Model for Names {
 }
 
 impl Names {
+    pub(crate) fn new(alloc: Global) -> Names
+        ensures { result ≡ no_names }
+    {
+        Names {
+            types: NameList::new(alloc),
+            limits: NameList::new(alloc),
+            procs: NameList::new(alloc),
+            shared: NameList::new(alloc),
+        }
+    }
+
+    #[tactic(auto, using(crate::proofs::Short::AllShort_append))]
+    pub(crate) fn declare_type(&mut self, alloc: Global, name: &[u8]) -> Result<(), NoMemory>
+        requires new { IsFalse (declares self.old.types name.now) }
+        requires name { IsTrue (is_name name.now) }
+        requires few { length self.old.types < 256 }
+        ensures ok { OnOk result (self.new ≡ record self.old { types = self.old.types ++ name.now ∷ [] }) }
+        ensures unchanged { OnErr result (self.new ≡ self.old) }
+    {
+        self.types.declare(alloc, name)
+    }
+
+    #[tactic(auto, using(crate::proofs::Short::AllShort_append))]
+    pub(crate) fn declare_limit(&mut self, alloc: Global, name: &[u8]) -> Result<(), NoMemory>
+        requires new { IsFalse (declares self.old.limits name.now) }
+        requires name { IsTrue (is_name name.now) }
+        requires few { length self.old.limits < 128 }
+        ensures ok { OnOk result (self.new ≡ record self.old { limits = self.old.limits ++ name.now ∷ [] }) }
+        ensures unchanged { OnErr result (self.new ≡ self.old) }
+    {
+        self.limits.declare(alloc, name)
+    }
+
+    #[tactic(auto, using(crate::proofs::Short::AllShort_append))]
+    pub(crate) fn declare_proc(&mut self, alloc: Global, name: &[u8]) -> Result<(), NoMemory>
+        requires new { IsFalse (declares self.old.procs name.now) }
+        requires name { IsTrue (is_name name.now) }
+        requires few { length self.old.procs < 64 }
+        ensures ok { OnOk result (self.new ≡ record self.old { procs = self.old.procs ++ name.now ∷ [] }) }
+        ensures unchanged { OnErr result (self.new ≡ self.old) }
+    {
+        self.procs.declare(alloc, name)
+    }
+
+    #[tactic(auto, using(crate::proofs::Short::AllShort_append))]
+    pub(crate) fn declare_shared(&mut self, alloc: Global, name: &[u8]) -> Result<(), NoMemory>
+        requires new { IsFalse (declares self.old.shared name.now) }
+        requires name { IsTrue (is_name name.now) }
+        requires few { length self.old.shared < 64 }
+        ensures ok { OnOk result (self.new ≡ record self.old { shared = self.old.shared ++ name.now ∷ [] }) }
+        ensures unchanged { OnErr result (self.new ≡ self.old) }
+    {
+        self.shared.declare(alloc, name)
+    }
+
     /// The name of a declared type. Source: own.
     pub fn type_name(&self, ty: TypeId) -> &[u8]
         requires { ty.0 < length self.now.types }
@@ -67,7 +125,8 @@ impl Names {
 
     /// The number of the type of that name; `None` where no type has it. Source: own.
     pub fn type_named(&self, name: &[u8]) -> Option<TypeId>
-        ensures { result ≡ type_named self.now name.now }
+        ensures number { result ≡ type_named self.now name.now }
+        ensures declared { IfSome result (λ n. n.0 < length self.now.types) }
     {
         match self.types.number(name) {
             Some(number) => Some(TypeId(number as u32)),
@@ -77,7 +136,8 @@ impl Names {
 
     /// The number of the limit of that name; `None` where no limit has it. Source: own.
     pub fn limit_named(&self, name: &[u8]) -> Option<LimitId>
-        ensures { result ≡ limit_named self.now name.now }
+        ensures number { result ≡ limit_named self.now name.now }
+        ensures declared { IfSome result (λ n. n.0 < length self.now.limits) }
     {
         match self.limits.number(name) {
             Some(number) => Some(LimitId(number as u32)),
@@ -87,7 +147,9 @@ impl Names {
 
     /// The number of the process of that name; `None` where no process has it. Source: own.
     pub fn proc_named(&self, name: &[u8]) -> Option<Pid>
-        ensures { result ≡ proc_named self.now name.now }
+        ensures number { result ≡ proc_named self.now name.now }
+        ensures declared { IfSome result (λ n. n.0 < length self.now.procs) }
+        ensures few { IfSome result (λ pid. pid.0 < 64) }
     {
         match self.procs.number(name) {
             Some(number) => Some(Pid(number as u32)),
@@ -97,11 +159,60 @@ impl Names {
 
     /// The number of the shared heap of that name; `None` where no shared heap has it. Source: own.
     pub fn shared_named(&self, name: &[u8]) -> Option<SharedId>
-        ensures { result ≡ shared_named self.now name.now }
+        ensures number { result ≡ shared_named self.now name.now }
+        ensures declared { IfSome result (λ n. n.0 < length self.now.shared) }
     {
         match self.shared.number(name) {
             Some(number) => Some(SharedId(number as u32)),
             None => None,
         }
+    }
+
+    pub(crate) fn type_count(&self) -> usize
+        ensures { result ≡ length self.now.types }
+    {
+        self.types.len()
+    }
+
+    pub(crate) fn has_type(&self, name: &[u8]) -> bool
+        ensures { result ≡ declares self.now.types name.now }
+    {
+        self.types.declares(name)
+    }
+
+    pub(crate) fn limit_count(&self) -> usize
+        ensures { result ≡ length self.now.limits }
+    {
+        self.limits.len()
+    }
+
+    pub(crate) fn has_limit(&self, name: &[u8]) -> bool
+        ensures { result ≡ declares self.now.limits name.now }
+    {
+        self.limits.declares(name)
+    }
+
+    pub(crate) fn proc_count(&self) -> usize
+        ensures { result ≡ length self.now.procs }
+    {
+        self.procs.len()
+    }
+
+    pub(crate) fn has_proc(&self, name: &[u8]) -> bool
+        ensures { result ≡ declares self.now.procs name.now }
+    {
+        self.procs.declares(name)
+    }
+
+    pub(crate) fn shared_count(&self) -> usize
+        ensures { result ≡ length self.now.shared }
+    {
+        self.shared.len()
+    }
+
+    pub(crate) fn has_shared(&self, name: &[u8]) -> bool
+        ensures { result ≡ declares self.now.shared name.now }
+    {
+        self.shared.declares(name)
     }
 }

@@ -1,3 +1,7 @@
 pub mod Lines
 pub mod Places
 pub mod Digits
+pub mod Spelled
+pub mod Again
+pub mod Feeds
+pub mod Proper

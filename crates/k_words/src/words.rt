@@ -42,8 +42,8 @@ pub fn word_count(line: &[u8]) -> usize
     count(line, b' ') + 1
 }
 
-/// What stands behind the first word.
-fn after_word(line: &[u8]) -> Option<&[u8]> 
+/// What stands behind the first word and its space; `None` where the line has one word. Source: own.
+pub fn after_word(line: &[u8]) -> Option<&[u8]>
     ensures some { IfSome result (λ rest. words_of line.now ≡ take (position_or_len (λ b. b == 32) line.now) line.now ∷ words_of rest.now) }
     ensures none { IfNone result (words_of line.now ≡ line.now ∷ []) }
     ensures shorter { IfSome result (λ rest. length rest.now < length line.now) }

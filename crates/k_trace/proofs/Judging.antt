@@ -1,0 +1,22 @@
+-- One more line is judged.
+use Rattle.std.proofs.Common.{◌≡◌, ◌∙◌, ℕ, ◌+◌, ◌≤◌, List, [], ◌∷◌, Result, Ok, Err, refl, sym, ap, length, arith}
+use Rattle.k_words.specs.Words.{Text, lines_of}
+use Rattle.k_trace.specs.Outcome.{HasLaterLimit}
+use Rattle.k_trace.specs.Judgement.{SoFar, BadLine, Judged, then_lines, judged_line, judged_lines}
+
+pub one_more : (n : ℕ) (c d : SoFar) (lines rest : List Text) (line : Text) → lines ≡ line ∷ rest → judged_line c line ≡ Ok d → judged_lines n c lines ≡ judged_lines (n + 1) d rest
+unfolding judged_lines
+one_more n c d lines rest line e good = ap (λ (ls : List Text). judged_lines n c ls) e ∙ ap (then_lines (λ x. judged_lines (n + 1) x rest) n) good
+
+pub bad_line : (n r : ℕ) (c : SoFar) (lines rest : List Text) (line : Text) → lines ≡ line ∷ rest → judged_line c line ≡ Err r → judged_lines n c lines ≡ Err (record { line = n; reason = r })
+unfolding judged_lines
+bad_line n r c lines rest line e bad = ap (λ (ls : List Text). judged_lines n c ls) e ∙ ap (then_lines (λ x. judged_lines (n + 1) x rest) n) bad
+
+pub none_left : (n : ℕ) (c : SoFar) (bytes : Text) → length bytes ≡ 0 → judged_lines n c (lines_of bytes) ≡ Ok c
+unfolding judged_lines
+none_left n c [] e = refl
+none_left n c (b ∷ bytes) e = absurd cc
+
+pub no_lines : (bytes : Text) → length bytes ≡ 0 → length (lines_of bytes) ≡ 0
+no_lines [] e = refl
+no_lines (b ∷ bytes) e = absurd cc

@@ -1,0 +1,147 @@
+-- Operations and the order of the file, with one operation more.
+use Rattle.std.proofs.Common.{◌≡◌, ◌≢◌, ◌∙◌, ◌⊎◌, ℕ, zero, suc, ◌+◌, ◌<◌, ◌≤◌, ◌^◌, Bool, true, false, cond, not, ◌&&◌, ◌||◌, eqb, ltb, List, [], ◌∷◌, ◌++◌, length, map, drop, get_or, set, refl, sym, ap, subst, arith, inl, inr, append_assoc, eq-eqb, ne_eqb}
+use Rattle.std.proofs.lemmas.Bool.{cases_lt, eqb-true, cases_eq, lt-ltb, ltb-true}
+use Rattle.std.proofs.lemmas.Bool.Decides.{nat_tests}
+use Rattle.std.proofs.lemmas.Grind.{common_steps}
+use Rattle.std.proofs.lemmas.List.{get_or_append_left, length-append, append-nil, map-append, length-map, get_or-set_same, get_or-set_other, length-set}
+use Rattle.std.proofs.lemmas.List.Folds.{list_all-append}
+use Rattle.std.specs.List.{list_all, list_any, count_by}
+use Rattle.k_types.specs.declared.op.Op.{Op}
+use Rattle.k_types.specs.declared.op.Op.TheVariants.{New, KNew, SNew, Store, Load, Move, Clear, Dir, Put, Get, Collect, KCollect, Share, Freeze, Attach, Exit}
+use Rattle.k_types.specs.declared.names.LimitId.{LimitId}
+use Rattle.k_types.specs.Trace.{Trace, operations_of, process_count}
+use Rattle.k_types.specs.Steps.{in_range}
+use Rattle.k_types.specs.TraceRules.{EndsWithExit, AreOperations, is_exit, is_spelled}
+use Rattle.k_words.specs.Words.{Text}
+use Rattle.k_trace.specs.Named.{DeclaredNames}
+use Rattle.k_trace.specs.Spelling.{first_line, after_first, operation_lines, line_words}
+use Rattle.k_trace.specs.Grown.{has_exit}
+
+-- how often the process stands in the order
+abbrev pub times : ℕ → List ℕ → ℕ
+times p order = count_by (λ q. eqb q p) order
+
+pub times_push : (p q : ℕ) (order : List ℕ) → times p (order ++ q ∷ []) ≡ times p order + cond (eqb q p) 1 0
+times_push p q [] = grind (arith, common_steps)
+times_push p q (r ∷ order) = grind (arith, common_steps, times_push p q order)
+
+-- the operations of each process, with one more of p
+abbrev pub Adds : ℕ → Op → (ℕ → List Op) → (ℕ → List Op) → Type 0
+Adds p op f g = (q : ℕ) → g q ≡ cond (eqb q p) (f q ++ op ∷ []) (f q)
+
+first_same : (names : DeclaredNames) (q : ℕ) (xs : List Op) (op : Op) → 0 < length xs → first_line names q (xs ++ op ∷ []) ≡ first_line names q xs
+first_same names q [] op lt = absurd (omega arith)
+first_same names q (x ∷ xs) op lt = refl
+
+drop_push : (xs : List Op) (op : Op) → 0 < length xs → drop 1 (xs ++ op ∷ []) ≡ drop 1 xs ++ op ∷ []
+drop_push [] op lt = absurd (omega arith)
+drop_push (x ∷ xs) op lt = refl
+
+one_less : (xs : List Op) (n : ℕ) → n + 1 ≡ length xs → n ≡ length (drop 1 xs)
+one_less [] n e = absurd (omega (arith, e))
+one_less (x ∷ xs) n e = omega (arith, e)
+
+empty_is : (xs : List Op) → 0 ≡ length xs → xs ≡ []
+empty_is [] e = refl
+empty_is (x ∷ xs) e = absurd cc
+
+pub times_head : (p q : ℕ) (order : List ℕ) → times p (q ∷ order) ≡ times p order + cond (eqb q p) 1 0
+times_head p q order = grind (arith, common_steps)
+
+-- at one process: the first operation goes, whether one more stands at the end or not
+after_at : (t u : Bool) (xs ys : List Op) (op : Op) → ys ≡ cond u (xs ++ op ∷ []) xs → (t ≡ true → u ≡ true → 0 < length xs)
+    → cond t (drop 1 ys) ys ≡ cond u (cond t (drop 1 xs) xs ++ op ∷ []) (cond t (drop 1 xs) xs)
+after_at true true xs ys op e some = ap (drop 1) e ∙ drop_push xs op (some refl refl)
+after_at true false xs ys op e some = ap (drop 1) e
+after_at false true xs ys op e some = e
+after_at false false xs ys op e some = e
+
+some_at : (p q s : ℕ) (order : List ℕ) (f : ℕ → List Op) → times p (q ∷ order) ≡ length (f p) → eqb s q ≡ true → eqb s p ≡ true → 0 < length (f s)
+some_at p q s order f counted a b =
+    let e : s ≡ q = eqb-true s q a in
+    let g : s ≡ p = eqb-true s p b in
+    let h : eqb q p ≡ true = rw (← e) b in
+    let k : times p order + 1 ≡ length (f p) = rw h at (sym (times_head p q order) ∙ counted) in
+    rw g (omega (arith, k))
+
+adds_after : (p q : ℕ) (op : Op) (order : List ℕ) (f g : ℕ → List Op) → Adds p op f g → times p (q ∷ order) ≡ length (f p) → Adds p op (after_first q f) (after_first q g)
+adds_after p q op order f g adds counted s = after_at (eqb s q) (eqb s p) (f s) (g s) op (adds s) (some_at p q s order f counted)
+
+counted_after : (t : Bool) (p q : ℕ) (order : List ℕ) (f : ℕ → List Op) → eqb q p ≡ t → times p (q ∷ order) ≡ length (f p) → times p order ≡ length (after_first q f p)
+counted_after true p q order f e counted =
+    let k : times p order + 1 ≡ length (f p) = rw e at (sym (times_head p q order) ∙ counted) in
+    let g : eqb p q ≡ true = eq-eqb p q (sym (eqb-true q p e)) in
+    rw g (one_less (f p) (times p order) k)
+counted_after false p q order f e counted =
+    let k : times p order + 0 ≡ length (f p) = rw e at (sym (times_head p q order) ∙ counted) in
+    elim (eqb p q) as (λ b. eqb p q ≡ b → times p order ≡ length (cond b (drop 1 (f p)) (f p))) [
+      | true ↦ λ g. absurd (let h : eqb q p ≡ true = eq-eqb q p (sym (eqb-true p q g)) in let i : true ≡ false = sym h ∙ e in cc)
+      | false ↦ λ g. omega (arith, k)
+    ] refl
+
+first_push : (names : DeclaredNames) (t : Bool) (q : ℕ) (xs ys : List Op) (op : Op) → ys ≡ cond t (xs ++ op ∷ []) xs → (t ≡ true → 0 < length xs) → first_line names q ys ≡ first_line names q xs
+first_push names true q xs ys op e some = ap (first_line names q) e ∙ first_same names q xs op (some refl)
+first_push names false q xs ys op e some = ap (first_line names q) e
+
+-- one operation more is one line more
+pub lines_push : (names : DeclaredNames) (p : ℕ) (op : Op) (order : List ℕ) (f g : ℕ → List Op) → Adds p op f g → times p order ≡ length (f p)
+    → operation_lines names g (order ++ p ∷ []) ≡ operation_lines names f order ++ line_words names p op ∷ []
+lines_push names p op [] f g adds counted =
+    let e : g p ≡ op ∷ [] = adds p ∙ rw (eq-eqb p p refl, empty_is (f p) counted) refl in
+    rw e refl
+lines_push names p op (q ∷ order) f g adds counted =
+    let front = first_push names (eqb q p) q (f q) (g q) op (adds q) (λ t. some_at p q q order f counted (eq-eqb q q refl) t) in
+    let rest = lines_push names p op order (after_first q f) (after_first q g) (adds_after p q op order f g adds counted) (counted_after (eqb q p) p q order f refl counted) in
+    rw (front, rest) (sym (append_assoc (first_line names q (f q)) (operation_lines names (after_first q f) order) (line_words names p op ∷ [])))
+
+-- ---- the rules of operations
+
+same_range : (a b : Trace) (op : Op) → length a.types ≡ length b.types → a.shared_heaps ≡ b.shared_heaps → in_range a op ≡ in_range b op
+unfolding in_range
+same_range a b (New r ty) e f = rw e refl
+same_range a b (KNew r ty) e f = rw e refl
+same_range a b (SNew r s ty) e f = rw (e, f) refl
+same_range a b (Store base i value) e f = refl
+same_range a b (Load r base i) e f = refl
+same_range a b (Move r from) e f = refl
+same_range a b (Clear r) e f = refl
+same_range a b (Dir r) e f = refl
+same_range a b (Put base i number) e f = refl
+same_range a b (Get base i) e f = refl
+same_range a b Collect e f = refl
+same_range a b KCollect e f = refl
+same_range a b (Share s) e f = rw f refl
+same_range a b (Freeze s root) e f = rw f refl
+same_range a b (Attach r s) e f = rw f refl
+same_range a b Exit e f = refl
+
+pub in_range_same : (a b : Trace) (op : Op) → length a.types ≡ length b.types → a.shared_heaps ≡ b.shared_heaps → in_range a op ≡ in_range b op
+in_range_same a b op e f = same_range a b op e f
+
+pub all_same : (p q : Op → Bool) (ops : List Op) → ((op : Op) → p op ≡ q op) → list_all p ops ≡ list_all q ops
+all_same p q [] same = refl
+all_same p q (x ∷ xs) same = rw (same x, all_same p q xs same) refl
+
+-- no exit stands before the last operation
+ends_push_at : (ops first rest : List Op) (o x : Op) → has_exit ops ≡ false → ops ++ o ∷ [] ≡ first ++ x ∷ rest → is_exit x ≡ true → rest ≡ []
+ends_push_at [] [] rest o x none e exit = cc
+ends_push_at [] (f ∷ []) rest o x none e exit = absurd cc
+ends_push_at [] (f ∷ g ∷ first) rest o x none e exit = absurd cc
+ends_push_at (y ∷ ys) [] rest o x none e exit =
+    let f : y ≡ x = cc in
+    let g : is_exit y ≡ true = rw f exit in
+    let h : true ≡ false = rw g at none in absurd cc
+ends_push_at (y ∷ ys) (f ∷ first) rest o x none e exit =
+    let g : ys ++ o ∷ [] ≡ first ++ x ∷ rest = cc in
+    ends_push_at ys first rest o x (later (is_exit y) (has_exit ys) none) g exit
+  where
+    later : (a b : Bool) → (a || b) ≡ false → b ≡ false
+    later true b h = absurd cc
+    later false b h = h
+
+pub ends_push : (ops : List Op) (o : Op) → has_exit ops ≡ false → EndsWithExit (ops ++ o ∷ [])
+ends_push ops o none first x rest e exit = ends_push_at ops first rest o x none e exit
+
+pub ends_nil : EndsWithExit []
+ends_nil [] op rest e exit = absurd cc
+ends_nil (f ∷ first) op rest e exit = absurd cc

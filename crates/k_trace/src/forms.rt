@@ -1,0 +1,314 @@
+ghost use Rattle.std.specs.Prelude.{◌≡◌};
+ghost use Rattle.k_words.specs.Words.{words_of};
+ghost use Rattle.k_trace.specs.Forms.{new_form, knew_form, snew_form, store_form, load_form, move_form, drop_form, dir_form, put_form, get_form, share_form, freeze_form, attach_form, bare_form, sharing_op, bare_op, register_op, op_of};
+
+use crate::names::Names;
+use k_types::{Op, Reg};
+use k_words::{is, number, register, word, word_count};
+
+#[tactic(auto, unfolding(crate::specs::Forms::new_form, crate::specs::Demands::demands))]
+fn new_form(names: &Names, line: &[u8]) -> Result<Op, u32>
+    ensures { result ≡ new_form names.now (words_of line.now) }
+{
+    if word_count(line) != 3 {
+        return Err(4);
+    }
+    let Some(reg) = register(word(line, 1)) else {
+        return Err(5);
+    };
+    let Some(ty) = names.type_named(word(line, 2)) else {
+        return Err(8);
+    };
+    Ok(Op::New { reg: Reg(reg), ty })
+}
+
+#[tactic(auto, unfolding(crate::specs::Forms::knew_form, crate::specs::Demands::demands))]
+fn knew_form(names: &Names, line: &[u8]) -> Result<Op, u32>
+    ensures { result ≡ knew_form names.now (words_of line.now) }
+{
+    if word_count(line) != 3 {
+        return Err(4);
+    }
+    let Some(reg) = register(word(line, 1)) else {
+        return Err(5);
+    };
+    let Some(ty) = names.type_named(word(line, 2)) else {
+        return Err(8);
+    };
+    Ok(Op::KNew { reg: Reg(reg), ty })
+}
+
+#[tactic(auto, unfolding(crate::specs::Forms::snew_form, crate::specs::Demands::demands))]
+fn snew_form(names: &Names, line: &[u8]) -> Result<Op, u32>
+    ensures { result ≡ snew_form names.now (words_of line.now) }
+{
+    if word_count(line) != 4 {
+        return Err(4);
+    }
+    let Some(reg) = register(word(line, 1)) else {
+        return Err(5);
+    };
+    let Some(shared) = names.shared_named(word(line, 2)) else {
+        return Err(8);
+    };
+    let Some(ty) = names.type_named(word(line, 3)) else {
+        return Err(8);
+    };
+    Ok(Op::SNew { reg: Reg(reg), shared, ty })
+}
+
+#[tactic(auto, unfolding(crate::specs::Forms::store_form, crate::specs::Demands::demands))]
+fn store_form(line: &[u8]) -> Result<Op, u32>
+    ensures { result ≡ store_form (words_of line.now) }
+{
+    if word_count(line) != 4 {
+        return Err(4);
+    }
+    let Some(base) = register(word(line, 1)) else {
+        return Err(5);
+    };
+    let Some(field) = number(word(line, 2), 16) else {
+        return Err(5);
+    };
+    let Some(value) = register(word(line, 3)) else {
+        return Err(5);
+    };
+    let field = field as u32;
+    Ok(Op::Store { base: Reg(base), field, value: Reg(value) })
+}
+
+#[tactic(auto, unfolding(crate::specs::Forms::load_form, crate::specs::Demands::demands))]
+fn load_form(line: &[u8]) -> Result<Op, u32>
+    ensures { result ≡ load_form (words_of line.now) }
+{
+    if word_count(line) != 4 {
+        return Err(4);
+    }
+    let Some(reg) = register(word(line, 1)) else {
+        return Err(5);
+    };
+    let Some(base) = register(word(line, 2)) else {
+        return Err(5);
+    };
+    let Some(field) = number(word(line, 3), 16) else {
+        return Err(5);
+    };
+    let field = field as u32;
+    Ok(Op::Load { reg: Reg(reg), base: Reg(base), field })
+}
+
+#[tactic(auto, unfolding(crate::specs::Forms::move_form, crate::specs::Demands::demands))]
+fn move_form(line: &[u8]) -> Result<Op, u32>
+    ensures { result ≡ move_form (words_of line.now) }
+{
+    if word_count(line) != 3 {
+        return Err(4);
+    }
+    let Some(reg) = register(word(line, 1)) else {
+        return Err(5);
+    };
+    let Some(from) = register(word(line, 2)) else {
+        return Err(5);
+    };
+    Ok(Op::Move { reg: Reg(reg), from: Reg(from) })
+}
+
+#[tactic(auto, unfolding(crate::specs::Forms::drop_form, crate::specs::Demands::demands))]
+fn drop_form(line: &[u8]) -> Result<Op, u32>
+    ensures { result ≡ drop_form (words_of line.now) }
+{
+    if word_count(line) != 2 {
+        return Err(4);
+    }
+    let Some(reg) = register(word(line, 1)) else {
+        return Err(5);
+    };
+    Ok(Op::Clear { reg: Reg(reg) })
+}
+
+#[tactic(auto, unfolding(crate::specs::Forms::dir_form, crate::specs::Demands::demands))]
+fn dir_form(line: &[u8]) -> Result<Op, u32>
+    ensures { result ≡ dir_form (words_of line.now) }
+{
+    if word_count(line) != 2 {
+        return Err(4);
+    }
+    let Some(reg) = register(word(line, 1)) else {
+        return Err(5);
+    };
+    Ok(Op::Dir { reg: Reg(reg) })
+}
+
+#[tactic(auto, unfolding(crate::specs::Forms::put_form, crate::specs::Demands::demands))]
+fn put_form(line: &[u8]) -> Result<Op, u32>
+    ensures { result ≡ put_form (words_of line.now) }
+{
+    if word_count(line) != 4 {
+        return Err(4);
+    }
+    let Some(base) = register(word(line, 1)) else {
+        return Err(5);
+    };
+    let Some(field) = number(word(line, 2), 16) else {
+        return Err(5);
+    };
+    let Some(value) = number(word(line, 3), 1 << 64) else {
+        return Err(5);
+    };
+    let field = field as u32;
+    Ok(Op::Put { base: Reg(base), field, number: value })
+}
+
+#[tactic(auto, unfolding(crate::specs::Forms::get_form, crate::specs::Demands::demands))]
+fn get_form(line: &[u8]) -> Result<Op, u32>
+    ensures { result ≡ get_form (words_of line.now) }
+{
+    if word_count(line) != 3 {
+        return Err(4);
+    }
+    let Some(base) = register(word(line, 1)) else {
+        return Err(5);
+    };
+    let Some(field) = number(word(line, 2), 16) else {
+        return Err(5);
+    };
+    let field = field as u32;
+    Ok(Op::Get { base: Reg(base), field })
+}
+
+#[tactic(auto, unfolding(crate::specs::Forms::share_form, crate::specs::Demands::demands))]
+fn share_form(names: &Names, line: &[u8]) -> Result<Op, u32>
+    ensures { result ≡ share_form names.now (words_of line.now) }
+{
+    if word_count(line) != 2 {
+        return Err(4);
+    }
+    let Some(shared) = names.shared_named(word(line, 1)) else {
+        return Err(8);
+    };
+    Ok(Op::Share { shared })
+}
+
+#[tactic(auto, unfolding(crate::specs::Forms::freeze_form, crate::specs::Demands::demands))]
+fn freeze_form(names: &Names, line: &[u8]) -> Result<Op, u32>
+    ensures { result ≡ freeze_form names.now (words_of line.now) }
+{
+    if word_count(line) != 3 {
+        return Err(4);
+    }
+    let Some(root) = register(word(line, 2)) else {
+        return Err(5);
+    };
+    let Some(shared) = names.shared_named(word(line, 1)) else {
+        return Err(8);
+    };
+    Ok(Op::Freeze { shared, root: Reg(root) })
+}
+
+#[tactic(auto, unfolding(crate::specs::Forms::attach_form, crate::specs::Demands::demands))]
+fn attach_form(names: &Names, line: &[u8]) -> Result<Op, u32>
+    ensures { result ≡ attach_form names.now (words_of line.now) }
+{
+    if word_count(line) != 3 {
+        return Err(4);
+    }
+    let Some(reg) = register(word(line, 1)) else {
+        return Err(5);
+    };
+    let Some(shared) = names.shared_named(word(line, 2)) else {
+        return Err(8);
+    };
+    Ok(Op::Attach { reg: Reg(reg), shared })
+}
+
+#[tactic(auto, unfolding(crate::specs::Demands::demands))]
+fn bare_form(line: &[u8], op: Op) -> Result<Op, u32>
+    ensures { result ≡ bare_form (words_of line.now) op }
+{
+    if word_count(line) != 1 {
+        return Err(4);
+    }
+    Ok(op)
+}
+
+#[tactic(auto, unfolding(crate::specs::Forms::sharing_op, crate::specs::Demands::demands))]
+fn sharing_op(names: &Names, line: &[u8]) -> Result<Op, u32>
+    ensures { result ≡ sharing_op names.now (words_of line.now) }
+{
+    let verb = word(line, 0);
+    if is(verb, b"snew") {
+        return snew_form(names, line);
+    }
+    if is(verb, b"share") {
+        return share_form(names, line);
+    }
+    if is(verb, b"freeze") {
+        return freeze_form(names, line);
+    }
+    if is(verb, b"attach") {
+        return attach_form(names, line);
+    }
+    Err(4)
+}
+
+#[tactic(auto, unfolding(crate::specs::Forms::bare_op, crate::specs::Demands::demands))]
+fn bare_op(names: &Names, line: &[u8]) -> Result<Op, u32>
+    ensures { result ≡ bare_op names.now (words_of line.now) }
+{
+    let verb = word(line, 0);
+    if is(verb, b"collect") {
+        return bare_form(line, Op::Collect);
+    }
+    if is(verb, b"kcollect") {
+        return bare_form(line, Op::KCollect);
+    }
+    if is(verb, b"exit") {
+        return bare_form(line, Op::Exit);
+    }
+    sharing_op(names, line)
+}
+
+#[tactic(auto, unfolding(crate::specs::Forms::register_op, crate::specs::Demands::demands))]
+fn register_op(names: &Names, line: &[u8]) -> Result<Op, u32>
+    ensures { result ≡ register_op names.now (words_of line.now) }
+{
+    let verb = word(line, 0);
+    if is(verb, b"move") {
+        return move_form(line);
+    }
+    if is(verb, b"drop") {
+        return drop_form(line);
+    }
+    if is(verb, b"dir") {
+        return dir_form(line);
+    }
+    if is(verb, b"put") {
+        return put_form(line);
+    }
+    if is(verb, b"get") {
+        return get_form(line);
+    }
+    bare_op(names, line)
+}
+
+/// The operation of a line that begins with the verb, over these names; or the lowest reason why it
+/// is none. Source: own.
+#[tactic(auto, unfolding(crate::specs::Forms::op_of, crate::specs::Demands::demands))]
+pub fn read_op(names: &Names, line: &[u8]) -> Result<Op, u32>
+    ensures { result ≡ op_of names.now (words_of line.now) }
+{
+    let verb = word(line, 0);
+    if is(verb, b"new") {
+        return new_form(names, line);
+    }
+    if is(verb, b"knew") {
+        return knew_form(names, line);
+    }
+    if is(verb, b"store") {
+        return store_form(line);
+    }
+    if is(verb, b"load") {
+        return load_form(line);
+    }
+    register_op(names, line)
+}

@@ -1,0 +1,11 @@
+/// Where in a trace the next line stands.
+#[derive(Clone, Copy, Debug, PartialEq, Eq)]
+pub enum Place {
+    Version,
+    Kernel,
+    Types,
+    Limits,
+    Procs,
+    Shared,
+    Operations,
+}

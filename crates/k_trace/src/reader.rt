@@ -1,0 +1,395 @@
+ghost use Rattle.std.specs.Prelude.{◌≡◌, ◌<◌, ◌≤◌, IfOk, drop, length, map, [], ◌+◌};
+ghost use Rattle.std.specs.List.{list_all};
+ghost use Rattle.k_words.specs.Words.{words_of};
+ghost use Rattle.k_trace.specs.Judgement.{start, version_line, kernel_line, is_field, field_of, type_line, root_line, proc_line, shared_line, process_line, operation_line, later_line, line_of_types, line_of_limits, line_of_procs, line_in, judged_line, has_process};
+ghost use Rattle.k_trace.specs.Outcome.{IsJudged, Finishes};
+
+use crate::errors::LineError;
+use crate::forms::read_op;
+use crate::names::Names;
+use crate::operations::Operations;
+use crate::place::Place;
+use crate::trace::Trace;
+use k_io::NoMemory;
+use k_types::{Field, LimitId, LimitRow, Op, Setup, TypeTable};
+use k_words::{after_word, are_words, is, is_keyword, is_name, is_printable, number, word, word_count};
+use std::alloc::Global;
+use std::marker::Model;
+
+/// What the lines so far say.
+#[derive(Drop)]
+pub struct Reader {
+    place: Place,
+    ceiling: u64,
+    dir_fields: u32,
+    types: Vec<Vec<Field>>,
+    limits: Vec<LimitRow>,
+    procs: Vec<LimitId>,
+    names: Names,
+    operations: Operations,
+}
+
+impl Model for Reader {
+    ghost use Rattle.std.specs.Prelude.{map, length};
+    ghost use Rattle.k_trace.specs.Judgement.{SoFar};
+    ghost use Rattle.k_trace.specs.Outcome.{IsReader};
+
+    ghost Value = { SoFar };
+
+    ghost view = { λ r. record {
+        place = r.place;
+        said = record {
+            names = r.names;
+            trace = record {
+                version = 1;
+                ceiling = r.ceiling;
+                dir_fields = r.dir_fields;
+                types = map (λ row. row.items) r.types.items;
+                limits = r.limits.items;
+                procs = r.procs.items;
+                shared_heaps = length r.names.shared;
+                operations = r.operations.operations;
+                order = r.operations.order;
+            };
+        };
+    } };
+
+    ghost invariant = { λ r. IsReader r.place (map (λ row. row.items) r.types.items) (length r.limits.items) (length r.names.procs) (length r.operations.operations) };
+}
+
+fn is_field(word: &[u8]) -> bool
+    ensures { result ≡ is_field word.now }
+{
+    is(word, b"ref") || is(word, b"int")
+}
+
+fn field_of(word: &[u8]) -> Field
+    ensures { result ≡ field_of word.now }
+{
+    if is(word, b"ref") {
+        Field::Ref
+    } else {
+        Field::Int
+    }
+}
+
+/// Whether the words from the third on are kinds of fields.
+fn are_fields(line: &[u8]) -> bool
+    ensures { result ≡ list_all is_field (drop 2 (words_of line.now)) }
+{
+    for place in 2..word_count(line) {
+        if !is_field(word(line, place)) {
+            return false;
+        }
+    }
+    true
+}
+
+fn fields_of(alloc: Global, line: &[u8]) -> Result<Vec<Field>, NoMemory>
+    ensures { IfOk result (λ fields. fields.items ≡ map field_of (drop 2 (words_of line.now))) }
+{
+    let mut fields = Vec::new(alloc);
+    for place in 2..word_count(line) {
+        fields.push(field_of(word(line, place)))?;
+    }
+    Ok(fields)
+}
+
+impl Reader {
+    pub fn new(alloc: Global) -> Reader
+        ensures { result ≡ start }
+    {
+        Reader {
+            place: Place::Version,
+            ceiling: 0,
+            dir_fields: 0,
+            types: Vec::new(alloc),
+            limits: Vec::new(alloc),
+            procs: Vec::new(alloc),
+            names: Names::new(alloc),
+            operations: Operations::new(alloc),
+        }
+    }
+
+    #[tactic(auto, unfolding(crate::specs::Judgement::version_line, crate::specs::Demands::demands))]
+    fn version_line(&mut self, line: &[u8]) -> Result<(), LineError>
+        ensures { IsJudged result self.new (version_line self.old.said (words_of line.now)) }
+    {
+        if word_count(line) != 2 || !is(word(line, 0), b"kaffe") || !is(word(line, 1), b"1") {
+            return Err(LineError::Bad(4));
+        }
+        self.place = Place::Kernel;
+        Ok(())
+    }
+
+    #[tactic(auto, unfolding(crate::specs::Judgement::kernel_line, crate::specs::Demands::demands))]
+    fn kernel_line(&mut self, line: &[u8]) -> Result<(), LineError>
+        ensures { IsJudged result self.new (kernel_line self.old.said (words_of line.now)) }
+    {
+        if word_count(line) != 3 || !is(word(line, 0), b"kernel") {
+            return Err(LineError::Bad(4));
+        }
+        let Some(ceiling) = number(word(line, 1), 1 << 40) else {
+            return Err(LineError::Bad(5));
+        };
+        let Some(dir_fields) = number(word(line, 2), 17) else {
+            return Err(LineError::Bad(5));
+        };
+        if 16 + 8 * dir_fields > ceiling {
+            return Err(LineError::Bad(10));
+        }
+        self.ceiling = ceiling;
+        self.dir_fields = dir_fields as u32;
+        self.place = Place::Types;
+        Ok(())
+    }
+
+    #[tactic(auto, unfolding(crate::specs::Judgement::type_line, crate::specs::Demands::demands), using(crate::proofs::Readers::few_fields_push))]
+    fn type_line(&mut self, alloc: Global, line: &[u8]) -> Result<(), LineError>
+        ensures { IsJudged result self.new (type_line self.old.said (words_of line.now)) }
+    {
+        if word_count(line) < 2 || !are_fields(line) {
+            return Err(LineError::Bad(4));
+        }
+        let name = word(line, 1);
+        if !is_name(name) {
+            return Err(LineError::Bad(6));
+        }
+        if self.names.has_type(name) {
+            return Err(LineError::Bad(7));
+        }
+        if word_count(line) > 18 || self.names.type_count() >= 256 {
+            return Err(LineError::Bad(9));
+        }
+        let fields = fields_of(alloc, line)?;
+        self.types.push(fields)?;
+        self.names.declare_type(alloc, name)?;
+        self.place = Place::Types;
+        Ok(())
+    }
+
+    #[tactic(auto, unfolding(crate::specs::Judgement::root_line, crate::specs::Demands::demands))]
+    fn root_line(&mut self, alloc: Global, line: &[u8]) -> Result<(), LineError>
+        ensures { IsJudged result self.new (root_line self.old.said (words_of line.now)) }
+    {
+        if word_count(line) != 3 {
+            return Err(LineError::Bad(4));
+        }
+        let Some(max) = number(word(line, 2), 1 << 40) else {
+            return Err(LineError::Bad(5));
+        };
+        let name = word(line, 1);
+        if !is_name(name) {
+            return Err(LineError::Bad(6));
+        }
+        if self.names.has_limit(name) {
+            return Err(LineError::Bad(7));
+        }
+        if self.names.limit_count() >= 128 {
+            return Err(LineError::Bad(9));
+        }
+        self.limits.push(LimitRow {
+            parent: None,
+            hard: true,
+            max,
+        })?;
+        self.names.declare_limit(alloc, name)?;
+        self.place = Place::Limits;
+        Ok(())
+    }
+
+    #[tactic(auto, unfolding(crate::specs::Judgement::proc_line, crate::specs::Demands::demands))]
+    fn proc_line(&mut self, alloc: Global, line: &[u8]) -> Result<(), LineError>
+        ensures { IsJudged result self.new (proc_line self.old.said (words_of line.now)) }
+    {
+        if word_count(line) != 3 {
+            return Err(LineError::Bad(4));
+        }
+        let name = word(line, 1);
+        if !is_name(name) {
+            return Err(LineError::Bad(6));
+        }
+        if self.names.has_proc(name) {
+            return Err(LineError::Bad(7));
+        }
+        let Some(limit) = self.names.limit_named(word(line, 2)) else {
+            return Err(LineError::Bad(8));
+        };
+        if self.names.proc_count() >= 64 {
+            return Err(LineError::Bad(9));
+        }
+        self.operations.add_process(alloc)?;
+        self.procs.push(limit)?;
+        self.names.declare_proc(alloc, name)?;
+        self.place = Place::Procs;
+        Ok(())
+    }
+
+    #[tactic(auto, unfolding(crate::specs::Judgement::shared_line, crate::specs::Demands::demands))]
+    fn shared_line(&mut self, alloc: Global, line: &[u8]) -> Result<(), LineError>
+        ensures { IsJudged result self.new (shared_line self.old.said (words_of line.now)) }
+    {
+        if word_count(line) != 2 {
+            return Err(LineError::Bad(4));
+        }
+        let name = word(line, 1);
+        if !is_name(name) {
+            return Err(LineError::Bad(6));
+        }
+        if self.names.has_proc(name) || self.names.has_shared(name) {
+            return Err(LineError::Bad(7));
+        }
+        if self.names.shared_count() >= 64 {
+            return Err(LineError::Bad(9));
+        }
+        self.names.declare_shared(alloc, name)?;
+        self.place = Place::Shared;
+        Ok(())
+    }
+
+    #[tactic(auto, unfolding(crate::specs::Judgement::process_line, crate::specs::Demands::demands))]
+    fn process_line(&mut self, name: &[u8], op: Op) -> Result<(), LineError>
+        ensures { IsJudged result self.new (process_line self.old.said name.now op) }
+    {
+        let Some(pid) = self.names.proc_named(name) else {
+            return Err(LineError::Bad(8));
+        };
+        if self.operations.len() >= 200_000 {
+            return Err(LineError::Bad(9));
+        }
+        if self.operations.has_exit(pid) {
+            return Err(LineError::Bad(11));
+        }
+        self.operations.push(pid, op)?;
+        self.place = Place::Operations;
+        Ok(())
+    }
+
+    #[tactic(auto, unfolding(crate::specs::Judgement::operation_line, crate::specs::Demands::demands))]
+    fn operation_line(&mut self, line: &[u8]) -> Result<(), LineError>
+        ensures { IsJudged result self.new (operation_line self.old.said (words_of line.now)) }
+    {
+        let Some(rest) = after_word(line) else {
+            return Err(LineError::Bad(4));
+        };
+        match read_op(&self.names, rest) {
+            Ok(op) => self.process_line(word(line, 0), op),
+            Err(reason) => Err(LineError::Bad(reason)),
+        }
+    }
+
+    #[tactic(auto, unfolding(crate::specs::Judgement::later_line, crate::specs::Demands::demands))]
+    fn later_line(&mut self, alloc: Global, line: &[u8]) -> Result<(), LineError>
+        ensures { IsJudged result self.new (later_line self.old.said (words_of line.now)) }
+    {
+        let first = word(line, 0);
+        if is(first, b"shared") {
+            return self.shared_line(alloc, line);
+        }
+        if is_keyword(first) {
+            return Err(LineError::Bad(4));
+        }
+        self.operation_line(line)
+    }
+
+    #[tactic(auto, unfolding(crate::specs::Judgement::line_of_types, crate::specs::Demands::demands))]
+    fn line_of_types(&mut self, alloc: Global, line: &[u8]) -> Result<(), LineError>
+        ensures { IsJudged result self.new (line_of_types self.old.said (words_of line.now)) }
+    {
+        let first = word(line, 0);
+        if is(first, b"type") {
+            return self.type_line(alloc, line);
+        }
+        if is(first, b"limit") {
+            return self.root_line(alloc, line);
+        }
+        Err(LineError::Bad(4))
+    }
+
+    #[tactic(auto, unfolding(crate::specs::Judgement::line_of_limits, crate::specs::Demands::demands))]
+    fn line_of_limits(&mut self, alloc: Global, line: &[u8]) -> Result<(), LineError>
+        requires { self.old.place ≡ Place.Limits }
+        ensures { IsJudged result self.new (line_of_limits self.old.said (words_of line.now)) }
+    {
+        let _ = &self.place;
+        let first = word(line, 0);
+        if is(first, b"limit") {
+            return Err(LineError::LaterLimit);
+        }
+        if is(first, b"proc") {
+            return self.proc_line(alloc, line);
+        }
+        Err(LineError::Bad(4))
+    }
+
+    #[tactic(auto, unfolding(crate::specs::Judgement::line_of_procs, crate::specs::Demands::demands))]
+    fn line_of_procs(&mut self, alloc: Global, line: &[u8]) -> Result<(), LineError>
+        ensures { IsJudged result self.new (line_of_procs self.old.said (words_of line.now)) }
+    {
+        if is(word(line, 0), b"proc") {
+            return self.proc_line(alloc, line);
+        }
+        self.later_line(alloc, line)
+    }
+
+    #[tactic(auto, unfolding(crate::specs::Judgement::line_in, crate::specs::Demands::demands))]
+    fn line_in(&mut self, alloc: Global, line: &[u8]) -> Result<(), LineError>
+        ensures { IsJudged result self.new (line_in self.old.place self.old.said (words_of line.now)) }
+    {
+        match self.place {
+            Place::Version => self.version_line(line),
+            Place::Kernel => self.kernel_line(line),
+            Place::Types => self.line_of_types(alloc, line),
+            Place::Limits => self.line_of_limits(alloc, line),
+            Place::Procs => self.line_of_procs(alloc, line),
+            Place::Shared => self.later_line(alloc, line),
+            Place::Operations => self.operation_line(line),
+        }
+    }
+
+    /// Takes the next line. A line below the root limit isn't taken.
+    #[tactic(auto, unfolding(crate::specs::Judgement::judged_line, crate::specs::Demands::demands))]
+    pub fn take(&mut self, alloc: Global, line: &[u8]) -> Result<(), LineError>
+        ensures { IsJudged result self.new (judged_line self.old line.now) }
+    {
+        if line.len() > 4096 {
+            return Err(LineError::Bad(2));
+        }
+        if !is_printable(line) {
+            return Err(LineError::Bad(3));
+        }
+        if !are_words(line) {
+            return Err(LineError::Bad(4));
+        }
+        self.line_in(alloc, line)
+    }
+
+    /// Whether a limit and a process were read.
+    pub fn has_process(&self) -> bool
+        ensures { result ≡ has_process self.now.place }
+    {
+        matches!(self.place, Place::Procs | Place::Shared | Place::Operations)
+    }
+
+    /// The trace that all lines say.
+    pub fn finish(self, alloc: Global) -> Result<Trace, NoMemory>
+        ensures { Finishes result self.said }
+    {
+        let types = TypeTable::make(alloc, &self.types)?;
+        let shared = self.names.shared_count() as u32;
+        let (ops, order) = self.operations.into_parts();
+        Ok(Trace {
+            setup: Setup {
+                ceiling: self.ceiling,
+                dir_fields: self.dir_fields,
+                types,
+                limits: self.limits,
+                procs: self.procs,
+                shared,
+            },
+            names: self.names,
+            ops,
+            order,
+        })
+    }
+}
