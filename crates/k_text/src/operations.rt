@@ -1,12 +1,10 @@
 ghost use Rattle.std.specs.Prelude.{◌≡◌, ℕ, ◌<◌, ◌≤◌, ◌+◌, ◌++◌, ◌∷◌, [], List, length, decimal};
 ghost use Rattle.k_words.specs.Numbers.{register_word};
 ghost use Rattle.k_trace.specs.Spelling.{op_words};
-ghost use Rattle.k_text.specs.Named.{AreNamed};
-ghost use Rattle.k_text.specs.Shown.{IsKnownOp};
+ghost use Rattle.k_text.specs.Named.{IsNamedOp};
 ghost use Rattle.k_text.specs.Spaced.{spaced};
 
 use crate::line::LineBuffer;
-use crate::view::View;
 use crate::words::push_register;
 use k_trace::Names;
 use k_types::{Op, Reg};
@@ -43,14 +41,12 @@ fn push_made(line: &mut LineBuffer, word: &[u8], r: Reg, name: &[u8])
 
 /// Adds the words of an operation, each with a space before it.
 #[tactic(auto, unfolding(k_trace::specs::Spelling::op_words))]
-pub fn push_op<V: View>(line: &mut LineBuffer, names: &Names, view: &V, op: &Op)
-    requires named { AreNamed names.now (V.trace view.now) }
-    requires known { IsKnownOp (V.trace view.now) op.now }
+pub fn push_op(line: &mut LineBuffer, names: &Names, op: &Op)
+    requires known { IsNamedOp names.now op.now }
     requires room { length line.old + 100 ≤ 1024 }
     ensures text { line.new ≡ line.old ++ spaced (op_words names.now op.now) }
     ensures short { length line.new ≤ length line.old + 100 }
 {
-    let _ = view;
     match *op {
         Op::New { reg, ty } => push_made(line, b"new", reg, names.type_name(ty)),
         Op::KNew { reg, ty } => push_made(line, b"knew", reg, names.type_name(ty)),
