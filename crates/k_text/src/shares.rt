@@ -54,14 +54,7 @@ fn shares_of_process<K: Sink, V: View>(
 {
     for id in 0..view.shared_heaps() {
         let shared = SharedId(id);
-        put_share(
-            out,
-            line,
-            names,
-            pid,
-            shared,
-            view.shares(pid, shared),
-        )?;
+        put_share(out, line, names, pid, shared, view.shares(pid, shared))?;
     }
     Ok(())
 }
