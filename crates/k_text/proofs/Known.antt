@@ -1,36 +1,70 @@
--- What a known operation names.
-use Rattle.std.proofs.Common.{◌≡◌, ◌<◌, ◌+◌, ◌-◌, ◌==◌, ℕ, Bool, true, false, nat_le, IsTrue, List, arith, refl, if◌then◌else◌}
+-- What the trace declares has a name, and is owned by what it declares.
+use Rattle.std.proofs.Common.{◌≡◌, ◌<◌, ◌+◌, ◌-◌, ◌==◌, ℕ, Bool, true, false, nat_le, IsTrue, List, arith, refl, if◌then◌else◌, Option, Some, None, length}
+use Rattle.std.specs.Prelude.{IfSome}
 use Rattle.k_types.specs.declared.op.Op.{Op}
 use Rattle.k_types.specs.declared.op.Op.TheVariants.{New, KNew, SNew, Store, Load, Move, Clear, Dir, Put, Get, Collect, KCollect, Share, Freeze, Attach, Exit}
 use Rattle.k_types.specs.Trace.{Trace, IsHeap, process_count, segment_count}
-use Rattle.k_types.specs.declared.names.Heap.TheVariants.{Kernel}
+use Rattle.k_types.specs.declared.names.TypeId.{TypeId}
+use Rattle.k_types.specs.declared.names.Heap.{Heap}
+use Rattle.k_types.specs.declared.names.Heap.TheVariants.{Kernel, User, Shared}
+use Rattle.k_types.specs.declared.event.Fault.{Fault}
+use Rattle.k_types.specs.declared.event.Fault.TheVariants.{Null, Foreign, NotSharer, NoField, WrongKind, Frozen, Segv, NotPopulating, NotFrozen, Taken, LimitFull, KernelFull}
 use Rattle.k_types.specs.declared.names.Phase.{Phase}
 use Rattle.k_types.specs.Names.{among}
 use Rattle.k_types.specs.State.{State}
 use Rattle.k_types.specs.Owners.{owner_of, owner_of_segment, owner_of_process, owner_of_shared, is_absorbed, phase_of, user, shared}
 use Rattle.k_types.specs.Steps.{in_range}
-use Rattle.k_text.specs.Shown.{IsKnownOp}
+use Rattle.k_trace.specs.Named.{DeclaredNames}
+use Rattle.k_text.specs.Shown.{IsKnownFault}
+use Rattle.k_text.specs.Named.{AreNamed, IsNamedHeap, IsNamedOp, IsNamedFault}
 use Rattle.std.proofs.lemmas.Grind.{common_steps}
 use Rattle.std.proofs.lemmas.Bool.Decides.{nat_tests}
 
-pub known_op : (trace : Trace) (op : Op) → IsTrue (in_range trace op) → IsKnownOp trace op
+-- an operation of the trace
+pub named_op : (names : DeclaredNames) (trace : Trace) (op : Op) → AreNamed names trace → IsTrue (in_range trace op) → IsNamedOp names op
 unfolding in_range
-known_op trace (New r ty) h = grind (arith, common_steps)
-known_op trace (KNew r ty) h = grind (arith, common_steps)
-known_op trace (SNew r s ty) h = grind (arith, common_steps)
-known_op trace (Share s) h = grind (arith, common_steps)
-known_op trace (Freeze s root) h = grind (arith, common_steps)
-known_op trace (Attach r s) h = grind (arith, common_steps)
-known_op trace (Store base i value) h = tt
-known_op trace (Load r base i) h = tt
-known_op trace (Move r from) h = tt
-known_op trace (Clear r) h = tt
-known_op trace (Dir r) h = tt
-known_op trace (Put base i number) h = tt
-known_op trace (Get base i) h = tt
-known_op trace Collect h = tt
-known_op trace KCollect h = tt
-known_op trace Exit h = tt
+named_op names trace (New r ty) n h = let e = n.types in grind (arith, common_steps)
+named_op names trace (KNew r ty) n h = let e = n.types in grind (arith, common_steps)
+named_op names trace (SNew r s ty) n h = let e = n.types in let f = n.shared in grind (arith, common_steps)
+named_op names trace (Share s) n h = let e = n.shared in grind (arith, common_steps)
+named_op names trace (Freeze s root) n h = let e = n.shared in grind (arith, common_steps)
+named_op names trace (Attach r s) n h = let e = n.shared in grind (arith, common_steps)
+named_op names trace (Store base i value) n h = tt
+named_op names trace (Load r base i) n h = tt
+named_op names trace (Move r from) n h = tt
+named_op names trace (Clear r) n h = tt
+named_op names trace (Dir r) n h = tt
+named_op names trace (Put base i number) n h = tt
+named_op names trace (Get base i) n h = tt
+named_op names trace Collect n h = tt
+named_op names trace KCollect n h = tt
+named_op names trace Exit n h = tt
+
+-- a fault of the trace
+pub named_fault : (names : DeclaredNames) (trace : Trace) (fault : Fault) → AreNamed names trace → IsKnownFault trace fault → IsNamedFault names fault
+named_fault names trace (NotSharer s) n h = omega (arith, n.shared)
+named_fault names trace (NotPopulating s) n h = omega (arith, n.shared)
+named_fault names trace (NotFrozen s) n h = omega (arith, n.shared)
+named_fault names trace (Taken s) n h = omega (arith, n.shared)
+named_fault names trace (LimitFull m) n h = omega (arith, n.limits)
+named_fault names trace Null n h = tt
+named_fault names trace Foreign n h = tt
+named_fault names trace NoField n h = tt
+named_fault names trace WrongKind n h = tt
+named_fault names trace Frozen n h = tt
+named_fault names trace Segv n h = tt
+named_fault names trace KernelFull n h = tt
+
+-- a heap of the trace
+pub named_heap : (names : DeclaredNames) (trace : Trace) (h : Heap) → AreNamed names trace → IsHeap trace h → IsNamedHeap names h
+named_heap names trace Kernel n known = tt
+named_heap names trace (User p) n known = omega (arith, n.procs)
+named_heap names trace (Shared s) n known = omega (arith, n.shared)
+
+-- a type of the trace
+pub named_type : (names : DeclaredNames) (trace : Trace) (ty : Option TypeId) → AreNamed names trace → IfSome ty (λ t. t.0 < length trace.types) → IfSome ty (λ t. t.0 < length names.types)
+named_type names trace None n known = tt
+named_type names trace (Some ty) n known = omega (arith, n.types)
 
 known_process : (trace : Trace) (ended : List ℕ) (p : ℕ) → p < process_count trace → IsHeap trace (owner_of_process ended p)
 known_process trace ended p lt = elim (among p ended) as (λ b. IsHeap trace (if b then Kernel else user p)) [ true ↦ tt | false ↦ lt ]

@@ -1,9 +1,13 @@
 -- The words for what a trace declares.
-use Rattle.std.specs.Prelude.{◌≡◌, List, ◌∷◌, ◌++◌, length, Option, Some, None, decimal, codes}
+use Rattle.std.specs.Prelude.{◌≡◌, ◌<◌, List, ◌∷◌, ◌++◌, length, Option, Some, None, decimal, codes}
 use Rattle.k_types.specs.declared.names.Name.{Name}
 use Rattle.k_types.specs.declared.names.Heap.{Heap}
 use Rattle.k_types.specs.declared.names.Heap.TheVariants.{Kernel, User, Shared}
 use Rattle.k_types.specs.declared.names.TypeId.{TypeId}
+use Rattle.k_types.specs.declared.op.Op.{Op}
+use Rattle.k_types.specs.declared.op.Op.TheVariants.{New, KNew, SNew, Share, Freeze, Attach}
+use Rattle.k_types.specs.declared.event.Fault.{Fault}
+use Rattle.k_types.specs.declared.event.Fault.TheVariants.{NotSharer, NotPopulating, NotFrozen, Taken, LimitFull}
 use Rattle.k_types.specs.Trace.{Trace, process_count}
 use Rattle.k_words.specs.Words.{Text, word_at}
 use Rattle.k_trace.specs.Named.{DeclaredNames, type_name, proc_name, shared_name}
@@ -14,6 +18,31 @@ pub record AreNamed (names : DeclaredNames) (trace : Trace) : Type 0 where
   pub limits : length names.limits ≡ length trace.limits
   pub procs : length names.procs ≡ process_count trace
   pub shared : length names.shared ≡ trace.shared_heaps
+
+-- The heap is the kernel's, or has a name.
+abbrev pub IsNamedHeap : DeclaredNames → Heap → Type 0
+IsNamedHeap names Kernel = Unit {0}
+IsNamedHeap names (User p) = p.0 < length names.procs
+IsNamedHeap names (Shared s) = s.0 < length names.shared
+
+-- The types and shared heaps of the operation have names.
+abbrev pub IsNamedOp : DeclaredNames → Op → Type 0
+IsNamedOp names (New r ty) = ty.0 < length names.types
+IsNamedOp names (KNew r ty) = ty.0 < length names.types
+IsNamedOp names (SNew r s ty) = (s.0 < length names.shared) × (ty.0 < length names.types)
+IsNamedOp names (Share s) = s.0 < length names.shared
+IsNamedOp names (Freeze s root) = s.0 < length names.shared
+IsNamedOp names (Attach r s) = s.0 < length names.shared
+IsNamedOp names _ = Unit {0}
+
+-- The shared heap or the limit of the fault has a name.
+abbrev pub IsNamedFault : DeclaredNames → Fault → Type 0
+IsNamedFault names (NotSharer s) = s.0 < length names.shared
+IsNamedFault names (NotPopulating s) = s.0 < length names.shared
+IsNamedFault names (NotFrozen s) = s.0 < length names.shared
+IsNamedFault names (Taken s) = s.0 < length names.shared
+IsNamedFault names (LimitFull m) = m.0 < length names.limits
+IsNamedFault names _ = Unit {0}
 
 -- The names of the segments: the kernel's, those of the processes, those of the shared heaps.
 abbrev pub segment_names : DeclaredNames → List Text

@@ -5,8 +5,6 @@ use Rattle.k_types.specs.declared.names.Heap.{Heap}
 use Rattle.k_types.specs.declared.names.TypeId.{TypeId}
 use Rattle.k_types.specs.declared.names.Phase.{Phase}
 use Rattle.k_types.specs.declared.names.Phase.TheVariants.{Unmade, Populating, Frozen, Absorbed}
-use Rattle.k_types.specs.declared.op.Op.{Op}
-use Rattle.k_types.specs.declared.op.Op.TheVariants.{New, KNew, SNew, Share, Freeze, Attach}
 use Rattle.k_types.specs.declared.event.Fault.{Fault}
 use Rattle.k_types.specs.declared.event.Fault.TheVariants.{NotSharer, NotPopulating, NotFrozen, Taken, LimitFull}
 use Rattle.k_types.specs.declared.event.Reply.{Reply}
@@ -79,16 +77,6 @@ IsKnownReply trace (Made n) = IsKnownName trace n
 IsKnownReply trace (Loaded r) = IfSome r (IsKnownName trace)
 IsKnownReply trace (Value number) = Unit {0}
 IsKnownReply trace (Refused fault) = IsKnownFault trace fault
-
--- The types and shared heaps that the operation names are the trace's.
-abbrev pub IsKnownOp : Trace → Op → Type 0
-IsKnownOp trace (New r ty) = ty.0 < length trace.types
-IsKnownOp trace (KNew r ty) = ty.0 < length trace.types
-IsKnownOp trace (SNew r s ty) = (s.0 < trace.shared_heaps) × (ty.0 < length trace.types)
-IsKnownOp trace (Share s) = s.0 < trace.shared_heaps
-IsKnownOp trace (Freeze s root) = s.0 < trace.shared_heaps
-IsKnownOp trace (Attach r s) = s.0 < trace.shared_heaps
-IsKnownOp trace _ = Unit {0}
 
 -- What the event names is the trace's, and its registers are below 16.
 abbrev pub IsKnownEvent : Trace → Event → Type 0

@@ -21,15 +21,12 @@ use k_types::{Heap, LimitId, Phase, Pid, SharedId};
 fn put_kernel<K: Sink, V: View>(
     out: &mut K,
     line: &mut LineBuffer,
-    names: &Names,
     view: &V,
 ) -> Result<(), WriteFailed>
-    requires empty { line.old ≡ [] }
-    requires named { AreNamed names.now (V.trace view.now) }
+    requires { line.old ≡ [] }
     ensures written { Writes (K.Holds out.old) (K.Holds out.new) (K.faults out.old) (K.faults out.new) result (text_of (kernel_line (V.trace view.now) (V.state view.now) ∷ [])) }
     ensures empty { line.new ≡ [] }
 {
-    let _ = names;
     line.push_text(b"kernel");
     line.push_number(view.bytes(Heap::Kernel));
     line.push_word(b"of");
@@ -187,7 +184,7 @@ pub fn charges<K: Sink, V: View>(
     ensures empty { line.new ≡ [] }
 {
     heading(out, line, b"charges")?;
-    put_kernel(out, line, names, view)?;
+    put_kernel(out, line, view)?;
     limits(out, line, names, view)?;
     processes(out, line, names, view)?;
     shared_heaps(out, line, names, view)

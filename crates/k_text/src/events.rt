@@ -2,8 +2,8 @@ ghost use Rattle.std.specs.Prelude.{◌≡◌, ℕ, ◌<◌, ◌≤◌, ◌+◌,
 ghost use Rattle.k_io.specs.Writing.{Writes};
 ghost use Rattle.std.specs.List.{join_with_byte};
 ghost use Rattle.k_words.specs.Words.{text_of};
-ghost use Rattle.k_text.specs.Named.{AreNamed};
-ghost use Rattle.k_text.specs.Shown.{IsKnownFault, IsKnownReply, IsKnownEvent};
+ghost use Rattle.k_text.specs.Named.{AreNamed, IsNamedFault};
+ghost use Rattle.k_text.specs.Shown.{IsKnownReply, IsKnownEvent};
 ghost use Rattle.k_text.specs.Spaced.{spaced};
 ghost use Rattle.k_text.specs.EventLines.{fault_words, reply_words, event_words, event_lines};
 
@@ -17,14 +17,12 @@ use k_types::{Event, Fault, Reply};
 
 /// Adds the words of a fault.
 #[tactic(auto, unfolding(crate::specs::EventLines::fault_words))]
-fn push_fault<V: View>(line: &mut LineBuffer, names: &Names, view: &V, fault: Fault)
-    requires named { AreNamed names.now (V.trace view.now) }
-    requires known { IsKnownFault (V.trace view.now) fault }
+fn push_fault(line: &mut LineBuffer, names: &Names, fault: Fault)
+    requires known { IsNamedFault names.now fault }
     requires room { length line.old + 50 ≤ 1024 }
     ensures text { line.new ≡ line.old ++ spaced (fault_words names.now fault) }
     ensures short { length line.new ≤ length line.old + 50 }
 {
-    let _ = view;
     match fault {
         Fault::Null => line.push_word(b"Null"),
         Fault::Foreign => line.push_word(b"Foreign"),
@@ -60,7 +58,7 @@ fn push_reply<V: View>(line: &mut LineBuffer, names: &Names, view: &V, reply: Re
         Reply::Value(number) => line.push_number(number),
         Reply::Refused(fault) => {
             line.push_word(b"fault");
-            push_fault(line, names, view, fault);
+            push_fault(line, names, fault);
         }
     }
 }
@@ -77,7 +75,7 @@ fn push_event<V: View>(line: &mut LineBuffer, names: &Names, view: &V, event: &E
     match *event {
         Event::Done { pid, op, reply } => {
             line.push_text(names.proc_name(pid));
-            push_op(line, names, view, &op);
+            push_op(line, names, &op);
             line.push_word(b"=");
             push_reply(line, names, view, reply);
         }
@@ -89,7 +87,7 @@ fn push_event<V: View>(line: &mut LineBuffer, names: &Names, view: &V, event: &E
             shares_dropped,
         } => {
             line.push_text(b"ended");
-            line.push_word(heap_name(names, view, heap));
+            line.push_word(heap_name(names, heap));
             line.push_number(u64::from(freed_objects));
             line.push_number(freed_bytes);
             line.push_number(u64::from(exits_dropped));

@@ -34,7 +34,7 @@ fn put_exit<K: Sink, V: View>(
     ensures written { Writes (K.Holds out.old) (K.Holds out.new) (K.faults out.old) (K.faults out.new) result (text_of ((heap_word names.now heap ∷ name_word names.now target ∷ []) ∷ [])) }
     ensures empty { line.new ≡ [] }
 {
-    line.push_text(heap_name(names, view, heap));
+    line.push_text(heap_name(names, heap));
     push_name_word(line, names, view, target);
     line.write_to(out)
 }

@@ -64,8 +64,8 @@ fn put_object<K: Sink, V: View>(
     ensures empty { line.new ≡ [] }
 {
     push_name(line, names, view, name);
-    line.push_word(heap_name(names, view, view.owner(name.seg)));
-    line.push_word(type_label(names, view, view.object_type(name)));
+    line.push_word(heap_name(names, view.owner(name.seg)));
+    line.push_word(type_label(names, view.object_type(name)));
     push_fields(line, names, view, name);
     line.write_to(out)
 }

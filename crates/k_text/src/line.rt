@@ -7,7 +7,10 @@ use itoa::Buffer;
 use k_io::{Sink, WriteFailed, write_all};
 use std::marker::Model;
 
-/// A line that is being made, with room for the longest, which is that of an object. Source: own.
+/// A line that is being made, in 1,024 bytes that lie where the buffer lies. The longest line of a
+/// report is that of an object, which has at most 984 bytes. No call takes memory. Source: own.
+///
+/// Contracts see the bytes of the line so far.
 #[derive(Drop)]
 pub struct LineBuffer {
     bytes: ArrayVec<u8, 1024>,
@@ -78,7 +81,8 @@ impl LineBuffer {
         self.push_digits(number);
     }
 
-    /// Ends the line with a line feed, hands it over as one piece, and begins the next. Source: own.
+    /// Ends the line with a line feed, hands it over as one piece, and begins the next. `WriteFailed`
+    /// comes where a write failed; the sink took a front of the line then. Source: own.
     pub fn write_to<K: Sink>(&mut self, out: &mut K) -> Result<(), WriteFailed>
         requires { length self.old < 1024 }
         ensures written { Writes (K.Holds out.old) (K.Holds out.new) (K.faults out.old) (K.faults out.new) result (self.old ++ 10 ∷ []) }

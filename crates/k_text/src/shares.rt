@@ -15,23 +15,20 @@ use k_trace::Names;
 use k_types::{Pid, SharedId};
 
 /// Writes the line of a share, where there is one.
-fn put_share<K: Sink, V: View>(
+fn put_share<K: Sink>(
     out: &mut K,
     line: &mut LineBuffer,
     names: &Names,
-    view: &V,
     pid: Pid,
     shared: SharedId,
     shares: bool,
 ) -> Result<(), WriteFailed>
     requires empty { line.old ≡ [] }
-    requires named { AreNamed names.now (V.trace view.now) }
-    requires process { pid.0 < process_count (V.trace view.now) }
-    requires heap { shared.0 < (V.trace view.now).shared_heaps }
+    requires process { pid.0 < length names.now.procs }
+    requires heap { shared.0 < length names.now.shared }
     ensures written { Writes (K.Holds out.old) (K.Holds out.new) (K.faults out.old) (K.faults out.new) result (text_of (share_lines names.now pid.0 shared.0 shares)) }
     ensures empty { line.new ≡ [] }
 {
-    let _ = view;
     if shares {
         line.push_text(names.proc_name(pid));
         line.push_word(names.shared_name(shared));
@@ -57,15 +54,7 @@ fn shares_of_process<K: Sink, V: View>(
 {
     for id in 0..view.shared_heaps() {
         let shared = SharedId(id);
-        put_share(
-            out,
-            line,
-            names,
-            view,
-            pid,
-            shared,
-            view.shares(pid, shared),
-        )?;
+        put_share(out, line, names, pid, shared, view.shares(pid, shared))?;
     }
     Ok(())
 }

@@ -1,8 +1,8 @@
 ghost use Rattle.std.specs.Prelude.{◌≡◌, ℕ, ◌<◌, ◌≤◌, ◌+◌, ◌++◌, ◌∷◌, [], List, length, IfSome};
-ghost use Rattle.k_types.specs.Trace.{IsHeap, segment_count};
+ghost use Rattle.k_types.specs.Trace.{segment_count};
 ghost use Rattle.k_words.specs.Words.{word_at};
 ghost use Rattle.k_words.specs.Numbers.{register_word};
-ghost use Rattle.k_text.specs.Named.{AreNamed, segment_names, name_word, reference_word, heap_word, type_word};
+ghost use Rattle.k_text.specs.Named.{AreNamed, IsNamedHeap, segment_names, name_word, reference_word, heap_word, type_word};
 ghost use Rattle.k_text.specs.Shown.{IsKnownName};
 
 use crate::line::LineBuffer;
@@ -28,9 +28,8 @@ fn segment_name<'a, V: View>(names: &'a Names, view: &V, seg: Seg) -> &'a [u8]
 }
 
 /// The name of a heap.
-pub fn heap_name<'a, V: View>(names: &'a Names, view: &V, heap: Heap) -> &'a [u8]
-    requires named { AreNamed names.now (V.trace view.now) }
-    requires known { IsHeap (V.trace view.now) heap }
+pub fn heap_name(names: &Names, heap: Heap) -> &[u8]
+    requires { IsNamedHeap names.now heap }
     ensures name { result.now ≡ heap_word names.now heap }
     ensures short { length result.now ≤ 32 }
 {
@@ -42,9 +41,8 @@ pub fn heap_name<'a, V: View>(names: &'a Names, view: &V, heap: Heap) -> &'a [u8
 }
 
 /// The word of an object's type.
-pub fn type_label<'a, V: View>(names: &'a Names, view: &V, ty: Option<TypeId>) -> &'a [u8]
-    requires named { AreNamed names.now (V.trace view.now) }
-    requires known { IfSome ty (λ t. t.0 < length (V.trace view.now).types) }
+pub fn type_label(names: &Names, ty: Option<TypeId>) -> &[u8]
+    requires { IfSome ty (λ t. t.0 < length names.now.types) }
     ensures name { result.now ≡ type_word names.now ty }
     ensures short { length result.now ≤ 32 }
 {

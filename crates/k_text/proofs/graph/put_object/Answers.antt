@@ -3,12 +3,17 @@ use Rattle.k_types.specs.Owners.{owner_of}
 use Rattle.k_text.specs.Shown.{shown_object, type_at}
 use Rattle.k_text.specs.Named.{name_word, heap_word, type_word}
 use Rattle.k_text.specs.Report.{object_words, field_word}
-use Rattle.k_text.proofs.Known.{known_owner}
+use Rattle.k_text.proofs.Known.{known_owner, named_heap, named_type}
 use Rattle.k_text.proofs.LineLemmas.{writes_line, line_behind_three}
 use Rattle.k_text.proofs.graph.put_object.Goals as goal
 
-pub heap_name-requires-clause-known : goal.heap_name-requires-clause-known
-heap_name-requires-clause-known g c = rw c.owner.ensures (known_owner (g.V.View.trace c.args.view.now) (g.V.View.state c.args.view.now) c.args.name.seg.0 c.requires.known)
+pub heap_name-requires : goal.heap_name-requires
+heap_name-requires g c =
+    named_heap _ (g.V.View.trace c.args.view.now) _ c.requires.named
+    (rw c.owner.ensures (known_owner (g.V.View.trace c.args.view.now) (g.V.View.state c.args.view.now) c.args.name.seg.0 c.requires.known))
+
+pub type_label-requires : goal.type_label-requires
+type_label-requires g c = named_type _ (g.V.View.trace c.args.view.now) _ c.requires.named c.object_type.ensures.known
 
 pub returns-clause-written : goal.returns-clause-written
 unfolding object_words
