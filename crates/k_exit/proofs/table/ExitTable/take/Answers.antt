@@ -1,0 +1,49 @@
+use Rattle.std.proofs.Common.{◌≡◌, ◌<◌, ◌≤◌, ℕ, List, Some, false, map, get_or, length, slice_get, ◌∷◌, sym, ap, subst, ◌∙◌, inl, inr, arith}
+use Rattle.std.proofs.lemmas.Bool.{cases_lt}
+use Rattle.std.proofs.lemmas.Option.{slice_get_within, get_or_from_slice_get}
+use Rattle.std.proofs.Math.ListN.{get_or-map}
+use Rattle.std.specs.List.Sorted.{IsPermutation}
+use Rattle.k_exit.specs.declared.chains.Item.{Item}
+use Rattle.k_exit.specs.Chains.{HasPassed, IsLastWanted, row_of, at, blank, rows_without, is_wanted}
+use Rattle.k_exit.specs.Exits.{ExitRow, ExitList, AreDistinct, IsTaken}
+use Rattle.k_exit.proofs.Removes.{map_len}
+use Rattle.k_exit.proofs.Lists.{without_is, distinct_taken, passed_without}
+use Rattle.k_exit.proofs.table.ExitTable.take.Goals as goal
+
+pub last_wanted-found-requires : goal.last_wanted-found-requires
+last_wanted-found-requires c =
+    let rows : length (map row_of c.self.inside.items.items) ≡ length c.args.self.now.items = ap (λ (e : ExitList). length e.items) c.self.view_is in
+    omega (arith, c.start-end.ensures.within, rows, map_len row_of c.self.inside.items.items, c.deref.ensures.len, c.self.inside.items.ok.0)
+
+pub invariant_of-self : goal.invariant_of-self
+invariant_of-self c =
+    let items = c.self.inside.items.items in
+    let found : IsLastWanted (map row_of items) c.args.wanted c.start-end.result c.in-Some.i = subst (λ (xs : List Item). IsLastWanted (map row_of xs) c.args.wanted c.start-end.result c.in-Some.i) c.deref.ensures.value c.in-Some.ensures.some in
+    let start : HasPassed (map row_of items) c.args.wanted c.start-end.result = subst (λ (e : ExitList). HasPassed e.items c.args.wanted c.start-end.result) (sym c.self.view_is) c.start-end.ensures in
+    let within = slice_get_within (map row_of items) c.in-Some.i found.row found.there in
+    let same = without_is (map row_of items) c.in-Some.i found.row found.there in
+    record {
+      chained = c.remove-target.ensures.linked;
+      reserved = omega (arith, c.remove-target.ensures.capacity, c.remove-target.ensures.room, c.self.invariant.reserved);
+      distinct = subst (λ (rs : List ExitRow). AreDistinct rs) (sym c.remove-target.ensures.rows) (distinct_taken (map row_of items) (rows_without (map row_of items) c.in-Some.i) found.row same c.self.invariant.distinct);
+      passed = subst (λ (rs : List ExitRow). HasPassed rs c.args.wanted c.in-Some.i) (sym c.remove-target.ensures.rows)
+          (passed_without (map row_of items) c.args.wanted c.in-Some.i within (λ j row above at.
+          elim (cases_lt j c.start-end.result) [ inl below ↦ found.last j row above below at | inr past ↦ start.passed j row past at ]));
+    }
+
+pub returns-in-Some-clause-some : goal.returns-in-Some-clause-some
+returns-in-Some-clause-some c =
+    let items = c.self.inside.items.items in
+    let found : IsLastWanted (map row_of items) c.args.wanted c.start-end.result c.in-Some.i = subst (λ (xs : List Item). IsLastWanted (map row_of xs) c.args.wanted c.start-end.result c.in-Some.i) c.deref.ensures.value c.in-Some.ensures.some in
+    let same = without_is (map row_of items) c.in-Some.i found.row found.there in
+    let row_is : row_of (at items c.in-Some.i) ≡ found.row = sym (get_or-map row_of items c.in-Some.i blank) ∙ get_or_from_slice_get (map row_of items) c.in-Some.i found.row (row_of blank) found.there in (
+      found.row,
+      record {
+        target = sym (ap (λ (r : ExitRow). r.target) row_is) ∙ sym c.remove-target.ensures.target;
+        taken = subst (λ (e : ExitList). IsPermutation e.items (found.row ∷ map row_of c.remove-target.new.items.items)) c.self.view_is
+            (subst (λ (rs : List ExitRow). IsPermutation (map row_of items) (found.row ∷ rs)) (sym c.remove-target.ensures.rows) same);
+        room = c.remove-target.ensures.room ∙ ap (λ (e : ExitList). e.room) c.self.view_is;
+        distinct = subst (λ (rs : List ExitRow). AreDistinct rs) (sym c.remove-target.ensures.rows) (distinct_taken (map row_of items) (rows_without (map row_of items) c.in-Some.i) found.row same c.self.invariant.distinct);
+      },
+      found.wants,
+    )

@@ -1,0 +1,15 @@
+use Rattle.std.proofs.Common.{◌≡◌, ◌<◌, List, set, get_or, length, refl, sym, ap, ◌∙◌, arith}
+use Rattle.std.proofs.lemmas.List.{length-set}
+use Rattle.std.proofs.lemmas.List.Edits.{map_over_more}
+use Rattle.k_exit.specs.Chains.{unmarked_item}
+use Rattle.k_exit.proofs.table.unmark.Goals as goal
+
+pub loop-i-preserved : goal.loop-i-preserved
+loop-i-preserved c =
+    let i = c.loop-i.invariant in
+    record {
+      items = map_over_more unmarked_item c.args.items.now.items c.loop-i.items.items c.loop-i.i c.index_mut.result.now (omega (arith, i.whole)) i.items c.index_mut.ensures.value;
+      capacity = i.capacity;
+      len = length-set c.loop-i.items.items c.loop-i.i (unmarked_item c.index_mut.result.now) ∙ i.len;
+      whole = i.whole;
+    }

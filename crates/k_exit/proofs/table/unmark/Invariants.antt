@@ -1,0 +1,11 @@
+use Rattle.std.proofs.Common.{◌≡◌, ◌++◌, map, take, drop, vec_capacity, length}
+use Rattle.k_exit.specs.Chains.{unmarked_item}
+use Rattle.k_exit.proofs.table.unmark.Given as goal
+
+abbrev pub invariant-loop-i : goal.invariant-loop-i
+invariant-loop-i l = record {
+  items : l.items.items ≡ map unmarked_item (take l.i l.fn.items.items) ++ drop l.i l.fn.items.items;
+  capacity : vec_capacity l.items ≡ vec_capacity l.fn.items;
+  len : length l.items.items ≡ l.i-end;
+  whole : length l.fn.items.items ≡ l.i-end;
+}

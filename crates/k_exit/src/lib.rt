@@ -1,0 +1,18 @@
+//! The exit items of a heap: the objects outside it to which it may refer.
+//!
+//! An [`ExitTable`] is a list of distinct targets, each marked or not, and a room. The contracts say
+//! what each call changes of that list. Only [`ExitTable::make`] takes memory.
+//!
+//! The items are linked by index into hash chains, so that [`ExitTable::has`], [`ExitTable::add`]
+//! and [`ExitTable::mark`] take constant time where the fixed hash spreads the names. A caller that
+//! takes targets until there is none passes each item once.
+//!
+//! The crate stands on `k_types` for names.
+#![tactic(auto)]
+
+mod chains;
+mod table;
+#[cfg(test)]
+mod tests;
+
+pub use table::ExitTable;
