@@ -77,15 +77,33 @@ unfolding line_in kernel_line demands
 kernel_again c d ws s =
     let small : s.ceiling < 2 ^ 64 = omega (arith, s.small) in
     let few : s.dir_fields < 2 ^ 64 = omega (arith, s.few) in
-    rw (s.at, s.words, s.after, is_below-decimal s.ceiling (2 ^ 40) s.small (omega arith), is_below-decimal s.dir_fields 17 s.few (omega arith),
-        value-decimal s.ceiling small, value-decimal s.dir_fields few, le-leb _ _ s.room) refl
+    rw (
+      s.at,
+      s.words,
+      s.after,
+      is_below-decimal s.ceiling (2 ^ 40) s.small (omega arith),
+      is_below-decimal s.dir_fields 17 s.few (omega arith),
+      value-decimal s.ceiling small,
+      value-decimal s.dir_fields few,
+      le-leb _ _ s.room,
+    ) refl
 
 type_again : (c d : SoFar) (ws : List Text) → TypeStep c ws d → line_in c.place c.said ws ≡ Ok d
 unfolding line_in line_of_types type_line demands
 type_again c d ws s =
     let most : length (map field_word s.fields) ≤ 16 = rw (length-map s.fields field_word) s.few_fields in
-    rw (s.at, s.words, s.after, le-leb 2 (suc (suc (length (map field_word s.fields)))) (omega arith), field_words_are s.fields, s.named, s.fresh,
-        le-leb (suc (suc (length (map field_word s.fields)))) 18 (omega arith), lt-ltb _ 256 s.few, field_words_of s.fields) refl
+    rw (
+      s.at,
+      s.words,
+      s.after,
+      le-leb 2 (suc (suc (length (map field_word s.fields)))) (omega arith),
+      field_words_are s.fields,
+      s.named,
+      s.fresh,
+      le-leb (suc (suc (length (map field_word s.fields)))) 18 (omega arith),
+      lt-ltb _ 256 s.few,
+      field_words_of s.fields,
+    ) refl
 
 root_again : (c d : SoFar) (ws : List Text) → RootStep c ws d → line_in c.place c.said ws ≡ Ok d
 unfolding line_in line_of_types root_line demands
@@ -100,15 +118,37 @@ limit_again : (c d : SoFar) (ws : List Text) → IsOrderly c.said → LimitStep 
 unfolding line_in line_of_limits limit_line demands
 limit_again c d ws o s =
     let words : ws ≡ codes "limit" ∷ s.name ∷ word_at c.said.names.limits s.parent ∷ hardness s.hard ∷ decimal s.max ∷ [] = s.words ∙ limit_words_are c.said s.name s.parent s.hard s.max in
-    rw (s.at, words, s.after, (hardness_again s.hard).0, (hardness_again s.hard).1,
-        is_below-decimal s.max (2 ^ 40) s.small (omega arith), s.named, s.fresh, declares-at c.said.names.limits s.parent s.declared, lt-ltb _ 128 s.few,
-        number_of-at c.said.names.limits s.parent o.limits s.declared, value-decimal s.max (omega (arith, s.small)), s.room) refl
+    rw (
+      s.at,
+      words,
+      s.after,
+      (hardness_again s.hard).0,
+      (hardness_again s.hard).1,
+      is_below-decimal s.max (2 ^ 40) s.small (omega arith),
+      s.named,
+      s.fresh,
+      declares-at c.said.names.limits s.parent s.declared,
+      lt-ltb _ 128 s.few,
+      number_of-at c.said.names.limits s.parent o.limits s.declared,
+      value-decimal s.max (omega (arith, s.small)),
+      s.room,
+    ) refl
 
 proc_line_again : (c d : SoFar) (ws : List Text) → IsOrderly c.said → ProcStep c ws d → (bytes_eq (word_at ws 0) (codes "proc") ≡ true) × (bytes_eq (word_at ws 0) (codes "limit") ≡ false) × (proc_line c.said ws ≡ Ok d)
 unfolding proc_line demands
-proc_line_again c d ws o s = (rw s.words refl, rw s.words refl,
-    rw (s.words, s.after, s.named, s.fresh, declares-at c.said.names.limits s.limit s.declared, lt-ltb _ 64 s.few,
-        number_of-at c.said.names.limits s.limit o.limits s.declared) refl)
+proc_line_again c d ws o s = (
+  rw s.words refl,
+  rw s.words refl,
+  rw (
+    s.words,
+    s.after,
+    s.named,
+    s.fresh,
+    declares-at c.said.names.limits s.limit s.declared,
+    lt-ltb _ 64 s.few,
+    number_of-at c.said.names.limits s.limit o.limits s.declared,
+  ) refl,
+)
 
 proc_again : (c d : SoFar) (ws : List Text) → (c.place ≡ Limits) ⊎ (c.place ≡ Procs) → (bytes_eq (word_at ws 0) (codes "proc") ≡ true) × (bytes_eq (word_at ws 0) (codes "limit") ≡ false) × (proc_line c.said ws ≡ Ok d)
     → line_in c.place c.said ws ≡ Ok d
@@ -128,9 +168,18 @@ shared_again c d ws (inr at) h = rw (at, h.0) h.2
 
 operation_line_again : (c d : SoFar) (ws : List Text) → IsOrderly c.said → OperationStep c ws d → (is_keyword (word_at ws 0) ≡ false) × (operation_line c.said ws ≡ Ok d)
 unfolding operation_line process_line demands
-operation_line_again c d ws o s = (rw s.words (no_keyword (word_at c.said.names.procs s.process) (o.each s.process s.declared)),
-    rw (s.words, s.after, op_again c.said s.op o.named o.distinct s.ranged s.spelled, declares-at c.said.names.procs s.process s.declared, lt-ltb _ 200000 s.few,
-        number_of-at c.said.names.procs s.process o.procs s.declared, s.lives) refl)
+operation_line_again c d ws o s = (
+  rw s.words (no_keyword (word_at c.said.names.procs s.process) (o.each s.process s.declared)),
+  rw (
+    s.words,
+    s.after,
+    op_again c.said s.op o.named o.distinct s.ranged s.spelled,
+    declares-at c.said.names.procs s.process s.declared,
+    lt-ltb _ 200000 s.few,
+    number_of-at c.said.names.procs s.process o.procs s.declared,
+    s.lives,
+  ) refl,
+)
 
 operation_again : (p : Place) (c d : SoFar) (ws : List Text) → c.place ≡ p → has_process p ≡ true → (is_keyword (word_at ws 0) ≡ false) × (operation_line c.said ws ≡ Ok d) → line_in p c.said ws ≡ Ok d
 unfolding line_in line_of_procs later_line

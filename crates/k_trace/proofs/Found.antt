@@ -166,7 +166,7 @@ limit_found c d ws at first e =
       few = ltb-true _ _ j.0;
       room = k.0;
       words = five ws (eqb-true _ _ p.0) ∙ sym (limit_words_are c.said (word_at ws 1) parent hard (value (word_at ws 4))
-        ∙ rw (max.0, name_at c.said.names.limits (word_at ws 2) i.0, hardness_is (word_at ws 3) hard refl p.1, ← first_is ws (codes "limit") first) refl);
+          ∙ rw (max.0, name_at c.said.names.limits (word_at ws 2) i.0, hardness_is (word_at ws 3) hard refl p.1, ← first_is ws (codes "limit") first) refl);
       after = sym (ok_is (at_place Limits (with_limit c.said (word_at ws 1) (limit_row parent hard (value (word_at ws 4))))) d k.1);
     })
 

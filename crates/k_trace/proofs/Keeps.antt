@@ -125,12 +125,12 @@ behind_all a b c d e x = simp append_assoc
 
 few_push : (rows : List (List Field)) (row : List Field) → HaveFewFields rows → length row ≤ 16 → HaveFewFields (rows ++ row ∷ [])
 few_push rows row few le ty = elim (cases_lt ty.0 (length rows)) [
-    | inl below ↦ rw (get_or_append_left rows (row ∷ []) [] ty.0 below) (few ty)
-    | inr above ↦ elim (cases_lt (length rows) ty.0) [
-        | inl past ↦ past_few (rows ++ row ∷ []) ty.0 (omega (arith, length_push rows row))
-        | inr at ↦ let e : ty.0 ≡ length rows = omega arith in rw (e, get_or-append_seam rows row [] []) le
-      ]
+  | inl below ↦ rw (get_or_append_left rows (row ∷ []) [] ty.0 below) (few ty)
+  | inr above ↦ elim (cases_lt (length rows) ty.0) [
+    | inl past ↦ past_few (rows ++ row ∷ []) ty.0 (omega (arith, length_push rows row))
+    | inr at ↦ let e : ty.0 ≡ length rows = omega arith in rw (e, get_or-append_seam rows row [] []) le
   ]
+]
   where
     past_few : (xs : List (List Field)) (i : ℕ) → length xs ≤ i → length (get_or xs i []) ≤ 16
     past_few [] i past = omega arith
@@ -156,10 +156,10 @@ row_last rows row m e = rw e (get_or-append_seam rows row [] no_row)
 each_row : (P : ℕ → LimitRow → Type 0) (rows : List LimitRow) (row : LimitRow) → ((m : ℕ) → m < length rows → P m (row_of rows m)) → P (length rows) row
     → (m : ℕ) → m < length (rows ++ row ∷ []) → P m (row_of (rows ++ row ∷ []) m)
 each_row P rows row old last m lt = elim (cases_lt m (length rows)) [
-    | inl below ↦ subst (P m) (sym (row_before rows row m below)) (old m below)
-    | inr above ↦ let e : m ≡ length rows = omega (arith, length_push rows row) in
-        subst (P m) (sym (row_last rows row m e)) (subst (λ (k : ℕ). P k row) (sym e) last)
-  ]
+  | inl below ↦ subst (P m) (sym (row_before rows row m below)) (old m below)
+  | inr above ↦ let e : m ≡ length rows = omega (arith, length_push rows row) in
+      subst (P m) (sym (row_last rows row m e)) (subst (λ (k : ℕ). P k row) (sym e) last)
+]
 
 root_push : (rows : List LimitRow) (row : LimitRow) → (row_of rows 0).hard ≡ true → (0 < length rows) ⊎ (row.hard ≡ true) → 0 < length rows ⊎ (rows ≡ []) → (row_of (rows ++ row ∷ []) 0).hard ≡ true
 root_push rows row old (inl lt) some = rw (row_before rows row 0 lt) old
@@ -186,10 +186,10 @@ limits_push names rows name row old good fresh room small known rooted root fits
 limited_push : (limits : List LimitId) (limit : LimitId) (rows : ℕ) → ((p : ℕ) → p < length limits → limit_at limits p < rows) → limit.0 < rows
     → (p : ℕ) → p < length (limits ++ limit ∷ []) → limit_at (limits ++ limit ∷ []) p < rows
 limited_push limits limit rows old last p lt = elim (cases_lt p (length limits)) [
-    | inl below ↦ subst (λ (l : LimitId). l.0 < rows) (sym (get_or_append_left limits (limit ∷ []) (record { 0 = 0 }) p below)) (old p below)
-    | inr above ↦ let e : p ≡ length limits = omega (arith, length_push limits limit) in
-        subst (λ (l : LimitId). l.0 < rows) (sym (ap (λ (k : ℕ). get_or (limits ++ limit ∷ []) k (record { 0 = 0 })) e ∙ get_or-append_seam limits limit [] (record { 0 = 0 }))) last
-  ]
+  | inl below ↦ subst (λ (l : LimitId). l.0 < rows) (sym (get_or_append_left limits (limit ∷ []) (record { 0 = 0 }) p below)) (old p below)
+  | inr above ↦ let e : p ≡ length limits = omega (arith, length_push limits limit) in
+      subst (λ (l : LimitId). l.0 < rows) (sym (ap (λ (k : ℕ). get_or (limits ++ limit ∷ []) k (record { 0 = 0 })) e ∙ get_or-append_seam limits limit [] (record { 0 = 0 }))) last
+]
 
 procs_push : (procs shared : List Text) (limits : List LimitId) (shared_heaps rows : ℕ) (name : Text) (limit : LimitId) → shared ≡ [] → AreHeaps procs limits shared shared_heaps rows
     → is_name name ≡ true → declares procs name ≡ false → length procs < 64 → limit.0 < rows → AreHeaps (procs ++ name ∷ []) (limits ++ limit ∷ []) shared shared_heaps rows
@@ -240,37 +240,38 @@ version_keeps c d ws wss h s =
 kernel_said : (t : NamedTrace) (ceiling dir_fields : ℕ) → t ≡ blank → ceiling < 2 ^ 40 → dir_fields < 17 → 16 + 8 * dir_fields ≤ ceiling
     → Holds Types (with_kernel t ceiling dir_fields) (version_words ∷ kernel_words ceiling dir_fields ∷ [])
 kernel_said t ceiling dir_fields e small few room = rw e (
-    record {
-      begun = record {
-        version = refl;
-        kernel = record { small = small; few = omega (arith, few); room = room };
-        types = record { few = omega arith; few_fields = λ ty. omega arith; are_names = AreNames_nil; named = refl };
-        limits = record {
-          few = omega arith;
-          tree = λ m parent lt is. absurd (omega (arith, lt));
-          root = refl;
-          rooted = λ m lt is. absurd (omega (arith, lt));
-          fits = fit_none;
-          small = λ m lt. absurd (omega (arith, lt));
-          are_names = AreNames_nil;
-          named = refl;
-        };
-        heaps = record {
-          few_procs = omega arith;
-          few_shared = omega arith;
-          limited = λ p lt. absurd (omega (arith, lt));
-          are_names = AreNames_nil;
-          procs_named = refl;
-          shared_named = refl;
-        };
-        operations = nothing_operated (with_kernel blank ceiling dir_fields) refl refl;
+  record {
+    begun = record {
+      version = refl;
+      kernel = record { small = small; few = omega (arith, few); room = room };
+      types = record { few = omega arith; few_fields = λ ty. omega arith; are_names = AreNames_nil; named = refl };
+      limits = record {
+        few = omega arith;
+        tree = λ m parent lt is. absurd (omega (arith, lt));
+        root = refl;
+        rooted = λ m lt is. absurd (omega (arith, lt));
+        fits = fit_none;
+        small = λ m lt. absurd (omega (arith, lt));
+        are_names = AreNames_nil;
+        named = refl;
       };
-      lines = refl;
-    },
-    record { names = refl; rows = refl },
-    record { names = refl; limits = refl },
-    record { names = refl; none = refl },
-    record { each = refl; order = refl })
+      heaps = record {
+        few_procs = omega arith;
+        few_shared = omega arith;
+        limited = λ p lt. absurd (omega (arith, lt));
+        are_names = AreNames_nil;
+        procs_named = refl;
+        shared_named = refl;
+      };
+      operations = nothing_operated (with_kernel blank ceiling dir_fields) refl refl;
+    };
+    lines = refl;
+  },
+  record { names = refl; rows = refl },
+  record { names = refl; limits = refl },
+  record { names = refl; none = refl },
+  record { each = refl; order = refl },
+)
 
 kernel_keeps : (c d : SoFar) (ws : List Text) (wss : List (List Text)) → Holds c.place c.said wss → KernelStep c ws d → Holds d.place d.said (wss ++ ws ∷ [])
 kernel_keeps c d ws wss h s =
@@ -284,23 +285,24 @@ front_of t = version_words ∷ kernel_words t.trace.ceiling t.trace.dir_fields �
 type_said : (t : NamedTrace) (name : Text) (fields : List Field) (wss : List (List Text)) → Holds Types t wss → is_name name ≡ true → declares t.names.types name ≡ false → length fields ≤ 16
     → length t.names.types < 256 → Holds Types (with_type t name fields) (wss ++ type_words name fields ∷ [])
 type_said t name fields wss h good fresh few room =
-    let begun = h.0.begun in
-    (record {
-      begun = record {
-        version = begun.version;
-        kernel = begun.kernel;
-        types = types_push t.names.types t.trace.types name fields begun.types good fresh few room;
-        limits = begun.limits;
-        heaps = begun.heaps;
-        operations = nothing_operated (with_type t name fields) h.4.each h.4.order;
-      };
-      lines = rw (← h.0.lines, h.1.names, h.1.rows, h.2.names, h.2.limits, h.3.names, h.4.order, declarations_push type_words t.names.types t.trace.types name fields begun.types.named)
-        (behind_types (front_of t) (type_words name fields));
-    },
-    record { names = h.1.names; rows = h.1.rows },
-    record { names = h.2.names; limits = h.2.limits },
-    record { names = h.3.names; none = h.3.none },
-    record { each = h.4.each; order = h.4.order })
+    let begun = h.0.begun in (
+      record {
+        begun = record {
+          version = begun.version;
+          kernel = begun.kernel;
+          types = types_push t.names.types t.trace.types name fields begun.types good fresh few room;
+          limits = begun.limits;
+          heaps = begun.heaps;
+          operations = nothing_operated (with_type t name fields) h.4.each h.4.order;
+        };
+        lines = rw (← h.0.lines, h.1.names, h.1.rows, h.2.names, h.2.limits, h.3.names, h.4.order, declarations_push type_words t.names.types t.trace.types name fields begun.types.named)
+            (behind_types (front_of t) (type_words name fields));
+      },
+      record { names = h.1.names; rows = h.1.rows },
+      record { names = h.2.names; limits = h.2.limits },
+      record { names = h.3.names; none = h.3.none },
+      record { each = h.4.each; order = h.4.order },
+    )
 
 type_keeps : (c d : SoFar) (ws : List Text) (wss : List (List Text)) → Holds c.place c.said wss → TypeStep c ws d → Holds d.place d.said (wss ++ ws ∷ [])
 type_keeps c d ws wss h s = rw (s.after, s.words) (type_said c.said s.name s.fields wss (rw s.at at h) s.named s.fresh s.few_fields s.few)
@@ -311,23 +313,24 @@ no_rows_least rows e = ap length e
 root_said : (t : NamedTrace) (name : Text) (max : ℕ) (wss : List (List Text)) → Holds Types t wss → is_name name ≡ true → declares t.names.limits name ≡ false → max < 2 ^ 40
     → length t.names.limits < 128 → Holds Limits (with_limit t name (root_row max)) (wss ++ limit_words t.names name (root_row max) ∷ [])
 root_said t name max wss h good fresh small room =
-    let begun = h.0.begun in
-    (record {
-      begun = record {
-        version = begun.version;
-        kernel = begun.kernel;
-        types = begun.types;
-        limits = limits_push t.names.limits t.trace.limits name (root_row max) begun.limits good fresh room small (λ parent is. absurd cc) (λ is. no_rows_least t.trace.limits h.1.rows)
-          (rw h.1.rows refl) (rw h.1.rows (fit_root max));
-        heaps = wider t (length (t.trace.limits ++ root_row max ∷ [])) begun.heaps (omega (arith, length_push t.trace.limits (root_row max)));
-        operations = nothing_operated (with_limit t name (root_row max)) h.4.each h.4.order;
-      };
-      lines = rw (← h.0.lines, h.1.names, h.1.rows, h.2.names, h.2.limits, h.3.names, h.4.order) (behind_limits (front_of t) [] (limit_words t.names name (root_row max)));
-    },
-    omega (arith, length_push t.trace.limits (root_row max)),
-    record { names = h.2.names; limits = h.2.limits },
-    record { names = h.3.names; none = h.3.none },
-    record { each = h.4.each; order = h.4.order })
+    let begun = h.0.begun in (
+      record {
+        begun = record {
+          version = begun.version;
+          kernel = begun.kernel;
+          types = begun.types;
+          limits = limits_push t.names.limits t.trace.limits name (root_row max) begun.limits good fresh room small (λ parent is. absurd cc) (λ is. no_rows_least t.trace.limits h.1.rows)
+              (rw h.1.rows refl) (rw h.1.rows (fit_root max));
+          heaps = wider t (length (t.trace.limits ++ root_row max ∷ [])) begun.heaps (omega (arith, length_push t.trace.limits (root_row max)));
+          operations = nothing_operated (with_limit t name (root_row max)) h.4.each h.4.order;
+        };
+        lines = rw (← h.0.lines, h.1.names, h.1.rows, h.2.names, h.2.limits, h.3.names, h.4.order) (behind_limits (front_of t) [] (limit_words t.names name (root_row max)));
+      },
+      omega (arith, length_push t.trace.limits (root_row max)),
+      record { names = h.2.names; limits = h.2.limits },
+      record { names = h.3.names; none = h.3.none },
+      record { each = h.4.each; order = h.4.order },
+    )
 
 root_keeps : (c d : SoFar) (ws : List Text) (wss : List (List Text)) → Holds c.place c.said wss → RootStep c ws d → Holds d.place d.said (wss ++ ws ∷ [])
 root_keeps c d ws wss h s = rw (s.after, s.words) (root_said c.said s.name s.max wss (rw s.at at h) s.named s.fresh s.small s.few)
@@ -348,8 +351,11 @@ limit_lines : (t : NamedTrace) (name : Text) (row : LimitRow) → AreRows t.name
     ≡ declarations (limit_words t.names) t.names.limits t.trace.limits ++ limit_words t.names name row ∷ []
 limit_lines t name row rows known =
     declarations_push (limit_words (record t.names { limits = t.names.limits ++ name ∷ [] })) t.names.limits t.trace.limits name row rows.named
-    ∙ rw (same_words t.names name name row known, declarations_same (limit_words (record t.names { limits = t.names.limits ++ name ∷ [] })) (limit_words t.names) t.names.limits t.trace.limits no_row
-        (λ m i lt. same_words t.names name m (row_of t.trace.limits i) (λ p e. let h = rows.tree i p lt e in omega (arith, h, lt, rows.named)))) refl
+    ∙ rw (
+      same_words t.names name name row known,
+      declarations_same (limit_words (record t.names { limits = t.names.limits ++ name ∷ [] })) (limit_words t.names) t.names.limits t.trace.limits no_row
+          (λ m i lt. same_words t.names name m (row_of t.trace.limits i) (λ p e. let h = rows.tree i p lt e in omega (arith, h, lt, rows.named))),
+    ) refl
 
 parent_is : (parent : ℕ) (n : ℕ) → parent < n → (p : LimitId) → (let o : Option LimitId = Some (record { 0 = parent }) in o) ≡ Some p → p.0 < n
 parent_is parent n lt p e = let f : record { 0 = parent } ≡ p = cc in subst (λ (x : LimitId). x.0 < n) f lt
@@ -360,24 +366,25 @@ limit_said : (t : NamedTrace) (name : Text) (parent : ℕ) (hard : Bool) (max : 
 limit_said t name parent hard max wss h good fresh small known room fit =
     let begun = h.0.begun in
     let row = limit_row parent hard max in
-    let within : parent < length t.trace.limits = omega (arith, begun.limits.named, known) in
-    (record {
-      begun = record {
-        version = begun.version;
-        kernel = begun.kernel;
-        types = begun.types;
-        limits = limits_push t.names.limits t.trace.limits name row begun.limits good fresh room small (parent_is parent (length t.trace.limits) within) (λ is. absurd cc)
-          (rw (row_before t.trace.limits row 0 h.1) begun.limits.root) (fit_limit t.trace.limits parent hard max (tree_push t.trace.limits row begun.limits.tree (parent_is parent (length t.trace.limits) within)) within begun.limits.fits fit);
-        heaps = wider t (length (t.trace.limits ++ row ∷ [])) begun.heaps (omega (arith, length_push t.trace.limits row));
-        operations = nothing_operated (with_limit t name row) h.4.each h.4.order;
-      };
-      lines = rw (← h.0.lines, h.2.names, h.2.limits, h.3.names, h.4.order, limit_lines t name row begun.limits (parent_is parent (length t.names.limits) known))
-        (behind_limits (front_of t) (declarations (limit_words t.names) t.names.limits t.trace.limits) (limit_words t.names name row));
-    },
-    omega (arith, length_push t.trace.limits row),
-    record { names = h.2.names; limits = h.2.limits },
-    record { names = h.3.names; none = h.3.none },
-    record { each = h.4.each; order = h.4.order })
+    let within : parent < length t.trace.limits = omega (arith, begun.limits.named, known) in (
+      record {
+        begun = record {
+          version = begun.version;
+          kernel = begun.kernel;
+          types = begun.types;
+          limits = limits_push t.names.limits t.trace.limits name row begun.limits good fresh room small (parent_is parent (length t.trace.limits) within) (λ is. absurd cc)
+              (rw (row_before t.trace.limits row 0 h.1) begun.limits.root) (fit_limit t.trace.limits parent hard max (tree_push t.trace.limits row begun.limits.tree (parent_is parent (length t.trace.limits) within)) within begun.limits.fits fit);
+          heaps = wider t (length (t.trace.limits ++ row ∷ [])) begun.heaps (omega (arith, length_push t.trace.limits row));
+          operations = nothing_operated (with_limit t name row) h.4.each h.4.order;
+        };
+        lines = rw (← h.0.lines, h.2.names, h.2.limits, h.3.names, h.4.order, limit_lines t name row begun.limits (parent_is parent (length t.names.limits) known))
+            (behind_limits (front_of t) (declarations (limit_words t.names) t.names.limits t.trace.limits) (limit_words t.names name row));
+      },
+      omega (arith, length_push t.trace.limits row),
+      record { names = h.2.names; limits = h.2.limits },
+      record { names = h.3.names; none = h.3.none },
+      record { each = h.4.each; order = h.4.order },
+    )
 
 limit_keeps : (c d : SoFar) (ws : List Text) (wss : List (List Text)) → Holds c.place c.said wss → LimitStep c ws d → Holds d.place d.said (wss ++ ws ∷ [])
 limit_keeps c d ws wss h s = rw (s.after, s.words) (limit_said c.said s.name s.parent s.hard s.max wss (rw s.at at h) s.named s.fresh s.small s.declared s.few s.room)
@@ -395,23 +402,24 @@ proc_said t name limit wss h good fresh known room =
     let begun = h.said.begun in
     let id : LimitId = record { 0 = limit } in
     let within : limit < length t.trace.limits = omega (arith, begun.limits.named, known) in
-    let each : t.trace.operations ++ [] ∷ [] ≡ none_each (t.trace.procs ++ id ∷ []) = ap (λ (o : List (List Op)). o ++ [] ∷ []) h.operations.each ∙ none_more t.trace.procs id in
-    (record {
-      begun = record {
-        version = begun.version;
-        kernel = begun.kernel;
-        types = begun.types;
-        limits = begun.limits;
-        heaps = procs_push t.names.procs t.names.shared t.trace.procs t.trace.shared_heaps (length t.trace.limits) name id h.shared.names begun.heaps good fresh room within;
-        operations = nothing_operated (with_proc t name id) each h.operations.order;
-      };
-      lines = rw (← h.said.lines, h.shared.names, h.operations.order, declarations_push (proc_words t.names) t.names.procs t.trace.procs name id begun.heaps.procs_named)
-        (behind_procs (front_of t) (declarations (limit_words t.names) t.names.limits t.trace.limits) (declarations (proc_words t.names) t.names.procs t.trace.procs) (proc_words t.names name id));
-    },
-    h.root,
-    omega (arith, length_push t.trace.procs id),
-    record { names = h.shared.names; none = h.shared.none },
-    record { each = each; order = h.operations.order })
+    let each : t.trace.operations ++ [] ∷ [] ≡ none_each (t.trace.procs ++ id ∷ []) = ap (λ (o : List (List Op)). o ++ [] ∷ []) h.operations.each ∙ none_more t.trace.procs id in (
+      record {
+        begun = record {
+          version = begun.version;
+          kernel = begun.kernel;
+          types = begun.types;
+          limits = begun.limits;
+          heaps = procs_push t.names.procs t.names.shared t.trace.procs t.trace.shared_heaps (length t.trace.limits) name id h.shared.names begun.heaps good fresh room within;
+          operations = nothing_operated (with_proc t name id) each h.operations.order;
+        };
+        lines = rw (← h.said.lines, h.shared.names, h.operations.order, declarations_push (proc_words t.names) t.names.procs t.trace.procs name id begun.heaps.procs_named)
+            (behind_procs (front_of t) (declarations (limit_words t.names) t.names.limits t.trace.limits) (declarations (proc_words t.names) t.names.procs t.trace.procs) (proc_words t.names name id));
+      },
+      h.root,
+      omega (arith, length_push t.trace.procs id),
+      record { names = h.shared.names; none = h.shared.none },
+      record { each = each; order = h.operations.order },
+    )
 
 before_shared : (c : SoFar) (wss : List (List Text)) → Holds c.place c.said wss → (c.place ≡ Limits) ⊎ (c.place ≡ Procs) → BeforeShared c.said wss
 before_shared c wss h (inl at) = let g : Holds Limits c.said wss = rw at at h in record { said = g.0; root = g.1; shared = g.3; operations = g.4 }
@@ -430,23 +438,24 @@ record BeforeOperations (t : NamedTrace) (wss : List (List Text)) : Type 0 where
 shared_said : (t : NamedTrace) (name : Text) (wss : List (List Text)) → BeforeOperations t wss → is_name name ≡ true → declares t.names.procs name ≡ false → declares t.names.shared name ≡ false
     → length t.names.shared < 64 → Holds Shared (with_shared t name) (wss ++ shared_words name ∷ [])
 shared_said t name wss h good fresh fresh_shared room =
-    let begun = h.said.begun in
-    (record {
-      begun = record {
-        version = begun.version;
-        kernel = begun.kernel;
-        types = begun.types;
-        limits = begun.limits;
-        heaps = shared_push t.names.procs t.names.shared t.trace.procs t.trace.shared_heaps (length t.trace.limits) name begun.heaps good fresh fresh_shared room;
-        operations = nothing_operated (with_shared t name) h.operations.each h.operations.order;
-      };
-      lines = rw (← h.said.lines, h.operations.order, map-append shared_words t.names.shared (name ∷ []))
-        (behind_shared (front_of t) (declarations (limit_words t.names) t.names.limits t.trace.limits) (declarations (proc_words t.names) t.names.procs t.trace.procs)
-          (map shared_words t.names.shared) (shared_words name));
-    },
-    h.root,
-    h.process,
-    record { each = h.operations.each; order = h.operations.order })
+    let begun = h.said.begun in (
+      record {
+        begun = record {
+          version = begun.version;
+          kernel = begun.kernel;
+          types = begun.types;
+          limits = begun.limits;
+          heaps = shared_push t.names.procs t.names.shared t.trace.procs t.trace.shared_heaps (length t.trace.limits) name begun.heaps good fresh fresh_shared room;
+          operations = nothing_operated (with_shared t name) h.operations.each h.operations.order;
+        };
+        lines = rw (← h.said.lines, h.operations.order, map-append shared_words t.names.shared (name ∷ []))
+            (behind_shared (front_of t) (declarations (limit_words t.names) t.names.limits t.trace.limits) (declarations (proc_words t.names) t.names.procs t.trace.procs)
+            (map shared_words t.names.shared) (shared_words name));
+      },
+      h.root,
+      h.process,
+      record { each = h.operations.each; order = h.operations.order },
+    )
 
 before_operations : (c : SoFar) (wss : List (List Text)) → Holds c.place c.said wss → (c.place ≡ Procs) ⊎ (c.place ≡ Shared) → BeforeOperations c.said wss
 before_operations c wss h (inl at) = let g : Holds Procs c.said wss = rw at at h in record { said = g.0; root = g.1; process = g.2; operations = g.4 }
@@ -480,22 +489,23 @@ operation_said t p op wss h known ranged fit room none =
     let begun = h.said.begun in
     let within : p < length t.trace.procs = omega (arith, begun.heaps.procs_named, known) in
     let listed : p < length t.trace.operations = omega (arith, begun.operations.each, within) in
-    let counted = begun.operations.counted p within in
-    (record {
-      begun = record {
-        version = begun.version;
-        kernel = begun.kernel;
-        types = begun.types;
-        limits = begun.limits;
-        heaps = begun.heaps;
-        operations = operation_kept t.trace (with_op t p op).trace p op begun.operations within ranged fit room none refl refl refl refl refl;
-      };
-      lines = rw (← h.said.lines, lines_push t.names p op t.trace.order (operations_of t.trace) (operations_of (with_op t p op).trace) (op_added t.trace.operations p op listed) counted)
-        (behind_all (front_of t) (declarations (limit_words t.names) t.names.limits t.trace.limits) (declarations (proc_words t.names) t.names.procs t.trace.procs)
-          (map shared_words t.names.shared) (operation_lines t.names (operations_of t.trace) t.trace.order) (line_words t.names p op));
-    },
-    h.root,
-    h.process)
+    let counted = begun.operations.counted p within in (
+      record {
+        begun = record {
+          version = begun.version;
+          kernel = begun.kernel;
+          types = begun.types;
+          limits = begun.limits;
+          heaps = begun.heaps;
+          operations = operation_kept t.trace (with_op t p op).trace p op begun.operations within ranged fit room none refl refl refl refl refl;
+        };
+        lines = rw (← h.said.lines, lines_push t.names p op t.trace.order (operations_of t.trace) (operations_of (with_op t p op).trace) (op_added t.trace.operations p op listed) counted)
+            (behind_all (front_of t) (declarations (limit_words t.names) t.names.limits t.trace.limits) (declarations (proc_words t.names) t.names.procs t.trace.procs)
+            (map shared_words t.names.shared) (operation_lines t.names (operations_of t.trace) t.trace.order) (line_words t.names p op));
+      },
+      h.root,
+      h.process,
+    )
 
 operation_keeps : (c d : SoFar) (ws : List Text) (wss : List (List Text)) → Holds c.place c.said wss → OperationStep c ws d → Holds d.place d.said (wss ++ ws ∷ [])
 operation_keeps c d ws wss h s =

@@ -62,13 +62,15 @@ limits_run (n ∷ ns) [] t full e names all same some few later = absurd cc
 limits_run (n ∷ ns) (row ∷ rows) t full e names all same some few later =
     let f : length ns ≡ length rows = cc in
     let p = parent_of t.trace.limits row rows some later in
-    let step = limit_step t full n ns row p.0 p.1 names all same p.2 (omega (arith, few)) (small_at t.trace.limits row rows later) (room_at t.trace.limits row rows p.0 p.1 later p.2) in
-    (at_place Limits (with_limit t n row), step,
+    let step = limit_step t full n ns row p.0 p.1 names all same p.2 (omega (arith, few)) (small_at t.trace.limits row rows later) (room_at t.trace.limits row rows p.0 p.1 later p.2) in (
+      at_place Limits (with_limit t n row),
+      step,
       run_to (at_place Limits (with_limit t n row)) (at_place Limits (with_limits (with_limit t n row) ns rows)) (at_place Limits (with_limits t (n ∷ ns) (row ∷ rows))) (declarations (limit_words full) ns rows)
-        (limits_run ns rows (with_limit t n row) full f (names_moved full.limits t.names.limits n ns names) (moved t.names.limits n ns all)
+          (limits_run ns rows (with_limit t n row) full f (names_moved full.limits t.names.limits n ns names) (moved t.names.limits n ns all)
           (omega (arith, same, length_push t.names.limits n, length_push t.trace.limits row)) (omega (arith, length_push t.trace.limits row)) (omega (arith, few, length_push t.names.limits n))
           (later_moved t.trace.limits row rows later))
-        (ap (at_place Limits) (limits_more t n ns row rows)))
+          (ap (at_place Limits) (limits_more t n ns row rows)),
+    )
 
 -- ---- processes
 
@@ -111,11 +113,13 @@ procs_run [] [] t e all few known = ap (at_place Procs) (procs_end t)
 procs_run [] (l ∷ ls) t e all few known = absurd cc
 procs_run (n ∷ ns) [] t e all few known = absurd cc
 procs_run (n ∷ ns) (l ∷ ls) t e all few known =
-    let f : length ns ≡ length ls = cc in
-    (at_place Procs (with_proc t n l), proc_step Procs t n ns l (inr refl) all (omega (arith, few)) known.0,
+    let f : length ns ≡ length ls = cc in (
+      at_place Procs (with_proc t n l),
+      proc_step Procs t n ns l (inr refl) all (omega (arith, few)) known.0,
       run_to (at_place Procs (with_proc t n l)) (at_place Procs (with_procs (with_proc t n l) ns ls)) (at_place Procs (with_procs t (n ∷ ns) (l ∷ ls))) (declarations (proc_words t.names) ns ls)
-        (procs_run ns ls (with_proc t n l) f (moved t.names.procs n ns all) (omega (arith, few, length_push t.names.procs n)) known.1)
-        (ap (at_place Procs) (procs_more t n ns l ls)))
+          (procs_run ns ls (with_proc t n l) f (moved t.names.procs n ns all) (omega (arith, few, length_push t.names.procs n)) known.1)
+          (ap (at_place Procs) (procs_more t n ns l ls)),
+    )
 
 -- all processes, after the limits
 pub all_procs_run : (ns : List Text) (ls : List LimitId) (t : NamedTrace) → 0 < length ls → length ns ≡ length ls → AreNames (t.names.procs ++ ns) → length t.names.procs + length ns ≤ 64
@@ -123,11 +127,13 @@ pub all_procs_run : (ns : List Text) (ls : List LimitId) (t : NamedTrace) → 0 
 all_procs_run ns [] t some e all few known = absurd (omega arith)
 all_procs_run [] (l ∷ ls) t some e all few known = absurd cc
 all_procs_run (n ∷ ns) (l ∷ ls) t some e all few known =
-    let f : length ns ≡ length ls = cc in
-    (at_place Procs (with_proc t n l), proc_step Limits t n ns l (inl refl) all (omega (arith, few)) known.0,
+    let f : length ns ≡ length ls = cc in (
+      at_place Procs (with_proc t n l),
+      proc_step Limits t n ns l (inl refl) all (omega (arith, few)) known.0,
       run_to (at_place Procs (with_proc t n l)) (at_place Procs (with_procs (with_proc t n l) ns ls)) (at_place Procs (with_procs t (n ∷ ns) (l ∷ ls))) (declarations (proc_words t.names) ns ls)
-        (procs_run ns ls (with_proc t n l) f (moved t.names.procs n ns all) (omega (arith, few, length_push t.names.procs n)) known.1)
-        (ap (at_place Procs) (procs_more t n ns l ls)))
+          (procs_run ns ls (with_proc t n l) f (moved t.names.procs n ns all) (omega (arith, few, length_push t.names.procs n)) known.1)
+          (ap (at_place Procs) (procs_more t n ns l ls)),
+    )
 
 -- ---- shared heaps
 
@@ -180,7 +186,10 @@ shared_run (n ∷ ns) p t at all few =
     record {
       place = rest.place;
       early = rest.early;
-      run = (at_place Shared (with_shared t n), shared_step p t n ns at all (omega (arith, few)),
+      run = (
+        at_place Shared (with_shared t n),
+        shared_step p t n ns at all (omega (arith, few)),
         run_to (at_place Shared (with_shared t n)) (at_place rest.place (with_shareds (with_shared t n) ns)) (at_place rest.place (with_shareds t (n ∷ ns))) (map shared_words ns)
-          rest.run (ap (at_place rest.place) (shareds_more t n ns)));
+            rest.run (ap (at_place rest.place) (shareds_more t n ns)),
+      );
     }

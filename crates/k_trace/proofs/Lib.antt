@@ -19,3 +19,6 @@ pub mod Runs
 pub mod LaterRuns
 pub mod OpRuns
 pub mod Whole
+pub mod Grows
+pub mod FirstForms
+pub mod Exact

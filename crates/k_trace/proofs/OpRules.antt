@@ -40,9 +40,9 @@ set_at false ops p q x e lt = get_or-set_other ops p q x [] (λ same. let f : eq
 -- the operations of each process after one more of p
 pub op_added : (ops : List (List Op)) (p : ℕ) (op : Op) → p < length ops → Adds p op (λ q. get_or ops q []) (λ q. get_or (set ops p (get_or ops p [] ++ op ∷ [])) q [])
 op_added ops p op lt q = elim (cases_eq q p) [
-    | inl same ↦ set_at true ops p q (get_or ops p [] ++ op ∷ []) (eq-eqb q p same) lt ∙ rw (eq-eqb q p same, same) refl
-    | inr other ↦ set_at false ops p q (get_or ops p [] ++ op ∷ []) (ne_eqb q p other) lt ∙ rw (ne_eqb q p other) refl
-  ]
+  | inl same ↦ set_at true ops p q (get_or ops p [] ++ op ∷ []) (eq-eqb q p same) lt ∙ rw (eq-eqb q p same, same) refl
+  | inr other ↦ set_at false ops p q (get_or ops p [] ++ op ∷ []) (ne_eqb q p other) lt ∙ rw (ne_eqb q p other) refl
+]
 
 all_added : (t : Bool) (test : Op → Bool) (xs ys : List Op) (op : Op) → ys ≡ cond t (xs ++ op ∷ []) xs → list_all test xs ≡ true → test op ≡ true → list_all test ys ≡ true
 all_added true test xs ys op e all good = rw (e, list_all-append test xs (op ∷ []), all, good) refl
@@ -70,10 +70,10 @@ operation_kept old new p op kept lt ranged fit room none types shared procs e f 
     record {
       each = ap length e ∙ length-set old.operations p (operations_of old p ++ op ∷ []) ∙ kept.each ∙ procs;
       in_range = λ q below. sym (all_same (in_range old) (in_range new) (operations_of new q) (λ o. in_range_same old new o types shared))
-        ∙ all_added (eqb q p) (in_range old) (operations_of old q) (operations_of new q) op (adds q) (kept.in_range q (rw procs below)) ranged;
+          ∙ all_added (eqb q p) (in_range old) (operations_of old q) (operations_of new q) op (adds q) (kept.in_range q (rw procs below)) ranged;
       spelled = λ q below. all_added (eqb q p) is_spelled (operations_of old q) (operations_of new q) op (adds q) (kept.spelled q (rw procs below)) fit;
       ends = λ q below. ends_added (eqb q p) (operations_of old q) (operations_of new q) op (adds q) (kept.ends q (rw procs below))
-        (λ same. subst (λ (r : ℕ). has_exit (operations_of old r) ≡ false) (sym (eqb-true q p same)) none);
+          (λ same. subst (λ (r : ℕ). has_exit (operations_of old r) ≡ false) (sym (eqb-true q p same)) none);
       ordered = subst (λ (n : ℕ). list_all (λ q. ltb q n) new.order ≡ true) procs (rw f (below_all old.order p (process_count old) kept.ordered lt));
       counted = λ q below. rw (f, times_push q p old.order, kept.counted q (rw procs below), length_added (eqb q p) (operations_of old q) (operations_of new q) op (adds q)) (turned p q (length (operations_of old q)));
       room = rw (f, length-append old.order (p ∷ [])) (omega (arith, room));
@@ -81,6 +81,6 @@ operation_kept old new p op kept lt ranged fit room none types shared procs e f 
   where
     turned : (p q n : ℕ) → n + cond (eqb p q) 1 0 ≡ n + cond (eqb q p) 1 0
     turned p q n = elim (cases_eq p q) [
-        | inl same ↦ rw (eq-eqb p q same, eq-eqb q p (sym same)) refl
-        | inr other ↦ rw (ne_eqb p q other, ne_eqb q p (λ e. other (sym e))) refl
-      ]
+      | inl same ↦ rw (eq-eqb p q same, eq-eqb q p (sym same)) refl
+      | inr other ↦ rw (ne_eqb p q other, ne_eqb q p (λ e. other (sym e))) refl
+    ]

@@ -30,6 +30,7 @@ no_exit_before (x ∷ xs) y ys ends =
     some_left : (zs : List Op) → zs ++ y ∷ ys ≡ [] → ⊥
     some_left [] e = absurd cc
     some_left (z ∷ zs) e = absurd cc
+
     by_test : (b : Bool) → is_exit x ≡ b → has_exit xs ≡ false → (b || has_exit xs) ≡ false
     by_test true e later = absurd (some_left xs (ends [] x (xs ++ y ∷ ys) refl e))
     by_test false e later = later
@@ -81,30 +82,31 @@ done_one n whole t f p order op ops first lt left = record {
   where
     each : (q : ℕ) → q < n → get_or (with_op t p op).trace.operations q [] ++ after_first p f q ≡ operations_of whole q
     each q below = elim (cases_eq q p) [
-        | inl same ↦
-            let added : get_or (with_op t p op).trace.operations q [] ≡ get_or t.trace.operations q [] ++ op ∷ []
-                = op_added t.trace.operations p op (omega (arith, left.listed, lt)) q ∙ rw (eq-eqb q p same) refl in
-            let dropped : after_first p f q ≡ ops = rw (eq-eqb q p same, same, first) refl in
-            let left_of : f q ≡ op ∷ ops = rw same first in
-            rw (added, dropped) (append_assoc (get_or t.trace.operations q []) (op ∷ []) ops ∙ ap (λ (xs : List Op). get_or t.trace.operations q [] ++ xs) (sym left_of) ∙ left.each q below)
-        | inr other ↦
-            let added : get_or (with_op t p op).trace.operations q [] ≡ get_or t.trace.operations q []
-                = op_added t.trace.operations p op (omega (arith, left.listed, lt)) q ∙ rw (ne_eqb q p other) refl in
-            let dropped : after_first p f q ≡ f q = rw (ne_eqb q p other) refl in
-            rw (added, dropped) (left.each q below)
-      ]
+      | inl same ↦
+          let added : get_or (with_op t p op).trace.operations q [] ≡ get_or t.trace.operations q [] ++ op ∷ []
+          = op_added t.trace.operations p op (omega (arith, left.listed, lt)) q ∙ rw (eq-eqb q p same) refl in
+          let dropped : after_first p f q ≡ ops = rw (eq-eqb q p same, same, first) refl in
+          let left_of : f q ≡ op ∷ ops = rw same first in
+          rw (added, dropped) (append_assoc (get_or t.trace.operations q []) (op ∷ []) ops ∙ ap (λ (xs : List Op). get_or t.trace.operations q [] ++ xs) (sym left_of) ∙ left.each q below)
+      | inr other ↦
+          let added : get_or (with_op t p op).trace.operations q [] ≡ get_or t.trace.operations q []
+          = op_added t.trace.operations p op (omega (arith, left.listed, lt)) q ∙ rw (ne_eqb q p other) refl in
+          let dropped : after_first p f q ≡ f q = rw (ne_eqb q p other) refl in
+          rw (added, dropped) (left.each q below)
+    ]
+
     counted : (q : ℕ) → q < n → times q order ≡ length (after_first p f q)
     counted q below = elim (cases_eq q p) [
-        | inl same ↦
-            let dropped : after_first p f q ≡ ops = rw (eq-eqb q p same, same, first) refl in
-            let here : times q order + 1 ≡ length (f q) = sym (times_first q order) ∙ subst (λ (r : ℕ). times q (r ∷ order) ≡ length (f q)) (sym same) (left.counted q below) in
-            let left_of : f q ≡ op ∷ ops = rw same first in
-            let there : length (f q) ≡ suc (length ops) = ap length left_of in
-            rw dropped (omega (arith, here, there))
-        | inr other ↦
-            let dropped : after_first p f q ≡ f q = rw (ne_eqb q p other) refl in
-            rw dropped (sym (times_other q p order (λ e. other (sym e))) ∙ left.counted q below)
-      ]
+      | inl same ↦
+          let dropped : after_first p f q ≡ ops = rw (eq-eqb q p same, same, first) refl in
+          let here : times q order + 1 ≡ length (f q) = sym (times_first q order) ∙ subst (λ (r : ℕ). times q (r ∷ order) ≡ length (f q)) (sym same) (left.counted q below) in
+          let left_of : f q ≡ op ∷ ops = rw same first in
+          let there : length (f q) ≡ suc (length ops) = ap length left_of in
+          rw dropped (omega (arith, here, there))
+      | inr other ↦
+          let dropped : after_first p f q ≡ f q = rw (ne_eqb q p other) refl in
+          rw dropped (sym (times_other q p order (λ e. other (sym e))) ∙ left.counted q below)
+    ]
 
 op_step : (place : Place) (n : ℕ) (whole : Trace) (t : NamedTrace) (f : ℕ → List Op) (p : ℕ) (order : List ℕ) (op : Op) (ops : List Op) → has_process place ≡ true → f p ≡ op ∷ ops → p < n
     → length t.names.procs ≡ n → IsLeft n whole t.trace f (p ∷ order) → AreRuled n whole → Step (at_place place t) (line_words t.names p op) (at_place Operations (with_op t p op))
@@ -158,7 +160,7 @@ ops_run (p ∷ order) place n whole t f late named left ruled =
     record {
       end = rest.end;
       run = subst (λ (l : List (List Text)). Run (at_place place t) (l ++ operation_lines t.names (after_first p f) order) rest.end) (sym (ap (first_line t.names p) first.2))
-        (at_place Operations (with_op t p first.0), step, rest.run);
+          (at_place Operations (with_op t p first.0), step, rest.run);
       late = rest.late;
       names = rest.names;
       same = rest.same;

@@ -27,17 +27,17 @@ not_declared names n i lt fresh e =
 
 each_push : (names : List Text) (n : Text) → AreNames names → is_name n ≡ true → (i : ℕ) → i < length (names ++ n ∷ []) → is_name (word_at (names ++ n ∷ []) i) ≡ true
 each_push names n all good i lt = elim (cases_lt i (length names)) [
-    | inl below ↦ rw (word_before names n i below) (all.each i below)
-    | inr above ↦ rw (word_last names n i (omega (arith, length_push names n))) good
-  ]
+  | inl below ↦ rw (word_before names n i below) (all.each i below)
+  | inr above ↦ rw (word_last names n i (omega (arith, length_push names n))) good
+]
 
 apart_push : (names : List Text) (n : Text) → AreNames names → declares names n ≡ false → (i k : ℕ) → k < i → i < length (names ++ n ∷ [])
     → word_at (names ++ n ∷ []) i ≡ word_at (names ++ n ∷ []) k → ⊥
 apart_push names n all fresh i k below lt e = elim (cases_lt i (length names)) [
-    | inl within ↦ all.apart i k below within (sym (word_before names n i within) ∙ e ∙ word_before names n k (omega arith))
-    | inr past ↦ not_declared names n k (omega (arith, length_push names n)) fresh
-        (sym (word_before names n k (omega (arith, length_push names n))) ∙ sym e ∙ word_last names n i (omega (arith, length_push names n)))
-  ]
+  | inl within ↦ all.apart i k below within (sym (word_before names n i within) ∙ e ∙ word_before names n k (omega arith))
+  | inr past ↦ not_declared names n k (omega (arith, length_push names n)) fresh
+      (sym (word_before names n k (omega (arith, length_push names n))) ∙ sym e ∙ word_last names n i (omega (arith, length_push names n)))
+]
 
 -- a new name behind the others
 pub AreNames_push : (names : List Text) (n : Text) → AreNames names → is_name n ≡ true → declares names n ≡ false → AreNames (names ++ n ∷ [])

@@ -64,9 +64,9 @@ module _ (rows : List LimitRow) (parent : ℕ) (hard : Bool) (max : ℕ) (tree :
 
   at_parent : (q : ℕ) → 0 + reservation (limit_row parent hard max) q ≡ 0 + cond hard max 0 * bit (eqb q parent)
   at_parent q = elim (cases_eq parent q) [
-      | inl e ↦ let here = eq-eqb parent q e in let there = eq-eqb q parent (sym e) in rw (here, there) (omega arith)
-      | inr ne ↦ let here = ne_eqb parent q ne in let there = ne_eqb q parent (λ e. ne (sym e)) in rw (here, there) (omega arith)
-    ]
+    | inl e ↦ let here = eq-eqb parent q e in let there = eq-eqb q parent (sym e) in rw (here, there) (omega arith)
+    | inr ne ↦ let here = ne_eqb parent q ne in let there = ne_eqb q parent (λ e. ne (sym e)) in rw (here, there) (omega arith)
+  ]
 
   use_grown : (m : ℕ) → m < length rows
       → use_within (rows ++ limit_row parent hard max ∷ []) (λ q. 0) (length (rows ++ limit_row parent hard max ∷ [])) m ≡ use_within rows (λ q. 0) (length rows) m + cond hard max 0 * times_on (path_of rows parent) m
@@ -86,9 +86,9 @@ module _ (rows : List LimitRow) (parent : ℕ) (hard : Bool) (max : ℕ) (tree :
 
   on_path_in : (m : ℕ) → 0 < times_on (path_of rows parent) m → m < length rows
   on_path_in m there = elim (cases_lt parent m) [
-      | inl after ↦ let none = path_low rows old_tree (length rows) parent m known after in absurd (omega (arith, none, there))
-      | inr before ↦ omega (arith, before, known)
-    ]
+    | inl after ↦ let none = path_low rows old_tree (length rows) parent m known after in absurd (omega (arith, none, there))
+    | inr before ↦ omega (arith, before, known)
+  ]
 
   fit_once : (m : ℕ) (b : Bool) → hard ≡ b → times_on (path_of rows parent) m ≡ 1 → m < length rows → AllFit rows → (hard ≡ true → find (over rows max) (path_of rows parent) ≡ None)
       → use_within rows (λ q. 0) (length rows) m + cond hard max 0 * 1 ≤ max_of rows m
@@ -113,10 +113,10 @@ module _ (rows : List LimitRow) (parent : ℕ) (hard : Bool) (max : ℕ) (tree :
   -- a limit more fits where its reservation does
   pub fit_limit : AllFit rows → (not hard || fits rows parent max) ≡ true → AllFit (rows ++ limit_row parent hard max ∷ [])
   fit_limit old room m lt = elim (cases_lt m (length rows)) [
-      | inl below ↦ let h = fit_at m (times_on (path_of rows parent) m) refl below old (none_over room) in
-          omega (arith, h, use_grown m below, max_before m below)
-      | inr above ↦ let e : m ≡ length rows = omega (arith, length-append rows (limit_row parent hard max ∷ [])) in rw (e, use_new) (omega arith)
-    ]
+    | inl below ↦ let h = fit_at m (times_on (path_of rows parent) m) refl below old (none_over room) in
+        omega (arith, h, use_grown m below, max_before m below)
+    | inr above ↦ let e : m ≡ length rows = omega (arith, length-append rows (limit_row parent hard max ∷ [])) in rw (e, use_new) (omega arith)
+  ]
 
   -- where all fit with one more, they fit without it
   pub fit_before : AllFit (rows ++ limit_row parent hard max ∷ []) → AllFit rows

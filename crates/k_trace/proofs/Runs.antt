@@ -47,7 +47,7 @@ fresh_at xs n ns all = by_test (declares xs n) refl
         let i = number_of xs n in
         let lt : number_of xs n < length xs = number_below xs n e in
         absurd (all.apart (length xs) (number_of xs n) lt (omega (arith, length-append xs (n ∷ ns)))
-          (get_or-append_seam xs n ns [] ∙ sym (name_at xs n e) ∙ sym (get_or_append_left xs (n ∷ ns) [] (number_of xs n) lt)))
+        (get_or-append_seam xs n ns [] ∙ sym (name_at xs n e) ∙ sym (get_or_append_left xs (n ∷ ns) [] (number_of xs n) lt)))
 
 pub moved : (xs : List Text) (n : Text) (ns : List Text) → AreNames (xs ++ n ∷ ns) → AreNames ((xs ++ n ∷ []) ++ ns)
 moved xs n ns all = subst AreNames (sym (append_assoc xs (n ∷ []) ns)) all
@@ -84,11 +84,13 @@ types_run (n ∷ ns) (r ∷ rs) t e all few small =
       few = omega (arith, few);
       words = refl;
       after = refl;
-    }) in
-    (at_place Types (with_type t n r), step,
+    }) in (
+      at_place Types (with_type t n r),
+      step,
       run_to (at_place Types (with_type t n r)) (at_place Types (with_types (with_type t n r) ns rs)) (at_place Types (with_types t (n ∷ ns) (r ∷ rs))) (declarations type_words ns rs)
-        (types_run ns rs (with_type t n r) f (moved t.names.types n ns all) (omega (arith, few, length_push t.names.types n)) small.1)
-        (ap (at_place Types) (types_more t n ns r rs)))
+          (types_run ns rs (with_type t n r) f (moved t.names.types n ns all) (omega (arith, few, length_push t.names.types n)) small.1)
+          (ap (at_place Types) (types_more t n ns r rs)),
+    )
 
 -- ---- limits
 
@@ -140,7 +142,7 @@ fit_front (y ∷ ys) xs tree rooted all =
     let tree' : IsTree ((xs ++ y ∷ []) ++ ys) = subst IsTree (sym e) tree in
     let front = fit_front ys (xs ++ y ∷ []) tree' (subst (λ (rows : List LimitRow). (m : ℕ) → m < length rows → (row_of rows m).parent ≡ None → m ≡ 0) (sym e) rooted) (subst AllFit (sym e) all) in
     fit_less xs y (front_tree (xs ++ y ∷ []) ys tree')
-      (λ none. nothing_before xs (rooted (length xs) (omega (arith, length-append xs (y ∷ ys))) (ap (λ (r : LimitRow). r.parent) (seam xs y ys) ∙ none))) front
+    (λ none. nothing_before xs (rooted (length xs) (omega (arith, length-append xs (y ∷ ys))) (ap (λ (r : LimitRow). r.parent) (seam xs y ys) ∙ none))) front
 
 -- a limit's words go by the name of its parent
 words_by_parent : (a b : DeclaredNames) (m : Text) (parent : ℕ) (hard : Bool) (max : ℕ) → word_at a.limits parent ≡ word_at b.limits parent
@@ -168,6 +170,6 @@ limit_step t full n ns row p e names all same known few small room =
       few = few;
       room = room;
       words = ap (limit_words full n) f ∙ words_by_parent full t.names n p.0 row.hard row.max
-        (ap (λ (ws : List Text). word_at ws p.0) names ∙ get_or_append_left t.names.limits (n ∷ ns) [] p.0 declared);
+          (ap (λ (ws : List Text). word_at ws p.0) names ∙ get_or_append_left t.names.limits (n ∷ ns) [] p.0 declared);
       after = ap (λ (r : LimitRow). at_place Limits (with_limit t n r)) f;
     })

@@ -45,7 +45,7 @@ pub AreNames_back : (xs ys : List Text) → AreNames (xs ++ ys) → AreNames ys
 AreNames_back xs ys all = record {
   each = λ i lt. rw (← get_or-append-add xs ys i []) (all.each (length xs + i) (omega (arith, length-append xs ys)));
   apart = λ i k below lt e. all.apart (length xs + i) (length xs + k) (omega arith) (omega (arith, length-append xs ys))
-    (get_or-append-add xs ys i [] ∙ e ∙ sym (get_or-append-add xs ys k []));
+      (get_or-append-add xs ys i [] ∙ e ∙ sym (get_or-append-add xs ys k []));
 }
 
 blank_tidy : (t : NamedTrace) → t ≡ blank → IsTidy t
@@ -170,13 +170,13 @@ step_proper c d ws h (OfRoot s) =
 step_proper c d ws h (OfLimit s) =
     let a = decimal_word s.max (omega (arith, s.small)) in
     proper_of ws (codes "limit" ∷ s.name ∷ word_at c.said.names.limits s.parent ∷ hardness s.hard ∷ decimal s.max ∷ [])
-        (s.words ∙ limit_words_are c.said s.name s.parent s.hard s.max) (omega arith) (omega arith)
-        (rw (name_word s.name s.named, at_name c.said.names.limits s.parent h.limits s.declared, hard_word s.hard, a) refl)
+    (s.words ∙ limit_words_are c.said s.name s.parent s.hard s.max) (omega arith) (omega arith)
+    (rw (name_word s.name s.named, at_name c.said.names.limits s.parent h.limits s.declared, hard_word s.hard, a) refl)
 step_proper c d ws h (OfProc s) =
     proper_of ws (codes "proc" ∷ s.name ∷ word_at c.said.names.limits s.limit ∷ []) s.words (omega arith) (omega arith)
-        (rw (name_word s.name s.named, at_name c.said.names.limits s.limit h.limits s.declared) refl)
+    (rw (name_word s.name s.named, at_name c.said.names.limits s.limit h.limits s.declared) refl)
 step_proper c d ws h (OfShared s) = proper_of ws (codes "shared" ∷ s.name ∷ []) s.words (omega arith) (omega arith) (rw (name_word s.name s.named) refl)
 step_proper c d ws h (OfOperation s) =
     let few = op_proper c.said s.op h s.ranged s.spelled in
     proper_of ws (word_at c.said.names.procs s.process ∷ op_words c.said.names s.op) s.words (omega arith) (omega (arith, few.1))
-        (rw (at_name c.said.names.procs s.process h.procs s.declared, few.0) refl)
+    (rw (at_name c.said.names.procs s.process h.procs s.declared, few.0) refl)

@@ -63,11 +63,13 @@ limits_all (n ∷ ns) (row ∷ rows) t full no_names no_rows names some e all fe
       few = rw no_names (omega arith);
       words = ap (limit_words full n) r;
       after = ap (λ (x : LimitRow). at_place Limits (with_limit t n x)) r;
-    }) in
-    (at_place Limits (with_limit t n row), step,
+    }) in (
+      at_place Limits (with_limit t n row),
+      step,
       run_to (at_place Limits (with_limit t n row)) (at_place Limits (with_limits (with_limit t n row) ns rows)) (at_place Limits (with_limits t (n ∷ ns) (row ∷ rows))) (declarations (limit_words full) ns rows)
-        (limits_run ns rows (with_limit t n row) full f (rw no_names names) (rw no_names all) (rw (no_names, no_rows) refl) (rw no_rows (omega arith)) (rw no_names (omega (arith, few))) (rw no_rows later))
-        (ap (at_place Limits) (limits_more t n ns row rows)))
+          (limits_run ns rows (with_limit t n row) full f (rw no_names names) (rw no_names all) (rw (no_names, no_rows) refl) (rw no_rows (omega arith)) (rw no_names (omega (arith, few))) (rw no_rows later))
+          (ap (at_place Limits) (limits_more t n ns row rows)),
+    )
 
 -- what was said after each part of the header
 abbrev after_kernel : NamedTrace → NamedTrace
@@ -86,8 +88,12 @@ abbrev after_shared : NamedTrace → NamedTrace
 after_shared t = with_shareds (after_procs t) t.names.shared
 
 kernel_part : (t : NamedTrace) → IsTrace t → Run start (version_words ∷ kernel_words t.trace.ceiling t.trace.dir_fields ∷ []) (at_place Types (after_kernel t))
-kernel_part t good = (at_place Kernel blank, OfVersion (record { at = refl; words = refl; after = refl }),
-    (at_place Types (after_kernel t), OfKernel (record {
+kernel_part t good = (
+  at_place Kernel blank,
+  OfVersion (record { at = refl; words = refl; after = refl }),
+  (
+    at_place Types (after_kernel t),
+    OfKernel (record {
       ceiling = t.trace.ceiling;
       dir_fields = t.trace.dir_fields;
       at = refl;
@@ -96,7 +102,10 @@ kernel_part t good = (at_place Kernel blank, OfVersion (record { at = refl; word
       room = good.rules.directory_fits;
       words = refl;
       after = refl;
-    }), refl))
+    }),
+    refl,
+  ),
+)
 
 types_part : (t : NamedTrace) → IsTrace t → Run (at_place Types (after_kernel t)) (declarations type_words t.names.types t.trace.types) (at_place Types (after_types t))
 types_part t good = types_run t.names.types t.trace.types (after_kernel t) good.types_named good.type_names (omega (arith, good.types_named, good.rules.types)) (small_fields t.trace.types good.rules.fields)
@@ -105,12 +114,12 @@ limits_part : (t : NamedTrace) → IsTrace t → Run (at_place Types (after_type
 limits_part t good =
     let rows = good.rules.limits in
     limits_all t.names.limits t.trace.limits (after_types t) t.names refl refl refl good.has_root good.limits_named good.limit_names (omega (arith, good.limits_named, good.rules.limit_count))
-        (record { tree = rows.tree; rooted = rows.rooted; fits = rows.fits; small = rows.small }) rows.root
+    (record { tree = rows.tree; rooted = rows.rooted; fits = rows.fits; small = rows.small }) rows.root
 
 procs_part : (t : NamedTrace) → IsTrace t → Run (at_place Limits (after_limits t)) (declarations (proc_words t.names) t.names.procs t.trace.procs) (at_place Procs (after_procs t))
 procs_part t good =
     all_procs_run t.names.procs t.trace.procs (after_limits t) good.rules.some_process good.procs_named (AreNames_front t.names.procs t.names.shared good.heap_names)
-        (omega (arith, good.procs_named, good.rules.processes)) (subst (λ (n : ℕ). AllBelow n t.trace.procs) (sym good.limits_named) (below_each t.trace.procs (length t.trace.limits) good.rules.limits.limited))
+    (omega (arith, good.procs_named, good.rules.processes)) (subst (λ (n : ℕ). AllBelow n t.trace.procs) (sym good.limits_named) (below_each t.trace.procs (length t.trace.limits) good.rules.limits.limited))
 
 abbrev first_two : NamedTrace → List (List Text)
 first_two t = version_words ∷ kernel_words t.trace.ceiling t.trace.dir_fields ∷ []
@@ -172,12 +181,12 @@ end_said : (t : NamedTrace) → IsTrace t → (c : SoFar) (wss : List (List Text
 unfolding with_parts
 end_said t good c wss e r =
     let whole : r.end.said.trace ≡ record (after_shared t).trace { operations = r.end.said.trace.operations; order = r.end.said.trace.order }
-        = r.same ∙ ap (λ (x : NamedTrace). let y : Trace = record x.trace { operations = r.end.said.trace.operations; order = r.end.said.trace.order } in y) e in
+    = r.same ∙ ap (λ (x : NamedTrace). let y : Trace = record x.trace { operations = r.end.said.trace.operations; order = r.end.said.trace.order } in y) e in
     let ops : r.end.said.trace.operations ≡ t.trace.operations = ext_get_or [] r.end.said.trace.operations t.trace.operations (r.listed ∙ sym good.rules.operations.each)
-        (λ q lt. r.each q (omega (arith, lt, r.listed))) in
+    (λ q lt. r.each q (omega (arith, lt, r.listed))) in
     let order : r.end.said.trace.order ≡ t.trace.order = r.order ∙ ap (λ (x : NamedTrace). x.trace.order ++ t.trace.order) e in
     said_is r.end.said t (r.names ∙ ap (λ (x : NamedTrace). x.names) e)
-        (whole ∙ trace_is t 1 (0 + length t.names.shared) r.end.said.trace.operations r.end.said.trace.order (sym good.rules.version) (omega (arith, good.shared_named)) ops order)
+    (whole ∙ trace_is t 1 (0 + length t.names.shared) r.end.said.trace.operations r.end.said.trace.order (sym good.rules.version) (omega (arith, good.shared_named)) ops order)
 
 -- a trace is a run
 whole : (t : NamedTrace) → IsTrace t → IsWhole t
@@ -188,7 +197,7 @@ whole t good =
     record {
       end = ops.end;
       run = run_then start (at_place heaps.place (after_shared t)) ops.end (header_words t) (operation_lines t.names (operations_of t.trace) t.trace.order)
-        (run_then start (at_place Procs (after_procs t)) (at_place heaps.place (after_shared t)) (first_two t ++ type_lines t ++ limit_lines t ++ proc_lines t) (map shared_words t.names.shared) (header_run t good) heaps.run) ops.run;
+          (run_then start (at_place Procs (after_procs t)) (at_place heaps.place (after_shared t)) (first_two t ++ type_lines t ++ limit_lines t ++ proc_lines t) (map shared_words t.names.shared) (header_run t good) heaps.run) ops.run;
       late = ops.late;
       said = end_said t good (at_place heaps.place (after_shared t)) (operation_lines t.names (operations_of t.trace) t.trace.order) refl ops;
     }
@@ -205,4 +214,4 @@ complete bytes t h =
     let lines = lines_of_bytes bytes (words t) (omega arith) proper h.is_text in
     let judged = run_again 1 start w.end (words t) [] (refl, refl) w.run in
     rw (le-leb (length bytes) 16777216 h.few)
-      (ap (at_end (length (lines_of bytes) + 1)) (ap (judged_lines 1 start) lines ∙ judged) ∙ ending (length (lines_of bytes) + 1) w.end w.late ∙ ap (λ (x : NamedTrace). let r : Result NamedTrace BadLine = Ok x in r) w.said)
+    (ap (at_end (length (lines_of bytes) + 1)) (ap (judged_lines 1 start) lines ∙ judged) ∙ ending (length (lines_of bytes) + 1) w.end w.late ∙ ap (λ (x : NamedTrace). let r : Result NamedTrace BadLine = Ok x in r) w.said)

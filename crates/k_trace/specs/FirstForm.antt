@@ -7,6 +7,11 @@ use Rattle.k_types.specs.declared.op.Op.{Op}
 use Rattle.k_types.specs.declared.op.Op.TheVariants.{New, Store, Load}
 use Rattle.k_types.specs.Types.{type_row}
 use Rattle.k_types.specs.Trace.{Trace, operations_of}
+use Rattle.k_words.specs.Words.{Text}
+use Rattle.k_trace.specs.declared.errors.TraceError.{TraceError}
+use Rattle.k_trace.specs.declared.errors.TraceError.TheVariants.{NoMemory, Bad}
+use Rattle.k_trace.specs.Named.{NamedTrace}
+use Rattle.k_trace.specs.Rules.{Spells}
 
 abbrev pub is_ref : Option Field → Bool
 is_ref None = false
@@ -31,3 +36,8 @@ pub record IsFirstForm (trace : Trace) : Type 0 where
   pub no_shared : trace.shared_heaps ≡ 0
   pub one_type : length trace.types ≤ 1
   pub operations : IsTrue (list_all (is_first_op trace.types) (operations_of trace 0))
+
+-- no trace of this form is spelled, and the answer says so by line 0 and reason 13; or memory ran out
+abbrev pub IsRefused : Text → TraceError → Type 0
+IsRefused bytes NoMemory = Unit {0}
+IsRefused bytes (Bad line reason) = (line ≡ 0) × (reason ≡ 13) × ((t : NamedTrace) → Spells bytes t → ¬ IsFirstForm t.trace)

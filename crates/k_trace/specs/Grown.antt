@@ -59,7 +59,7 @@ with_shared t name = record {
 -- an operation more of the process
 abbrev pub with_op : NamedTrace → ℕ → Op → NamedTrace
 with_op t p op = record t {
-  trace = record t.trace { operations = slice_set t.trace.operations p (operations_of t.trace p ++ op ∷ []); order = t.trace.order ++ p ∷ [] }
+  trace = record t.trace { operations = slice_set t.trace.operations p (operations_of t.trace p ++ op ∷ []); order = t.trace.order ++ p ∷ [] };
 }
 
 -- an exit is among the operations

@@ -1,5 +1,5 @@
 -- Each line is judged after the lines before it: what is demanded of it, in the order of the reasons, and what it adds.
-use Rattle.std.specs.Prelude.{ℕ, ◌+◌, ◌*◌, ◌^◌, ◌==◌, ◌&&◌, ◌||◌, not, nat_lt, nat_le, Bool, true, false, List, [], ◌∷◌, map, length, drop, Some, None, Result, Ok, Err, if◌then◌else◌, codes}
+use Rattle.std.specs.Prelude.{◌≡◌, ℕ, ◌+◌, ◌*◌, ◌^◌, ◌==◌, ◌&&◌, ◌||◌, not, nat_lt, nat_le, Bool, true, false, List, [], ◌∷◌, map, length, drop, Some, None, Result, Ok, Err, if◌then◌else◌, codes}
 use Rattle.std.specs.List.{list_all}
 use Rattle.std.specs.Str.{bytes_eq}
 use Rattle.k_types.specs.declared.names.Field.{Field}
@@ -188,3 +188,7 @@ judgement bytes =
     if nat_le (length bytes) 16777216
     then at_end (length (lines_of bytes) + 1) (judged_lines 1 start (lines_of bytes))
     else Err (record { line = 0; reason = 1 })
+
+-- the line of that number is the first bad one, and that is the lowest reason that applies to it
+abbrev pub IsBad : Text → ℕ → ℕ → Type 0
+IsBad bytes line reason = judgement bytes ≡ Err (record { line = line; reason = reason })

@@ -54,7 +54,11 @@ fn snew_form(names: &Names, line: &[u8]) -> Result<Op, u32>
     let Some(ty) = names.type_named(word(line, 3)) else {
         return Err(8);
     };
-    Ok(Op::SNew { reg: Reg(reg), shared, ty })
+    Ok(Op::SNew {
+        reg: Reg(reg),
+        shared,
+        ty,
+    })
 }
 
 #[tactic(auto, unfolding(crate::specs::Forms::store_form, crate::specs::Demands::demands))]
@@ -74,7 +78,11 @@ fn store_form(line: &[u8]) -> Result<Op, u32>
         return Err(5);
     };
     let field = field as u32;
-    Ok(Op::Store { base: Reg(base), field, value: Reg(value) })
+    Ok(Op::Store {
+        base: Reg(base),
+        field,
+        value: Reg(value),
+    })
 }
 
 #[tactic(auto, unfolding(crate::specs::Forms::load_form, crate::specs::Demands::demands))]
@@ -94,7 +102,11 @@ fn load_form(line: &[u8]) -> Result<Op, u32>
         return Err(5);
     };
     let field = field as u32;
-    Ok(Op::Load { reg: Reg(reg), base: Reg(base), field })
+    Ok(Op::Load {
+        reg: Reg(reg),
+        base: Reg(base),
+        field,
+    })
 }
 
 #[tactic(auto, unfolding(crate::specs::Forms::move_form, crate::specs::Demands::demands))]
@@ -110,7 +122,10 @@ fn move_form(line: &[u8]) -> Result<Op, u32>
     let Some(from) = register(word(line, 2)) else {
         return Err(5);
     };
-    Ok(Op::Move { reg: Reg(reg), from: Reg(from) })
+    Ok(Op::Move {
+        reg: Reg(reg),
+        from: Reg(from),
+    })
 }
 
 #[tactic(auto, unfolding(crate::specs::Forms::drop_form, crate::specs::Demands::demands))]
@@ -156,7 +171,11 @@ fn put_form(line: &[u8]) -> Result<Op, u32>
         return Err(5);
     };
     let field = field as u32;
-    Ok(Op::Put { base: Reg(base), field, number: value })
+    Ok(Op::Put {
+        base: Reg(base),
+        field,
+        number: value,
+    })
 }
 
 #[tactic(auto, unfolding(crate::specs::Forms::get_form, crate::specs::Demands::demands))]
@@ -173,7 +192,10 @@ fn get_form(line: &[u8]) -> Result<Op, u32>
         return Err(5);
     };
     let field = field as u32;
-    Ok(Op::Get { base: Reg(base), field })
+    Ok(Op::Get {
+        base: Reg(base),
+        field,
+    })
 }
 
 #[tactic(auto, unfolding(crate::specs::Forms::share_form, crate::specs::Demands::demands))]
@@ -202,7 +224,10 @@ fn freeze_form(names: &Names, line: &[u8]) -> Result<Op, u32>
     let Some(shared) = names.shared_named(word(line, 1)) else {
         return Err(8);
     };
-    Ok(Op::Freeze { shared, root: Reg(root) })
+    Ok(Op::Freeze {
+        shared,
+        root: Reg(root),
+    })
 }
 
 #[tactic(auto, unfolding(crate::specs::Forms::attach_form, crate::specs::Demands::demands))]
@@ -218,7 +243,10 @@ fn attach_form(names: &Names, line: &[u8]) -> Result<Op, u32>
     let Some(shared) = names.shared_named(word(line, 2)) else {
         return Err(8);
     };
-    Ok(Op::Attach { reg: Reg(reg), shared })
+    Ok(Op::Attach {
+        reg: Reg(reg),
+        shared,
+    })
 }
 
 #[tactic(auto, unfolding(crate::specs::Demands::demands))]

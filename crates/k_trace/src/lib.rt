@@ -7,6 +7,7 @@
 #![tactic(auto)]
 
 mod errors;
+mod first_form;
 mod forms;
 mod laws;
 mod names;
@@ -17,8 +18,8 @@ mod reading;
 mod trace;
 
 pub use errors::TraceError;
+pub use first_form::read_trace;
 pub use forms::read_op;
-pub use laws::law;
+pub use laws::judged_as_spelled;
 pub use names::Names;
-
 pub use trace::Trace;

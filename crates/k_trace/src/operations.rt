@@ -84,7 +84,11 @@ impl Operations {
         ensures operations { map (λ ops. ops.items) result.0.items ≡ self.operations }
         ensures order { map (λ pid. pid.0) result.1.items ≡ self.order }
     {
-        let Operations { ops, order, ended: _ } = self;
+        let Operations {
+            ops,
+            order,
+            ended: _,
+        } = self;
         (ops, order)
     }
 }

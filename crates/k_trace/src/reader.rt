@@ -12,7 +12,9 @@ use crate::place::Place;
 use crate::trace::Trace;
 use k_io::NoMemory;
 use k_types::{Field, LimitId, LimitRow, Op, Setup, TypeTable};
-use k_words::{after_word, are_words, is, is_keyword, is_name, is_printable, number, word, word_count};
+use k_words::{
+    after_word, are_words, is, is_keyword, is_name, is_printable, number, word, word_count,
+};
 use std::alloc::Global;
 use std::marker::Model;
 
@@ -37,21 +39,21 @@ impl Model for Reader {
     ghost Value = { SoFar };
 
     ghost view = { λ r. record {
-        place = r.place;
-        said = record {
-            names = r.names;
-            trace = record {
-                version = 1;
-                ceiling = r.ceiling;
-                dir_fields = r.dir_fields;
-                types = map (λ row. row.items) r.types.items;
-                limits = r.limits.items;
-                procs = r.procs.items;
-                shared_heaps = length r.names.shared;
-                operations = r.operations.operations;
-                order = r.operations.order;
-            };
+      place = r.place;
+      said = record {
+        names = r.names;
+        trace = record {
+          version = 1;
+          ceiling = r.ceiling;
+          dir_fields = r.dir_fields;
+          types = map (λ row. row.items) r.types.items;
+          limits = r.limits.items;
+          procs = r.procs.items;
+          shared_heaps = length r.names.shared;
+          operations = r.operations.operations;
+          order = r.operations.order;
         };
+      };
     } };
 
     ghost invariant = { λ r. IsReader r.place (map (λ row. row.items) r.types.items) (length r.limits.items) (length r.names.procs) (length r.operations.operations) };

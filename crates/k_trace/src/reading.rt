@@ -44,7 +44,10 @@ pub fn read_whole(alloc: Global, bytes: &[u8]) -> Result<Trace, ReadError>
         return Err(ReadError::Bad { line: 0, reason: 1 });
     }
     let mut reader = Reader::new(alloc);
-    let number = read_lines(alloc, &mut reader, bytes)?;
+    let number = match read_lines(alloc, &mut reader, bytes) {
+        Ok(number) => number,
+        Err(error) => return Err(error),
+    };
     if !reader.has_process() {
         return Err(ReadError::Bad {
             line: number,
