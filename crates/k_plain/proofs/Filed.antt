@@ -6,8 +6,10 @@ use Rattle.std.proofs.lemmas.Bool.{and_parts, cases_eq, false≢true}
 use Rattle.std.proofs.lemmas.Bool.Decides.{nat_tests}
 use Rattle.std.proofs.lemmas.List.{append-nil, get_or-replicate, get_or-set_other, get_or-set_same, length-replicate, length-set, take_all}
 use Rattle.std.proofs.lemmas.List.Recursion.{is_count_by}
+use Rattle.k_types.specs.declared.names.Pid.{Pid}
 use Rattle.k_types.specs.declared.op.Op.{Op}
 use Rattle.k_types.specs.declared.event.Event.{Event}
+use Rattle.k_types.specs.declared.event.Event.TheVariants.{Done}
 use Rattle.k_types.specs.Trace.{Trace, operations_of, process_count}
 use Rattle.k_types.specs.TraceRules.{AreOperations, KeepsRules}
 use Rattle.k_types.specs.State.{State, opening}
@@ -53,6 +55,18 @@ take_none : {A : Type 0} (n : ℕ) → ◌≡◌ {A = List A} (take n []) []
 take_none zero = refl
 take_none (suc n) = refl
 
+-- in a quiet state each operation that is built and in range is possible
+pub quiet_possible : (trace : Trace) (st : State) (pid : Pid) (op : Op) → pid.0 < process_count trace → IsTrue (in_range trace op) → IsTrue (is_built op) → IsQuiet st →
+    IsPossible trace st (Done pid op (reply_to trace st pid.0 op))
+quiet_possible trace st pid op known ranged is quiet = record {
+  known = known;
+  lives = ap (among pid.0) quiet.ended;
+  in_range = ranged;
+  idle = quiet_cells st (cells_touched trace st (Done pid op (reply_to trace st pid.0 op))) quiet;
+  orphans = ap (λ b. not b || no_orphan trace st) (waits_not op is);
+  replied = refl;
+}
+
 module _ (trace : Trace) (rules : AreOperations trace) (built : AreBuilt trace) (positive : 0 < process_count trace) where
   -- the operations of a process that the order has still to do
   abbrev ahead : State → List ℕ → ℕ → List Op
@@ -86,14 +100,7 @@ module _ (trace : Trace) (rules : AreOperations trace) (built : AreBuilt trace) 
   possible : (st : State) (q : ℕ) (op : Op) → q < process_count trace → next_operation trace st q ≡ Some op → IsQuiet st → IsPossible trace st (event_of trace st q op)
   possible st q op known e quiet =
       let is : IsTrue (is_built op) = all_at is_built (operations_of trace q) (get_or st.done q 0) op (built q known) e in
-      record {
-        known = known;
-        lives = ap (among q) quiet.ended;
-        in_range = all_at (in_range trace) (operations_of trace q) (get_or st.done q 0) op (rules.in_range q known) e;
-        idle = quiet_cells st (cells_touched trace st (event_of trace st q op)) quiet;
-        orphans = ap (λ b. not b || no_orphan trace st) (waits_not op is);
-        replied = refl;
-      }
+      quiet_possible trace st (record { 0 = q }) op known (all_at (in_range trace) (operations_of trace q) (get_or st.done q 0) op (rules.in_range q known) e) is quiet
 
   some_ahead : (st : State) (q p : ℕ) (op : Op) (order : List ℕ) (events : List Event) → q < process_count trace → length st.done ≡ process_count trace →
       next_operation trace st q ≡ Some op → done_by p events ≡ ahead (step trace st (event_of trace st q op)) order p →

@@ -9,10 +9,10 @@ ghost use Rattle.k_types.specs.declared.event.Fault.TheVariants.{Foreign};
 ghost use Rattle.k_types.specs.declared.op.Op.TheVariants.{Load};
 
 use crate::objects::FieldValue;
-use crate::state::PlainState;
+use crate::lists::PlainLists;
 use k_types::{Fault, Heap, Name, Pid, Reg, Reply};
 
-impl PlainState {
+impl PlainLists {
     // The fault of an access to an object of that heap: it is another process's, or a shared one that the process does not
     // share.
     #[tactic(auto, unfolding(k_types::specs::Replies::fault_where, k_types::specs::Replies::first_fault))]

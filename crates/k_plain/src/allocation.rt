@@ -8,7 +8,7 @@ ghost use Rattle.k_types.specs.Updates.{create, next_name};
 ghost use Rattle.k_types.specs.declared.op.Op.TheVariants.{New};
 
 use crate::objects::{FieldValue, PlainObject, place_of};
-use crate::state::PlainState;
+use crate::lists::PlainLists;
 use k_io::NoMemory;
 use k_types::{Field, Name, Pid, Reg, Reply, Seg, Serial, TypeId, TypeTable};
 use std::alloc::Global;
@@ -46,7 +46,7 @@ fn fresh_fields(alloc: Global, types: &TypeTable, ty: TypeId) -> Result<Vec<Fiel
     Ok(fields)
 }
 
-impl PlainState {
+impl PlainLists {
     // Makes the segment's next object. `NoMemory` comes where the object finds no memory, its segment has no serial left or
     // the state no room for one object more, and leaves the state as it was.
     pub(crate) fn create(&mut self, alloc: Global, seg: Seg, ty: TypeId) -> Result<Name, NoMemory>

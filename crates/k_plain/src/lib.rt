@@ -1,6 +1,6 @@
 //! The plain machine: the machine of `k_types` run over plain lists, one operation at a time.
 //!
-//! [`PlainState`] is a state of the machine with the setup of its trace. Each operation's contract promises the machine's
+//! [`PlainLists`] is a state of the machine with the setup of its trace. Each operation's contract promises the machine's
 //! reply and the machine's step, and nothing else. Below stand the definitions of `k_types` and, for printing, the view of
 //! `k_text`.
 #![tactic(auto)]
@@ -11,6 +11,7 @@ mod bytes;
 mod ending;
 mod items;
 mod limits;
+mod lists;
 mod names;
 mod objects;
 mod opening;

@@ -11,11 +11,11 @@ ghost use Rattle.k_types.specs.declared.op.Op.TheVariants.{Store};
 use crate::items::{ExitItem, has_exit};
 use crate::names::{is_same_heap, kind_of};
 use crate::objects::{FieldValue, write};
-use crate::state::PlainState;
+use crate::lists::PlainLists;
 use k_io::NoMemory;
 use k_types::{Fault, Name, Pid, Reg, Reply, legal};
 
-impl PlainState {
+impl PlainLists {
     // Whether the barrier lets the object refer to the value.
     #[tactic(auto, unfolding(k_types::specs::Replies::passes_barrier))]
     fn passes_barrier(&self, x: Name, value: Option<Name>) -> bool
