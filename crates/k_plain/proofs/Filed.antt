@@ -86,7 +86,7 @@ module _ (trace : Trace) (rules : AreOperations trace) (built : AreBuilt trace) 
       elim (cases_eq q p) [
         | inl same ↦
             let past : drop (get_or st.done p 0) (operations_of trace p) ≡ []
-                = drop_past (operations_of trace p) (get_or st.done p 0) (subst (λ n. next_operation trace st n ≡ None) same e) in
+            = drop_past (operations_of trace p) (get_or st.done p 0) (subst (λ n. next_operation trace st n ≡ None) same e) in
             let empty : (n : ℕ) → take n (drop (get_or st.done p 0) (operations_of trace p)) ≡ [] = λ n. ap (take n) past ∙ take_none n in
             empty (occurrences p order) ∙ sym (empty (cond (q == p) (1 + occurrences p order) (occurrences p order)))
         | inr other ↦
@@ -109,7 +109,7 @@ module _ (trace : Trace) (rules : AreOperations trace) (built : AreBuilt trace) 
       let is : IsTrue (is_built op) = all_at is_built (operations_of trace q) (get_or st.done q 0) op (built q known) e in
       let counted = done_step trace st (record { 0 = q }) op (reply_to trace st q op) is in
       let later : (k : ℕ) → get_or (step trace st (event_of trace st q op)).done k 0 ≡ get_or (set st.done q (get_or st.done q 0 + 1)) k 0
-          = λ k. ap (λ ns. get_or ns k 0) counted in
+      = λ k. ap (λ ns. get_or ns k 0) counted in
       elim (cases_eq q p) [
         | inl same ↦
             let test : (q == p) ≡ true = grind (arith, nat_tests) in
@@ -117,9 +117,9 @@ module _ (trace : Trace) (rules : AreOperations trace) (built : AreBuilt trace) 
             let one : suc (occurrences p order) ≡ 1 + occurrences p order = omega arith in
             let more : get_or (set st.done q (get_or st.done q 0 + 1)) q 0 ≡ get_or st.done q 0 + 1 = get_or-set_same st.done q (get_or st.done q 0 + 1) 0 inside in
             let there : get_or (step trace st (event_of trace st q op)).done p 0 ≡ get_or st.done p 0 + 1
-                = subst (λ k. get_or (step trace st (event_of trace st q op)).done k 0 ≡ get_or st.done k 0 + 1) same (later q ∙ more) in
+            = subst (λ k. get_or (step trace st (event_of trace st q op)).done k 0 ≡ get_or st.done k 0 + 1) same (later q ∙ more) in
             let got : drop (get_or st.done p 0) (operations_of trace p) ≡ op ∷ drop (get_or st.done p 0 + 1) (operations_of trace p)
-                = drop_got (operations_of trace p) (get_or st.done p 0) op (subst (λ n. next_operation trace st n ≡ Some op) same e) in
+            = drop_got (operations_of trace p) (get_or st.done p 0) op (subst (λ n. next_operation trace st n ≡ Some op) same e) in
             ap (λ b. cond b (op ∷ done_by p events) (done_by p events)) test
             ∙ ap (λ ops. op ∷ ops) (rest ∙ ap (λ n. take (occurrences p order) (drop n (operations_of trace p))) there)
             ∙ ap (take (suc (occurrences p order))) (sym got)

@@ -1,8 +1,9 @@
 -- What a sound state and its replies name is the trace's.
-use Rattle.std.proofs.Common.{◌≡◌, ℕ, zero, suc, ◌+◌, ◌<◌, ◌≤◌, ◌&&◌, ◌||◌, ◌++◌, cond, Bool, true, false, not, refl, ap, subst, sym, ◌∙◌, List, [], ◌∷◌, find, nat_lt, length, get_or, Option, Some, None, arith}
+use Rattle.std.proofs.Common.{◌≡◌, ℕ, zero, suc, ◌+◌, ◌<◌, ◌≤◌, ◌&&◌, ◌||◌, ◌==◌, ◌⊎◌, inl, inr, ◌++◌, cond, filter, option_map, le_trans, Bool, true, false, not, refl, ap, subst, sym, ◌∙◌, List, [], ◌∷◌, find, nat_lt, length, get_or, Option, Some, None, arith}
 use Rattle.std.specs.Prelude.{IsTrue, IfSome}
 use Rattle.std.specs.List.{AllByRecursion, list_any}
-use Rattle.std.proofs.lemmas.Bool.{and_from, false≢true, or_left, or_right}
+use Rattle.std.proofs.lemmas.Bool.{and_from, cases_eq, false≢true, or_left, or_right}
+use Rattle.std.proofs.lemmas.Bool.Decides.{nat_tests}
 use Rattle.k_types.specs.declared.names.Name.{Name}
 use Rattle.k_types.specs.declared.names.Heap.{Heap}
 use Rattle.k_types.specs.declared.names.Heap.TheVariants.{Kernel, User, Shared}
@@ -16,15 +17,18 @@ use Rattle.k_types.specs.Names.{leads_to, name_eq}
 use Rattle.k_types.specs.Trace.{Trace, IsHeap, limit_of, process_count, row_of, segment_count, size_of_type}
 use Rattle.k_types.specs.TraceRules.{AreLimits, IsTree}
 use Rattle.k_types.specs.State.{Content, Refers, Holds, Object, State, content_leads_to, fields_of, has, object_at, refers, refers_in, register}
-use Rattle.k_types.specs.Limits.{full_limit, limits_in, max_of, path_above, path_within, use_of, with_maxima}
-use Rattle.k_types.specs.Owners.{owner_of}
+use Rattle.k_types.specs.Limits.{direct_by, full_limit, limits_in, max_of, path_above, path_within, use_of, use_within, with_maxima}
+use Rattle.k_types.specs.Owners.{charge_of, owner_of}
+use Rattle.k_types.specs.Totals.{total}
+use Rattle.k_types.specs.Numbers.{numbers_from}
 use Rattle.k_types.specs.Replies.{access_faults, answer, at_base, fault_where, faults, field_at, first_fault, is_ref, limit_fault, load_faults, reference, reference_from, refused_or, reply_to, sharer_fault, size_fault, store_faults}
 use Rattle.k_types.specs.Sound.{IsSound}
-use Rattle.k_text.specs.Shown.{IsKnownFault, IsKnownName, IsKnownReply}
+use Rattle.k_text.specs.Shown.{IsKnownFault, IsKnownName, IsKnownReply, comes_after, next_name_after}
 use Rattle.k_frame.proofs.NameTests.{name_eq_refl}
 use Rattle.k_frame.proofs.OwnerOf.{owner_known}
 use Rattle.k_plain.specs.Built.{is_built}
-use Rattle.k_plain.proofs.Rows.{row_in}
+use Rattle.k_plain.proofs.Rows.{rows_in_length}
+use Rattle.k_plain.proofs.Typed.{all_found}
 use Rattle.k_plain.proofs.Paths.{parent_known}
 
 -- what some element passes that is looked up with a default that does not
@@ -65,11 +69,12 @@ field_known trace st sound x i y e = object_known trace st sound y (sound.no_dan
         refers_found st.objects x y o found
         (any_got (content_leads_to y) o.fields i (Holds 0) refl
         (ap (content_leads_to y) is ∙ ap (λ m. leads_to m y) leads ∙ name_eq_refl y))
+
     go : (o : Option Object) → object_at st.objects x ≡ o → reference (get_or (fields_of o) i (Holds 0)) ≡ Some y → refers_in st.objects x y ≡ true
     go None found leads = grind arith
     go (Some o) found leads = held o found (get_or o.fields i (Holds 0)) refl leads
 
-if_known : {A : Type 0} (P : A → Type 0) (o : Option A) → ((a : A) → o ≡ Some a → P a) → IfSome o P
+pub if_known : {A : Type 0} (P : A → Type 0) (o : Option A) → ((a : A) → o ≡ Some a → P a) → IfSome o P
 if_known P None gives = tt
 if_known P (Some a) gives = gives a refl
 
@@ -84,22 +89,16 @@ all_on_path : (limits : List LimitRow) (maxima : List ℕ) → IsTree limits →
     AllByRecursion (λ k. k < length limits) (path_within (with_maxima limits maxima) depth m)
 unfolding path_within
 all_on_path limits maxima tree same zero m inside = tt
-all_on_path limits maxima tree same (suc depth) m inside =
-    (inside, all_above (length limits) (path_within (with_maxima limits maxima) depth) (row_of (with_maxima limits maxima) m).hard (row_of (with_maxima limits maxima) m).parent
-    (λ q above. all_on_path limits maxima tree same depth q.0 (parent_known limits maxima m (row_of (with_maxima limits maxima) m) q tree inside same refl above)))
-
-found_next : {A : Type 0} (P : A → Type 0) (y x : A) (b : Bool) (rest : Option A) → P y → (rest ≡ Some x → P x) → cond b (Some y) rest ≡ Some x → P x
-found_next P y x true rest holds later is = let same : y ≡ x = cc in subst P same holds
-found_next P y x false rest holds later is = later is
-
-found_among : {A : Type 0} (P : A → Type 0) (test : A → Bool) (xs : List A) (x : A) → AllByRecursion P xs → find test xs ≡ Some x → P x
-found_among P test [] x all found = grind arith
-found_among P test (y ∷ ys) x all found = found_next P y x (test y) (find test ys) all.0 (found_among P test ys x all.1) found
+all_on_path limits maxima tree same (suc depth) m inside = (
+  inside,
+  all_above (length limits) (path_within (with_maxima limits maxima) depth) (row_of (with_maxima limits maxima) m).hard (row_of (with_maxima limits maxima) m).parent
+      (λ q above. all_on_path limits maxima tree same depth q.0 (parent_known limits maxima m (row_of (with_maxima limits maxima) m) q tree inside same refl above)),
+)
 
 limit_known : (trace : Trace) (st : State) → AreLimits trace → IsSound trace st → (p size q : ℕ) → p < process_count trace →
     full_limit trace st (limit_of trace p) size ≡ Some q → q < length trace.limits
 limit_known trace st rules sound p size q known full =
-    found_among (λ k. k < length trace.limits) (λ k. nat_lt (max_of (limits_in trace st) k) (use_of trace st k + size))
+    all_found (λ k. k < length trace.limits) (λ k. nat_lt (max_of (limits_in trace st) k) (use_of trace st k + size))
     (path_within (limits_in trace st) (length (limits_in trace st)) (limit_of trace p)) q
     (all_on_path trace.limits st.maxima rules.tree sound.shape.sized.maxima (length (limits_in trace st)) (limit_of trace p) (rules.limited p known)) full
 
@@ -178,3 +177,49 @@ module _ (trace : Trace) (st : State) (rules : AreLimits trace) (sound : IsSound
   reply_known (Freeze s root) built = absurd (false≢true built)
   reply_known (Attach r s) built = absurd (false≢true built)
   reply_known Exit built = absurd (false≢true built)
+
+find_has : (test : Object → Bool) (xs : List Object) (o : Object) → find test xs ≡ Some o → has xs o.name ≡ true
+find_has test [] o found = grind arith
+find_has test (x ∷ xs) o found = go (test x) (find_has test xs o) found
+  where
+    go : (b : Bool) → (find test xs ≡ Some o → has xs o.name ≡ true) → cond b (Some x) (find test xs) ≡ Some o → (name_eq x.name o.name || has xs o.name) ≡ true
+    go true later is = let same : x ≡ o = cc in or_left (name_eq x.name o.name) (has xs o.name) (ap (λ (y : Object). name_eq x.name y.name) (sym same) ∙ name_eq_refl x.name)
+    go false later is = or_right (name_eq x.name o.name) (has xs o.name) (later is)
+
+-- the next object's name lies in a segment of the trace
+pub next_known : (trace : Trace) (st : State) → IsSound trace st → (after next : Option Name) → next ≡ next_name_after after st.objects → IfSome next (IsKnownName trace)
+next_known trace st sound after next is = subst (λ (r : Option Name). IfSome r (IsKnownName trace)) (sym is) (go (find (comes_after after) st.objects) refl)
+  where
+    go : (o : Option Object) → find (comes_after after) st.objects ≡ o → IfSome (option_map (λ (x : Object). x.name) o) (IsKnownName trace)
+    go None e = tt
+    go (Some o) e = object_known trace st sound o.name (find_has (comes_after after) st.objects o e)
+
+total_at : (f : ℕ → ℕ) (g : ℕ → Bool) (first n p : ℕ) → first ≤ p → p < first + n → g p ≡ true → f p ≤ total f (filter g (numbers_from first n))
+total_at f g first zero p low high on = absurd (omega arith)
+total_at f g first (suc n) p low high on =
+    first_or (cases_eq first p) (g first) refl
+    (λ other. total_at f g (suc first) n p (omega arith) (omega arith) on)
+  where
+    rest : (b : Bool) → f p ≤ total f (filter g (numbers_from (suc first) n)) → f p ≤ total f (cond b (first ∷ filter g (numbers_from (suc first) n)) (filter g (numbers_from (suc first) n)))
+    rest true le = omega arith
+    rest false le = le
+
+    first_or : (first ≡ p) ⊎ (first ≡ p → ⊥) → (b : Bool) → g first ≡ b → ((first ≡ p → ⊥) → f p ≤ total f (filter g (numbers_from (suc first) n))) →
+        f p ≤ total f (cond b (first ∷ filter g (numbers_from (suc first) n)) (filter g (numbers_from (suc first) n)))
+    first_or (inl same) true e later = let here = ap f same in omega arith
+    first_or (inl same) false e later = absurd (false≢true (sym e ∙ ap g same ∙ on))
+    first_or (inr other) b e later = rest b (later other)
+
+direct_at_most : (rows : List LimitRow) (direct : ℕ → ℕ) (depth m : ℕ) → 0 < depth → direct m ≤ use_within rows direct depth m
+unfolding use_within
+direct_at_most rows direct zero m positive = absurd (omega arith)
+direct_at_most rows direct (suc depth) m positive = omega arith
+
+-- a process is charged no more than is used at its limit
+pub charge_at_most : (trace : Trace) (st : State) (p : ℕ) → p < process_count trace → AreLimits trace → charge_of trace st p ≤ use_of trace st (limit_of trace p)
+charge_at_most trace st p known rules =
+    let limited = rules.limited p known in
+    let long = rows_in_length trace.limits st.maxima in
+    let direct = direct_at_most (limits_in trace st) (direct_by trace (charge_of trace st)) (length (limits_in trace st)) (limit_of trace p) (omega arith) in
+    let own : (limit_of trace p == limit_of trace p) ≡ true = grind (arith, nat_tests) in
+    le_trans (total_at (charge_of trace st) (λ q. limit_of trace q == limit_of trace p) 0 (process_count trace) p (omega arith) (omega arith) own) direct

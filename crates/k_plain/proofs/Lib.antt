@@ -21,3 +21,4 @@ pub mod FirstForms
 pub mod Typed
 pub mod Operated
 pub mod Known
+pub mod Nearests

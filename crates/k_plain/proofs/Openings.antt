@@ -1,5 +1,5 @@
 -- The opening state is well formed.
-use Rattle.std.proofs.Common.{◌≡◌, ℕ, zero, suc, ◌+◌, ◌<◌, ◌≤◌, ◌^◌, lit≤, ap, length, map, replicate, get_or, slice_index_or, Option, None, [], arith, ◌∙◌}
+use Rattle.std.proofs.Common.{◌≡◌, ℕ, zero, suc, ◌+◌, ◌<◌, ◌≤◌, ◌^◌, lit≤, lit<, ap, length, map, replicate, get_or, slice_index_or, Option, None, [], arith, ◌∙◌}
 use Rattle.std.proofs.lemmas.List.{length-replicate, get_or-replicate, length-map}
 use Rattle.k_types.specs.declared.names.Name.{Name}
 use Rattle.k_types.specs.declared.setup.LimitRow.{LimitRow}
@@ -27,7 +27,7 @@ unmade_known setup zero = tt
 unmade_known setup (suc n) = (tt, unmade_known setup n)
 
 pub opening_is_plain : (setup : Trace) → AreSetupRules setup → IsPlain (record { setup = setup; state = opening setup })
-opening_is_plain setup rules = record { setup = rules; sized = opening_is_sized setup; few = lit≤ tt; typed = (tt, tt); phases = unmade_known setup setup.shared_heaps }
+opening_is_plain setup rules = record { setup = rules; sized = opening_is_sized setup; few = lit≤ tt; few_exits = lit< tt; typed = (tt, tt); phases = unmade_known setup setup.shared_heaps }
 
 pub opening_is_sound : (setup : Trace) → AreSetupRules setup → IsSoundMachine (record { setup = setup; state = opening setup })
 opening_is_sound setup rules = record { limits = rules.limits; sound = opening_sound setup rules.limits }

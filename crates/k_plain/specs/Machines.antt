@@ -35,12 +35,13 @@ pub record AreSetupRules (setup : Trace) : Type 0 where
 abbrev pub IsTyped : Trace → Object → Type 0
 IsTyped setup o = IfSome o.ty (λ ty. ty.0 < length setup.types)
 
--- The setup keeps the rules, the lists are as long as it says, there are no more objects than numbers of 32 bits, and types
--- and phases name what the setup declares.
+-- The setup keeps the rules, the lists are as long as it says, objects and exit items are no more than numbers of 32 bits,
+-- and types and phases name what the setup declares.
 pub record IsPlain (machine : Machine) : Type 0 where
   pub setup : AreSetupRules machine.setup
   pub sized : IsSized machine.setup machine.state
   pub few : length machine.state.objects ≤ 2 ^ 32
+  pub few_exits : length machine.state.exits < 2 ^ 32
   pub typed : AllByRecursion (IsTyped machine.setup) machine.state.objects
   pub phases : AllByRecursion (IsKnownPhase machine.setup) machine.state.phases
 

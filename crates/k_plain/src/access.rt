@@ -8,8 +8,8 @@ ghost use Rattle.k_types.specs.declared.event.Fault.{Fault};
 ghost use Rattle.k_types.specs.declared.event.Fault.TheVariants.{Foreign};
 ghost use Rattle.k_types.specs.declared.op.Op.TheVariants.{Load};
 
-use crate::objects::FieldValue;
 use crate::lists::PlainLists;
+use crate::objects::FieldValue;
 use k_types::{Fault, Heap, Name, Pid, Reg, Reply};
 
 impl PlainLists {
@@ -29,7 +29,12 @@ impl PlainLists {
     }
 
     // The object in the register and what its field holds, or the fault of the access.
-    pub(crate) fn access(&self, pid: Pid, base: Reg, field: u32) -> Result<(Name, FieldValue), Fault>
+    pub(crate) fn access(
+        &self,
+        pid: Pid,
+        base: Reg,
+        field: u32,
+    ) -> Result<(Name, FieldValue), Fault>
         requires process { pid.0 < process_count self.now.setup }
         requires base { base.0 < 16 }
         ensures { MatchResult result

@@ -7,8 +7,8 @@ ghost use Rattle.k_types.specs.Types.{HaveFewFields, type_row};
 ghost use Rattle.k_types.specs.Updates.{create, next_name};
 ghost use Rattle.k_types.specs.declared.op.Op.TheVariants.{New};
 
-use crate::objects::{FieldValue, PlainObject, place_of};
 use crate::lists::PlainLists;
+use crate::objects::{FieldValue, PlainObject, place_of};
 use k_io::NoMemory;
 use k_types::{Field, Name, Pid, Reg, Reply, Seg, Serial, TypeId, TypeTable};
 use std::alloc::Global;
@@ -67,17 +67,26 @@ impl PlainLists {
             serial: Serial(made + 1),
         };
         let at = place_of(&self.objects, name);
-        self.objects.insert(at, PlainObject {
-            name,
-            ty: Some(ty),
-            fields,
-        })?;
+        self.objects.insert(
+            at,
+            PlainObject {
+                name,
+                ty: Some(ty),
+                fields,
+            },
+        )?;
         self.made[seg.0 as usize] = made + 1;
         Ok(name)
     }
 
     // A `new`, but for the count of operations done. `NoMemory` comes as for `create`.
-    pub(crate) fn new_object(&mut self, alloc: Global, pid: Pid, reg: Reg, ty: TypeId) -> Result<Reply, NoMemory>
+    pub(crate) fn new_object(
+        &mut self,
+        alloc: Global,
+        pid: Pid,
+        reg: Reg,
+        ty: TypeId,
+    ) -> Result<Reply, NoMemory>
         requires process { pid.0 < process_count self.old.setup }
         requires reg { reg.0 < 16 }
         requires ty { ty.0 < length self.old.setup.types }

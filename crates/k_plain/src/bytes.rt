@@ -3,8 +3,8 @@ ghost use Rattle.k_types.specs.Limits.{direct_by};
 ghost use Rattle.k_types.specs.Owners.{bytes_of, charge_of};
 
 use crate::items::is_among;
-use crate::names::is_same_heap;
 use crate::lists::PlainLists;
+use crate::names::is_same_heap;
 use k_types::{Heap, Pid, Seg};
 
 impl PlainLists {

@@ -9,6 +9,7 @@ mod access;
 mod allocation;
 mod bytes;
 mod ending;
+mod exits;
 mod items;
 mod limits;
 mod lists;
@@ -18,9 +19,10 @@ mod opening;
 mod operation;
 mod registers;
 mod running;
-
+mod shown;
 mod state;
 mod store;
+mod viewing;
 
 pub use ending::PlainEnd;
 pub use running::solo;

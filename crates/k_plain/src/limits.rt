@@ -54,7 +54,11 @@ impl PlainLists {
         for c in 0..self.setup.limits.len() as u32 {
             let row = self.row(c);
             if is_parent(row.parent, limit) {
-                let part = if row.hard { row.max } else { self.use_within(depth - 1, c) };
+                let part = if row.hard {
+                    row.max
+                } else {
+                    self.use_within(depth - 1, c)
+                };
                 sum = sum.saturating_add(part);
             }
         }

@@ -1,5 +1,6 @@
 ghost use Rattle.std.specs.Prelude.{◌≡◌, ◌<◌, ◌≤◌, ◌+◌, ◌^◌, ◌-◌, nat_lt, not, option_copied, slice_index_or, length};
 ghost use Rattle.k_plain.specs.Machines.{Machine};
+ghost use Rattle.k_text.specs.Shown.{IsKnownPhase};
 ghost use Rattle.k_types.specs.Names.{among};
 ghost use Rattle.k_types.specs.Owners.{owner_of, owner_of_process, owner_of_shared, phase_of};
 ghost use Rattle.k_types.specs.Replies.{is_frozen_heap};
@@ -38,43 +39,39 @@ impl Model for PlainLists {
 
     ghost Value = { Machine };
 
-    ghost view = {
-        λ s. record {
-            setup = trace_of 1 s.setup [] [];
-            state = record {
-                objects = s.objects.items;
-                made = s.made.items;
-                registers = s.registers.items;
-                done = s.done.items;
-                exits = s.exits.items;
-                shares = s.shares.items;
-                phases = s.phases.items;
-                ended = s.ended.items;
-                scans = s.scans.items;
-                closed = s.closed;
-                maxima = s.maxima.items;
-            };
-        }
-    };
+    ghost view = { λ s. record {
+      setup = trace_of 1 s.setup [] [];
+      state = record {
+        objects = s.objects.items;
+        made = s.made.items;
+        registers = s.registers.items;
+        done = s.done.items;
+        exits = s.exits.items;
+        shares = s.shares.items;
+        phases = s.phases.items;
+        ended = s.ended.items;
+        scans = s.scans.items;
+        closed = s.closed;
+        maxima = s.maxima.items;
+      };
+    } };
 
-    ghost invariant = {
-        λ s. IsPlain (record {
-            setup = trace_of 1 s.setup [] [];
-            state = record {
-                objects = s.objects.items;
-                made = s.made.items;
-                registers = s.registers.items;
-                done = s.done.items;
-                exits = s.exits.items;
-                shares = s.shares.items;
-                phases = s.phases.items;
-                ended = s.ended.items;
-                scans = s.scans.items;
-                closed = s.closed;
-                maxima = s.maxima.items;
-            };
-        })
-    };
+    ghost invariant = { λ s. IsPlain (record {
+      setup = trace_of 1 s.setup [] [];
+      state = record {
+        objects = s.objects.items;
+        made = s.made.items;
+        registers = s.registers.items;
+        done = s.done.items;
+        exits = s.exits.items;
+        shares = s.shares.items;
+        phases = s.phases.items;
+        ended = s.ended.items;
+        scans = s.scans.items;
+        closed = s.closed;
+        maxima = s.maxima.items;
+      };
+    }) };
 }
 
 impl PlainLists {
@@ -166,8 +163,10 @@ impl PlainLists {
     }
 
     // The phase of the shared heap; unmade where there is none of that number.
+    #[tactic(auto, using(crate::proofs::Typed::phase_known))]
     pub(crate) fn phase(&self, shared: SharedId) -> Phase
-        ensures { result ≡ phase_of self.now.state.phases shared.0 }
+        ensures exact { result ≡ phase_of self.now.state.phases shared.0 }
+        ensures known { IsKnownPhase self.now.setup result }
     {
         match self.phases.get(shared.0 as usize) {
             Some(phase) => *phase,

@@ -4,9 +4,9 @@ ghost use Rattle.k_types.specs.Names.{directory};
 ghost use Rattle.k_types.specs.State.{opening, Refers};
 ghost use Rattle.k_types.specs.Trace.{trace_of};
 
+use crate::lists::PlainLists;
 use crate::objects::{FieldValue, PlainObject};
 use crate::registers::Registers;
-use crate::lists::PlainLists;
 use k_io::NoMemory;
 use k_types::{LimitRow, Name, Phase, Seg, Serial, Setup};
 use std::alloc::Global;

@@ -32,25 +32,25 @@ loop-c-preserved t c =
     let is : row ≡ row_of rows k = c.row-row.ensures in
     let deeper = use_within rows direct (c.args.depth - 1) k in
     let child : child_use rows direct (c.args.depth - 1) k ≡ cond row.hard row.max deeper
-        = ap (λ (r : LimitRow). cond r.hard r.max deeper) (sym is) in
+    = ap (λ (r : LimitRow). cond r.hard r.max deeper) (sym is) in
     let test : is_parent (row_of rows k).parent c.args.limit ≡ c.is_parent.result
-        = ap (λ (r : LimitRow). is_parent r.parent c.args.limit) (sym is) ∙ sym c.is_parent.ensures in
+    = ap (λ (r : LimitRow). is_parent r.parent c.args.limit) (sym is) ∙ sym c.is_parent.ensures in
     elim c.if-is_parent.branch [
       | then-is_parent w ↦
           let now : uses_left rows direct (c.args.depth - 1) c.args.limit k ≡ child_use rows direct (c.args.depth - 1) k + left
-              = next ∙ ap (λ b. cond b (child_use rows direct (c.args.depth - 1) k) 0 + left) (test ∙ w.if-is_parent.true) in
+          = next ∙ ap (λ b. cond b (child_use rows direct (c.args.depth - 1) k) 0 + left) (test ∙ w.if-is_parent.true) in
           elim w.if-row.branch [
             | then-row v ↦
                 let part : child_use rows direct (c.args.depth - 1) k ≡ w.if-row.part
-                    = child ∙ ap (λ b. cond b row.max deeper) v.if-row.true ∙ sym v.part-is in
+                = child ∙ ap (λ b. cond b row.max deeper) v.if-row.true ∙ sym v.part-is in
                 record { deep = omega arith; all = omega arith; small = omega arith; sum = omega arith }
             | else-row v ↦
                 let part : child_use rows direct (c.args.depth - 1) k ≡ deeper
-                    = child ∙ ap (λ b. cond b row.max deeper) v.if-row.false in
+                = child ∙ ap (λ b. cond b row.max deeper) v.if-row.false in
                 record { deep = omega arith; all = omega arith; small = omega arith; sum = omega arith }
           ]
       | else-is_parent w ↦
           let now : uses_left rows direct (c.args.depth - 1) c.args.limit k ≡ 0 + left
-              = next ∙ ap (λ b. cond b (child_use rows direct (c.args.depth - 1) k) 0 + left) (test ∙ w.if-is_parent.false) in
+          = next ∙ ap (λ b. cond b (child_use rows direct (c.args.depth - 1) k) 0 + left) (test ∙ w.if-is_parent.false) in
           record { deep = omega arith; all = omega arith; small = omega arith; sum = omega arith }
     ]

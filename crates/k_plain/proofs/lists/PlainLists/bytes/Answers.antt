@@ -13,21 +13,21 @@ loop-o-preserved c =
     let o = c.o-item.result in
     let rest = bytes_by own c.args.heap (drop (c.loop-o.o-index + 1) c.deref-o-items.result.now) in
     let here : c.if-name-seg.seg ≡ o.name.seg.0
-        = elim c.if-name-seg.branch [ then-name-seg w ↦ grind (arith, common_steps) | else-name-seg w ↦ grind (arith, common_steps) ] in
+    = elim c.if-name-seg.branch [ then-name-seg w ↦ grind (arith, common_steps) | else-name-seg w ↦ grind (arith, common_steps) ] in
     let owned : c.if-name-seg.is_owned ≡ heap_eq (own c.if-name-seg.seg) c.args.heap
-        = elim c.if-name-seg.branch [ then-name-seg w ↦ grind (arith, common_steps) | else-name-seg w ↦ grind (arith, common_steps) ] in
+    = elim c.if-name-seg.branch [ then-name-seg w ↦ grind (arith, common_steps) | else-name-seg w ↦ grind (arith, common_steps) ] in
     let next : bytes_by own c.args.heap (drop c.loop-o.o-index c.deref-o-items.result.now) ≡ cond (heap_eq (own o.name.seg.0) c.args.heap) (object_bytes o) 0 + rest
-        = bytes_next own c.args.heap c.deref-o-items.result.now c.loop-o.o-index o (omega arith) c.o-item.is in
+    = bytes_next own c.args.heap c.deref-o-items.result.now c.loop-o.o-index o (omega arith) c.o-item.is in
     let same : heap_eq (own o.name.seg.0) c.args.heap ≡ c.if-name-seg.is_owned
-        = ap (λ s. heap_eq (own s) c.args.heap) (sym here) ∙ sym owned in
+    = ap (λ s. heap_eq (own s) c.args.heap) (sym here) ∙ sym owned in
     elim c.if-is_owned.branch [
       | then-is_owned w ↦
           let now : bytes_by own c.args.heap (drop c.loop-o.o-index c.deref-o-items.result.now) ≡ object_bytes o + rest
-              = next ∙ ap (λ b. cond b (object_bytes o) 0 + rest) (same ∙ w.if-is_owned.true) in
+          = next ∙ ap (λ b. cond b (object_bytes o) 0 + rest) (same ∙ w.if-is_owned.true) in
           record { owned = owned; small = omega arith; sum = omega arith }
       | else-is_owned w ↦
           let now : bytes_by own c.args.heap (drop c.loop-o.o-index c.deref-o-items.result.now) ≡ 0 + rest
-              = next ∙ ap (λ b. cond b (object_bytes o) 0 + rest) (same ∙ w.if-is_owned.false) in
+          = next ∙ ap (λ b. cond b (object_bytes o) 0 + rest) (same ∙ w.if-is_owned.false) in
           record { owned = owned; small = omega arith; sum = omega arith }
     ]
 

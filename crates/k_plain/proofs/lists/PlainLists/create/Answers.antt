@@ -20,12 +20,12 @@ returns-clause-ok c =
     let object : ℕ → List Content → Object = λ n fs. record { name = record { seg = c.args.seg; serial = record { 0 = n + 1 } }; ty = Some c.args.ty; fields = fs } in
     let o : Object = object c.index-made.result.now (map content c.in_ok-fields.fields.items) in
     let placed : c.insert.new.self.items ≡ with_object o objects
-        = c.in_ok-insert.ensures.items
-        ∙ ap (λ xs. insert xs c.place_of-at.result o) (sym c.deref.ensures.value)
-        ∙ sym (c.place_of-at.ensures.place o refl)
-        ∙ ap (with_object o) c.deref.ensures.value in
+    = c.in_ok-insert.ensures.items
+    ∙ ap (λ xs. insert xs c.place_of-at.result o) (sym c.deref.ensures.value)
+    ∙ sym (c.place_of-at.ensures.place o refl)
+    ∙ ap (with_object o) c.deref.ensures.value in
     let there : c.insert.new.self.items ≡ with_object (object (get_or i.made.items seg 0) (map fresh (kinds_of (trace_of 1 i.setup [] []) c.args.ty))) objects
-        = placed ∙ ap₂ (λ n fs. with_object (object n fs) objects) given fields in
+    = placed ∙ ap₂ (λ n fs. with_object (object n fs) objects) given fields in
     let after : List Object → ℕ → State = λ xs n. record {
       objects = xs;
       made = set i.made.items seg (n + 1);

@@ -12,9 +12,9 @@ unfolding size_fault
 returns-in-None c =
     let m = c.args.self.now in
     let at : c.index-limit.result.now ≡ get_or m.setup.procs c.args.pid.0 (record { 0 = 0 })
-        = get_or_read m.setup.procs c.args.pid.0 _ c.requires.process (subst (λ (n : Machine). c.index-limit.result.now ≡ get_or n.setup.procs c.args.pid.0 c.index-limit.result.now) c.self.view_is c.index-limit.ensures) (record { 0 = 0 }) in
+    = get_or_read m.setup.procs c.args.pid.0 _ c.requires.process (subst (λ (n : Machine). c.index-limit.result.now ≡ get_or n.setup.procs c.args.pid.0 c.index-limit.result.now) c.self.view_is c.index-limit.ensures) (record { 0 = 0 }) in
     let found : full_limit m.setup m.state (limit_of m.setup c.args.pid.0) c.args.size ≡ None
-        = ap (λ (l : LimitId). full_limit m.setup m.state l.0 c.args.size) (sym at) ∙ sym c.full_limit.ensures ∙ c.in-None.is in
+    = ap (λ (l : LimitId). full_limit m.setup m.state l.0 c.args.size) (sym at) ∙ sym c.full_limit.ensures ∙ c.in-None.is in
     sym (ap limit_fault found)
 
 pub returns-in-Some : goal.returns-in-Some
@@ -22,7 +22,7 @@ unfolding size_fault
 returns-in-Some c =
     let m = c.args.self.now in
     let at : c.index-limit.result.now ≡ get_or m.setup.procs c.args.pid.0 (record { 0 = 0 })
-        = get_or_read m.setup.procs c.args.pid.0 _ c.requires.process (subst (λ (n : Machine). c.index-limit.result.now ≡ get_or n.setup.procs c.args.pid.0 c.index-limit.result.now) c.self.view_is c.index-limit.ensures) (record { 0 = 0 }) in
+    = get_or_read m.setup.procs c.args.pid.0 _ c.requires.process (subst (λ (n : Machine). c.index-limit.result.now ≡ get_or n.setup.procs c.args.pid.0 c.index-limit.result.now) c.self.view_is c.index-limit.ensures) (record { 0 = 0 }) in
     let found : full_limit m.setup m.state (limit_of m.setup c.args.pid.0) c.args.size ≡ Some c.in-Some.full
-        = ap (λ (l : LimitId). full_limit m.setup m.state l.0 c.args.size) (sym at) ∙ sym c.full_limit.ensures ∙ c.in-Some.is in
+    = ap (λ (l : LimitId). full_limit m.setup m.state l.0 c.args.size) (sym at) ∙ sym c.full_limit.ensures ∙ c.in-Some.is in
     sym (ap limit_fault found)

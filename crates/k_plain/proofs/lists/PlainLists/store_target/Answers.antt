@@ -18,7 +18,7 @@ returns-then-is_frozen c =
     let m = c.args.self.now in
     let found = c.in-Ok.found in
     let frozen : is_frozen_heap m.state (owner_of m.setup m.state found.0.seg.0) ≡ true
-        = ap (is_frozen_heap m.state) (sym c.owner.ensures) ∙ sym c.is_frozen.ensures ∙ c.if-is_frozen.true in
+    = ap (is_frozen_heap m.state) (sym c.owner.ensures) ∙ sym c.is_frozen.ensures ∙ c.if-is_frozen.true in
     store_frozen m c.args.pid.0 c.args.base c.args.value c.args.field found.0 (content found.1) c.in-Ok.ensures c.in-Reference.field-0 (ap content c.in-Reference.is) frozen
 
 pub returns-then-not-passes_barrier : goal.returns-then-not-passes_barrier
@@ -26,7 +26,7 @@ returns-then-not-passes_barrier c =
     let m = c.args.self.now in
     let found = c.in-Ok.found in
     let loose : is_frozen_heap m.state (owner_of m.setup m.state found.0.seg.0) ≡ false
-        = ap (is_frozen_heap m.state) (sym c.owner.ensures) ∙ sym c.is_frozen.ensures ∙ c.if-is_frozen.false in
+    = ap (is_frozen_heap m.state) (sym c.owner.ensures) ∙ sym c.is_frozen.ensures ∙ c.if-is_frozen.false in
     let barred : passes_barrier m.setup m.state found.0 c.register-to.result ≡ false = sym c.passes_barrier.ensures ∙ c.if-not-passes_barrier.true in
     store_barred m c.args.pid.0 c.args.base c.args.value c.args.field found.0 (content found.1) c.in-Ok.ensures c.in-Reference.field-0 c.register-to.result (ap content c.in-Reference.is) loose c.register-to.ensures barred
 
@@ -35,7 +35,7 @@ returns c =
     let m = c.args.self.now in
     let found = c.in-Ok.found in
     let loose : is_frozen_heap m.state (owner_of m.setup m.state found.0.seg.0) ≡ false
-        = ap (is_frozen_heap m.state) (sym c.owner.ensures) ∙ sym c.is_frozen.ensures ∙ c.if-is_frozen.false in
+    = ap (is_frozen_heap m.state) (sym c.owner.ensures) ∙ sym c.is_frozen.ensures ∙ c.if-is_frozen.false in
     let passes : passes_barrier m.setup m.state found.0 c.register-to.result ≡ true = sym c.passes_barrier.ensures ∙ c.if-not-passes_barrier.false in (
       store_free m c.args.pid.0 c.args.base c.args.value c.args.field found.0 (content found.1) c.in-Ok.ensures c.in-Reference.field-0 c.register-to.result (ap content c.in-Reference.is) loose c.register-to.ensures passes,
       c.in-Ok.ensures.base,

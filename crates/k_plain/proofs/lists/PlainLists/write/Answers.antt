@@ -22,6 +22,7 @@ invariant_of-self c =
       setup = old.setup;
       sized = record { made = old.sized.made; registers = old.sized.registers; each = old.sized.each; done = old.sized.done; phases = old.sized.phases; maxima = old.sized.maxima };
       few = omega (arith, ap (λ (os : List Object). length os) all, long, old.few);
+      few_exits = old.few_exits;
       typed = subst (AllByRecursion (IsTyped (trace_of 1 i.setup [] []))) (sym all) (typed_write (trace_of 1 i.setup [] []) c.args.x c.args.field (content c.args.value) i.objects.items old.typed);
       phases = old.phases;
     }
