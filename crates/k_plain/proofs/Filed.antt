@@ -6,8 +6,10 @@ use Rattle.std.proofs.lemmas.Bool.{and_parts, cases_eq, false≢true}
 use Rattle.std.proofs.lemmas.Bool.Decides.{nat_tests}
 use Rattle.std.proofs.lemmas.List.{append-nil, get_or-replicate, get_or-set_other, get_or-set_same, length-replicate, length-set, take_all}
 use Rattle.std.proofs.lemmas.List.Recursion.{is_count_by}
+use Rattle.k_types.specs.declared.names.Pid.{Pid}
 use Rattle.k_types.specs.declared.op.Op.{Op}
 use Rattle.k_types.specs.declared.event.Event.{Event}
+use Rattle.k_types.specs.declared.event.Event.TheVariants.{Done}
 use Rattle.k_types.specs.Trace.{Trace, operations_of, process_count}
 use Rattle.k_types.specs.TraceRules.{AreOperations, KeepsRules}
 use Rattle.k_types.specs.State.{State, opening}
@@ -53,6 +55,18 @@ take_none : {A : Type 0} (n : ℕ) → ◌≡◌ {A = List A} (take n []) []
 take_none zero = refl
 take_none (suc n) = refl
 
+-- in a quiet state each operation that is built and in range is possible
+pub quiet_possible : (trace : Trace) (st : State) (pid : Pid) (op : Op) → pid.0 < process_count trace → IsTrue (in_range trace op) → IsTrue (is_built op) → IsQuiet st →
+    IsPossible trace st (Done pid op (reply_to trace st pid.0 op))
+quiet_possible trace st pid op known ranged is quiet = record {
+  known = known;
+  lives = ap (among pid.0) quiet.ended;
+  in_range = ranged;
+  idle = quiet_cells st (cells_touched trace st (Done pid op (reply_to trace st pid.0 op))) quiet;
+  orphans = ap (λ b. not b || no_orphan trace st) (waits_not op is);
+  replied = refl;
+}
+
 module _ (trace : Trace) (rules : AreOperations trace) (built : AreBuilt trace) (positive : 0 < process_count trace) where
   -- the operations of a process that the order has still to do
   abbrev ahead : State → List ℕ → ℕ → List Op
@@ -72,7 +86,7 @@ module _ (trace : Trace) (rules : AreOperations trace) (built : AreBuilt trace) 
       elim (cases_eq q p) [
         | inl same ↦
             let past : drop (get_or st.done p 0) (operations_of trace p) ≡ []
-                = drop_past (operations_of trace p) (get_or st.done p 0) (subst (λ n. next_operation trace st n ≡ None) same e) in
+            = drop_past (operations_of trace p) (get_or st.done p 0) (subst (λ n. next_operation trace st n ≡ None) same e) in
             let empty : (n : ℕ) → take n (drop (get_or st.done p 0) (operations_of trace p)) ≡ [] = λ n. ap (take n) past ∙ take_none n in
             empty (occurrences p order) ∙ sym (empty (cond (q == p) (1 + occurrences p order) (occurrences p order)))
         | inr other ↦
@@ -86,14 +100,7 @@ module _ (trace : Trace) (rules : AreOperations trace) (built : AreBuilt trace) 
   possible : (st : State) (q : ℕ) (op : Op) → q < process_count trace → next_operation trace st q ≡ Some op → IsQuiet st → IsPossible trace st (event_of trace st q op)
   possible st q op known e quiet =
       let is : IsTrue (is_built op) = all_at is_built (operations_of trace q) (get_or st.done q 0) op (built q known) e in
-      record {
-        known = known;
-        lives = ap (among q) quiet.ended;
-        in_range = all_at (in_range trace) (operations_of trace q) (get_or st.done q 0) op (rules.in_range q known) e;
-        idle = quiet_cells st (cells_touched trace st (event_of trace st q op)) quiet;
-        orphans = ap (λ b. not b || no_orphan trace st) (waits_not op is);
-        replied = refl;
-      }
+      quiet_possible trace st (record { 0 = q }) op known (all_at (in_range trace) (operations_of trace q) (get_or st.done q 0) op (rules.in_range q known) e) is quiet
 
   some_ahead : (st : State) (q p : ℕ) (op : Op) (order : List ℕ) (events : List Event) → q < process_count trace → length st.done ≡ process_count trace →
       next_operation trace st q ≡ Some op → done_by p events ≡ ahead (step trace st (event_of trace st q op)) order p →
@@ -102,7 +109,7 @@ module _ (trace : Trace) (rules : AreOperations trace) (built : AreBuilt trace) 
       let is : IsTrue (is_built op) = all_at is_built (operations_of trace q) (get_or st.done q 0) op (built q known) e in
       let counted = done_step trace st (record { 0 = q }) op (reply_to trace st q op) is in
       let later : (k : ℕ) → get_or (step trace st (event_of trace st q op)).done k 0 ≡ get_or (set st.done q (get_or st.done q 0 + 1)) k 0
-          = λ k. ap (λ ns. get_or ns k 0) counted in
+      = λ k. ap (λ ns. get_or ns k 0) counted in
       elim (cases_eq q p) [
         | inl same ↦
             let test : (q == p) ≡ true = grind (arith, nat_tests) in
@@ -110,9 +117,9 @@ module _ (trace : Trace) (rules : AreOperations trace) (built : AreBuilt trace) 
             let one : suc (occurrences p order) ≡ 1 + occurrences p order = omega arith in
             let more : get_or (set st.done q (get_or st.done q 0 + 1)) q 0 ≡ get_or st.done q 0 + 1 = get_or-set_same st.done q (get_or st.done q 0 + 1) 0 inside in
             let there : get_or (step trace st (event_of trace st q op)).done p 0 ≡ get_or st.done p 0 + 1
-                = subst (λ k. get_or (step trace st (event_of trace st q op)).done k 0 ≡ get_or st.done k 0 + 1) same (later q ∙ more) in
+            = subst (λ k. get_or (step trace st (event_of trace st q op)).done k 0 ≡ get_or st.done k 0 + 1) same (later q ∙ more) in
             let got : drop (get_or st.done p 0) (operations_of trace p) ≡ op ∷ drop (get_or st.done p 0 + 1) (operations_of trace p)
-                = drop_got (operations_of trace p) (get_or st.done p 0) op (subst (λ n. next_operation trace st n ≡ Some op) same e) in
+            = drop_got (operations_of trace p) (get_or st.done p 0) op (subst (λ n. next_operation trace st n ≡ Some op) same e) in
             ap (λ b. cond b (op ∷ done_by p events) (done_by p events)) test
             ∙ ap (λ ops. op ∷ ops) (rest ∙ ap (λ n. take (occurrences p order) (drop n (operations_of trace p))) there)
             ∙ ap (take (suc (occurrences p order))) (sym got)

@@ -53,10 +53,10 @@ pub follows_some : (trace : Trace) (m after : Machine) (events : List Event) (pi
     Follows trace after (events ++ Done pid op said ∷ []) order
 follows_some trace m after events pid op said order e built same reply moved f =
     let answered : said ≡ reply_to trace m.state pid.0 op
-        = reply ∙ ap (λ setup. reply_to setup m.state pid.0 op) f.setup ∙ sym (reply_unread trace m.state pid.0 op) in
+    = reply ∙ ap (λ setup. reply_to setup m.state pid.0 op) f.setup ∙ sym (reply_unread trace m.state pid.0 op) in
     let event : Done pid op said ≡ event_of trace m.state pid.0 op = ap (Done pid op) answered in
     let stepped : after.state ≡ step trace m.state (Done pid op said)
-        = moved ∙ ap (λ setup. step setup m.state (Done pid op said)) f.setup ∙ sym (step_unread trace m.state pid op said) in
+    = moved ∙ ap (λ setup. step setup m.state (Done pid op said)) f.setup ∙ sym (step_unread trace m.state pid op said) in
     record {
       setup = same ∙ f.setup;
       after = stepped ∙ ap (λ st. step trace st (Done pid op said)) f.after ∙ sym (run_snoc trace (opening trace) events (Done pid op said));
@@ -72,5 +72,5 @@ pub follows_end : (trace : Trace) (m : Machine) (events : List Event) → 0 < pr
     (events ≡ file_order trace) × (m.state ≡ state_after trace (file_order trace))
 follows_end trace m events positive f =
     let all : events ≡ file_order trace
-        = sym (append-nil events) ∙ ap (λ rest. events ++ rest) (sym (order_end trace m.state positive f.quiet)) ∙ f.filed in
+    = sym (append-nil events) ∙ ap (λ rest. events ++ rest) (sym (order_end trace m.state positive f.quiet)) ∙ f.filed in
     (all, f.after ∙ ap (state_after trace) all)

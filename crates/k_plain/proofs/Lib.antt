@@ -1,4 +1,4 @@
-pub mod Lists
+pub mod Changes
 pub mod Sums
 pub mod Rows
 pub mod Openings
@@ -18,3 +18,7 @@ pub mod Orders
 pub mod Follows
 pub mod Filed
 pub mod FirstForms
+pub mod Typed
+pub mod Operated
+pub mod Known
+pub mod Nearests

@@ -38,7 +38,7 @@ module _ (before after : Machine) (p : ℕ) (r base : Reg) (i : ℕ) (x : Name) 
   unfolding first_fault fault_where answer effect
   load_done value kind setup state =
       let loaded : value ≡ reference_from before.state (register before.state.registers p base.0) i
-          = ap reference (sym kind ∙ a.holds) ∙ ap (λ b. reference_from before.state b i) (sym a.base) in
+      = ap reference (sym kind ∙ a.holds) ∙ ap (λ b. reference_from before.state b i) (sym a.base) in
       answered before after p (Load r base i) (Loaded value)
       (first ∙ ap (λ c. first_fault (fault_where (not (is_ref c)) WrongKind ∷ [])) kind)
       setup

@@ -3,3 +3,4 @@ pub mod Machines
 pub mod Accesses
 pub mod Built
 pub mod Runs
+pub mod Nearest

@@ -1,12 +1,14 @@
 -- The machine with the setup of its trace, and what an operation does to it.
-use Rattle.std.specs.Prelude.{◌≡◌, ℕ, ◌<◌, ◌≤◌, ◌^◌, [], length}
+use Rattle.std.specs.Prelude.{◌≡◌, ℕ, ◌<◌, ◌≤◌, ◌^◌, [], length, IfSome}
 use Rattle.k_types.specs.declared.op.Op.{Op}
 use Rattle.k_types.specs.declared.event.Reply.{Reply}
 use Rattle.k_types.specs.Trace.{Trace, process_count}
 use Rattle.k_types.specs.Types.{HaveFewFields}
 use Rattle.k_types.specs.TraceRules.{AreLimits}
-use Rattle.k_types.specs.State.{State}
-use Rattle.k_types.specs.Sound.{IsSized}
+use Rattle.std.specs.List.{AllByRecursion}
+use Rattle.k_types.specs.State.{Object, State}
+use Rattle.k_types.specs.Sound.{IsSized, IsSound}
+use Rattle.k_text.specs.Shown.{IsKnownPhase}
 use Rattle.k_types.specs.Replies.{faults, first_fault, reply_to}
 use Rattle.k_types.specs.Effects.{effect_unless}
 
@@ -29,11 +31,24 @@ pub record AreSetupRules (setup : Trace) : Type 0 where
   pub shared : setup.shared_heaps ≤ 64
   pub limits : AreLimits setup
 
--- The setup keeps the rules, the lists are as long as it says, and there are no more objects than numbers of 32 bits.
+-- The type of the object is one of the setup's. The directory has none.
+abbrev pub IsTyped : Trace → Object → Type 0
+IsTyped setup o = IfSome o.ty (λ ty. ty.0 < length setup.types)
+
+-- The setup keeps the rules, the lists are as long as it says, objects and exit items are no more than numbers of 32 bits,
+-- and types and phases name what the setup declares.
 pub record IsPlain (machine : Machine) : Type 0 where
   pub setup : AreSetupRules machine.setup
   pub sized : IsSized machine.setup machine.state
   pub few : length machine.state.objects ≤ 2 ^ 32
+  pub few_exits : length machine.state.exits < 2 ^ 32
+  pub typed : AllByRecursion (IsTyped machine.setup) machine.state.objects
+  pub phases : AllByRecursion (IsKnownPhase machine.setup) machine.state.phases
+
+-- The limits keep their rules, and the state is sound.
+pub record IsSoundMachine (machine : Machine) : Type 0 where
+  pub limits : AreLimits machine.setup
+  pub sound : IsSound machine.setup machine.state
 
 -- The process's operation was answered so and has left that, but for the count of operations done.
 pub record HasEffect (before after : Machine) (p : ℕ) (op : Op) (said : Reply) : Type 0 where

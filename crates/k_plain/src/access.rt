@@ -8,11 +8,11 @@ ghost use Rattle.k_types.specs.declared.event.Fault.{Fault};
 ghost use Rattle.k_types.specs.declared.event.Fault.TheVariants.{Foreign};
 ghost use Rattle.k_types.specs.declared.op.Op.TheVariants.{Load};
 
+use crate::lists::PlainLists;
 use crate::objects::FieldValue;
-use crate::state::PlainState;
 use k_types::{Fault, Heap, Name, Pid, Reg, Reply};
 
-impl PlainState {
+impl PlainLists {
     // The fault of an access to an object of that heap: it is another process's, or a shared one that the process does not
     // share.
     #[tactic(auto, unfolding(k_types::specs::Replies::fault_where, k_types::specs::Replies::first_fault))]
@@ -29,7 +29,12 @@ impl PlainState {
     }
 
     // The object in the register and what its field holds, or the fault of the access.
-    pub(crate) fn access(&self, pid: Pid, base: Reg, field: u32) -> Result<(Name, FieldValue), Fault>
+    pub(crate) fn access(
+        &self,
+        pid: Pid,
+        base: Reg,
+        field: u32,
+    ) -> Result<(Name, FieldValue), Fault>
         requires process { pid.0 < process_count self.now.setup }
         requires base { base.0 < 16 }
         ensures { MatchResult result

@@ -7,8 +7,8 @@ ghost use Rattle.k_types.specs.Types.{HaveFewFields, type_row};
 ghost use Rattle.k_types.specs.Updates.{create, next_name};
 ghost use Rattle.k_types.specs.declared.op.Op.TheVariants.{New};
 
+use crate::lists::PlainLists;
 use crate::objects::{FieldValue, PlainObject, place_of};
-use crate::state::PlainState;
 use k_io::NoMemory;
 use k_types::{Field, Name, Pid, Reg, Reply, Seg, Serial, TypeId, TypeTable};
 use std::alloc::Global;
@@ -46,7 +46,7 @@ fn fresh_fields(alloc: Global, types: &TypeTable, ty: TypeId) -> Result<Vec<Fiel
     Ok(fields)
 }
 
-impl PlainState {
+impl PlainLists {
     // Makes the segment's next object. `NoMemory` comes where the object finds no memory, its segment has no serial left or
     // the state no room for one object more, and leaves the state as it was.
     pub(crate) fn create(&mut self, alloc: Global, seg: Seg, ty: TypeId) -> Result<Name, NoMemory>
@@ -67,17 +67,26 @@ impl PlainState {
             serial: Serial(made + 1),
         };
         let at = place_of(&self.objects, name);
-        self.objects.insert(at, PlainObject {
-            name,
-            ty: Some(ty),
-            fields,
-        })?;
+        self.objects.insert(
+            at,
+            PlainObject {
+                name,
+                ty: Some(ty),
+                fields,
+            },
+        )?;
         self.made[seg.0 as usize] = made + 1;
         Ok(name)
     }
 
     // A `new`, but for the count of operations done. `NoMemory` comes as for `create`.
-    pub(crate) fn new_object(&mut self, alloc: Global, pid: Pid, reg: Reg, ty: TypeId) -> Result<Reply, NoMemory>
+    pub(crate) fn new_object(
+        &mut self,
+        alloc: Global,
+        pid: Pid,
+        reg: Reg,
+        ty: TypeId,
+    ) -> Result<Reply, NoMemory>
         requires process { pid.0 < process_count self.old.setup }
         requires reg { reg.0 < 16 }
         requires ty { ty.0 < length self.old.setup.types }

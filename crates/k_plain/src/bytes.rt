@@ -3,11 +3,11 @@ ghost use Rattle.k_types.specs.Limits.{direct_by};
 ghost use Rattle.k_types.specs.Owners.{bytes_of, charge_of};
 
 use crate::items::is_among;
+use crate::lists::PlainLists;
 use crate::names::is_same_heap;
-use crate::state::PlainState;
 use k_types::{Heap, Pid, Seg};
 
-impl PlainState {
+impl PlainLists {
     // The bytes of the heap's objects. Walks over all objects, and asks for the owner where the segment changes.
     pub(crate) fn bytes(&self, heap: Heap) -> u64
         ensures sum { result ≡ bytes_of self.now.setup self.now.state heap }

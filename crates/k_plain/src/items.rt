@@ -28,6 +28,18 @@ impl ExitItem {
         ExitItem { heap, target }
     }
 
+    pub(crate) fn target(&self) -> Name
+        ensures { result ≡ self.now.target }
+    {
+        self.target
+    }
+
+    pub(crate) fn is_of(&self, heap: Heap) -> bool
+        ensures { result ≡ heap_eq self.now.heap heap }
+    {
+        is_same_heap(self.heap, heap)
+    }
+
     pub(crate) fn is(&self, heap: Heap, target: Name) -> bool
         ensures { result ≡ (heap_eq self.now.heap heap && name_eq self.now.target target) }
     {

@@ -4,7 +4,7 @@ ghost use Rattle.k_types.specs.Owners.{charge_of};
 ghost use Rattle.k_types.specs.Replies.{size_fault};
 ghost use Rattle.k_types.specs.Trace.{process_count, row_of};
 
-use crate::state::PlainState;
+use crate::lists::PlainLists;
 use k_types::{Fault, LimitId, LimitRow, Pid};
 
 fn is_parent(parent: Option<LimitId>, limit: u32) -> bool
@@ -25,7 +25,7 @@ fn is_full(max: u64, used: u64, size: u64) -> bool
     max < size || max - size < used
 }
 
-impl PlainState {
+impl PlainLists {
     // The limit with the maximum that it has now.
     pub(crate) fn row(&self, limit: u32) -> LimitRow
         requires { limit < length self.now.setup.limits }
@@ -54,7 +54,11 @@ impl PlainState {
         for c in 0..self.setup.limits.len() as u32 {
             let row = self.row(c);
             if is_parent(row.parent, limit) {
-                let part = if row.hard { row.max } else { self.use_within(depth - 1, c) };
+                let part = if row.hard {
+                    row.max
+                } else {
+                    self.use_within(depth - 1, c)
+                };
                 sum = sum.saturating_add(part);
             }
         }

@@ -43,6 +43,12 @@ impl PlainObject {
         self.name
     }
 
+    pub(crate) fn ty(&self) -> Option<TypeId>
+        ensures { result ≡ self.now.ty }
+    {
+        self.ty
+    }
+
     // The bytes that the object takes.
     pub(crate) fn size(&self) -> u64
         ensures size { result ≡ object_bytes self.now }

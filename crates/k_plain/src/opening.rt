@@ -4,23 +4,23 @@ ghost use Rattle.k_types.specs.Names.{directory};
 ghost use Rattle.k_types.specs.State.{opening, Refers};
 ghost use Rattle.k_types.specs.Trace.{trace_of};
 
+use crate::lists::PlainLists;
 use crate::objects::{FieldValue, PlainObject};
 use crate::registers::Registers;
-use crate::state::PlainState;
 use k_io::NoMemory;
 use k_types::{LimitRow, Name, Phase, Seg, Serial, Setup};
 use std::alloc::Global;
 
-impl PlainState {
-    /// The machine's opening state. `NoMemory` comes where the lists find no memory. Source: own.
+impl PlainLists {
+    // The lists of the machine's opening state. `NoMemory` comes where they find no memory.
     #[tactic(auto, using(crate::proofs::Openings::opening_is_plain))]
-    pub fn opening(alloc: Global, setup: &Setup) -> Result<PlainState, NoMemory>
+    pub(crate) fn opening(alloc: Global, setup: &Setup) -> Result<PlainLists, NoMemory>
         requires { AreSetupRules (trace_of 1 setup.now [] []) }
         ensures { IfOk result (λ s. s ≡ record { setup = trace_of 1 setup.now [] []; state = opening (trace_of 1 setup.now [] []) }) }
     {
         let procs = setup.procs.len();
         let shared = setup.shared as usize;
-        Ok(PlainState {
+        Ok(PlainLists {
             setup: copy_of(alloc, setup)?,
             objects: first_objects(alloc, setup.dir_fields as usize)?,
             made: first_counts(alloc, procs + shared)?,
@@ -51,7 +51,7 @@ fn copy_of(alloc: Global, setup: &Setup) -> Result<Setup, NoMemory>
 }
 
 // The directory alone, with so many fields.
-#[tactic(auto, using(crate::proofs::Lists::map_replicate))]
+#[tactic(auto, using(crate::proofs::Changes::map_replicate))]
 fn first_objects(alloc: Global, fields: usize) -> Result<Vec<PlainObject>, NoMemory>
     requires { fields ≤ 16 }
     ensures { IfOk result (λ v. v.items ≡ record { name = directory; ty = None; fields = replicate fields (Refers None) } ∷ []) }

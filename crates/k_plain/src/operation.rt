@@ -7,12 +7,12 @@ ghost use Rattle.k_types.specs.Steps.{in_range};
 ghost use Rattle.k_types.specs.Trace.{process_count};
 ghost use Rattle.k_types.specs.declared.event.Event.TheVariants.{Done};
 
-use crate::state::PlainState;
+use crate::lists::PlainLists;
 use k_io::NoMemory;
 use k_types::{Op, Pid, Reply};
 use std::alloc::Global;
 
-impl PlainState {
+impl PlainLists {
     // The operation, but for the count of operations done.
     fn take_effect(&mut self, alloc: Global, pid: Pid, op: &Op) -> Result<Reply, NoMemory>
         requires process { pid.0 < process_count self.old.setup }
@@ -29,11 +29,11 @@ impl PlainState {
         }
     }
 
-    /// Does the operation of the process as the machine does, and gives the machine's reply. What is refused changes the
-    /// count of operations done alone. Walks over all objects for each size that is tested.
-    ///
-    /// `NoMemory` comes where an object or an exit item finds no memory, or a count of 32 bits has come to its end, and
-    /// leaves the machine as it was.
+    // Does the operation of the process as the machine does, and gives the machine's reply. What is refused changes the count
+    // of operations done alone.
+    //
+    // `NoMemory` comes where an object or an exit item finds no memory, or a count of 32 bits has come to its end, and
+    // leaves the machine as it was.
     pub(crate) fn operate(&mut self, alloc: Global, pid: Pid, op: &Op) -> Result<Reply, NoMemory>
         requires process { pid.0 < process_count self.old.setup }
         requires in_range { IsTrue (in_range self.old.setup op.now) }

@@ -9,13 +9,16 @@ ghost use Rattle.k_types.specs.Updates.{write};
 ghost use Rattle.k_types.specs.declared.op.Op.TheVariants.{Store};
 
 use crate::items::{ExitItem, has_exit};
+use crate::lists::PlainLists;
 use crate::names::{is_same_heap, kind_of};
 use crate::objects::{FieldValue, write};
-use crate::state::PlainState;
 use k_io::NoMemory;
 use k_types::{Fault, Name, Pid, Reg, Reply, legal};
 
-impl PlainState {
+// The most exit items that a state has at once.
+const MAX_EXITS: usize = 0xffff_ffff;
+
+impl PlainLists {
     // Whether the barrier lets the object refer to the value.
     #[tactic(auto, unfolding(k_types::specs::Replies::passes_barrier))]
     fn passes_barrier(&self, x: Name, value: Option<Name>) -> bool
@@ -32,14 +35,20 @@ impl PlainState {
     }
 
     // The object into which a store writes and what it writes, or the fault of the store.
-    fn store_target(&self, pid: Pid, base: Reg, field: u32, value: Reg) -> Result<(Name, Option<Name>), Fault>
+    fn store_target(
+        &self,
+        pid: Pid,
+        base: Reg,
+        field: u32,
+        value: Reg,
+    ) -> Result<(Name, Option<Name>), Fault>
         requires process { pid.0 < process_count self.now.setup }
         requires base { base.0 < 16 }
         requires value { value.0 < 16 }
         ensures { MatchResult result
             (λ r. (first_fault (faults self.now.setup self.now.state pid.0 (Store base field value)) ≡ None)
-                × (register self.now.state.registers pid.0 base.0 ≡ Some r.0)
-                × (r.1 ≡ register self.now.state.registers pid.0 value.0))
+            × (register self.now.state.registers pid.0 base.0 ≡ Some r.0)
+            × (r.1 ≡ register self.now.state.registers pid.0 value.0))
             (λ fault. first_fault (faults self.now.setup self.now.state pid.0 (Store base field value)) ≡ Some fault) }
     {
         let (x, held) = match self.access(pid, base, field) {
@@ -60,7 +69,8 @@ impl PlainState {
         Ok((x, to))
     }
 
-    // Adds the exit item of a store, where the owners differ and it is not there.
+    // Adds the exit item of a store, where the owners differ and it is not there. `NoMemory` comes where it finds no memory or
+    // the state has no room for one exit item more.
     #[tactic(auto, unfolding(k_types::specs::Effects::with_exit_of_store, k_types::specs::Updates::add_exit))]
     fn add_exit_of_store(&mut self, x: Name, value: Option<Name>) -> Result<(), NoMemory>
         ensures setup { self.new.setup ≡ self.old.setup }
@@ -70,6 +80,9 @@ impl PlainState {
         if let Some(y) = value {
             let from = self.owner(x.seg);
             if !is_same_heap(from, self.owner(y.seg)) && !has_exit(&self.exits, from, y) {
+                if self.exits.len() >= MAX_EXITS {
+                    return Err(NoMemory);
+                }
                 self.exits.push(ExitItem::of(from, y))?;
             }
         }
@@ -87,7 +100,13 @@ impl PlainState {
 
     // A store, but for the count of operations done. `NoMemory` comes where the exit item finds no memory, and leaves the
     // state as it was.
-    pub(crate) fn store(&mut self, pid: Pid, base: Reg, field: u32, value: Reg) -> Result<Reply, NoMemory>
+    pub(crate) fn store(
+        &mut self,
+        pid: Pid,
+        base: Reg,
+        field: u32,
+        value: Reg,
+    ) -> Result<Reply, NoMemory>
         requires process { pid.0 < process_count self.old.setup }
         requires base { base.0 < 16 }
         requires value { value.0 < 16 }

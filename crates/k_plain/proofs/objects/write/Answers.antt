@@ -2,7 +2,7 @@ use Rattle.std.proofs.Common.{◌≡◌, ℕ, ◌+◌, ◌<◌, suc, set, length
 use Rattle.k_types.specs.State.{Object}
 use Rattle.k_types.specs.Updates.{object_after_write}
 use Rattle.k_plain.specs.Contents.{content}
-use Rattle.k_plain.proofs.Lists.{upto, upto_length, upto_step, upto_all}
+use Rattle.k_plain.proofs.Changes.{upto, upto_length, upto_step, upto_all}
 use Rattle.k_plain.proofs.objects.write.Goals as goal
 
 pub loop-o-preserved : goal.loop-o-preserved

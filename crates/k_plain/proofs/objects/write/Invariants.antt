@@ -1,5 +1,5 @@
 use Rattle.std.proofs.Common.{◌≡◌}
-use Rattle.k_plain.proofs.Lists.{upto}
+use Rattle.k_plain.proofs.Changes.{upto}
 use Rattle.k_plain.specs.Contents.{content}
 use Rattle.k_types.specs.Updates.{object_after_write}
 use Rattle.k_plain.proofs.objects.write.Given as goal

@@ -1,7 +1,7 @@
 use Rattle.std.proofs.Common.{rules, ◌≡◌, true, refl}
 use Rattle.k_types.specs.Names.{name_eq}
 use Rattle.k_plain.specs.Contents.{content}
-use Rattle.k_plain.proofs.Lists.{map-set}
+use Rattle.k_plain.proofs.Changes.{map-set}
 use Rattle.k_plain.proofs.objects.PlainObject.write.Goals as goal
 
 pub returns-then-i-len : goal.returns-then-i-len

@@ -1,23 +1,24 @@
-use Rattle.std.proofs.Common.{◌≡◌, ℕ, ◌<◌, ◌+◌, List, ap, sym, ◌∙◌, get_or, arith}
-use Rattle.std.proofs.lemmas.Bool.Decides.{nat_tests}
-use Rattle.k_types.specs.State.{State}
-use Rattle.k_types.specs.Effects.{after_operation, step}
-use Rattle.k_types.specs.Replies.{faults, first_fault}
-use Rattle.k_types.specs.Updates.{count_done}
-use Rattle.k_plain.proofs.Done.{Rest, rest_of, unless_rest}
+use Rattle.std.proofs.Common.{◌≡◌, subst, sym}
+use Rattle.std.specs.Prelude.{IfOk}
+use Rattle.k_types.specs.declared.event.Event.TheVariants.{Done}
+use Rattle.k_types.specs.Steps.{IsPossible}
+use Rattle.k_types.specs.Replies.{reply_to}
+use Rattle.k_text.specs.Shown.{IsKnownReply}
+use Rattle.k_plain.specs.Machines.{IsSoundMachine, Machine}
+use Rattle.k_plain.proofs.Operated.{ok_same, operated_sound}
+use Rattle.k_plain.proofs.Known.{reply_known}
 use Rattle.k_plain.proofs.state.PlainState.operate.Goals as goal
 
-pub count_done-requires-clause-room : goal.count_done-requires-clause-room
-count_done-requires-clause-room c =
-    let m = c.args.self.now in
-    let same : c.take_effect.new.self.state.done ≡ m.state.done
-        = ap (λ (st : State). st.done) c.in_ok-reply.ensures.ok.state
-        ∙ ap (λ (r : Rest). r.done) (unless_rest m.setup c.args.pid.0 c.args.op.now m.state (first_fault (faults m.setup m.state c.args.pid.0 c.args.op.now)) c.requires.built) in
-    let at : get_or c.take_effect.new.self.state.done c.args.pid.0 0 ≡ get_or m.state.done c.args.pid.0 0 = ap (λ ns. get_or ns c.args.pid.0 0) same in
-    let room = c.is_counted_out.ensures in
-    grind (arith, nat_tests)
+pub invariant_of-self : goal.invariant_of-self
+invariant_of-self c =
+    let may = subst (λ (m : Machine). IsPossible m.setup m.state (Done c.args.pid c.args.op.now (reply_to m.setup m.state c.args.pid.0 c.args.op.now))) (sym c.self.view_is) c.requires.possible in
+    operated_sound c.self.inside.lists c.operate.new.self c.args.pid c.args.op.now c.operate.result c.self.invariant may
+    c.operate.ensures.setup c.operate.ensures.reply c.operate.ensures.state c.operate.ensures.err
 
-pub returns-clause-state : goal.returns-clause-state
-unfolding step after_operation
-returns-clause-state c =
-    c.count_done.ensures.state ∙ ap (count_done c.args.pid.0) c.in_ok-reply.ensures.ok.state
+pub returns-clause-known : goal.returns-clause-known
+returns-clause-known c =
+    let m = c.args.self.now in
+    let sound : IsSoundMachine m = subst IsSoundMachine c.self.view_is c.self.invariant in
+    ok_same c.operate.result (reply_to m.setup m.state c.args.pid.0 c.args.op.now) (IsKnownReply m.setup)
+    (subst (λ (n : Machine). IfOk c.operate.result (λ said. said ≡ reply_to n.setup n.state c.args.pid.0 c.args.op.now)) c.self.view_is c.operate.ensures.reply)
+    (reply_known m.setup m.state sound.limits sound.sound c.args.pid.0 c.requires.possible.known c.args.op.now c.requires.built)

@@ -1,0 +1,47 @@
+-- What holds of each object still holds after a write, and after one more object.
+use Rattle.std.proofs.Common.{◌≡◌, refl, subst, ℕ, zero, suc, cond, Bool, true, false, List, [], ◌∷◌, ◌++◌, map, insert, find, slice_get, Option, Some, None, arith}
+use Rattle.std.specs.List.{AllByRecursion}
+use Rattle.k_types.specs.declared.names.Name.{Name}
+use Rattle.k_types.specs.declared.names.Phase.{Phase}
+use Rattle.k_text.specs.Shown.{IsKnownPhase}
+use Rattle.k_types.specs.Names.{name_eq}
+use Rattle.k_types.specs.Trace.{Trace}
+use Rattle.k_types.specs.State.{Content, Object}
+use Rattle.k_types.specs.Updates.{object_after_write}
+use Rattle.k_plain.specs.Machines.{IsTyped}
+
+typed_after : (setup : Trace) (x : Name) (i : ℕ) (held : Content) (o : Object) (b : Bool) → IsTyped setup o → name_eq o.name x ≡ b → IsTyped setup (object_after_write x i held o)
+typed_after setup x i held o true typed e = rw e typed
+typed_after setup x i held o false typed e = rw e typed
+
+pub typed_write : (setup : Trace) (x : Name) (i : ℕ) (held : Content) (objects : List Object) → AllByRecursion (IsTyped setup) objects →
+    AllByRecursion (IsTyped setup) (map (object_after_write x i held) objects)
+typed_write setup x i held [] typed = tt
+typed_write setup x i held (o ∷ objects) typed = (typed_after setup x i held o (name_eq o.name x) typed.0 refl, typed_write setup x i held objects typed.1)
+
+pub typed_insert : {A : Type 0} (P : A → Type 0) (xs : List A) (i : ℕ) (x : A) → AllByRecursion P xs → P x → AllByRecursion P (insert xs i x)
+typed_insert P [] zero x all holds = (holds, tt)
+typed_insert P [] (suc i) x all holds = (holds, tt)
+typed_insert P (y ∷ ys) zero x all holds = (holds, all)
+typed_insert P (y ∷ ys) (suc i) x all holds = (all.0, typed_insert P ys i x all.1 holds)
+
+pub all_snoc : {A : Type 0} (P : A → Type 0) (xs : List A) (x : A) → AllByRecursion P xs → P x → AllByRecursion P (xs ++ x ∷ [])
+all_snoc P [] x all holds = (holds, tt)
+all_snoc P (y ∷ ys) x all holds = (all.0, all_snoc P ys x all.1 holds)
+
+pub all_got : {A : Type 0} (P : A → Type 0) (xs : List A) (i : ℕ) (x : A) → AllByRecursion P xs → slice_get xs i ≡ Some x → P x
+all_got P [] i x all found = grind arith
+all_got P (y ∷ ys) zero x all found = let same : y ≡ x = cc in subst P same all.0
+all_got P (y ∷ ys) (suc i) x all found = all_got P ys i x all.1 found
+
+pub all_found : {A : Type 0} (P : A → Type 0) (test : A → Bool) (xs : List A) (x : A) → AllByRecursion P xs → find test xs ≡ Some x → P x
+all_found P test [] x all found = grind arith
+all_found P test (y ∷ ys) x all found = go (test y) (all_found P test ys x all.1) found
+  where
+    go : (b : Bool) → (find test ys ≡ Some x → P x) → cond b (Some y) (find test ys) ≡ Some x → P x
+    go true later is = let same : y ≡ x = cc in subst P same all.0
+    go false later is = later is
+
+-- the phase that is found is known
+pub phase_known : (setup : Trace) (phases : List Phase) (i : ℕ) (phase : Phase) → AllByRecursion (IsKnownPhase setup) phases → slice_get phases i ≡ Some phase → IsKnownPhase setup phase
+phase_known setup phases i phase all found = all_got (IsKnownPhase setup) phases i phase all found
