@@ -1,11 +1,11 @@
 -- What the links of the chains say.
-use Rattle.std.proofs.Common.{◌≡◌, ◌≢◌, ◌==◌, ℕ, zero, suc, ◌+◌, ◌-◌, ◌<◌, ◌≤◌, ◌⊎◌, ◌&&◌, not, Bool, true, false, cond, refl, sym, ap, ap₂, subst, ◌∙◌, inl, inr, List, [], ◌∷◌, length, get_or, set, eqb-true, eq-eqb, arith}
+use Rattle.std.proofs.Common.{◌≡◌, ◌≢◌, ◌==◌, ℕ, suc, ◌<◌, ◌≤◌, ◌&&◌, not, true, false, refl, sym, ap, ap₂, ◌∙◌, inl, inr, List, length, eqb-true, eq-eqb, arith}
 use Rattle.std.proofs.lemmas.Bool.{cases_eq, cases_lt, false≢true, and_from, and_parts, false_from_ne_true}
 use Rattle.k_types.specs.declared.names.Name.{Name}
 use Rattle.k_types.specs.Names.{name_eq}
 use Rattle.k_exit.specs.declared.chains.Item.{Item}
-use Rattle.k_exit.specs.Chains.{row_of, bucket, blank, at, last, in_chain, IsLinked, IsChained, IsLinkedAbove, IsNextAbove, HasNoneAbove}
-use Rattle.k_exit.proofs.Last.{last_hit, last_skips, last_within, last_above}
+use Rattle.k_exit.specs.Chains.{bucket, at, last, in_chain, IsChained}
+use Rattle.k_exit.proofs.Last.{last_hit, last_skips, last_within}
 
 -- tests of places in chains
 pub in_from : (items : List Item) (room out b j : ℕ) → j ≢ out → bucket room (at items j).target ≡ b → in_chain items room out b j ≡ true

@@ -1,12 +1,12 @@
 -- What the calls of a table do to its list.
-use Rattle.std.proofs.Common.{◌≡◌, ◌≢◌, ◌==◌, ◌||◌, ◌&&◌, ℕ, zero, suc, ◌+◌, ◌-◌, ◌<◌, ◌≤◌, ◌⊎◌, not, Bool, true, false, cond, refl, sym, ap, ap₂, subst, ◌∙◌, inl, inr, List, [], ◌∷◌, ◌++◌, length, map, get_or, set, slice_get, count_by, Option, Some, None, IfSome, IfNone, is_some, add-one, arith}
+use Rattle.std.proofs.Common.{◌≡◌, ◌≢◌, ◌==◌, ◌||◌, ◌&&◌, ℕ, zero, suc, ◌+◌, ◌-◌, ◌<◌, ◌≤◌, not, Bool, true, false, cond, refl, sym, ap, ap₂, subst, ◌∙◌, inl, inr, List, [], ◌∷◌, ◌++◌, length, map, get_or, set, slice_get, count_by, Option, Some, None, IfSome, IfNone, is_some, arith}
 use Rattle.std.specs.List.{list_any}
 use Rattle.std.proofs.lemmas.Bool.{cases_eq, false≢true, or_left, or_right, false_from_ne_true}
 use Rattle.std.proofs.lemmas.List.Sums.{sum_by-cons, sum_by-append}
 use Rattle.k_types.specs.declared.names.Name.{Name}
 use Rattle.k_types.specs.Names.{name_eq}
 use Rattle.k_exit.specs.declared.chains.Item.{Item}
-use Rattle.k_exit.specs.Exits.{ExitRow, ExitList, AreDistinct, has_target, with_target, marked_if, unmarked_row, targets}
+use Rattle.k_exit.specs.Exits.{ExitRow, AreDistinct, has_target, marked_if, unmarked_row}
 use Rattle.k_exit.specs.Chains.{row_of, blank, at, last, in_chain, bucket, IsLinked, IsChained, is_wanted, HasPassed}
 use Rattle.std.proofs.Common.{take}
 use Rattle.std.proofs.lemmas.Option.{get_or_from_slice_get, slice_get_within, slice_get-get_or}

@@ -1,9 +1,8 @@
 -- An item is replaced, or goes.
-use Rattle.std.proofs.Common.{◌≡◌, ◌≢◌, ◌==◌, ℕ, zero, suc, ◌+◌, ◌-◌, ◌<◌, ◌≤◌, ◌⊎◌, ◌&&◌, not, Bool, true, false, refl, sym, ap, ap₂, subst, ◌∙◌, inl, inr, List, [], ◌∷◌, ◌++◌, length, map, take, replicate, get_or, set, Option, Some, None, arith, ◌^◌, eq-eqb}
-use Rattle.std.proofs.lemmas.Bool.{cases_eq, cases_lt, false≢true}
-use Rattle.std.proofs.lemmas.List.{get_or-set_same, get_or-set_other, length-set, get_or_append_left, length-append}
+use Rattle.std.proofs.Common.{◌≡◌, ◌≢◌, ◌==◌, ℕ, zero, suc, ◌<◌, ◌≤◌, ◌&&◌, not, true, refl, sym, ap, ap₂, ◌∙◌, inl, inr, List, [], ◌∷◌, length, map, take, replicate, get_or, set, arith, ◌^◌, eq-eqb}
+use Rattle.std.proofs.lemmas.Bool.{cases_eq}
 use Rattle.k_exit.specs.declared.chains.Item.{Item}
-use Rattle.k_exit.specs.Chains.{row_of, blank, bucket, at, with_next, last, in_chain, IsLinked, IsChained}
+use Rattle.k_exit.specs.Chains.{row_of, bucket, at, last, in_chain, IsLinked, IsChained}
 use Rattle.k_exit.specs.Exits.{ExitRow}
 use Rattle.k_exit.proofs.Last.{last_same, last_not}
 use Rattle.k_exit.proofs.Links.{out_other, in_out}

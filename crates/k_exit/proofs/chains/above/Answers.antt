@@ -1,6 +1,6 @@
-use Rattle.std.proofs.Common.{◌≡◌, ◌-◌, ◌<◌, ◌≤◌, ℕ, suc, sym, ap, subst, ◌∙◌, refl, arith, length, Option}
-use Rattle.k_exit.specs.Chains.{at, top, IsClimb}
-use Rattle.k_exit.proofs.Relinks.{climb_begins, climb_goes, climb_ends, climb_ends_at}
+use Rattle.std.proofs.Common.{◌≡◌, ◌-◌, ℕ, suc, subst, refl, arith}
+use Rattle.k_exit.specs.Chains.{IsClimb}
+use Rattle.k_exit.proofs.Relinks.{climb_begins, climb_goes}
 use Rattle.k_exit.proofs.chains.above.Goals as goal
 
 pub loop-next-init : goal.loop-next-init

@@ -1,4 +1,4 @@
-use Rattle.std.proofs.Common.{◌≡◌, refl}
+use Rattle.std.proofs.Common.{refl}
 use Rattle.k_exit.specs.Chains.{bucket}
 use Rattle.k_exit.proofs.chains.chain_of.Goals as goal
 

@@ -1,4 +1,4 @@
-use Rattle.std.proofs.Common.{◌≡◌, ◌-◌, ◌<◌, ◌≤◌, ℕ, suc, sym, ap, subst, ◌∙◌, refl, arith, length}
+use Rattle.std.proofs.Common.{◌≡◌, ◌-◌, ◌<◌, ℕ, suc, sym, ap, subst, ◌∙◌, refl, arith, length}
 use Rattle.k_exit.specs.Chains.{at, last, bucket, in_chain}
 use Rattle.k_exit.proofs.Last.{last_within}
 use Rattle.k_exit.proofs.Links.{IsWalk, walk_begins, walk_goes, differs_of}

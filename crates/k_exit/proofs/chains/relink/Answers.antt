@@ -1,4 +1,4 @@
-use Rattle.std.proofs.Common.{◌≡◌, ◌<◌, ◌≤◌, ◌+◌, ℕ, suc, List, refl, sym, ap, subst, ◌∙◌, length, map, get_or, replicate, add-one, arith}
+use Rattle.std.proofs.Common.{◌≡◌, ℕ, List, refl, sym, ap, subst, ◌∙◌, length, get_or, replicate, add-one, arith}
 use Rattle.k_exit.specs.Chains.{IsLinked}
 use Rattle.k_exit.proofs.Removes.{none_linked, one_more, all_zero}
 use Rattle.k_exit.proofs.chains.relink.Goals as goal

@@ -1,7 +1,7 @@
-use Rattle.std.proofs.Common.{◌≡◌, ◌+◌, ◌-◌, ◌<◌, ◌≤◌, ℕ, suc, List, refl, sym, ap, ap₂, subst, ◌∙◌, length, map, take, get_or, set, arith}
+use Rattle.std.proofs.Common.{◌≡◌, ◌+◌, ◌-◌, ◌<◌, ℕ, List, sym, ap, ap₂, subst, ◌∙◌, length, map, take, get_or, set, arith}
 use Rattle.std.proofs.Math.ListN.{get_or-map}
 use Rattle.k_exit.specs.declared.chains.Item.{Item}
-use Rattle.k_exit.specs.Chains.{IsLinked, IsChained, row_of, at, blank}
+use Rattle.k_exit.specs.Chains.{IsLinked, IsChained, row_of, blank}
 use Rattle.k_exit.specs.Exits.{ExitRow}
 use Rattle.k_exit.proofs.Relinks.{read_at}
 use Rattle.k_exit.proofs.Removes.{cut_off, same_len, map_len, map_front, set_front, front_at, front_len}

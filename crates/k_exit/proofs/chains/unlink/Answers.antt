@@ -1,6 +1,6 @@
-use Rattle.std.proofs.Common.{◌≡◌, ◌<◌, ◌≤◌, ◌⊎◌, ℕ, List, refl, sym, ap, subst, ◌∙◌, inr, length, map, get_or, set, arith}
+use Rattle.std.proofs.Common.{◌≡◌, ◌<◌, List, sym, ap, subst, ◌∙◌, inr, length, map, arith}
 use Rattle.k_exit.specs.declared.chains.Item.{Item}
-use Rattle.k_exit.specs.Chains.{IsLinked, IsLinkedAbove, IsNextAbove, HasNoneAbove, at, row_of, bucket, with_next}
+use Rattle.k_exit.specs.Chains.{IsLinked, IsLinkedAbove, IsNextAbove, HasNoneAbove, at, row_of}
 use Rattle.k_exit.proofs.Relinks.{unlinked_at, unlinked_head, chain_here, read_at, next_rows}
 use Rattle.k_exit.proofs.chains.unlink.Goals as goal
 

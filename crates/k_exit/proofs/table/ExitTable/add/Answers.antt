@@ -1,10 +1,10 @@
-use Rattle.std.proofs.Common.{◌≡◌, ◌<◌, ◌≤◌, ◌+◌, ◌⊎◌, inl, inr, ℕ, suc, true, false, List, [], ◌∷◌, ◌++◌, map, get_or, length, sym, ap, subst, ◌∙◌, add-one, arith}
+use Rattle.std.proofs.Common.{◌≡◌, ◌<◌, ◌+◌, ◌⊎◌, inl, inr, ℕ, suc, true, false, List, [], ◌∷◌, ◌++◌, map, length, sym, ap, subst, ◌∙◌, arith}
 use Rattle.std.proofs.lemmas.List.{get_or_append_left, length-append, map-append}
 use Rattle.std.proofs.lemmas.Bool.{false≢true}
 use Rattle.k_types.specs.declared.names.Name.{Name}
 use Rattle.k_types.specs.Names.{name_of}
 use Rattle.k_exit.specs.declared.chains.Item.{Item}
-use Rattle.k_exit.specs.Chains.{IsLinked, IsChained, HasPassed, row_of, at, blank}
+use Rattle.k_exit.specs.Chains.{IsLinked, IsChained, row_of, blank}
 use Rattle.k_exit.specs.Exits.{ExitRow, ExitList, AreDistinct, has_target}
 use Rattle.k_exit.proofs.Removes.{relinked, one_more, same_len, map_len}
 use Rattle.k_exit.proofs.Lists.{passed_end, distinct_push}

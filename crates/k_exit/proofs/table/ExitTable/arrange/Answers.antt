@@ -1,11 +1,11 @@
-use Rattle.std.proofs.Common.{◌≡◌, ℕ, suc, ◌+◌, ◌<◌, List, Some, map, get_or, slice_get, length, sym, ap, ap₂, subst, is_lt, nat_cmp, add-one, ◌∙◌, refl, arith, rules}
+use Rattle.std.proofs.Common.{◌≡◌, ◌+◌, List, Some, map, slice_get, sym, ap, ap₂, subst, is_lt, nat_cmp, add-one, ◌∙◌, arith, rules}
 use Rattle.std.specs.List.Sorted.{IsPermutation}
-use Rattle.std.proofs.lemmas.List.Sorted.{IsPermutation-map, length_permutation}
+use Rattle.std.proofs.lemmas.List.Sorted.{IsPermutation-map}
 use Rattle.std.proofs.lemmas.List.Sorted.{answers_always}
 use Rattle.k_types.specs.declared.names.Name.{Name}
 use Rattle.k_exit.specs.declared.chains.Item.{Item}
-use Rattle.k_exit.specs.Chains.{HasPassed, row_of, blank}
-use Rattle.k_exit.specs.Exits.{ExitRow, ExitList, AreDistinct}
+use Rattle.k_exit.specs.Chains.{row_of, blank}
+use Rattle.k_exit.specs.Exits.{ExitRow, ExitList}
 use Rattle.std.specs.Ordering.{ordering_then}
 use Rattle.std.proofs.lemmas.Option.{slice_get_within}
 use Rattle.k_exit.proofs.Order.{comes_first, apart_next, key_at}

@@ -1,4 +1,4 @@
-use Rattle.std.proofs.Common.{◌≡◌, List, map, ap, ◌∙◌, length}
+use Rattle.std.proofs.Common.{List, map, ap, ◌∙◌}
 use Rattle.k_exit.specs.declared.chains.Item.{Item}
 use Rattle.k_exit.specs.Chains.{row_of}
 use Rattle.k_exit.specs.Exits.{ExitList, has_target}

@@ -1,4 +1,4 @@
-use Rattle.std.proofs.Common.{◌≡◌, ◌==◌, List, ap, ◌∙◌}
+use Rattle.std.proofs.Common.{◌==◌, List, ap, ◌∙◌}
 use Rattle.std.specs.List.{list_any}
 use Rattle.k_exit.specs.declared.chains.Item.{Item}
 use Rattle.k_exit.specs.Exits.{ExitRow, ExitList, leads_into}

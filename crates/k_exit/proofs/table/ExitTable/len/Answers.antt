@@ -1,4 +1,4 @@
-use Rattle.std.proofs.Common.{◌≡◌, subst}
+use Rattle.std.proofs.Common.{subst}
 use Rattle.k_exit.specs.Exits.{ExitList, AreDistinct}
 use Rattle.k_exit.proofs.table.ExitTable.len.Goals as goal
 

@@ -1,8 +1,8 @@
-use Rattle.std.proofs.Common.{◌≡◌, ◌<◌, ◌≤◌, ℕ, List, [], map, replicate, get_or, length, sym, ap, subst, ◌∙◌, arith}
+use Rattle.std.proofs.Common.{◌≡◌, ℕ, List, [], map, replicate, get_or, length, sym, ap, subst, ◌∙◌, arith}
 use Rattle.k_exit.specs.declared.chains.Item.{Item}
 use Rattle.k_exit.specs.declared.table.Wanted.TheVariants.{Any}
-use Rattle.k_exit.specs.Chains.{IsLinked, IsChained, HasPassed, row_of}
-use Rattle.k_exit.specs.Exits.{ExitRow, AreDistinct}
+use Rattle.k_exit.specs.Chains.{IsChained, HasPassed, row_of}
+use Rattle.k_exit.specs.Exits.{AreDistinct}
 use Rattle.k_exit.proofs.Removes.{none_linked, all_zero, zeros_len}
 use Rattle.k_exit.proofs.Lists.{passed_end}
 use Rattle.k_exit.proofs.table.ExitTable.make.Goals as goal

@@ -1,12 +1,10 @@
-use Rattle.std.proofs.Common.{◌≡◌, ◌<◌, true, false, List, Some, None, map, set, get_or, length, slice_get, refl, sym, ap, subst, ◌∙◌, arith}
+use Rattle.std.proofs.Common.{◌≡◌, ◌<◌, true, false, List, Some, None, map, set, length, refl, sym, ap, subst, ◌∙◌, arith}
 use Rattle.std.proofs.lemmas.Bool.{false≢true}
-use Rattle.std.proofs.lemmas.List.{get_or-set_same, get_or-set_other, length-set, map-set}
+use Rattle.std.proofs.lemmas.List.{length-set, map-set}
 use Rattle.std.proofs.Math.ListN.{get_or-map}
 use Rattle.std.proofs.lemmas.Option.{slice_get-get_or}
-use Rattle.k_types.specs.declared.names.Name.{Name}
-use Rattle.k_types.specs.Names.{name_eq}
 use Rattle.k_exit.specs.declared.chains.Item.{Item}
-use Rattle.k_exit.specs.Chains.{IsChained, HasPassed, row_of, at, blank}
+use Rattle.k_exit.specs.Chains.{HasPassed, row_of, at, blank}
 use Rattle.k_exit.specs.Exits.{ExitRow, ExitList, AreDistinct, has_target, marked_if, with_marked}
 use Rattle.k_exit.proofs.Names.{name_same}
 use Rattle.k_exit.proofs.Relinks.{read_at}

@@ -1,4 +1,4 @@
-use Rattle.std.proofs.Common.{◌≡◌, ap, sym, subst, ◌∙◌, map}
+use Rattle.std.proofs.Common.{sym, subst, ◌∙◌, map}
 use Rattle.k_exit.specs.declared.table.Wanted.{Wanted}
 use Rattle.k_exit.specs.Exits.{ExitList}
 use Rattle.k_exit.specs.Chains.{HasPassed, row_of}

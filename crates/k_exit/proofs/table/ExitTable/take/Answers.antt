@@ -1,11 +1,11 @@
-use Rattle.std.proofs.Common.{◌≡◌, ◌<◌, ◌≤◌, ℕ, List, Some, false, map, get_or, length, slice_get, ◌∷◌, sym, ap, subst, ◌∙◌, inl, inr, arith}
+use Rattle.std.proofs.Common.{◌≡◌, List, map, length, ◌∷◌, sym, ap, subst, ◌∙◌, inl, inr, arith}
 use Rattle.std.proofs.lemmas.Bool.{cases_lt}
 use Rattle.std.proofs.lemmas.Option.{slice_get_within, get_or_from_slice_get}
 use Rattle.std.proofs.Math.ListN.{get_or-map}
 use Rattle.std.specs.List.Sorted.{IsPermutation}
 use Rattle.k_exit.specs.declared.chains.Item.{Item}
-use Rattle.k_exit.specs.Chains.{HasPassed, IsLastWanted, row_of, at, blank, rows_without, is_wanted}
-use Rattle.k_exit.specs.Exits.{ExitRow, ExitList, AreDistinct, IsTaken}
+use Rattle.k_exit.specs.Chains.{HasPassed, IsLastWanted, row_of, at, blank, rows_without}
+use Rattle.k_exit.specs.Exits.{ExitRow, ExitList, AreDistinct}
 use Rattle.k_exit.proofs.Removes.{map_len}
 use Rattle.k_exit.proofs.Lists.{without_is, distinct_taken, passed_without}
 use Rattle.k_exit.proofs.table.ExitTable.take.Goals as goal

@@ -1,4 +1,4 @@
-use Rattle.std.proofs.Common.{◌≡◌, ℕ, ◌<◌, Option, Some, None, IfNone, length, slice_get, List, [], true, false}
+use Rattle.std.proofs.Common.{◌≡◌, Option, Some, None, IfNone, length, List, []}
 use Rattle.k_types.specs.declared.names.Link.{Link}
 use Rattle.k_exit.specs.declared.table.Wanted.TheVariants.{Any}
 use Rattle.k_exit.specs.Exits.{ExitRow}

@@ -1,7 +1,7 @@
-use Rattle.std.proofs.Common.{◌≡◌, List, map, length, refl, sym, ap, subst, ◌∙◌, arith}
+use Rattle.std.proofs.Common.{◌≡◌, List, map, length, sym, ap, subst, ◌∙◌, arith}
 use Rattle.std.proofs.Math.ListN.{get_or-map}
 use Rattle.k_exit.specs.declared.chains.Item.{Item}
-use Rattle.k_exit.specs.Chains.{IsChained, HasPassed, row_of, at, blank, unmarked_item}
+use Rattle.k_exit.specs.Chains.{IsChained, row_of, blank, unmarked_item}
 use Rattle.k_exit.specs.Exits.{ExitRow, ExitList, AreDistinct, unmarked_row, unmarked}
 use Rattle.k_exit.proofs.Removes.{map_len}
 use Rattle.k_exit.proofs.Lists.{linked_marks, distinct_unmarked, passed_end, rows_unmarked}
