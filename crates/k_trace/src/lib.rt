@@ -23,3 +23,6 @@ pub use forms::read_op;
 pub use laws::judged_as_spelled;
 pub use names::Names;
 pub use trace::Trace;
+
+#[cfg(test)]
+mod tests;

@@ -1,0 +1,25 @@
+use crate::{NameList, number, register};
+use std::test::Fail;
+
+#[test]
+fn names_are_numbered_in_order(rt: HostRuntime) -> Result<(), Fail> {
+    let mut names = NameList::new(rt.alloc());
+    for (at, name) in [b"Node".as_slice(), b"Row".as_slice()].iter().enumerate() {
+        assert!(rt; !names.declares(name));
+        names.declare(rt.alloc(), name)?;
+        assert!(rt; names.number(name) == Some(at));
+    }
+    assert_eq!(rt; names.len(), 2);
+    assert!(rt; names.name(1) == b"Row".as_slice());
+    assert!(rt; names.number(b"Rows").is_none());
+    Ok(())
+}
+
+#[test]
+fn numbers_have_one_spelling(rt: HostRuntime) {
+    assert!(rt; number(b"18446744073709551615", 1 << 64) == Some(u64::MAX));
+    assert!(rt; number(b"18446744073709551616", 1 << 64).is_none());
+    assert!(rt; number(b"007", 16).is_none());
+    assert!(rt; register(b"r15") == Some(15));
+    assert!(rt; register(b"r16").is_none());
+}
