@@ -2,6 +2,7 @@ use crate::{PlainState, solo};
 use k_text::View;
 use k_trace::read_trace;
 use k_types::{Event, Fault, Heap, LimitId, Name, Pid, Reply, Seg, Serial};
+use std::test::Fail;
 
 const FIRST: &[u8] = b"kaffe 1
 kernel 32 2
