@@ -19,7 +19,8 @@ use Rattle.k_trace.specs.FirstForm.{IsFirstForm, is_first_op}
 use Rattle.k_plain.specs.Built.{AreBuilt, is_built}
 use Rattle.k_plain.specs.Machines.{AreSetupRules, Machine, setup_of}
 use Rattle.k_plain.specs.Runs.{IsFiled, Run}
-use Rattle.k_plain.proofs.Filed.{all_at, file_order_complete, file_order_legal}
+use Rattle.k_order.proofs.FileOrders.{file_order_complete, file_order_legal}
+use Rattle.k_order.proofs.Numbered.{all_at}
 use Rattle.k_plain.proofs.Follows.{Follows, follows_end}
 use Rattle.k_plain.proofs.Unread.{in_range_unread}
 
@@ -109,11 +110,10 @@ pub filed_run : (trace : Trace) (m : Machine) (events : List Event) (end : Run) 
     end ≡ record { machine = m; events = events } → IsFiled trace end
 filed_run trace m events end rules form f is =
     let over = follows_end trace m events rules.some_process f in
-    let built = first_form_built trace form in
     subst (IsFiled trace) (sym is) (record {
       setup = f.setup;
       events = over.0;
       state = over.1;
-      legal = file_order_legal trace rules.operations built rules.some_process;
-      complete = file_order_complete trace rules.operations built rules.some_process;
+      legal = file_order_legal trace rules.operations;
+      complete = file_order_complete trace rules.operations;
     })

@@ -16,7 +16,6 @@ pub mod Done
 pub mod Quiet
 pub mod Orders
 pub mod Follows
-pub mod Filed
 pub mod FirstForms
 pub mod Typed
 pub mod Operated

@@ -13,10 +13,11 @@ use Rattle.k_types.specs.Names.{among}
 use Rattle.k_types.specs.Numbers.{numbers_below}
 use Rattle.k_types.specs.Trace.{Trace, process_count}
 use Rattle.k_types.specs.State.{Scan, State, is_scanned}
-use Rattle.k_types.specs.Replies.{faults, first_fault}
+use Rattle.k_types.specs.Cells.{cells_touched}
+use Rattle.k_types.specs.Replies.{faults, first_fault, reply_to}
 use Rattle.k_types.specs.Effects.{after_operation, step}
 use Rattle.k_types.specs.Updates.{count_done}
-use Rattle.k_types.specs.Steps.{waits_for_orphans}
+use Rattle.k_types.specs.Steps.{IsPossible, in_range, no_orphan, waits_for_orphans}
 use Rattle.k_types.specs.Complete.{all_ended}
 use Rattle.k_types.specs.FileOrder.{last_events}
 use Rattle.k_plain.specs.Built.{is_built}
@@ -32,13 +33,6 @@ unfolding step after_operation count_done
 quiet_step trace st pid op said built quiet =
     let same = unless_rest trace pid.0 op st (first_fault (faults trace st pid.0 op)) built in
     record { ended = ap (λ (r : Rest). r.ended) same ∙ quiet.ended; scans = ap (λ (r : Rest). r.scans) same ∙ quiet.scans }
-
-pub done_step : (trace : Trace) (st : State) (pid : Pid) (op : Op) (said : Reply) → IsTrue (is_built op) →
-    (step trace st (Done pid op said)).done ≡ set st.done pid.0 (get_or st.done pid.0 0 + 1)
-unfolding step after_operation count_done
-done_step trace st pid op said built =
-    let same = unless_rest trace pid.0 op st (first_fault (faults trace st pid.0 op)) built in
-    ap (λ (r : Rest). set r.done pid.0 (get_or r.done pid.0 0 + 1)) same
 
 none_ended : (n : ℕ) → 0 < n → list_all (λ p. among p []) (numbers_below n) ≡ false
 none_ended zero positive = absurd (omega arith)
@@ -75,3 +69,15 @@ waits_not (Share s) built = absurd (false≢true built)
 waits_not (Freeze s root) built = absurd (false≢true built)
 waits_not (Attach r s) built = absurd (false≢true built)
 waits_not Exit built = absurd (false≢true built)
+
+-- in a quiet state each operation that is built and in range is possible
+pub quiet_possible : (trace : Trace) (st : State) (pid : Pid) (op : Op) → pid.0 < process_count trace → IsTrue (in_range trace op) → IsTrue (is_built op) → IsQuiet st →
+    IsPossible trace st (Done pid op (reply_to trace st pid.0 op))
+quiet_possible trace st pid op known ranged is quiet = record {
+  known = known;
+  lives = ap (among pid.0) quiet.ended;
+  in_range = ranged;
+  idle = quiet_cells st (cells_touched trace st (Done pid op (reply_to trace st pid.0 op))) quiet;
+  orphans = ap (λ b. not b || no_orphan trace st) (waits_not op is);
+  replied = refl;
+}

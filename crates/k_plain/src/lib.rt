@@ -1,8 +1,10 @@
-//! The plain machine: the machine of `k_types` run over plain lists, one operation at a time.
+//! The plain machine: the machine of `k_types` over plain lists, one operation at a time, on the caller's thread.
 //!
-//! [`PlainLists`] is a state of the machine with the setup of its trace. Each operation's contract promises the machine's
-//! reply and the machine's step, and nothing else. Below stand the definitions of `k_types` and, for printing, the view of
-//! `k_text`.
+//! [`PlainState`] is a sound state of the machine with the setup of its trace. The contract of each operation promises the
+//! machine's reply and the machine's step, and nothing else. [`solo`] does the operations of a trace in the order of the
+//! file; its contract promises the machine's history of the file and the state after it. [`PlainEnd`] shows a state and the
+//! events that led to it for printing. Sums are taken afresh from the objects. Below stand the definitions of `k_types`, the
+//! laws of soundness and of the file order, the traces of `k_trace` and the view of `k_text`.
 #![tactic(auto)]
 
 mod access;
@@ -23,6 +25,9 @@ mod shown;
 mod state;
 mod store;
 mod viewing;
+
+#[cfg(test)]
+mod tests;
 
 pub use ending::PlainEnd;
 pub use running::solo;

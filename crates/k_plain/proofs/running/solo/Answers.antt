@@ -15,7 +15,7 @@ use Rattle.k_types.specs.Steps.{in_range}
 use Rattle.k_text.specs.Shown.{IsKnownEvent, IsKnownReply}
 use Rattle.k_plain.specs.Machines.{Machine, setup_of}
 use Rattle.k_plain.proofs.Typed.{all_snoc}
-use Rattle.k_plain.proofs.Filed.{quiet_possible}
+use Rattle.k_plain.proofs.Quiet.{quiet_possible}
 use Rattle.k_plain.proofs.FirstForms.{filed_run, next_built, next_in_range, next_is, order_next, order_over, process_known}
 use Rattle.k_plain.proofs.Follows.{Follows, follows_none, follows_some}
 use Rattle.k_plain.proofs.running.solo.Goals as goal
