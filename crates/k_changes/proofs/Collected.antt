@@ -23,20 +23,20 @@ same_kept q p r same [] = refl
 same_kept q p r same (x ∷ xs) = grind (arith, same x, same_kept q p r same xs)
 
 module _ (trace : Trace) (st : State) (h : Heap) where
-  reached : List Object
+  abbrev pub reached : List Object
   reached = reach_among (objects_of (owner_of trace st) h st.objects) (unwrap_or (scan_of st.scans h) [])
 
   survives_here : (o : Object) → heap_eq (owner_of trace st o.name.seg.0) h ≡ true → survives trace st h o.name ≡ has reached o.name
-  unfolding survives reached
+  unfolding survives
   survives_here o own =
       ap₂ (λ b set. not b || has set o.name) own (reach_is trace st h (open_roots st h))
 
-  stays_here : (n : Name) → exit_stays trace st h (record { heap = h; target = n }) ≡ list_any (λ x. refers x n) reached
-  unfolding exit_stays reached
+  pub stays_here : (n : Name) → exit_stays trace st h (record { heap = h; target = n }) ≡ list_any (λ x. refers x n) reached
+  unfolding exit_stays
   stays_here n = ap₂ (λ b set. not b || list_any (λ x. refers x n) set) (heap_eq_refl h) (reach_is trace st h (open_roots st h))
 
   pub ended_on_cell : part trace (after_ended trace h st) h ≡ collected (part trace st h)
-  unfolding part after_ended keep_objects keep_exits keep_shares close_scan reached
+  unfolding part after_ended keep_objects keep_exits keep_shares close_scan
   ended_on_cell =
       ap₂ (λ objects exits. record (part trace (after_ended trace h st) h) { objects = objects; exits = exits })
       (same_kept (λ o. heap_eq (owner_of trace st o.name.seg.0) h) (λ o. survives trace st h o.name) (λ o. has reached o.name) survives_here st.objects)

@@ -134,7 +134,7 @@ module _ (trace : Trace) (st : State) (s : ℕ) (sound : IsSound trace st) (may 
   gone : (seg : ℕ) → owner_of trace (after_absorbed trace s st) seg ≡ merged (shared s) (owner_of trace st seg)
   gone seg = absorbed_owner trace st s sound may seg
 
-  to_kernel : (n : Name) → IsTrue (has_exit st.exits (shared s) n) → owner_of trace st n.seg.0 ≡ Kernel
+  pub to_kernel : (n : Name) → IsTrue (has_exit st.exits (shared s) n) → owner_of trace st n.seg.0 ≡ Kernel
   to_kernel n e = shared_to s (owner_of trace st n.seg.0) (sound.exits.allowed (shared s) n e) (sound.exits.leave (shared s) n e)
 
   exits_then : (h : Heap) (n : Name) → has_exit (after_absorbed trace s st).exits h n ≡ (has_exit st.exits h n && stays_after_absorb trace st s (record { heap = h; target = n }))

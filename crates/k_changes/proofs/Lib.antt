@@ -5,3 +5,9 @@ pub mod Merged
 pub mod OnBook
 pub mod OnCells
 pub mod PinsOnBook
+pub mod EntryCounts
+pub mod SharedSums
+pub mod EndsOnBook
+pub mod TakenOnBook
+pub mod WaysInto
+pub mod CollectedOnBook

@@ -31,7 +31,7 @@ map_above : (f g : ℕ → ℕ) (first n p : ℕ) → p < first → ((q : ℕ) �
 map_above f g first zero p low same = refl
 map_above f g first (suc n) p low same = ap₂ (λ x xs. x ∷ xs) (same first (λ e. absurd (omega (arith, e)))) (map_above f g (suc first) n p (omega arith) same)
 
-map_changed : (f g : ℕ → ℕ) (first n k : ℕ) → ((q : ℕ) → q ≢ first + k → g q ≡ f q) → map g (numbers_from first n) ≡ set (map f (numbers_from first n)) k (g (first + k))
+pub map_changed : (f g : ℕ → ℕ) (first n k : ℕ) → ((q : ℕ) → q ≢ first + k → g q ≡ f q) → map g (numbers_from first n) ≡ set (map f (numbers_from first n)) k (g (first + k))
 map_changed f g first zero k same = refl
 map_changed f g first (suc n) zero same =
     ap₂ (λ x xs. x ∷ xs) (ap g (omega arith)) (map_above f g (suc first) n first (omega arith) (λ q ne. same q (λ e. ne (omega (arith, e)))))
@@ -39,7 +39,7 @@ map_changed f g first (suc n) (suc k) same =
     ap₂ (λ x xs. x ∷ xs) (same first (λ e. absurd (omega (arith, e))))
     (map_changed f g (suc first) n k (λ q ne. same q (λ e. ne (omega (arith, e)))) ∙ ap (λ at. set (map f (numbers_from (suc first) n)) k (g at)) (omega arith))
 
-get_mapped : (f : ℕ → ℕ) (first n k : ℕ) → k < n → get_or (map f (numbers_from first n)) k 0 ≡ f (first + k)
+pub get_mapped : (f : ℕ → ℕ) (first n k : ℕ) → k < n → get_or (map f (numbers_from first n)) k 0 ≡ f (first + k)
 get_mapped f first zero k inside = absurd (omega arith)
 get_mapped f first (suc n) zero inside = ap f (omega arith)
 get_mapped f first (suc n) (suc k) inside = get_mapped f (suc first) n k (omega (arith, inside)) ∙ ap f (omega arith)

@@ -3,11 +3,17 @@
 //! and the laws of k_frame and k_laws.
 #![tactic(auto)]
 
+mod ends;
 mod heaps;
 mod objects;
 mod registers;
 mod sharing;
 
+pub use ends::{
+    the_charge_is_told, what_absorption_changes_in_the_book,
+    what_the_end_of_a_collection_changes_in_the_book,
+    what_the_end_of_a_process_changes_in_the_book,
+};
 pub use heaps::{
     what_absorption_changes_in_cells, what_the_beginning_of_a_collection_changes,
     what_the_end_of_a_collection_changes_in_its_cell, what_the_end_of_a_process_changes_in_cells,

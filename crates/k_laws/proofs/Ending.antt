@@ -36,16 +36,16 @@ module _ (trace : Trace) (st : State) (p : ℕ) where
   own_ended : IsTrue (among p (st.ended ++ p ∷ []))
   own_ended = list_any-append (λ m. m == p) st.ended (p ∷ []) ∙ or_right _ _ (or_left (p == p) false (eq-eqb p p refl))
 
-  own_charge : charge_of trace (after_end_of trace p st) p ≡ 0
+  pub own_charge : charge_of trace (after_end_of trace p st) p ≡ 0
   unfolding after_end_of end_process clear_registers keep_shares turn_exits
   own_charge = ap (λ b. cond b 0 (bytes_of trace (after_end_of trace p st) (user p) + total (λ e. bytes_of trace (after_end_of trace p st) (shared e.heap)) (filter (λ e. e.process == p) (filter (λ e. not (e.process == p)) st.shares)))) own_ended
 
-  same_bytes : (h : Heap) → IsFalse (heap_eq (user p) h) → IsFalse (heap_eq Kernel h) → bytes_of trace (after_end_of trace p st) h ≡ bytes_of trace st h
+  pub same_bytes : (h : Heap) → IsFalse (heap_eq (user p) h) → IsFalse (heap_eq Kernel h) → bytes_of trace (after_end_of trace p st) h ≡ bytes_of trace st h
   unfolding after_end_of end_process clear_registers keep_shares turn_exits bytes_by
   same_bytes h apart kernel = ap (total object_bytes)
       (owned_agree (owner_of trace st) (owner_of trace (after_end_of trace p st)) h (λ seg. owner_ended (process_count trace) st.ended st.phases p seg h apart kernel) st.objects)
 
-  other_charge : (q : ℕ) → q ≢ p → charge_of trace (after_end_of trace p st) q ≡ charge_of trace st q
+  pub other_charge : (q : ℕ) → q ≢ p → charge_of trace (after_end_of trace p st) q ≡ charge_of trace st q
   unfolding after_end_of end_process clear_registers keep_shares turn_exits
   other_charge q ne =
       ap (λ b. cond b 0 (bytes_of trace (after_end_of trace p st) (user q) + total (λ e. bytes_of trace (after_end_of trace p st) (shared e.heap)) (filter (λ e. e.process == q) (filter (λ e. not (e.process == p)) st.shares))))

@@ -46,7 +46,7 @@ reach_is trace st h rs =
     enough (objects_of (owner_of trace st) h st.objects) (λ n. name_among n rs) (length st.objects) (length-kept (λ o. heap_eq (owner_of trace st o.name.seg.0) h) st.objects)
 
 module _ (trace : Trace) (st : State) (sound : IsSound trace st) (h : Heap) (roots : List Name) (opened : scan_of st.scans h ≡ Some roots) where
-  reached_refers : (rs : List Name) (a n : Name) → refers_in (reach_in trace st h rs) a n ≡ true → IsTrue (refers_in st.objects a n) × (owner_of trace st a.seg.0 ≡ h)
+  pub reached_refers : (rs : List Name) (a n : Name) → refers_in (reach_in trace st h rs) a n ≡ true → IsTrue (refers_in st.objects a n) × (owner_of trace st a.seg.0 ≡ h)
   unfolding reach_in set
   reached_refers rs a n r =
       let pool = objects_of (owner_of trace st) h st.objects in

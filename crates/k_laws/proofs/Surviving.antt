@@ -66,18 +66,18 @@ module _ (trace : Trace) (st : State) where
       first (Some m) t = heap_eq-same (owner_of trace st m.seg.0) (shared s) (ap (λ k. owner_of trace st k.seg.0) (name_eq-true m n t) ∙ own)
 
 module _ (trace : Trace) (st : State) (sound : IsSound trace st) (h : Heap) (roots : List Name) (opened : scan_of st.scans h ≡ Some roots) where
-  abbrev leads_into : ℕ → ExitItem → Bool
+  abbrev pub leads_into : ℕ → ExitItem → Bool
   leads_into s x = heap_eq x.heap h && lies_in trace st s x.target && exit_stays trace st h x
 
-  exits_after : (g : Heap) (n : Name) → has_exit (after_ended trace h st).exits g n ≡ (has_exit st.exits g n && exit_stays trace st h (record { heap = g; target = n }))
+  pub exits_after : (g : Heap) (n : Name) → has_exit (after_ended trace h st).exits g n ≡ (has_exit st.exits g n && exit_stays trace st h (record { heap = g; target = n }))
   unfolding after_ended keep_objects keep_exits keep_shares close_scan
   exits_after g n = has_exit-kept (exit_stays trace st h) st.exits g n
 
-  shares_after : (p s : ℕ) → has_share (after_ended trace h st).shares p s ≡ (has_share st.shares p s && share_stays trace st h (record { process = p; heap = s }))
+  pub shares_after : (p s : ℕ) → has_share (after_ended trace h st).shares p s ≡ (has_share st.shares p s && share_stays trace st h (record { process = p; heap = s }))
   unfolding after_ended keep_objects keep_exits keep_shares close_scan
   shares_after p s = has_share-kept (share_stays trace st h) st.shares p s
 
-  exit_into : (s : ℕ) → IsTrue (list_any (leads_into s) st.exits) → (n : Name) × IsTrue (has_exit (after_ended trace h st).exits h n) × (owner_of trace st n.seg.0 ≡ shared s)
+  pub exit_into : (s : ℕ) → IsTrue (list_any (leads_into s) st.exits) → (n : Name) × IsTrue (has_exit (after_ended trace h st).exits h n) × (owner_of trace st n.seg.0 ≡ shared s)
   exit_into s t =
       let x = some_element (leads_into s) st.exits t in
       let parts = and_parts (heap_eq x.0.heap h && lies_in trace st s x.0.target) (exit_stays trace st h x.0) x.1 in
@@ -90,7 +90,7 @@ module _ (trace : Trace) (st : State) (sound : IsSound trace st) (h : Heap) (roo
         heap_eq-true (owner_of trace st x.0.target.seg.0) (shared s) both.1,
       )
 
-  into_exit : (s : ℕ) (n : Name) → IsTrue (has_exit (after_ended trace h st).exits h n) → owner_of trace st n.seg.0 ≡ shared s → IsTrue (list_any (leads_into s) st.exits)
+  pub into_exit : (s : ℕ) (n : Name) → IsTrue (has_exit (after_ended trace h st).exits h n) → owner_of trace st n.seg.0 ≡ shared s → IsTrue (list_any (leads_into s) st.exits)
   into_exit s n t own =
       let parts = and_parts (has_exit st.exits h n) (exit_stays trace st h (record { heap = h; target = n })) (sym (exits_after h n) ∙ t) in
       let x = some_element (λ e. heap_eq e.heap h && name_eq e.target n) st.exits parts.0 in
