@@ -24,10 +24,9 @@ mod running;
 mod shown;
 mod state;
 mod store;
-mod viewing;
-
 #[cfg(test)]
 mod tests;
+mod viewing;
 
 pub use ending::PlainEnd;
 pub use running::solo;

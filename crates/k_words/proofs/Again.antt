@@ -31,11 +31,11 @@ value-decimal n lt = digits_value-decimal digits n lt
 
 above_zero : (n : ℕ) → n < 2 ^ 64 → (eqb (length (decimal n)) 1 || not (eqb (get_or (decimal n) 0 0) 48)) ≡ true
 above_zero n lt = elim (cases_lt 0 n) [
-    | inl some ↦ let first : 48 < get_or (decimal n) 0 0 = first_decimal n some lt in
-                 let other : eqb (get_or (decimal n) 0 0) 48 ≡ false = false_from_ne_true _ (λ e. absurd (omega (arith, eqb-true (get_or (decimal n) 0 0) 48 e))) in
-                 rw other (or-true (eqb (length (decimal n)) 1))
-    | inr none ↦ let zero : n ≡ 0 = omega arith in rw (zero, decimal_digit 0 (omega arith)) refl
-  ]
+  | inl some ↦ let first : 48 < get_or (decimal n) 0 0 = first_decimal n some lt in
+      let other : eqb (get_or (decimal n) 0 0) 48 ≡ false = false_from_ne_true _ (λ e. absurd (omega (arith, eqb-true (get_or (decimal n) 0 0) 48 e))) in
+      rw other (or-true (eqb (length (decimal n)) 1))
+  | inr none ↦ let zero : n ≡ 0 = omega arith in rw (zero, decimal_digit 0 (omega arith)) refl
+]
 
 pub is_below-decimal : (n limit : ℕ) → n < limit → limit ≤ 2 ^ 64 → is_below limit (decimal n) ≡ true
 is_below-decimal n limit lt le =

@@ -69,6 +69,6 @@ last_word bytes end e le = one_word bytes (rw (← e) le)
 -- the first word, whether others follow or not
 pub first_word : (bytes : Text) (end : ℕ) → end ≡ position_or_len is_space bytes → word_at (words_of bytes) 0 ≡ take end bytes
 first_word bytes end e = elim (cases_lt end (length bytes)) [
-    | inl lt ↦ ap (λ (ws : List Text). word_at ws 0) (word_before bytes end e lt) ∙ ap (λ (n : ℕ). take n bytes) (sym e)
-    | inr le ↦ ap (λ (ws : List Text). word_at ws 0) (last_word bytes end e le) ∙ sym (take_all end bytes le)
-  ]
+  | inl lt ↦ ap (λ (ws : List Text). word_at ws 0) (word_before bytes end e lt) ∙ ap (λ (n : ℕ). take n bytes) (sym e)
+  | inr le ↦ ap (λ (ws : List Text). word_at ws 0) (last_word bytes end e le) ∙ sym (take_all end bytes le)
+]

@@ -21,9 +21,9 @@ number_of-texts (k ∷ keys) name = ap (λ (n : ℕ). cond (not (bytes_eq name k
 
 ltb_suc : (a b : ℕ) → ltb (1 + a) (suc b) ≡ ltb a b
 ltb_suc a b = elim (cases_lt a b) [
-    | inl lt ↦ lt-ltb (1 + a) (suc b) (omega arith) ∙ sym (lt-ltb a b lt)
-    | inr le ↦ le-ltb (1 + a) (suc b) (omega arith) ∙ sym (le-ltb a b le)
-  ]
+  | inl lt ↦ lt-ltb (1 + a) (suc b) (omega arith) ∙ sym (lt-ltb a b lt)
+  | inr le ↦ le-ltb (1 + a) (suc b) (omega arith) ∙ sym (le-ltb a b le)
+]
 
 within_cons : (t : Bool) (any : Bool) (place len : ℕ) → ltb place len ≡ any → ltb (cond (not t) (1 + place) 0) (suc len) ≡ (t || any)
 within_cons true any place len e = lt-ltb 0 (suc len) (omega arith)

@@ -52,4 +52,3 @@ register_cons (b ∷ w) h =
 
 pub register_is : (w : Text) → is_register w ≡ true → register_word (register w) ≡ w
 register_is w h = register_cons w h
-
