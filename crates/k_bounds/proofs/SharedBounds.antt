@@ -184,3 +184,7 @@ module _ (trace : Trace) (s : ℕ) where
   pub shared_exits : KeepsRules trace → (history : List Event) → IsLegalHistory trace history →
       (exit_count (state_after trace history).exits (shared s) ≡ 0) ⊎ ((p : ℕ) × MadeBy trace s history (exit_count (state_after trace history).exits (shared s)) p)
   shared_exits keeps history legal = (history_induction trace Bound first (next keeps) history legal).bound
+
+  -- an unmade heap has no exit items
+  pub unmade_exits : KeepsRules trace → (history : List Event) → IsLegalHistory trace history → phase_of (state_after trace history).phases s ≡ Unmade → exit_count (state_after trace history).exits (shared s) ≡ 0
+  unmade_exits keeps history legal e = (history_induction trace Bound first (next keeps) history legal).none e

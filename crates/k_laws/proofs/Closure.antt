@@ -57,7 +57,7 @@ module _ (pool : List Object) (start : Name → Bool) where
   pub set_refers : (k : ℕ) (a b : Name) → refers_in (set k) a b ≡ (refers_in pool a b && in_set k a)
   set_refers k a b = ap (λ objects. refers_in objects a b) (set_is k) ∙ refers_in-kept (in_set k) pool a b
 
-  in_set_more : (k : ℕ) (o : Object) → has pool o.name ≡ true → in_set k o.name ≡ true → in_set (suc k) o.name ≡ true
+  pub in_set_more : (k : ℕ) (o : Object) → has pool o.name ≡ true → in_set k o.name ≡ true → in_set (suc k) o.name ≡ true
   unfolding in_set
   in_set_more k o there t = or_left _ _ (set_has k o.name ∙ and_from _ _ there t)
 

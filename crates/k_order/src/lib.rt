@@ -1,7 +1,9 @@
-//! The history in the order of the file is legal and complete, for every trace. The law is the contract of a public function
-//! with an empty body. Below stand the definitions of k_types and the laws of k_frame, k_laws and k_bounds.
+//! Laws of complete histories: the history in the order of the file is one, for every trace, and what is left where every
+//! process has ended. Each law is the contract of a public function with an empty body. Below stand the definitions of k_types and the laws of k_frame, k_laws and k_bounds.
 #![tactic(auto)]
 
 mod filing;
+mod reclamation;
 
 pub use filing::the_file_order_is_legal_and_complete;
+pub use reclamation::ended_histories_leave_what_the_directory_reaches;
