@@ -1,5 +1,5 @@
 -- A history absorbs each shared heap at most once, and closes at most once.
-use Rattle.std.proofs.Common.{◌≡◌, ℕ, zero, suc, ◌+◌, ◌≤◌, ◌<◌, not, true, false, cond, refl, ap, sym, inl, inr, List, [], ◌∷◌, ◌++◌, length, replicate, set, Option, Some, None, arith, IsTrue}
+use Rattle.std.proofs.Common.{◌≡◌, ℕ, zero, suc, ◌+◌, ◌≤◌, ◌<◌, not, true, false, refl, ap, sym, inl, inr, List, [], ◌∷◌, ◌++◌, length, replicate, set, Option, Some, None, arith, IsTrue}
 use Rattle.std.proofs.lemmas.Bool.{false≢true, cases_lt, not-false, and_parts}
 use Rattle.k_types.specs.declared.names.Name.{Name}
 use Rattle.k_types.specs.declared.names.Heap.{Heap}
@@ -18,8 +18,8 @@ use Rattle.k_types.specs.Trace.{Trace}
 use Rattle.k_types.specs.State.{State, register}
 use Rattle.k_types.specs.Owners.{owner_of, phase_of, is_absorbed}
 use Rattle.k_types.specs.Replies.{first_fault, faults, fault_where, at_base, is_unmade, is_populating}
-use Rattle.k_types.specs.Updates.{count_done, set_register, create, write, add_exit, open_scan, set_phase, add_share, keep_objects, keep_exits, keep_shares, close_scan, clear_registers, end_process, turn_exits, close}
-use Rattle.k_types.specs.Effects.{step, effect, effect_unless, after_operation, after_store, after_put, with_exit_of_store, after_freeze, after_end_of, after_ended, after_absorbed, after_closing}
+use Rattle.k_types.specs.Updates.{count_done, set_register, create, open_scan, set_phase, add_share, keep_objects, keep_exits, keep_shares, close_scan, clear_registers, end_process, turn_exits, close}
+use Rattle.k_types.specs.Effects.{step, effect, effect_unless, after_operation, after_store, after_put, after_freeze, after_end_of, after_ended, after_absorbed, after_closing}
 use Rattle.k_types.specs.Steps.{IsPossible, IsLegalHistory, state_after, is_live, has_sharer}
 use Rattle.k_bounds.specs.Counts.{one_if, is_absorption, absorbed_count, is_closing_event, closing_count}
 use Rattle.k_bounds.proofs.Counting.{total_push, total_set, count_low}
@@ -28,6 +28,7 @@ use Rattle.k_frame.proofs.FrameSteps.{none_on}
 use Rattle.k_frame.proofs.Histories.{history_induction, state_next}
 use Rattle.k_frame.proofs.Sizes.{history_sized}
 use Rattle.k_laws.proofs.SoundEffects.{is_unmade_so, is_populating_by}
+use Rattle.k_frame.proofs.Rest.{store_rest, put_rest, freeze_rest}
 
 abbrev gone : Phase → ℕ
 gone phase = one_if (is_absorbed phase)
@@ -129,25 +130,14 @@ module _ (trace : Trace) where
       let count = history_induction trace Counted (sym (none_gone trace.shared_heaps)) next history legal in
       omega (arith, count, count_low is_absorbed (state_after trace history).phases, (history_sized trace history).phases)
 
-  link_closed : (st : State) (x : Name) (v : Option Name) → (with_exit_of_store trace x v st).closed ≡ st.closed
-  unfolding with_exit_of_store add_exit
-  link_closed st x None = refl
-  link_closed st x (Some y) = elim (heap_eq (owner_of trace st x.seg.0) (owner_of trace st y.seg.0)) as (λ b. (cond b st (add_exit (owner_of trace st x.seg.0) y st)).closed ≡ st.closed) [ true ↦ refl | false ↦ refl ]
-
   store_closed : (st : State) (x : Option Name) (i : ℕ) (v : Option Name) → (after_store trace x i v st).closed ≡ st.closed
-  unfolding after_store write
-  store_closed st None i v = refl
-  store_closed st (Some x) i v = link_closed st x v
+  store_closed st x i v = ap (λ (s : State). s.closed) (store_rest trace st x i v)
 
   put_closed : (st : State) (x : Option Name) (i n : ℕ) → (after_put x i n st).closed ≡ st.closed
-  unfolding after_put write
-  put_closed st None i n = refl
-  put_closed st (Some x) i n = refl
+  put_closed st x i n = ap (λ (s : State). s.closed) (put_rest st x i n)
 
   freeze_closed : (st : State) (s : ℕ) (root : Option Name) → (after_freeze s root st).closed ≡ st.closed
-  unfolding after_freeze set_phase
-  freeze_closed st s None = refl
-  freeze_closed st s (Some root) = refl
+  freeze_closed st s root = ap (λ (s : State). s.closed) (freeze_rest st s root)
 
   effect_closed : (st : State) (p : ℕ) (op : Op) → (effect trace p op st).closed ≡ st.closed
   unfolding effect set_register create open_scan add_share set_phase after_end_of end_process clear_registers keep_shares turn_exits

@@ -15,18 +15,7 @@ use Rattle.k_bounds.specs.Counts.{one_if}
 use Rattle.k_bounds.specs.Distinct.{AreDistinctNames}
 use Rattle.k_bounds.proofs.Counting.{total_at_most}
 use Rattle.k_frame.proofs.NameTests.{name_eq-true, name_eq_refl, heap_eq-true}
-
-zeros : {A : Type 0} (xs : List A) → total (λ x. 0) xs ≡ 0
-zeros [] = refl
-zeros (x ∷ xs) = omega (arith, zeros xs)
-
-sum_both : {A : Type 0} (f g : A → ℕ) (xs : List A) → total (λ x. f x + g x) xs ≡ total f xs + total g xs
-sum_both f g [] = refl
-sum_both f g (x ∷ xs) = omega (arith, sum_both f g xs)
-
-same_total : {A : Type 0} (f g : A → ℕ) → ((x : A) → f x ≡ g x) → (xs : List A) → total f xs ≡ total g xs
-same_total f g same [] = refl
-same_total f g same (x ∷ xs) = ap₂ (λ a b. a + b) (same x) (same_total f g same xs)
+use Rattle.k_frame.proofs.Sums.{zeros, sum_both, sum_same}
 
 -- the sums of a table by rows and by columns
 swapped : {A B : Type 0} (f : A → B → ℕ) (xs : List A) (ys : List B) → total (λ x. total (f x) ys) xs ≡ total (λ y. total (λ x. f x y) xs) ys
@@ -132,7 +121,7 @@ item_sums : (f : Name → ℕ) (h : Heap) (exits : List ExitItem) (names : List 
     total (λ n. cond (has_exit exits h n) (f n) 0) names ≡ total (λ (e : ExitItem). cond (heap_eq e.heap h) (cond (name_among e.target names) (f e.target) 0) 0) exits
 item_sums f h [] names distinct named = zeros names
 item_sums f h (e ∷ exits) names distinct named =
-    same_total (λ n. cond (has_exit (e ∷ exits) h n) (f n) 0) (λ n. cond (heap_eq e.heap h) (cond (name_eq e.target n) (f n) 0) 0 + cond (has_exit exits h n) (f n) 0)
+    sum_same (λ n. cond (has_exit (e ∷ exits) h n) (f n) 0) (λ n. cond (heap_eq e.heap h) (cond (name_eq e.target n) (f n) 0) 0 + cond (has_exit exits h n) (f n) 0)
     (λ n. both_or (heap_eq e.heap h) (name_eq e.target n) (has_exit exits h n) (f n) (λ a b. ap₂ (λ k m. has_exit exits k m) (sym (heap_eq-true e.heap h a)) (sym (name_eq-true e.target n b)) ∙ distinct.0)) names
     ∙ sum_both (λ n. cond (heap_eq e.heap h) (cond (name_eq e.target n) (f n) 0) 0) (λ n. cond (has_exit exits h n) (f n) 0) names
     ∙ ap₂ (λ a b. a + b) (inner f (heap_eq e.heap h) e.target names named) (item_sums f h exits names distinct.1 named)

@@ -1,5 +1,5 @@
 -- A process has done as many operations as the history has of it, and how long a history is.
-use Rattle.std.proofs.Common.{◌≡◌, ℕ, zero, suc, ◌+◌, ◌*◌, ◌≤◌, ◌<◌, ◌==◌, Bool, true, false, cond, refl, ap, sym, ◌∙◌, inl, inr, List, [], ◌∷◌, ◌++◌, length, replicate, set, Option, Some, None, arith, eq-eqb, ne_eqb, get_or, get_or-set_same, get_or-set_other}
+use Rattle.std.proofs.Common.{◌≡◌, ℕ, ◌+◌, ◌*◌, ◌≤◌, ◌<◌, ◌==◌, Bool, true, false, cond, refl, ap, sym, ◌∙◌, inl, inr, List, [], ◌∷◌, ◌++◌, length, set, Option, Some, None, arith, eq-eqb, ne_eqb, get_or, get_or-set_same, get_or-set_other}
 use Rattle.std.proofs.lemmas.Bool.{cases_eq}
 use Rattle.std.proofs.lemmas.List.{length-append}
 use Rattle.k_types.specs.declared.names.Name.{Name}
@@ -10,42 +10,30 @@ use Rattle.k_types.specs.declared.op.Op.TheVariants.{New, KNew, SNew, Store, Loa
 use Rattle.k_types.specs.declared.event.Fault.{Fault}
 use Rattle.k_types.specs.declared.event.Event.{Event}
 use Rattle.k_types.specs.declared.event.Event.TheVariants.{Done, Ended, Absorbed, Closing}
-use Rattle.k_types.specs.Names.{heap_eq}
 use Rattle.k_types.specs.TraceRules.{KeepsRules}
 use Rattle.k_types.specs.Trace.{Trace, process_count}
 use Rattle.k_types.specs.State.{State, register}
-use Rattle.k_types.specs.Owners.{owner_of}
 use Rattle.k_types.specs.Replies.{first_fault, faults}
-use Rattle.k_types.specs.Updates.{count_done, set_register, create, write, add_exit, open_scan, set_phase, add_share, keep_objects, keep_exits, keep_shares, close_scan, clear_registers, end_process, turn_exits, close}
-use Rattle.k_types.specs.Effects.{step, effect, effect_unless, after_operation, after_store, after_put, with_exit_of_store, after_freeze, after_end_of, after_ended, after_absorbed, after_closing}
+use Rattle.k_types.specs.Updates.{count_done, set_register, create, open_scan, set_phase, add_share, keep_objects, keep_exits, keep_shares, close_scan, clear_registers, end_process, turn_exits, close}
+use Rattle.k_types.specs.Effects.{step, effect, effect_unless, after_operation, after_store, after_put, after_freeze, after_end_of, after_ended, after_absorbed, after_closing}
 use Rattle.k_types.specs.Steps.{IsPossible, IsLegalHistory, state_after, done_by}
 use Rattle.k_bounds.specs.Counts.{one_if, operation_count, is_operation, ended_count, is_end, absorbed_count, is_absorption, closing_count, is_closing_event, begun_count, has_begun, begins_collection}
 use Rattle.k_bounds.proofs.Counting.{one_if_low}
 use Rattle.k_bounds.proofs.AbsorbedCounts.{absorbed_at_most, closings}
 use Rattle.k_bounds.proofs.ScanCounts.{collections_balance}
 use Rattle.k_frame.proofs.Histories.{history_induction, state_next, done_append}
-use Rattle.k_frame.proofs.Sizes.{history_sized}
+use Rattle.k_frame.proofs.Sizes.{history_sized, zeros_at}
+use Rattle.k_frame.proofs.Rest.{store_rest, put_rest, freeze_rest}
 
 module _ (trace : Trace) where
-  link_done : (st : State) (x : Name) (v : Option Name) → (with_exit_of_store trace x v st).done ≡ st.done
-  unfolding with_exit_of_store add_exit
-  link_done st x None = refl
-  link_done st x (Some y) = elim (heap_eq (owner_of trace st x.seg.0) (owner_of trace st y.seg.0)) as (λ b. (cond b st (add_exit (owner_of trace st x.seg.0) y st)).done ≡ st.done) [ true ↦ refl | false ↦ refl ]
-
   store_done : (st : State) (x : Option Name) (i : ℕ) (v : Option Name) → (after_store trace x i v st).done ≡ st.done
-  unfolding after_store write
-  store_done st None i v = refl
-  store_done st (Some x) i v = link_done st x v
+  store_done st x i v = ap (λ (s : State). s.done) (store_rest trace st x i v)
 
   put_done : (st : State) (x : Option Name) (i n : ℕ) → (after_put x i n st).done ≡ st.done
-  unfolding after_put write
-  put_done st None i n = refl
-  put_done st (Some x) i n = refl
+  put_done st x i n = ap (λ (s : State). s.done) (put_rest st x i n)
 
   freeze_done : (st : State) (s : ℕ) (root : Option Name) → (after_freeze s root st).done ≡ st.done
-  unfolding after_freeze set_phase
-  freeze_done st s None = refl
-  freeze_done st s (Some root) = refl
+  freeze_done st s root = ap (λ (s : State). s.done) (freeze_rest st s root)
 
   effect_done : (st : State) (p : ℕ) (op : Op) → (effect trace p op st).done ≡ st.done
   unfolding effect set_register create open_scan add_share set_phase after_end_of end_process clear_registers keep_shares turn_exits
@@ -122,11 +110,6 @@ module _ (trace : Trace) where
         go (Ended h a b c d) may = let same = ap (λ done. get_or done p 0) (ended_done (state_after trace history) h) in omega (arith, before, same)
         go (Absorbed s) may = let same = ap (λ done. get_or done p 0) (absorbed_done (state_after trace history) s.0) in omega (arith, before, same)
         go Closing may = let same = ap (λ done. get_or done p 0) (closing_done (state_after trace history)) in omega (arith, before, same)
-
-    zeros_at : (n k : ℕ) → get_or {A = ℕ} (replicate n 0) k 0 ≡ 0
-    zeros_at zero k = refl
-    zeros_at (suc n) zero = refl
-    zeros_at (suc n) (suc k) = zeros_at n k
 
     pub done_count : (history : List Event) → IsLegalHistory trace history → get_or (state_after trace history).done p 0 ≡ length (done_by p history)
     unfolding Counted

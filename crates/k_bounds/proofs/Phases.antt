@@ -1,5 +1,5 @@
 -- How the phase of a shared heap changes.
-use Rattle.std.proofs.Common.{◌≡◌, ℕ, ◌==◌, not, true, false, cond, refl, sym, ap, ◌∙◌, inl, inr, List, [], ◌∷◌, Option, Some, None, eq-eqb, IsTrue}
+use Rattle.std.proofs.Common.{◌≡◌, ℕ, ◌==◌, not, false, refl, sym, ap, ◌∙◌, inl, inr, List, [], ◌∷◌, Option, Some, None, eq-eqb, IsTrue}
 use Rattle.std.specs.List.{list_any}
 use Rattle.std.proofs.lemmas.Bool.{not-false, or_left}
 use Rattle.k_types.specs.declared.names.Pid.{Pid}
@@ -11,17 +11,17 @@ use Rattle.k_types.specs.declared.op.Op.{Op}
 use Rattle.k_types.specs.declared.op.Op.TheVariants.{New, KNew, SNew, Store, Load, Move, Clear, Dir, Put, Get, Collect, KCollect, Share, Freeze, Attach, Exit}
 use Rattle.k_types.specs.declared.event.Fault.{Fault}
 use Rattle.k_types.specs.declared.event.Fault.TheVariants.{Taken as TakenFault}
-use Rattle.k_types.specs.Names.{heap_eq}
 use Rattle.k_types.specs.Trace.{Trace}
 use Rattle.k_types.specs.State.{State, register}
-use Rattle.k_types.specs.Owners.{owner_of, phase_of}
+use Rattle.k_types.specs.Owners.{phase_of}
 use Rattle.k_types.specs.Replies.{first_fault, faults, is_unmade}
-use Rattle.k_types.specs.Updates.{count_done, set_register, create, write, add_exit, open_scan, set_phase, add_share, keep_objects, keep_exits, keep_shares, close_scan, clear_registers, end_process, turn_exits, close}
-use Rattle.k_types.specs.Effects.{effect, effect_unless, after_operation, after_store, after_put, with_exit_of_store, after_freeze, after_end_of, after_ended, after_absorbed, after_closing}
+use Rattle.k_types.specs.Updates.{count_done, set_register, create, open_scan, set_phase, add_share, keep_objects, keep_exits, keep_shares, close_scan, clear_registers, end_process, turn_exits, close}
+use Rattle.k_types.specs.Effects.{effect, effect_unless, after_operation, after_store, after_put, after_freeze, after_end_of, after_ended, after_absorbed, after_closing}
 use Rattle.k_bounds.specs.Counts.{is_share_of}
 use Rattle.k_frame.proofs.Lists.{get_or-set_cases}
 use Rattle.k_frame.proofs.FrameSteps.{none_on}
 use Rattle.k_laws.proofs.SoundEffects.{is_unmade_so}
+use Rattle.k_frame.proofs.Rest.{store_rest, put_rest}
 
 -- the shared heap's phase stays, or the operation takes the unmade heap, or it is frozen or absorbed now
 pub data Phased (s : ℕ) (before after : Phase) (ops : List Op) (p : ℕ) : Type 0 where
@@ -31,20 +31,11 @@ pub data Phased (s : ℕ) (before after : Phase) (ops : List Op) (p : ℕ) : Typ
   IsAbsorbed : after ≡ Absorbed → Phased s before after ops p
 
 module _ (trace : Trace) where
-  pub link_phases : (st : State) (x : Name) (v : Option Name) → (with_exit_of_store trace x v st).phases ≡ st.phases
-  unfolding with_exit_of_store add_exit
-  link_phases st x None = refl
-  link_phases st x (Some y) = elim (heap_eq (owner_of trace st x.seg.0) (owner_of trace st y.seg.0)) as (λ b. (cond b st (add_exit (owner_of trace st x.seg.0) y st)).phases ≡ st.phases) [ true ↦ refl | false ↦ refl ]
-
   pub store_phases : (st : State) (x : Option Name) (i : ℕ) (v : Option Name) → (after_store trace x i v st).phases ≡ st.phases
-  unfolding after_store write
-  store_phases st None i v = refl
-  store_phases st (Some x) i v = link_phases st x v
+  store_phases st x i v = ap (λ (s : State). s.phases) (store_rest trace st x i v)
 
   pub put_phases : (st : State) (x : Option Name) (i n : ℕ) → (after_put x i n st).phases ≡ st.phases
-  unfolding after_put write
-  put_phases st None i n = refl
-  put_phases st (Some x) i n = refl
+  put_phases st x i n = ap (λ (s : State). s.phases) (put_rest st x i n)
 
   freeze_phases : (st : State) (t : ℕ) (root : Option Name) (s p : ℕ) (ops : List Op) → Phased s (phase_of st.phases s) (phase_of (after_freeze t root st).phases s) ops p
   unfolding after_freeze set_phase

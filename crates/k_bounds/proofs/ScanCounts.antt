@@ -1,5 +1,5 @@
 -- How many collections, absorptions and closings a history has.
-use Rattle.std.proofs.Common.{◌≡◌, ℕ, ◌+◌, not, true, false, cond, refl, ap, sym, ◌∙◌, inl, inr, List, [], ◌∷◌, ◌++◌, filter, find, length, Option, Some, None, option_map, arith, IsTrue}
+use Rattle.std.proofs.Common.{◌≡◌, ℕ, ◌+◌, not, cond, refl, ap, sym, ◌∙◌, inl, inr, List, [], ◌∷◌, ◌++◌, filter, find, length, Option, Some, None, option_map, arith, IsTrue}
 use Rattle.std.proofs.lemmas.Bool.{false≢true, cases_Bool}
 use Rattle.k_types.specs.declared.names.Name.{Name}
 use Rattle.k_types.specs.declared.names.Heap.{Heap}
@@ -12,10 +12,9 @@ use Rattle.k_types.specs.Names.{heap_eq}
 use Rattle.k_types.specs.TraceRules.{KeepsRules}
 use Rattle.k_types.specs.Trace.{Trace}
 use Rattle.k_types.specs.State.{State, Scan, register, scan_of}
-use Rattle.k_types.specs.Owners.{owner_of}
 use Rattle.k_types.specs.Replies.{first_fault, faults}
-use Rattle.k_types.specs.Updates.{count_done, set_register, create, write, add_exit, open_scan, set_phase, add_share, keep_objects, keep_exits, keep_shares, close_scan, clear_registers, end_process, turn_exits, close}
-use Rattle.k_types.specs.Effects.{step, effect, effect_unless, after_operation, after_store, after_put, with_exit_of_store, after_freeze, after_end_of, after_ended, after_absorbed, after_closing}
+use Rattle.k_types.specs.Updates.{count_done, set_register, create, open_scan, set_phase, add_share, keep_objects, keep_exits, keep_shares, close_scan, clear_registers, end_process, turn_exits, close}
+use Rattle.k_types.specs.Effects.{step, effect, effect_unless, after_operation, after_store, after_put, after_freeze, after_end_of, after_ended, after_absorbed, after_closing}
 use Rattle.k_types.specs.Steps.{IsPossible, IsLegalHistory, state_after}
 use Rattle.k_types.specs.Sound.{IsSound, AreDistinctScans}
 use Rattle.k_bounds.specs.Counts.{one_if, begins_collection, has_begun, begun_count, is_end, ended_count}
@@ -24,27 +23,17 @@ use Rattle.k_frame.proofs.NameTests.{heap_eq-true}
 use Rattle.k_frame.proofs.Objects.{some_is}
 use Rattle.k_frame.proofs.Histories.{history_induction, state_next}
 use Rattle.k_laws.proofs.SoundSteps.{legal_sound}
+use Rattle.k_frame.proofs.Rest.{store_rest, put_rest, freeze_rest}
 
 module _ (trace : Trace) where
-  link_scans : (st : State) (x : Name) (v : Option Name) → (with_exit_of_store trace x v st).scans ≡ st.scans
-  unfolding with_exit_of_store add_exit
-  link_scans st x None = refl
-  link_scans st x (Some y) = elim (heap_eq (owner_of trace st x.seg.0) (owner_of trace st y.seg.0)) as (λ b. (cond b st (add_exit (owner_of trace st x.seg.0) y st)).scans ≡ st.scans) [ true ↦ refl | false ↦ refl ]
-
   store_scans : (st : State) (x : Option Name) (i : ℕ) (v : Option Name) → (after_store trace x i v st).scans ≡ st.scans
-  unfolding after_store write
-  store_scans st None i v = refl
-  store_scans st (Some x) i v = link_scans st x v
+  store_scans st x i v = ap (λ (s : State). s.scans) (store_rest trace st x i v)
 
   put_scans : (st : State) (x : Option Name) (i n : ℕ) → (after_put x i n st).scans ≡ st.scans
-  unfolding after_put write
-  put_scans st None i n = refl
-  put_scans st (Some x) i n = refl
+  put_scans st x i n = ap (λ (s : State). s.scans) (put_rest st x i n)
 
   freeze_scans : (st : State) (s : ℕ) (root : Option Name) → (after_freeze s root st).scans ≡ st.scans
-  unfolding after_freeze set_phase
-  freeze_scans st s None = refl
-  freeze_scans st s (Some root) = refl
+  freeze_scans st s root = ap (λ (s : State). s.scans) (freeze_rest st s root)
 
   effect_scans : (st : State) (p : ℕ) (op : Op) → length (effect trace p op st).scans ≡ length st.scans + one_if (begins_collection op)
   unfolding effect set_register create open_scan add_share set_phase after_end_of end_process clear_registers keep_shares turn_exits

@@ -1,5 +1,5 @@
 -- The serials that a segment has given are at most its allocations, and one more in the kernel's for the directory.
-use Rattle.std.proofs.Common.{◌≡◌, ℕ, zero, suc, ◌+◌, ◌≤◌, ◌==◌, true, false, cond, refl, ap, sym, ◌∙◌, inl, inr, List, [], ◌∷◌, replicate, get_or, length, Option, Some, None, arith, eq-eqb, ne_eqb}
+use Rattle.std.proofs.Common.{◌≡◌, ℕ, zero, suc, ◌+◌, ◌≤◌, ◌==◌, refl, ap, sym, ◌∙◌, inl, inr, List, [], ◌∷◌, get_or, length, Option, Some, None, arith, eq-eqb, ne_eqb}
 use Rattle.k_types.specs.declared.names.Name.{Name}
 use Rattle.k_types.specs.declared.names.TypeId.{TypeId}
 use Rattle.k_types.specs.declared.names.Heap.TheVariants.{Kernel, Shared}
@@ -8,16 +8,17 @@ use Rattle.k_types.specs.declared.op.Op.TheVariants.{New, KNew, SNew, Store, Loa
 use Rattle.k_types.specs.declared.event.Fault.{Fault}
 use Rattle.k_types.specs.declared.event.Event.{Event}
 use Rattle.k_types.specs.declared.event.Event.TheVariants.{Done, Ended, Absorbed, Closing}
-use Rattle.k_types.specs.Names.{heap_eq}
 use Rattle.k_types.specs.Trace.{Trace, segment_of}
 use Rattle.k_types.specs.State.{State, opening, register}
-use Rattle.k_types.specs.Owners.{owner_of, user}
+use Rattle.k_types.specs.Owners.{user}
 use Rattle.k_types.specs.Replies.{first_fault, faults}
-use Rattle.k_types.specs.Updates.{count_done, set_register, create, write, add_exit, open_scan, set_phase, add_share, keep_objects, keep_exits, keep_shares, close_scan, clear_registers, end_process, turn_exits, close}
-use Rattle.k_types.specs.Effects.{step, effect, effect_unless, after_new, after_operation, after_store, after_put, with_exit_of_store, after_freeze, after_end_of, after_ended, after_absorbed, after_closing}
+use Rattle.k_types.specs.Updates.{count_done, set_register, create, open_scan, set_phase, add_share, keep_objects, keep_exits, keep_shares, close_scan, clear_registers, end_process, turn_exits, close}
+use Rattle.k_types.specs.Effects.{step, effect, effect_unless, after_new, after_operation, after_store, after_put, after_freeze, after_end_of, after_ended, after_absorbed, after_closing}
 use Rattle.k_types.specs.Steps.{run, state_after}
 use Rattle.k_bounds.specs.Counts.{one_if, allocates_in, has_allocated_in, allocation_count}
 use Rattle.k_frame.proofs.Lists.{get_or-set_cases}
+use Rattle.k_frame.proofs.Sizes.{zeros_at}
+use Rattle.k_frame.proofs.Rest.{store_rest, put_rest, freeze_rest}
 
 module _ (trace : Trace) (seg : ℕ) where
   made_new : (st : State) (p r at : ℕ) (ty : TypeId) → get_or (after_new trace p r at ty st).made seg 0 ≤ get_or st.made seg 0 + one_if (at == seg)
@@ -31,25 +32,14 @@ module _ (trace : Trace) (seg : ℕ) where
             omega (arith, here.1, one, was)
       ]
 
-  link_made : (st : State) (x : Name) (v : Option Name) → (with_exit_of_store trace x v st).made ≡ st.made
-  unfolding with_exit_of_store add_exit
-  link_made st x None = refl
-  link_made st x (Some y) = elim (heap_eq (owner_of trace st x.seg.0) (owner_of trace st y.seg.0)) as (λ b. (cond b st (add_exit (owner_of trace st x.seg.0) y st)).made ≡ st.made) [ true ↦ refl | false ↦ refl ]
-
   store_made : (st : State) (x : Option Name) (i : ℕ) (v : Option Name) → (after_store trace x i v st).made ≡ st.made
-  unfolding after_store write
-  store_made st None i v = refl
-  store_made st (Some x) i v = link_made st x v
+  store_made st x i v = ap (λ (s : State). s.made) (store_rest trace st x i v)
 
   put_made : (st : State) (x : Option Name) (i n : ℕ) → (after_put x i n st).made ≡ st.made
-  unfolding after_put write
-  put_made st None i n = refl
-  put_made st (Some x) i n = refl
+  put_made st x i n = ap (λ (s : State). s.made) (put_rest st x i n)
 
   freeze_made : (st : State) (s : ℕ) (root : Option Name) → (after_freeze s root st).made ≡ st.made
-  unfolding after_freeze set_phase
-  freeze_made st s None = refl
-  freeze_made st s (Some root) = refl
+  freeze_made st s root = ap (λ (s : State). s.made) (freeze_rest st s root)
 
   same_made : (made made' : List ℕ) → made' ≡ made → get_or made' seg 0 ≤ get_or made seg 0 + 0
   same_made made made' e = let same = ap (λ given. get_or given seg 0) e in omega (arith, same)
@@ -87,11 +77,6 @@ module _ (trace : Trace) (seg : ℕ) where
   run_made : (st : State) (events : List Event) → get_or (run trace st events).made seg 0 ≤ get_or st.made seg 0 + allocation_count trace seg events
   run_made st [] = omega arith
   run_made st (event ∷ events) = omega (arith, run_made (step trace st event) events, step_made st event)
-
-zeros_at : (n k : ℕ) → get_or {A = ℕ} (replicate n 0) k 0 ≡ 0
-zeros_at zero k = refl
-zeros_at (suc n) zero = refl
-zeros_at (suc n) (suc k) = zeros_at n k
 
 opening_made : (trace : Trace) (seg : ℕ) → get_or (opening trace).made seg 0 ≡ one_if (seg == 0)
 opening_made trace zero = refl

@@ -24,10 +24,10 @@ use Rattle.k_changes.specs.BookChanges.{when_collected, without_entries, drops, 
 use Rattle.k_changes.proofs.Collected.{ended_on_cell, stays_here}
 use Rattle.k_changes.proofs.OnBook.{get_mapped}
 use Rattle.k_changes.proofs.EndsOnBook.{direct_lowered}
-use Rattle.k_changes.proofs.EntryCounts.{kept_and_gone, one_item, same_total, sum_both}
+use Rattle.k_changes.proofs.EntryCounts.{kept_and_gone, one_item}
 use Rattle.k_changes.proofs.SharedSums.{shares_sum, same_below}
 use Rattle.k_changes.proofs.WaysInto.{share_stays_so}
-use Rattle.k_frame.proofs.Charges.{bit, sum_same}
+use Rattle.k_frame.proofs.Sums.{bit, sum_same, sum_both}
 use Rattle.k_frame.proofs.ElsewhereOther.{filter_hidden}
 use Rattle.k_frame.proofs.Kept.{has_share-kept, distinct_shares-kept, any-fewer}
 use Rattle.k_frame.proofs.NameTests.{heap_eq-true}
@@ -59,7 +59,7 @@ module _ (trace : Trace) (st : State) (h : Heap) (sound : IsSound trace st) wher
   unfolding after_ended keep_objects keep_exits keep_shares close_scan part
   entries_then n =
       let all = kept_and_gone (λ (e : ExitItem). bit (name_eq e.target n)) (exit_stays trace st h) st.exits in
-      let gone = same_total (λ (e : ExitItem). cond (exit_stays trace st h e) 0 (bit (name_eq e.target n))) (λ (e : ExitItem). bit ((heap_eq e.heap h && name_eq e.target n) && not (exit_stays trace st h e)))
+      let gone = sum_same (λ (e : ExitItem). cond (exit_stays trace st h e) 0 (bit (name_eq e.target n))) (λ (e : ExitItem). bit ((heap_eq e.heap h && name_eq e.target n) && not (exit_stays trace st h e)))
       (λ e. item_goes (exit_stays trace st h e) (heap_eq e.heap h) (name_eq e.target n) (goes e)) st.exits in
       let one = one_item (exit_stays trace st h) h n st.exits sound.shape.distinct_exits ∙ ap (λ b. bit (has_exit st.exits h n && not b)) (stays_here trace st h n) in
       omega (arith, all, gone, one)
@@ -154,7 +154,7 @@ module _ (trace : Trace) (limits : AreLimits trace) (st : State) (p : ℕ) (soun
       sum_same (λ (e : Sharing). bytes_of trace (after_ended trace (user p) st) (shared e.heap)) (λ (e : Sharing). weight e.heap) (λ e. shared_then e.heap) (filter (λ e. e.process == p) (filter (share_stays trace st (user p)) st.shares))
       ∙ shares_sum weight p trace.shared_heaps (filter (share_stays trace st (user p)) st.shares) (distinct_shares-kept (share_stays trace st (user p)) st.shares sound.shape.distinct_shares)
       (λ q s t. sound.shape.known.shared q s (any-fewer _ (share_stays trace st (user p)) st.shares t))
-      ∙ same_total (λ t. cond (has_share (filter (share_stays trace st (user p)) st.shares) p t) (weight t) 0) (λ t. cond (has_share st.shares p t && stays t) (weight t) 0)
+      ∙ sum_same (λ t. cond (has_share (filter (share_stays trace st (user p)) st.shares) p t) (weight t) 0) (λ t. cond (has_share st.shares p t && stays t) (weight t) 0)
       (λ t. ap (λ b. cond b (weight t) 0) (has_share-kept (share_stays trace st (user p)) st.shares p t ∙ ap (λ b. has_share st.shares p t && b) (share_stays_so trace st sound p roots opened t p ∙ ap (λ b. not b || stays t) (eq-eqb p p refl)))) (numbers_below trace.shared_heaps)
 
   own_before : total (λ (e : Sharing). bytes_of trace st (shared e.heap)) (filter (λ e. e.process == p) st.shares) ≡ total (λ t. cond (has_share st.shares p t) (weight t) 0) (numbers_below trace.shared_heaps)
@@ -185,7 +185,7 @@ module _ (trace : Trace) (limits : AreLimits trace) (st : State) (p : ℕ) (soun
       let was = ap (λ b. cond b 0 (bytes_of trace st (user p) + total (λ (e : Sharing). bytes_of trace st (shared e.heap)) (filter (λ e. e.process == p) st.shares))) lives in
       let own = own_bytes trace st (user p) sound in
       let before = shows trace st (user p) in
-      let parts = same_total (λ t. cond (has_share st.shares p t) (weight t) 0) (λ t. cond (has_share st.shares p t && stays t) (weight t) 0 + cond (has_share st.shares p t && not (stays t)) (weight t) 0) (λ t. split (has_share st.shares p t) (stays t) (weight t)) (numbers_below trace.shared_heaps)
+      let parts = sum_same (λ t. cond (has_share st.shares p t) (weight t) 0) (λ t. cond (has_share st.shares p t && stays t) (weight t) 0 + cond (has_share st.shares p t && not (stays t)) (weight t) 0) (λ t. split (has_share st.shares p t) (stays t) (weight t)) (numbers_below trace.shared_heaps)
       ∙ sum_both (λ t. cond (has_share st.shares p t && stays t) (weight t) 0) (λ t. cond (has_share st.shares p t && not (stays t)) (weight t) 0) (numbers_below trace.shared_heaps) in
       omega (arith, now, was, own, before, parts, own_shares, own_before, dropped, freed)
 

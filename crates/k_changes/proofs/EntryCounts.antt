@@ -8,16 +8,9 @@ use Rattle.k_types.specs.Names.{name_eq, heap_eq}
 use Rattle.k_types.specs.Totals.{total}
 use Rattle.k_types.specs.State.{ExitItem, has_exit}
 use Rattle.k_types.specs.Sound.{AreDistinctExits}
-use Rattle.k_frame.proofs.Charges.{bit}
+use Rattle.k_frame.proofs.Sums.{bit}
 use Rattle.k_frame.proofs.NameTests.{heap_eq-true, name_eq-true}
-
-pub sum_both : {A : Type 0} (f g : A → ℕ) (xs : List A) → total (λ x. f x + g x) xs ≡ total f xs + total g xs
-sum_both f g [] = refl
-sum_both f g (x ∷ xs) = omega (arith, sum_both f g xs)
-
-pub same_total : {A : Type 0} (f g : A → ℕ) → ((x : A) → f x ≡ g x) → (xs : List A) → total f xs ≡ total g xs
-same_total f g same [] = refl
-same_total f g same (x ∷ xs) = ap₂ (λ a b. a + b) (same x) (same_total f g same xs)
+use Rattle.k_frame.proofs.Sums.{sum_both, sum_same}
 
 -- what is kept and what goes are all
 pub kept_and_gone : {A : Type 0} (f : A → ℕ) (q : A → Bool) (xs : List A) → total f (filter q xs) + total (λ x. cond (q x) 0 (f x)) xs ≡ total f xs
@@ -72,7 +65,7 @@ pub entries_left : (q : ExitItem → Bool) (g h : Heap) (n : Name) (exits : List
     ≡ (total (λ (e : ExitItem). bit (name_eq e.target n)) exits - bit (has_exit exits g n && not (q (record { heap = g; target = n })))) - bit (has_exit exits h n && not (q (record { heap = h; target = n })))
 entries_left q g h n exits distinct apart other =
     let all = kept_and_gone (λ (e : ExitItem). bit (name_eq e.target n)) q exits in
-    let gone = same_total (λ (e : ExitItem). cond (q e) 0 (bit (name_eq e.target n))) (λ (e : ExitItem). bit ((heap_eq e.heap g && name_eq e.target n) && not (q e)) + bit ((heap_eq e.heap h && name_eq e.target n) && not (q e)))
+    let gone = sum_same (λ (e : ExitItem). cond (q e) 0 (bit (name_eq e.target n))) (λ (e : ExitItem). bit ((heap_eq e.heap g && name_eq e.target n) && not (q e)) + bit ((heap_eq e.heap h && name_eq e.target n) && not (q e)))
     (λ e. gone_at (q e) (heap_eq e.heap g) (heap_eq e.heap h) (name_eq e.target n) (other e) (λ t. ap (λ k. heap_eq k h) (heap_eq-true e.heap g t) ∙ apart)) exits in
     let both = sum_both (λ (e : ExitItem). bit ((heap_eq e.heap g && name_eq e.target n) && not (q e))) (λ (e : ExitItem). bit ((heap_eq e.heap h && name_eq e.target n) && not (q e))) exits in
     omega (arith, all, gone, both, one_item q g n exits distinct, one_item q h n exits distinct)

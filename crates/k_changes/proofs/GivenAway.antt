@@ -26,13 +26,7 @@ use Rattle.k_laws.proofs.Merge.{merged}
 use Rattle.k_laws.proofs.Means.{exit_from, exit_comes}
 use Rattle.k_laws.proofs.SoundAbsorbed.{is_merged as absorbed_owner, shared_to}
 use Rattle.k_laws.proofs.SoundExited.{is_merged as ended_owner}
-
--- two tests with the same yes are one
-same_test : (a b : Bool) → (IsTrue a → IsTrue b) → (IsTrue b → IsTrue a) → a ≡ b
-same_test true true f g = refl
-same_test false false f g = refl
-same_test true false f g = absurd (false≢true (f refl))
-same_test false true f g = absurd (false≢true (g refl))
+use Rattle.k_frame.proofs.Tests.{same_test}
 
 module _ (own own' : ℕ → Heap) (g : Heap) (apart : IsFalse (heap_eq Kernel g)) (is : (seg : ℕ) → own' seg ≡ merged g (own seg)) where
   none_left : (seg : ℕ) → heap_eq (own' seg) g ≡ false

@@ -11,3 +11,4 @@ pub mod EndsOnBook
 pub mod TakenOnBook
 pub mod WaysInto
 pub mod CollectedOnBook
+pub mod RootsTold

@@ -6,16 +6,12 @@ use Rattle.k_types.specs.Totals.{total}
 use Rattle.k_types.specs.Numbers.{numbers_below, numbers_from}
 use Rattle.k_types.specs.State.{Sharing, has_share}
 use Rattle.k_types.specs.Sound.{AreDistinctShares}
-use Rattle.k_frame.proofs.Charges.{sum-filter, one_counts}
-use Rattle.k_changes.proofs.EntryCounts.{sum_both, same_total}
-
-zeros : {A : Type 0} (xs : List A) → total (λ x. 0) xs ≡ 0
-zeros [] = refl
-zeros (x ∷ xs) = omega (arith, zeros xs)
+use Rattle.k_frame.proofs.Sums.{sum-filter, one_counts}
+use Rattle.k_frame.proofs.Sums.{zeros, sum_both, sum_same}
 
 one_heap : (f : ℕ → ℕ) (s n : ℕ) → s < n → total (λ t. cond (s == t) (f t) 0) (numbers_below n) ≡ f s
 one_heap f s n inside =
-    same_total (λ t. cond (s == t) (f t) 0) (λ t. cond (t == s) (f t) 0) (λ t. ap (λ b. cond b (f t) 0) (turned s t)) (numbers_below n)
+    sum_same (λ t. cond (s == t) (f t) 0) (λ t. cond (t == s) (f t) 0) (λ t. ap (λ b. cond b (f t) 0) (turned s t)) (numbers_below n)
     ∙ one_counts f s 0 n (omega arith) (omega arith)
   where
     turned : (a b : ℕ) → (a == b) ≡ (b == a)
@@ -45,7 +41,7 @@ shares_sum f p n shares distinct known = sum-filter (λ e. e.process == p) (λ (
         ap₂ (λ a b. a + b) (sym (inner f (e.process == p) e.heap n (known e.process e.heap (or_left _ _ (and_from _ _ (eq-eqb e.process e.process refl) (eq-eqb e.heap e.heap refl))))))
         (go shares distinct.1 (λ q s t. known q s (or_right _ _ t)))
         ∙ sym (sum_both (λ t. cond (e.process == p) (cond (e.heap == t) (f t) 0) 0) (λ t. cond (has_share shares p t) (f t) 0) (numbers_below n))
-        ∙ sym (same_total (λ t. cond (has_share (e ∷ shares) p t) (f t) 0) (λ t. cond (e.process == p) (cond (e.heap == t) (f t) 0) 0 + cond (has_share shares p t) (f t) 0)
+        ∙ sym (sum_same (λ t. cond (has_share (e ∷ shares) p t) (f t) 0) (λ t. cond (e.process == p) (cond (e.heap == t) (f t) 0) 0 + cond (has_share shares p t) (f t) 0)
         (λ t. both_or (e.process == p) (e.heap == t) (has_share shares p t) (f t) (λ a b. ap₂ (λ x y. has_share shares x y) (sym (eqb-true e.process p a)) (sym (eqb-true e.heap t b)) ∙ distinct.0)) (numbers_below n))
 
 -- sums over numbers in a row of what is the same below the bound

@@ -1,2 +1,3 @@
 pub mod CellChanges
 pub mod BookChanges
+pub mod Roots

@@ -7,6 +7,7 @@ mod ends;
 mod heaps;
 mod objects;
 mod registers;
+mod roots;
 mod sharing;
 
 pub use ends::{
@@ -25,4 +26,5 @@ pub use objects::{
 pub use registers::{
     the_book_tells_the_owners, what_a_counted_operation_changes, what_a_register_changes,
 };
+pub use roots::a_collection_begins_from_its_cell_and_the_book;
 pub use sharing::{what_a_new_share_changes, what_a_phase_changes, what_closing_changes};

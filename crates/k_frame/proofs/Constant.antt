@@ -1,40 +1,28 @@
 -- The maxima never change.
-use Rattle.std.proofs.Common.{◌≡◌, ℕ, cond, true, false, refl, List, [], ◌∷◌, ◌∙◌, Option, Some, None}
+use Rattle.std.proofs.Common.{◌≡◌, ℕ, refl, ap, List, [], ◌∷◌, ◌∙◌, Option, Some, None}
 use Rattle.k_types.specs.declared.names.Name.{Name}
 use Rattle.k_types.specs.declared.op.Op.{Op}
 use Rattle.k_types.specs.declared.op.Op.TheVariants.{New, KNew, SNew, Store, Load, Move, Clear, Dir, Put, Get, Collect, KCollect, Share, Freeze, Attach, Exit}
 use Rattle.k_types.specs.declared.event.Fault.{Fault}
 use Rattle.k_types.specs.declared.event.Event.{Event}
 use Rattle.k_types.specs.declared.event.Event.TheVariants.{Done, Ended, Absorbed, Closing}
-use Rattle.k_types.specs.Names.{heap_eq}
 use Rattle.k_types.specs.Trace.{Trace}
 use Rattle.k_types.specs.State.{State, register}
-use Rattle.k_types.specs.Owners.{owner_of}
 use Rattle.k_types.specs.Replies.{first_fault, faults}
-use Rattle.k_types.specs.Updates.{count_done, set_register, create, write, add_exit, open_scan, set_phase, add_share, keep_objects, keep_exits, keep_shares, close_scan, clear_registers, end_process, turn_exits, close}
-use Rattle.k_types.specs.Effects.{step, effect, effect_unless, after_operation, after_store, after_put, with_exit_of_store, after_freeze, after_end_of, after_ended, after_absorbed, after_closing}
+use Rattle.k_types.specs.Updates.{count_done, set_register, create, open_scan, set_phase, add_share, keep_objects, keep_exits, keep_shares, close_scan, clear_registers, end_process, turn_exits, close}
+use Rattle.k_types.specs.Effects.{step, effect, effect_unless, after_operation, after_store, after_put, after_freeze, after_end_of, after_ended, after_absorbed, after_closing}
 use Rattle.k_types.specs.Steps.{run}
+use Rattle.k_frame.proofs.Rest.{store_rest, put_rest, freeze_rest}
 
 module _ (trace : Trace) where
-  link_maxima : (st : State) (x : Name) (v : Option Name) → (with_exit_of_store trace x v st).maxima ≡ st.maxima
-  unfolding with_exit_of_store add_exit
-  link_maxima st x None = refl
-  link_maxima st x (Some y) = elim (heap_eq (owner_of trace st x.seg.0) (owner_of trace st y.seg.0)) as (λ b. (cond b st (add_exit (owner_of trace st x.seg.0) y st)).maxima ≡ st.maxima) [ true ↦ refl | false ↦ refl ]
-
   store_maxima : (st : State) (x : Option Name) (i : ℕ) (v : Option Name) → (after_store trace x i v st).maxima ≡ st.maxima
-  unfolding after_store write
-  store_maxima st None i v = refl
-  store_maxima st (Some x) i v = link_maxima st x v
+  store_maxima st x i v = ap (λ (s : State). s.maxima) (store_rest trace st x i v)
 
   put_maxima : (st : State) (x : Option Name) (i n : ℕ) → (after_put x i n st).maxima ≡ st.maxima
-  unfolding after_put write
-  put_maxima st None i n = refl
-  put_maxima st (Some x) i n = refl
+  put_maxima st x i n = ap (λ (s : State). s.maxima) (put_rest st x i n)
 
   freeze_maxima : (st : State) (s : ℕ) (root : Option Name) → (after_freeze s root st).maxima ≡ st.maxima
-  unfolding after_freeze set_phase
-  freeze_maxima st s None = refl
-  freeze_maxima st s (Some root) = refl
+  freeze_maxima st s root = ap (λ (s : State). s.maxima) (freeze_rest st s root)
 
   effect_maxima : (st : State) (p : ℕ) (op : Op) → (effect trace p op st).maxima ≡ st.maxima
   unfolding effect set_register create open_scan add_share set_phase after_end_of end_process clear_registers keep_shares turn_exits

@@ -13,7 +13,9 @@ pub mod LocalEffects
 pub mod LocalBook
 pub mod Rest
 pub mod Sizes
+pub mod Sums
 pub mod Tails
+pub mod Tests
 pub mod Charges
 pub mod Exact
 pub mod Maxima

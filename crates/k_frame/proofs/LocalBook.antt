@@ -19,7 +19,7 @@ use Rattle.k_types.specs.Cells.{book_part, pins_of}
 use Rattle.k_types.specs.Local.{is_local, is_own, is_local_load, is_local_store}
 use Rattle.k_frame.proofs.NameTests.{name_eq-true, heap_eq-same}
 use Rattle.k_frame.proofs.Lists.{get_or-set_cases}
-use Rattle.k_frame.proofs.Charges.{sum_same}
+use Rattle.k_frame.proofs.Sums.{sum_same}
 use Rattle.k_frame.proofs.Bytes.{bytes-written}
 use Rattle.k_frame.proofs.OwnerOf.{owner_user}
 use Rattle.k_frame.proofs.LocalSteps.{own_faults}

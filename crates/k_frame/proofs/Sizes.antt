@@ -33,6 +33,11 @@ get_or-same zero k x d h = absurd (omega arith)
 get_or-same (suc n) zero x d h = refl
 get_or-same (suc n) (suc k) x d h = get_or-same n k x d (omega (arith, h))
 
+pub zeros_at : (n k : ℕ) → get_or {A = ℕ} (replicate n 0) k 0 ≡ 0
+zeros_at zero k = refl
+zeros_at (suc n) zero = refl
+zeros_at (suc n) (suc k) = zeros_at n k
+
 pub opening_sized : (trace : Trace) → IsSized trace (opening trace)
 opening_sized trace = record {
   made = omega (arith, length-same {A = ℕ} (length trace.procs + trace.shared_heaps) 0);

@@ -1,5 +1,5 @@
 -- The entries of an object are the heaps with an exit item to it.
-use Rattle.std.proofs.Common.{◌≡◌, ℕ, ◌+◌, ◌*◌, ◌<◌, ◌==◌, ◌&&◌, ◌||◌, Bool, true, false, refl, sym, ap, ap₂, ◌∙◌, List, [], ◌∷◌, ◌++◌, map, arith, IsTrue}
+use Rattle.std.proofs.Common.{◌≡◌, ℕ, ◌+◌, ◌*◌, ◌<◌, ◌==◌, ◌&&◌, ◌||◌, Bool, true, false, refl, sym, ap, ap₂, ◌∙◌, List, [], ◌∷◌, map, arith, IsTrue}
 use Rattle.std.proofs.lemmas.Bool.{and_from, or_left, or_right}
 use Rattle.k_types.specs.Totals.{total}
 use Rattle.k_types.specs.Numbers.{numbers_below}
@@ -14,19 +14,13 @@ use Rattle.k_types.specs.Cells.{entries}
 use Rattle.k_types.specs.Sound.{IsSound, AreDistinctExits}
 use Rattle.k_laws.specs.Meaning.{heaps_of}
 use Rattle.k_frame.proofs.NameTests.{name_eq_refl, name_eq-true, heap_eq-true, heap_eq_refl}
-use Rattle.k_frame.proofs.Charges.{bit, sum_same, sum_added, one_counts, bit_turned}
-
-total_append : {A : Type 0} (f : A → ℕ) (xs ys : List A) → total f (xs ++ ys) ≡ total f xs + total f ys
-total_append f [] ys = omega arith
-total_append f (x ∷ xs) ys = omega (arith, total_append f xs ys)
+use Rattle.k_frame.proofs.Charges.{bit_turned}
+use Rattle.k_frame.proofs.Sums.{bit, sum_same, sum_added, one_counts}
+use Rattle.k_frame.proofs.Sums.{total_append, zeros}
 
 total_map : {A B : Type 0} (f : B → ℕ) (g : A → B) (xs : List A) → total f (map g xs) ≡ total (λ x. f (g x)) xs
 total_map f g [] = refl
 total_map f g (x ∷ xs) = ap (λ n. f (g x) + n) (total_map f g xs)
-
-zeros : {A : Type 0} (xs : List A) → total (λ x. 0) xs ≡ 0
-zeros [] = refl
-zeros (x ∷ xs) = omega (arith, zeros xs)
 
 parts_of : (trace : Trace) (f : Heap → ℕ) → total f (heaps_of trace)
     ≡ f Kernel + (total (λ p. f (user p)) (numbers_below (process_count trace)) + total (λ s. f (shared s)) (numbers_below trace.shared_heaps))

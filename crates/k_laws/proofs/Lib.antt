@@ -1,6 +1,7 @@
 pub mod Charged
 pub mod Closure
 pub mod Ending
+pub mod Entered
 pub mod Entries
 pub mod Means
 pub mod Merge

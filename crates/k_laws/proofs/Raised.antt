@@ -11,8 +11,10 @@ use Rattle.k_types.specs.Owners.{user, shared, charge_of, charge_by}
 use Rattle.k_types.specs.Numbers.{numbers_below}
 use Rattle.k_types.specs.Limits.{limits_in, use_of, use_by, direct_by, full_limit, path_of, max_of}
 use Rattle.k_types.specs.Sound.{AreDistinctShares}
-use Rattle.k_frame.proofs.Charges.{bit, sum_added, sum_same, sum-filter, one_counts, use_added, counted_once, bit_turned}
+use Rattle.k_frame.proofs.Charges.{use_added, counted_once, bit_turned}
+use Rattle.k_frame.proofs.Sums.{bit, sum_added, sum_same, sum-filter, one_counts}
 use Rattle.k_frame.proofs.Maxima.{length_in, tree_in}
+use Rattle.k_frame.proofs.Sums.{total_append}
 
 -- nothing that the search passed meets the test
 pub not_found : (p : ℕ → Bool) (xs : List ℕ) (q : ℕ) → find p xs ≡ None → IsTrue (among q xs) → p q ≡ false
@@ -127,10 +129,6 @@ charge_shared_added b c ended shares p s n lives distinct shares_it alone more q
       | inl e ↦ ap bit (ap (λ k. has_share shares k s) e ∙ shares_it ∙ sym (eq-eqb q p e))
       | inr ne ↦ ap bit (false_from_ne_true _ (λ t. ne (alone q t)) ∙ sym (ne_eqb q p ne))
     ]
-
-pub total_append : {A : Type 0} (f : A → ℕ) (xs ys : List A) → total f (xs ++ ys) ≡ total f xs + total f ys
-total_append f [] ys = omega arith
-total_append f (x ∷ xs) ys = omega (arith, total_append f xs ys)
 
 one_more : (b : Heap → ℕ) (p s q : ℕ) → total {A = Sharing} (λ e. cond (e.process == q) (b (shared e.heap)) 0) (record { process = p; heap = s } ∷ []) ≡ b (shared s) * bit (q == p)
 one_more b p s q =

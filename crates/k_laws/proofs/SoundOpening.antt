@@ -1,8 +1,7 @@
 -- The opening state of a trace is sound.
-use Rattle.std.proofs.Common.{◌≡◌, ℕ, zero, suc, ◌<◌, ◌≤◌, ◌==◌, ◌&&◌, false, refl, inl, inr, subst, sym, ap, ◌∙◌, List, [], ◌∷◌, length, filter, replicate, None, arith, get_or, le_trans, IsTrue}
+use Rattle.std.proofs.Common.{◌≡◌, ℕ, zero, suc, ◌<◌, ◌≤◌, ◌==◌, ◌&&◌, false, refl, inl, inr, subst, sym, ap, ◌∙◌, length, filter, replicate, None, arith, get_or, le_trans, IsTrue}
 use Rattle.std.specs.List.{list_any}
 use Rattle.std.proofs.lemmas.Bool.{and_parts, or_cases, false≢true}
-use Rattle.k_types.specs.Totals.{total}
 use Rattle.k_types.specs.declared.names.Name.{Name}
 use Rattle.k_types.specs.declared.names.Phase.TheVariants.{Unmade}
 use Rattle.k_types.specs.Names.{name_eq, directory, leads_to}
@@ -17,6 +16,7 @@ use Rattle.k_frame.proofs.NameTests.{name_eq-true}
 use Rattle.k_frame.proofs.Sizes.{opening_sized}
 use Rattle.k_frame.proofs.Maxima.{own_maxima}
 use Rattle.k_laws.proofs.Uses.{use_less, total_less}
+use Rattle.k_frame.proofs.Sums.{zeros}
 
 pub all_unmade : (n s : ℕ) → phase_of (replicate n Unmade) s ≡ Unmade
 all_unmade zero s = refl
@@ -35,10 +35,6 @@ none_held (suc n) (suc p) m = none_held n p m
 no_references : (n : ℕ) (m : Name) → list_any (content_leads_to m) (replicate n (Refers None)) ≡ false
 no_references zero m = refl
 no_references (suc n) m = no_references n m
-
-zeros : {A : Type 0} (xs : List A) → total (λ x. 0) xs ≡ 0
-zeros [] = refl
-zeros (x ∷ xs) = omega (arith, zeros xs)
 
 module _ (trace : Trace) (limits : AreLimits trace) where
   only_directory : (n : Name) → IsTrue (has (opening trace).objects n) → directory ≡ n

@@ -15,7 +15,10 @@ pub use charges::{
     uses_fit,
 };
 pub use collections::{collections_free_nothing_live, collections_keep_exactly_the_survivors};
-pub use meaning::definitions_mean;
+pub use meaning::{
+    a_collection_reaches_within_its_heap, a_living_process_owns_its_segment_alone,
+    entered_objects_are_counted,
+};
 pub use parts::parts_determine_the_state;
 pub use refusals::no_hidden_refusals;
 pub use soundness::{opening_is_sound, states_are_sound, steps_are_sound};

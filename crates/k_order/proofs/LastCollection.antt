@@ -1,5 +1,5 @@
 -- The last collection leaves what the directory reaches.
-use Rattle.std.proofs.Common.{◌≡◌, ℕ, zero, suc, ◌+◌, ◌-◌, ◌≤◌, ◌&&◌, not, Bool, true, false, refl, sym, ap, ◌∙◌, inl, inr, List, [], ◌∷◌, ◌++◌, length, filter, arith, le_refl, IsTrue, subst}
+use Rattle.std.proofs.Common.{◌≡◌, ℕ, zero, suc, ◌+◌, ◌-◌, ◌≤◌, ◌&&◌, not, Bool, false, refl, sym, ap, ◌∙◌, inl, inr, List, [], ◌∷◌, ◌++◌, length, filter, arith, le_refl, IsTrue, subst}
 use Rattle.std.specs.List.{list_any}
 use Rattle.std.proofs.lemmas.Bool.{false≢true, or_left, or_right, or_cases, and_parts, and_from}
 use Rattle.k_types.specs.declared.names.Name.{Name}
@@ -28,6 +28,7 @@ use Rattle.k_bounds.specs.Counts.{exit_count}
 use Rattle.k_laws.proofs.Means.{reach_is}
 use Rattle.k_laws.proofs.SoundScan.{among-roots}
 use Rattle.k_laws.proofs.SoundSteps.{legal_sound}
+use Rattle.k_frame.proofs.Tests.{same_test}
 
 -- what is reached in a pool from the one name is what is reached among what was reached
 module _ (pool : List Object) (start : Name → Bool) (root : Name) (only : (n : Name) → IsTrue (start n) → n ≡ root) where
@@ -76,13 +77,6 @@ module _ (pool : List Object) (start : Name → Bool) (root : Name) (only : (n :
 
     pub all_again : (n : Name) → IsTrue (has kept n) → IsTrue (has end n)
     all_again n there = reached_again last (le_refl last) n (sym (is n) ∙ there)
-
--- two tests with the same yes are one
-same_test : (a b : Bool) → (IsTrue a → IsTrue b) → (IsTrue b → IsTrue a) → a ≡ b
-same_test true true f g = refl
-same_test false false f g = refl
-same_test true false f g = absurd (false≢true (f refl))
-same_test false true f g = absurd (false≢true (g refl))
 
 module _ (trace : Trace) (s0 : State) (only : (n : Name) → IsTrue (name_among n (roots_of trace s0 Kernel)) → n ≡ directory) where
   abbrev s1 : State

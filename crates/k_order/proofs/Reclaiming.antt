@@ -25,6 +25,7 @@ use Rattle.k_frame.proofs.NameTests.{heap_eq_refl, name_eq_refl}
 use Rattle.k_frame.proofs.OwnerOf.{owner_lives, owner_stands, owner_known}
 use Rattle.k_laws.proofs.SoundStore.{get_or_above}
 use Rattle.k_order.proofs.Numbered.{all_at_below}
+use Rattle.k_frame.proofs.Sums.{zeros}
 
 none_of_count : (exits : List ExitItem) (h : Heap) (n : Name) → exit_count exits h ≡ 0 → has_exit exits h n ≡ false
 none_of_count [] h n e = refl
@@ -49,10 +50,6 @@ not_live Unmade e made = absurd (made refl)
 not_live (Populating q) e made = absurd (false≢true (sym e))
 not_live (Frozen root) e made = absurd (false≢true (sym e))
 not_live Absorbed e made = refl
-
-zeros : {A : Type 0} (xs : List A) → total (λ x. 0) xs ≡ 0
-zeros [] = refl
-zeros (x ∷ xs) = omega (arith, zeros xs)
 
 module _ (trace : Trace) (st : State) (sound : IsSound trace st) (over : IsTrue (all_ended trace st)) (orphans : IsTrue (no_orphan trace st))
     (unmade : (s : ℕ) → phase_of st.phases s ≡ Unmade → exit_count st.exits (shared s) ≡ 0) where

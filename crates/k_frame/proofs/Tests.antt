@@ -1,0 +1,10 @@
+-- Tests that are one.
+use Rattle.std.proofs.Common.{◌≡◌, Bool, true, false, refl, IsTrue}
+use Rattle.std.proofs.lemmas.Bool.{false≢true}
+
+-- two tests with the same yes are one
+pub same_test : (a b : Bool) → (IsTrue a → IsTrue b) → (IsTrue b → IsTrue a) → a ≡ b
+same_test true true f g = refl
+same_test false false f g = refl
+same_test true false f g = absurd (false≢true (f refl))
+same_test false true f g = absurd (false≢true (g refl))
