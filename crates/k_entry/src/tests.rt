@@ -1,0 +1,41 @@
+ghost use Rattle.std.specs.Prelude.{◌≡◌};
+ghost use Rattle.k_types.specs.Names.{name_of};
+
+use crate::EntryTable;
+use k_types::{Heap, Link, Name, Pid, Seg, Serial, Slot};
+use std::test::Fail;
+
+fn link(seg: u32, serial: u32) -> Link
+    ensures { name_of result ≡ record { seg = record { 0 = seg }; serial = record { 0 = serial } } }
+{
+    Link {
+        seg: Seg(seg),
+        slot: Slot(0),
+        serial: Serial(serial),
+    }
+}
+
+fn name(seg: u32, serial: u32) -> Name
+    ensures { result ≡ record { seg = record { 0 = seg }; serial = record { 0 = serial } } }
+{
+    Name {
+        seg: Seg(seg),
+        serial: Serial(serial),
+    }
+}
+
+// An object that is held once is on the walk of its home, and gone after it is let go.
+#[test]
+fn an_item_goes_when_its_count_is_zero(rt: HostRuntime) -> Result<(), Fail> {
+    let user = Heap::User(Pid(0));
+    let homes = vec![in rt.alloc(); Heap::Kernel, user]?;
+    let mut table = EntryTable::make(rt.alloc(), &homes, 4)?;
+    table.up(link(1, 7));
+    assert!(rt; table.first_of(Heap::Kernel).is_none());
+    assert!(rt; table.first_of(user).is_some());
+    assert_eq!(rt; table.count(name(1, 7)), 1);
+    table.down(name(1, 7));
+    assert_eq!(rt; table.count(name(1, 7)), 0);
+    assert!(rt; table.first_of(user).is_none());
+    Ok(())
+}

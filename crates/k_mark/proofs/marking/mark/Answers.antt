@@ -1,0 +1,77 @@
+use Rattle.std.proofs.Common.{◌≡◌, ◌+◌, refl, sym, ap, subst, ◌∙◌, arith}
+use Rattle.k_space.specs.Areas.{AreaValue, gray_at, unmarked}
+use Rattle.k_mark.proofs.Left.{left, black_work}
+use Rattle.k_mark.proofs.Marked.{demands, IsMarking, begun, stepped, less_left, more_work, fields_now, marked_is, exits_is, still_live, demand_now, looked_now}
+use Rattle.k_space.specs.Areas.{HasDistinct}
+use Rattle.k_space.specs.Segments.{Black}
+use Rattle.k_space.proofs.AreaRows.{found, after_distinct}
+use Rattle.k_mark.proofs.Work.{none_black, work_is}
+use Rattle.k_mark.proofs.marking.mark.Goals as goal
+
+pub loop-at-init : goal.loop-at-init
+loop-at-init g c = record {
+  marking = begun c.args.area.now c.args.exits.now.items c.requires.distinct c.requires.clean c.requires.unmarked;
+  steps = omega (arith, none_black c.args.area.now c.requires.distinct c.requires.clean);
+  room = refl;
+}
+
+pub trace-requires-clause-live : goal.trace-requires-clause-live
+trace-requires-clause-live g c =
+    let t = c.in-Some.ensures.some in
+    still_live c.args.area.now c.loop-at.area c.take_gray.new.self c.take_gray.new.self c.args.exits.now.items c.loop-at.exits.items c.loop-at.exits.items c.in-Some.at t.0 c.loop-at.invariant.marking t.1 t.2 t.3 (demands c.args.area.now c.args.exits.now.items c.requires.exits)
+
+pub trace-requires-clause-exits : goal.trace-requires-clause-exits
+trace-requires-clause-exits g c =
+    let t = c.in-Some.ensures.some in
+    demand_now c.args.area.now c.loop-at.area c.take_gray.new.self c.take_gray.new.self c.args.exits.now.items c.loop-at.exits.items c.loop-at.exits.items c.in-Some.at t.0 c.loop-at.invariant.marking t.1 t.2 t.3 (demands c.args.area.now c.args.exits.now.items c.requires.exits)
+
+pub loop-at-smaller : goal.loop-at-smaller
+loop-at-smaller g c =
+    let t = c.in-Some.ensures.some in
+    let looked = looked_now c.args.area.now c.loop-at.area c.take_gray.new.self c.trace.new.area c.args.exits.now.items c.loop-at.exits.items c.trace.new.exits.items c.in-Some.at t.0 c.loop-at.invariant.marking t.1 t.2 t.3 (demands c.args.area.now c.args.exits.now.items c.requires.exits) c.trace.ensures.looked in
+    let less : left c.trace.new.area + 1 ≡ left c.loop-at.area = less_left c.args.area.now c.loop-at.area c.trace.new.area c.args.exits.now.items c.loop-at.exits.items c.trace.new.exits.items c.in-Some.at t.0 c.loop-at.invariant.marking t.1 t.2 (demands c.args.area.now c.args.exits.now.items c.requires.exits) looked in
+    omega (arith, less)
+
+pub loop-at-preserved : goal.loop-at-preserved
+loop-at-preserved g c =
+    let t = c.in-Some.ensures.some in
+    let looked = looked_now c.args.area.now c.loop-at.area c.take_gray.new.self c.trace.new.area c.args.exits.now.items c.loop-at.exits.items c.trace.new.exits.items c.in-Some.at t.0 c.loop-at.invariant.marking t.1 t.2 t.3 (demands c.args.area.now c.args.exits.now.items c.requires.exits) c.trace.ensures.looked in
+    let worked = more_work c.args.area.now c.loop-at.area c.trace.new.area c.args.exits.now.items c.loop-at.exits.items c.trace.new.exits.items c.in-Some.at t.0 c.loop-at.invariant.marking t.1 t.2 (demands c.args.area.now c.args.exits.now.items c.requires.exits) looked in
+    let traced = c.trace.ensures.steps t.0.fields (fields_now c.args.area.now c.loop-at.area c.take_gray.new.self c.trace.new.area c.args.exits.now.items c.loop-at.exits.items c.trace.new.exits.items c.in-Some.at t.0 c.loop-at.invariant.marking t.1 t.2 t.3 (demands c.args.area.now c.args.exits.now.items c.requires.exits)) in
+    record {
+      marking = stepped c.args.area.now c.loop-at.area c.trace.new.area c.args.exits.now.items c.loop-at.exits.items c.trace.new.exits.items c.in-Some.at t.0 c.loop-at.invariant.marking t.1 t.2 (demands c.args.area.now c.args.exits.now.items c.requires.exits) looked;
+      steps = omega (arith, worked, traced, c.tick.ensures, c.loop-at.invariant.steps);
+      room = c.trace.ensures.room ∙ c.loop-at.invariant.room;
+    }
+
+pub returns-clause-reached : goal.returns-clause-reached
+returns-clause-reached g c =
+    marked_is c.args.area.now c.take_gray.new.self c.args.exits.now.items c.loop-at.exits.items
+    (subst (λ (a : AreaValue). IsMarking c.args.area.now a c.args.exits.now.items c.loop-at.exits.items) (sym c.in_default.ensures.kept) c.loop-at.invariant.marking)
+    (λ n. ap (λ (a : AreaValue). gray_at a n) c.in_default.ensures.kept ∙ c.in_default.ensures.none n)
+
+pub returns-clause-exits : goal.returns-clause-exits
+returns-clause-exits g c = exits_is c.args.area.now c.loop-at.area c.args.exits.now.items c.loop-at.exits.items c.loop-at.invariant.marking c.in_default.ensures.none
+
+pub returns-clause-kept : goal.returns-clause-kept
+returns-clause-kept g c = ap (λ (a : AreaValue). unmarked a) c.in_default.ensures.kept ∙ c.loop-at.invariant.marking.same
+
+pub returns-clause-targets : goal.returns-clause-targets
+returns-clause-targets g c = c.loop-at.invariant.marking.names
+
+pub returns-clause-steps : goal.returns-clause-steps
+returns-clause-steps g c =
+    c.loop-at.invariant.steps
+    ∙ ap (λ n. c.args.steps.now + n)
+    (ap (λ (a : AreaValue). black_work a) (sym c.in_default.ensures.kept)
+    ∙ work_is c.take_gray.new.self (subst (λ (a : AreaValue). HasDistinct a.segments) (sym c.in_default.ensures.kept) c.loop-at.invariant.marking.distinct)
+    (λ n. ap (λ (a : AreaValue). gray_at a n) c.in_default.ensures.kept ∙ c.in_default.ensures.none n))
+
+pub trace-requires-clause-distinct : goal.trace-requires-clause-distinct
+trace-requires-clause-distinct g c =
+    let t = c.in-Some.ensures.some in
+    subst (λ (a : AreaValue). HasDistinct a.segments) (sym t.3)
+    (after_distinct c.loop-at.area c.in-Some.at t.0 (record t.0 { color = Black }) (found c.loop-at.area c.in-Some.at t.0 t.1) c.loop-at.invariant.marking.distinct)
+
+pub take_gray-requires : goal.take_gray-requires
+take_gray-requires g c = c.loop-at.invariant.marking.distinct

@@ -1,0 +1,14 @@
+use Rattle.std.proofs.Common.{◌≡◌, ◌+◌}
+use Rattle.k_mark.proofs.Left.{left, black_work}
+use Rattle.k_mark.proofs.Marked.{IsMarking}
+use Rattle.k_mark.proofs.marking.mark.Given as goal
+
+abbrev pub invariant-loop-at : goal.invariant-loop-at
+invariant-loop-at g l = record {
+  marking : IsMarking l.fn.area l.area l.fn.exits.items l.exits.items;
+  steps : l.steps ≡ l.fn.steps + black_work l.area;
+  room : l.exits.room ≡ l.fn.exits.room;
+}
+
+abbrev pub decreases-loop-at : goal.decreases-loop-at
+decreases-loop-at g l = left l.area

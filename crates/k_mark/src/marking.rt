@@ -1,0 +1,166 @@
+ghost use Rattle.std.specs.Prelude.{◌≡◌, ℕ, ◌<◌, ◌≤◌, ◌↔◌, IsTrue, IsFalse, IsSome, Some, None, List, length, option_map, slice_get, is_some, ◌∷◌, [], ◌+◌, count_by};
+ghost use Rattle.k_types.specs.declared.names.Name.{Name as Named};
+ghost use Rattle.k_types.specs.State.{Content};
+ghost use Rattle.k_types.specs.Names.{name_of};
+ghost use Rattle.k_space.specs.Objects.{content_of};
+ghost use Rattle.k_space.specs.Areas.{HasDistinct, row_of_name, fields_at, is_foreign, marked_at, gray_at, black_at, grayed, unmarked};
+ghost use Rattle.k_exit.specs.Exits.{has_target, target_marked, targets, unmarked as unmarked_exits};
+ghost use Rattle.k_mark.specs.Marking.{IsReachedIn, IsExit, Marks, looked, looked_all, fields_lead_to, refers_at, is_ref, work};
+
+use crate::steps::Steps;
+use k_exit::ExitTable;
+use k_space::{Area, Stored};
+use k_types::{Link, Name};
+use std::marker::Brand;
+use std::sync::ledger::{Blank, Ledger};
+
+/// Takes all marks away.
+pub fn clear(area: &mut Area, exits: &mut ExitTable)
+    ensures area { area.new ≡ unmarked area.old }
+    ensures exits { exits.new ≡ unmarked_exits exits.old }
+{
+    area.unmark_all();
+    exits.unmark_all();
+}
+
+/// Makes a live object of the area gray, so that marking begins with it. A marked one stays as it is, and
+/// a name that is no live object of the area changes nothing.
+pub fn root(area: &mut Area, target: Link)
+    requires { HasDistinct area.old.segments }
+    ensures { area.new ≡ grayed area.old (name_of target) }
+{
+    area.make_gray(target);
+}
+
+/// What the field of that object holds; nothing past the last field.
+fn held(area: &Area, at: Name, field: u32) -> Option<Stored>
+    requires distinct { HasDistinct area.now.segments }
+    requires live { IsSome (row_of_name area.now.segments at) }
+    ensures { (fields : List Content) → fields_at area.now at ≡ Some fields → option_map content_of result ≡ slice_get fields field }
+{
+    let Some(segment) = area.get(at.seg) else {
+        unreachable!()
+    };
+    let Some(slot) = segment.find(at.serial) else {
+        unreachable!()
+    };
+    if field < segment.field_count(slot) {
+        Some(segment.stored(slot, field))
+    } else {
+        None
+    }
+}
+
+/// The number of fields of that object.
+fn count(area: &Area, at: Name) -> u32
+    requires distinct { HasDistinct area.now.segments }
+    requires live { IsSome (row_of_name area.now.segments at) }
+    ensures { (fields : List Content) → fields_at area.now at ≡ Some fields → result ≡ length fields }
+{
+    let Some(segment) = area.get(at.seg) else {
+        unreachable!()
+    };
+    let Some(slot) = segment.find(at.serial) else {
+        unreachable!()
+    };
+    segment.field_count(slot)
+}
+
+/// Looks at one field: an object of the area is made gray, a foreign target is marked.
+fn look<L: Ledger>(area: &mut Area, exits: &mut ExitTable, steps: &mut Steps<L>, stored: Stored)
+    requires distinct { HasDistinct area.old.segments }
+    requires exits { (n : Named) → IsTrue (fields_lead_to (content_of stored ∷ []) n) → IsTrue (is_foreign area.old n) → IsTrue (has_target exits.old.items n) }
+    ensures area { area.new ≡ (looked (record { area = area.old; exits = exits.old.items }) (content_of stored)).area }
+    ensures exits { exits.new.items ≡ (looked (record { area = area.old; exits = exits.old.items }) (content_of stored)).exits }
+    ensures room { exits.new.room ≡ exits.old.room }
+    ensures steps { steps.new ≡ steps.old + count_by is_ref (content_of stored ∷ []) }
+{
+    let Stored::Refers(target) = stored else {
+        return;
+    };
+    steps.tick();
+    if let Some(link) = target {
+        if area.get(link.seg).is_some() {
+            area.make_gray(link);
+        } else {
+            exits.mark(link.name());
+        }
+    }
+}
+
+/// Looks at each field of the object.
+fn trace<L: Ledger>(area: &mut Area, exits: &mut ExitTable, steps: &mut Steps<L>, at: Name)
+    requires distinct { HasDistinct area.old.segments }
+    requires live { IsSome (row_of_name area.old.segments at) }
+    requires exits { (fields : List Content) (n : Named) → fields_at area.old at ≡ Some fields → IsTrue (fields_lead_to fields n) → IsTrue (is_foreign area.old n) → IsTrue (has_target exits.old.items n) }
+    ensures room { exits.new.room ≡ exits.old.room }
+    ensures steps { (fields : List Content) → fields_at area.old at ≡ Some fields → steps.new ≡ steps.old + count_by is_ref fields }
+    ensures looked { (fields : List Content) → fields_at area.old at ≡ Some fields →
+        record { area = area.new; exits = exits.new.items } ≡ looked_all fields (record { area = area.old; exits = exits.old.items }) }
+{
+    let count = count(area, at);
+    for field in 0..count {
+        let Some(stored) = held(area, at, field) else {
+            unreachable!()
+        };
+        look(area, exits, steps, stored);
+    }
+}
+
+/// Marks what is reached from the gray objects by references inside the area, and the exit items of
+/// foreign targets of marked objects. One step is one object taken from the gray ones, or one
+/// reference field looked at.
+pub fn mark<L: Ledger>(area: &mut Area, exits: &mut ExitTable, steps: &mut Steps<L>)
+    requires distinct { HasDistinct area.old.segments }
+    requires exits { (a n : Named) → IsTrue (refers_at area.old a n) → IsTrue (is_foreign area.old n) → IsTrue (has_target exits.old.items n) }
+    requires clean { (n : Named) → IsFalse (black_at area.old n) }
+    requires unmarked { (n : Named) → IsFalse (target_marked exits.old.items n) }
+    ensures kept { unmarked area.new ≡ unmarked area.old }
+    ensures targets { targets exits.new.items ≡ targets exits.old.items }
+    ensures room { exits.new.room ≡ exits.old.room }
+    ensures black { (n : Named) → IsFalse (gray_at area.new n) }
+    ensures reached { (n : Named) → IsTrue (marked_at area.new n) ↔ IsReachedIn area.old n }
+    ensures exits { (n : Named) → IsTrue (target_marked exits.new.items n) ↔ IsExit area.old n }
+    ensures steps { steps.new ≡ steps.old + work area.new }
+{
+    while let Some(at) = area.take_gray() {
+        steps.tick();
+        trace(area, exits, steps, at);
+    }
+}
+
+/// Marks with a counter of its own, for a caller that counts no steps.
+pub fn mark_uncounted(area: &mut Area, exits: &mut ExitTable)
+    requires distinct { HasDistinct area.old.segments }
+    requires exits { (a n : Named) → IsTrue (refers_at area.old a n) → IsTrue (is_foreign area.old n) → IsTrue (has_target exits.old.items n) }
+    requires clean { (n : Named) → IsFalse (black_at area.old n) }
+    requires unmarked { (n : Named) → IsFalse (target_marked exits.old.items n) }
+    ensures kept { unmarked area.new ≡ unmarked area.old }
+    ensures targets { targets exits.new.items ≡ targets exits.old.items }
+    ensures room { exits.new.room ≡ exits.old.room }
+    ensures black { (n : Named) → IsFalse (gray_at area.new n) }
+    ensures reached { (n : Named) → IsTrue (marked_at area.new n) ↔ IsReachedIn area.old n }
+    ensures exits { (n : Named) → IsTrue (target_marked exits.new.items n) ↔ IsExit area.old n }
+{
+    mark_on::<Brand>(Blank::new(1), area, exits);
+}
+
+/// Marks with a counter on that blank.
+fn mark_on<L: Ledger>(blank: Blank, area: &mut Area, exits: &mut ExitTable)
+    requires name { blank.name ≡ L.name }
+    requires parts { blank.parts ≡ L.parts }
+    requires some { 0 < blank.parts }
+    requires distinct { HasDistinct area.old.segments }
+    requires exits { (a n : Named) → IsTrue (refers_at area.old a n) → IsTrue (is_foreign area.old n) → IsTrue (has_target exits.old.items n) }
+    requires clean { (n : Named) → IsFalse (black_at area.old n) }
+    requires unmarked { (n : Named) → IsFalse (target_marked exits.old.items n) }
+    ensures kept { unmarked area.new ≡ unmarked area.old }
+    ensures targets { targets exits.new.items ≡ targets exits.old.items }
+    ensures room { exits.new.room ≡ exits.old.room }
+    ensures black { (n : Named) → IsFalse (gray_at area.new n) }
+    ensures reached { (n : Named) → IsTrue (marked_at area.new n) ↔ IsReachedIn area.old n }
+    ensures exits { (n : Named) → IsTrue (target_marked exits.new.items n) ↔ IsExit area.old n }
+{
+    let mut steps: Steps<L> = Steps::open(blank);
+    mark(area, exits, &mut steps);
+}
