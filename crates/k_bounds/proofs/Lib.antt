@@ -9,3 +9,4 @@ pub mod ScanCounts
 pub mod AbsorbedCounts
 pub mod Dones
 pub mod Distinct
+pub mod ByProcess

@@ -108,3 +108,8 @@ is_share_of s _ = false
 -- the process, one of the trace's, has taken the shared heap, and done at least so many stores
 abbrev pub MadeBy : Trace → ℕ → List Event → ℕ → ℕ → Type 0
 MadeBy trace s history exits p = (p < process_count trace) × IsTrue (list_any (is_share_of s) (done_by p history)) × (exits ≤ stores_by p history)
+
+-- what is counted of an event: for an operation by its process and itself, for any other nothing
+abbrev pub of_operation : (ℕ → Op → ℕ) → Event → ℕ
+of_operation f (Done pid op said) = f pid.0 op
+of_operation f _ = 0

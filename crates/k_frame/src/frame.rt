@@ -9,6 +9,8 @@ ghost use Rattle.k_types.specs.declared.event.Event.{Event};
 
 /// The frame: a step leaves the part of each cell that it does not touch as it was, and its count of touches. So a cell whose
 /// count of touches is still the same has the same part.
+///
+/// Source: own.
 pub fn steps_leave_other_cells()
     ensures part { (trace : Trace) (st : State) (event : Event) (c : Cell) →
         IsPossible trace st event → IsFalse (touches trace st event c) →
@@ -22,6 +24,8 @@ pub fn steps_leave_other_cells()
 {}
 
 /// The lists of a state are as long as the trace says, whatever the events.
+///
+/// Source: own.
 pub fn lists_keep_their_lengths()
     ensures { (trace : Trace) (history : List Event) → IsSized trace (state_after trace history) }
 {}

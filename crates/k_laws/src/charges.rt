@@ -18,6 +18,8 @@ ghost use Rattle.k_types.specs.declared.op.Op.{Op};
 use k_types::{LimitRow, Op};
 
 /// A charge of n bytes at a limit raises the use of each limit on its path by n, and no other.
+///
+/// Source: KaffeOS paper, on hard and soft memlimits.
 pub fn charges_go_up_the_path()
     ensures raised { (rows : List LimitRow) (d e : ℕ → ℕ) (n m : ℕ) → IsTree rows → m < length rows →
         ((q : ℕ) → e q ≡ d q + (if q == m then n else 0)) →
@@ -30,6 +32,8 @@ pub fn charges_go_up_the_path()
 /// of the object, an attach to a heap that it does not share yet by all bytes of that heap, and anything else, as whatever is
 /// refused, by nothing. The uses of the limits on the path of the process's limit rise by just that, and no other. Only the
 /// end of the process is told apart.
+///
+/// Source: KaffeOS paper, on memlimits and on charging each sharer in full.
 pub fn operations_charge_their_process()
     ensures charged { (trace : Trace) (st : State) (pid : Pid) (op : Op) (said : Reply) → IsSound trace st →
         IsPossible trace st (Done pid op said) → IsFalse (is_exit op) → (q : ℕ) →
@@ -44,12 +48,16 @@ pub fn operations_charge_their_process()
 
 /// No event raises what another process is charged: not its operations, its end or its shares, and no collection, absorption
 /// or closing.
+///
+/// Source: KaffeOS paper, on precise memory accounting.
 pub fn nobody_raises_the_charge_of_another()
     ensures { (trace : Trace) (st : State) (event : Event) (q : ℕ) → IsSound trace st → IsPossible trace st event →
         IsFalse (is_done_by event q) → charge_of trace (step trace st event) q ≤ charge_of trace st q }
 {}
 
 /// After a legal history the use of each limit is at most its maximum.
+///
+/// Source: own.
 pub fn uses_fit()
     ensures { (trace : Trace) (history : List Event) (m : ℕ) → KeepsRules trace → IsLegalHistory trace history →
         m < length trace.limits →

@@ -14,6 +14,8 @@ ghost use Rattle.k_types.specs.declared.names.Name.{Name};
 
 /// No collection frees a live object: in a legal history each object that can still be used just before the end of a
 /// collection is there after it, whatever happened since the collection began.
+///
+/// Source: KaffeOS paper, on the independent collection of heaps by entry and exit items.
 pub fn collections_free_nothing_live()
     ensures { (trace : Trace) (history : List Event) (h : Heap) (objects bytes exits shares : ℕ) → KeepsRules trace →
         IsLegalHistory trace (history ++ Ended h objects bytes exits shares ∷ []) → (n : Name) →
@@ -24,6 +26,8 @@ pub fn collections_free_nothing_live()
 /// Exact survivors: the end of a collection of a heap frees exactly the objects of the heap that the recorded roots do not
 /// reach inside it. Its exit items are then exactly the targets outside the heap of its objects' fields, and the shares of its
 /// process that are left are exactly those into whose heap the process still has a way, or which it populates.
+///
+/// Source: own.
 pub fn collections_keep_exactly_the_survivors()
     ensures { (trace : Trace) (st : State) (h : Heap) (objects bytes exits shares : ℕ) → IsSound trace st →
         IsPossible trace st (Ended h objects bytes exits shares) →

@@ -18,6 +18,8 @@ ghost use Rattle.k_types.specs.declared.op.Op.TheVariants.{KNew, New, SNew, Stor
 /// No hidden refusals. A store is refused only for its base, its field, a frozen heap or the barrier, so never for memory, a
 /// limit or the number of exit items. An allocation is refused only where a limit on its path is full (that limit is named),
 /// in the kernel only by the ceiling, and in a shared heap also where the process does not populate it.
+///
+/// Source: KaffeOS paper, on write barriers and segmentation violations.
 pub fn no_hidden_refusals()
     ensures store { (trace : Trace) (st : State) (p : ℕ) (base value : Reg) (i : ℕ) (fault : Fault) →
         reply_to trace st p (Store base i value) ≡ Refused fault → IsTrue (is_fault_of_store fault) }

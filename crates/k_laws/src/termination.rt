@@ -10,6 +10,8 @@ ghost use Rattle.k_types.specs.declared.names.Name.{Name};
 
 /// The end of a process credits its whole charge: the use of each limit on the path of its limit falls by what the process was
 /// charged before, and every other limit's use, and what every other process is charged, stays.
+///
+/// Source: KaffeOS paper, on the full reclamation of a process's memory.
 pub fn termination_credits_the_whole_charge()
     ensures { (trace : Trace) (st : State) (p : ℕ) → AreLimits trace → p < process_count trace →
         CreditsTheCharge trace st p (after_end_of trace p st) }
@@ -18,6 +20,8 @@ pub fn termination_credits_the_whole_charge()
 /// The end of a process takes nothing from others: every object and field stays, as do the registers and shares of all other
 /// processes. The exit items between its heap and the kernel go, those into shared heaps become the kernel's, and all others
 /// stay.
+///
+/// Source: KaffeOS paper, on merging the heap of a terminated process into the kernel heap.
 pub fn termination_leaves_the_rest()
     ensures rest { (trace : Trace) (st : State) (p : ℕ) → IsSound trace st → p < process_count trace →
         LeavesTheRest st p (after_end_of trace p st) }

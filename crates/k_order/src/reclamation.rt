@@ -8,6 +8,8 @@ ghost use Rattle.k_types.specs.declared.event.Event.{Event};
 
 /// Full reclamation: after a complete history in which every process has ended, the objects left are those that the directory
 /// reaches, there is no exit item and no share, and nothing is charged.
+///
+/// Source: KaffeOS paper, on the full reclamation of memory.
 pub fn ended_histories_leave_what_the_directory_reaches()
     ensures { (trace : Trace) (history : List Event) → KeepsRules trace → IsLegalHistory trace history →
         IsComplete trace history → IsTrue (all_ended trace (state_after trace history)) →
