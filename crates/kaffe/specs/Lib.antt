@@ -1,0 +1,6 @@
+pub mod Commands
+pub mod Texts
+pub mod Answers
+pub mod Parts
+pub mod Numbers
+pub mod Stub
