@@ -3,4 +3,3 @@ pub mod Texts
 pub mod Answers
 pub mod Parts
 pub mod Numbers
-pub mod Stub

@@ -9,7 +9,6 @@ mod call;
 mod commands;
 mod run;
 mod status;
-mod stub;
 #[cfg(test)]
 mod tests;
 mod texts;

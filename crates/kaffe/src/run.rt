@@ -8,11 +8,11 @@ ghost use Rattle.kaffe.specs.Answers.{IsAnswered, IsUnwritten, IsWritten, Tells}
 ghost use Rattle.kaffe.specs.Parts.{IsRunOf, TellsOfInput, TellsOfTrace};
 
 use crate::status::Status;
-use crate::stub::{TraceError, read_trace};
 use crate::texts::{after_writing, write_bad_trace};
 use k_io::{ReadAllError, Sink, Source, read_all};
+use k_plain::solo;
 use k_text::{View, report};
-use k_trace::Trace;
+use k_trace::{Trace, TraceError, read_trace};
 use std::alloc::Global;
 
 /// The most bytes of a trace.
@@ -50,7 +50,10 @@ fn run_trace<K: Sink>(alloc: Global, trace: &Trace, out: &mut K) -> Status
     ensures answered { IsAnswered (TellsOfTrace (meaning_of trace.now)) (K.Holds out.old) (K.Holds out.new) (K.faults out.old) (K.faults out.new) result }
     ensures unwritten { IsUnwritten result → out.new ≡ out.old }
 {
-    Status::WantOfMemory
+    let Ok(end) = solo(alloc, trace) else {
+        return Status::WantOfMemory;
+    };
+    write_report(out, trace, &end)
 }
 
 /// Writes the report of the trace.

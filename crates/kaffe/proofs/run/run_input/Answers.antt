@@ -4,7 +4,8 @@ use Rattle.kaffe.proofs.Answered.{answered_unwritten, answered_more, answered_wr
 use Rattle.kaffe.proofs.run.run_input.Goals as goal
 
 pub returns-in-Ok-clause-answered : goal.returns-in-Ok-clause-answered
-returns-in-Ok-clause-answered g c = answered_more _ _ _ _ _ _ _ (trace_tells _ (meaning_of c.in-Ok.trace) c.in-Ok.ensures.ok) c.run_trace.ensures.answered
+returns-in-Ok-clause-answered g c =
+    answered_more _ _ _ _ _ _ _ (trace_tells _ (meaning_of c.in-Ok.trace) (record { spelled = c.in-Ok.ensures.ok.0; built = c.in-Ok.ensures.ok.1 })) c.run_trace.ensures.answered
 
 pub returns-in-Err-NoMemory-clause-answered : goal.returns-in-Err-NoMemory-clause-answered
 returns-in-Err-NoMemory-clause-answered g c = answered_unwritten _ _ _ _ refl
