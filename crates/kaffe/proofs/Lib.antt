@@ -1,5 +1,5 @@
 pub mod Answered
 pub mod Lines
 pub mod Lists
-pub mod SameSetup
+pub mod Reports
 pub mod Written

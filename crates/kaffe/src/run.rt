@@ -4,14 +4,15 @@ ghost use Rattle.k_trace.specs.FirstForm.{IsFirstForm};
 ghost use Rattle.k_trace.specs.Meaning.{meaning_of};
 ghost use Rattle.k_trace.specs.Rules.{IsTrace};
 ghost use Rattle.k_text.specs.Report.{report_text};
+ghost use Rattle.k_plain.specs.Runs.{IsFiled};
 ghost use Rattle.kaffe.specs.Answers.{IsAnswered, IsUnwritten, IsWritten, Tells};
-ghost use Rattle.kaffe.specs.Parts.{IsRunOf, TellsOfInput, TellsOfTrace};
+ghost use Rattle.kaffe.specs.Parts.{TellsOfInput, TellsOfTrace};
 
 use crate::status::Status;
 use crate::texts::{after_writing, write_bad_trace};
 use k_io::{ReadAllError, Sink, Source, read_all};
-use k_plain::solo;
-use k_text::{View, report};
+use k_plain::{PlainEnd, solo};
+use k_text::report;
 use k_trace::{Trace, TraceError, read_trace};
 use std::alloc::Global;
 
@@ -57,9 +58,9 @@ fn run_trace<K: Sink>(alloc: Global, trace: &Trace, out: &mut K) -> Status
 }
 
 /// Writes the report of the trace.
-fn write_report<K: Sink, V: View>(out: &mut K, trace: &Trace, end: &V) -> Status
+fn write_report<K: Sink>(out: &mut K, trace: &Trace, end: &PlainEnd) -> Status
     requires good { IsTrace (meaning_of trace.now) }
-    requires run { IsRunOf (meaning_of trace.now).trace (V.trace end.now) (V.events end.now) (V.state end.now) }
+    requires run { IsFiled (meaning_of trace.now).trace end.now }
     ensures { IsWritten (K.Holds out.old) (K.Holds out.new) (K.faults out.old) (K.faults out.new) Status.Good
         (report_text (meaning_of trace.now).names (meaning_of trace.now).trace (file_order (meaning_of trace.now).trace)) result }
 {
