@@ -1,0 +1,5 @@
+pub mod Answered
+pub mod Lines
+pub mod Lists
+pub mod Reports
+pub mod Written

@@ -1,0 +1,17 @@
+-- A text that was handed to the sink, and the answer after that.
+use Rattle.std.proofs.Common.{◌≡◌, ℕ, List, Result, Ok, Err, inl, inr, refl, subst, sym}
+use Rattle.k_io.specs.Writing.{Writes}
+use Rattle.k_words.specs.Words.{Text}
+use Rattle.kaffe.specs.declared.status.Status.{Status}
+use Rattle.kaffe.specs.Answers.{IsWritten}
+use Rattle.kaffe.specs.Parts.{status_after}
+
+written : {E : Type 0} (old new : List ℕ → List ℕ → Type 0) (before now : ℕ) (r : Result (Unit {0}) E) (text : Text) (status : Status)
+    → Writes {T = Unit {0}} {E = E} old new before now r text → IsWritten old new before now status text (status_after status r)
+written old new before now (Ok v) text status w = inl (refl, w.ok)
+written old new before now (Err e) text status w = inr (refl, w.err, w.cause.failed)
+
+pub written_by : {E : Type 0} (old new : List ℕ → List ℕ → Type 0) (before now : ℕ) (r : Result (Unit {0}) E) (text : Text) (status answer : Status)
+    → answer ≡ status_after status r → Writes {T = Unit {0}} {E = E} old new before now r text → IsWritten old new before now status text answer
+written_by old new before now r text status answer e w =
+    subst (λ (a : Status). IsWritten old new before now status text a) (sym e) (written old new before now r text status w)

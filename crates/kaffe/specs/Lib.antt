@@ -1,0 +1,5 @@
+pub mod Commands
+pub mod Texts
+pub mod Answers
+pub mod Parts
+pub mod Numbers

@@ -1,0 +1,11 @@
+-- The texts that are no reports.
+use Rattle.std.specs.Prelude.{ℕ, ◌++◌, [], ◌∷◌, decimal, codes}
+use Rattle.k_words.specs.Words.{Text, line_text}
+
+-- What is written where the words are no command.
+unfoldable pub usage_text : Text
+usage_text = codes "usage: kaffe run | replay | check | big N" ++ 10 ∷ []
+
+-- What is written where the input is no trace: the first bad line, and the reason.
+unfoldable pub bad_trace_text : ℕ → ℕ → Text
+bad_trace_text line reason = codes "bad trace: line " ++ decimal line ++ codes " reason " ++ decimal reason ++ 10 ∷ []

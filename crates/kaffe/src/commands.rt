@@ -1,0 +1,12 @@
+ghost use Rattle.std.specs.Prelude.{◌↔◌, IsTrue, map, string_bytes};
+ghost use Rattle.kaffe.specs.Commands.{IsRun};
+
+/// Whether the words are the command `run`.
+pub fn is_run(words: &[String]) -> bool
+    ensures { IsTrue result ↔ IsRun (map string_bytes words.now) }
+{
+    match words {
+        [word] => word.as_str() == "run",
+        _ => false,
+    }
+}

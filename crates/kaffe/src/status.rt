@@ -1,0 +1,31 @@
+ghost use Rattle.std.specs.Prelude.{◌≡◌};
+ghost use Rattle.std.specs.Process.{exit_status};
+ghost use Rattle.kaffe.specs.Numbers.{number_of};
+
+use std::process::ExitCode;
+
+/// How a call ended. As a number from 0 to 6 it is the program's exit status.
+#[derive(Clone, Copy, Debug, PartialEq, Eq)]
+pub enum Status {
+    /// The command was done, and its text was written.
+    Good,
+    /// The input is no trace.
+    BadTrace,
+    /// The words are no command.
+    Usage,
+    /// Memory ran out before anything was written.
+    WantOfMemory,
+    /// The source failed before anything was written.
+    ReadFault,
+    /// The sink failed. It took a front of the text of another status.
+    WriteFault,
+    /// A report is not that of its trace. No command answers it yet.
+    Refused,
+}
+
+/// The exit status of the program.
+pub fn exit_code(status: Status) -> ExitCode
+    ensures { exit_status result ≡ number_of status }
+{
+    ExitCode::from(status as u8)
+}

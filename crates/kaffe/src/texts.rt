@@ -1,0 +1,38 @@
+ghost use Rattle.std.specs.Prelude.{◌≡◌};
+ghost use Rattle.kaffe.specs.Answers.{IsWritten};
+ghost use Rattle.kaffe.specs.Parts.{status_after};
+ghost use Rattle.kaffe.specs.Texts.{usage_text, bad_trace_text};
+
+use crate::status::Status;
+use k_io::{Sink, WriteFailed, write_all};
+use k_text::LineBuffer;
+
+/// The status of a call whose text is written: the given one, unless the sink failed.
+pub fn after_writing(status: Status, written: Result<(), WriteFailed>) -> Status
+    ensures { result ≡ status_after status written }
+{
+    match written {
+        Ok(()) => status,
+        Err(_) => Status::WriteFault,
+    }
+}
+
+/// Writes the usage line.
+pub fn write_usage<K: Sink>(out: &mut K) -> Status
+    ensures { IsWritten (K.Holds out.old) (K.Holds out.new) (K.faults out.old) (K.faults out.new) Status.Usage usage_text result }
+{
+    let written = write_all(out, b"usage: kaffe run | replay | check | big N\n");
+    after_writing(Status::Usage, written)
+}
+
+/// Writes the line of a bad trace.
+pub fn write_bad_trace<K: Sink>(out: &mut K, line: u32, reason: u32) -> Status
+    ensures { IsWritten (K.Holds out.old) (K.Holds out.new) (K.faults out.old) (K.faults out.new) Status.BadTrace (bad_trace_text line reason) result }
+{
+    let mut text = LineBuffer::new();
+    text.push_text(b"bad trace: line");
+    text.push_number(u64::from(line));
+    text.push_text(b" reason");
+    text.push_number(u64::from(reason));
+    after_writing(Status::BadTrace, text.write_to(out))
+}
