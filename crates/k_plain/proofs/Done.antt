@@ -35,6 +35,18 @@ item_rest trace x None st = refl
 item_rest trace x (Some y) st =
     exit_rest (owner_of trace st x.seg.0) (owner_of trace st y.seg.0) (heap_eq (owner_of trace st x.seg.0) (owner_of trace st y.seg.0)) y st
 
+exit_objects : (own : Heap) (b : Bool) (y : Name) (st : State) → (cond b st (add_exit own y st)).objects ≡ st.objects
+unfolding add_exit
+exit_objects own true y st = refl
+exit_objects own false y st = refl
+
+-- the exit item of a store leaves the objects
+pub item_objects : (trace : Trace) (x : Name) (to : Option Name) (st : State) → (with_exit_of_store trace x to st).objects ≡ st.objects
+unfolding with_exit_of_store
+item_objects trace x None st = refl
+item_objects trace x (Some y) st =
+    exit_objects (owner_of trace st x.seg.0) (heap_eq (owner_of trace st x.seg.0) (owner_of trace st y.seg.0)) y st
+
 store_rest : (trace : Trace) (x : Option Name) (i : ℕ) (to : Option Name) (st : State) → rest_of (after_store trace x i to st) ≡ rest_of st
 unfolding after_store write
 store_rest trace None i to st = refl

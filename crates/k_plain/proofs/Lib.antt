@@ -21,3 +21,4 @@ pub mod Typed
 pub mod Operated
 pub mod Known
 pub mod Nearests
+pub mod Ordered

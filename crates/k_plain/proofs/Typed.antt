@@ -1,4 +1,4 @@
--- What holds of each object still holds after a write, and after one more object.
+-- What holds of each element of a list.
 use Rattle.std.proofs.Common.{◌≡◌, refl, subst, ℕ, zero, suc, cond, Bool, true, false, List, [], ◌∷◌, ◌++◌, map, insert, find, slice_get, Option, Some, None, arith}
 use Rattle.std.specs.List.{AllByRecursion}
 use Rattle.k_types.specs.declared.names.Name.{Name}
@@ -9,21 +9,6 @@ use Rattle.k_types.specs.Trace.{Trace}
 use Rattle.k_types.specs.State.{Content, Object}
 use Rattle.k_types.specs.Updates.{object_after_write}
 use Rattle.k_plain.specs.Machines.{IsTyped}
-
-typed_after : (setup : Trace) (x : Name) (i : ℕ) (held : Content) (o : Object) (b : Bool) → IsTyped setup o → name_eq o.name x ≡ b → IsTyped setup (object_after_write x i held o)
-typed_after setup x i held o true typed e = rw e typed
-typed_after setup x i held o false typed e = rw e typed
-
-pub typed_write : (setup : Trace) (x : Name) (i : ℕ) (held : Content) (objects : List Object) → AllByRecursion (IsTyped setup) objects →
-    AllByRecursion (IsTyped setup) (map (object_after_write x i held) objects)
-typed_write setup x i held [] typed = tt
-typed_write setup x i held (o ∷ objects) typed = (typed_after setup x i held o (name_eq o.name x) typed.0 refl, typed_write setup x i held objects typed.1)
-
-pub typed_insert : {A : Type 0} (P : A → Type 0) (xs : List A) (i : ℕ) (x : A) → AllByRecursion P xs → P x → AllByRecursion P (insert xs i x)
-typed_insert P [] zero x all holds = (holds, tt)
-typed_insert P [] (suc i) x all holds = (holds, tt)
-typed_insert P (y ∷ ys) zero x all holds = (holds, all)
-typed_insert P (y ∷ ys) (suc i) x all holds = (all.0, typed_insert P ys i x all.1 holds)
 
 pub all_snoc : {A : Type 0} (P : A → Type 0) (xs : List A) (x : A) → AllByRecursion P xs → P x → AllByRecursion P (xs ++ x ∷ [])
 all_snoc P [] x all holds = (holds, tt)

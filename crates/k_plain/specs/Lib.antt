@@ -4,3 +4,4 @@ pub mod Accesses
 pub mod Built
 pub mod Runs
 pub mod Nearest
+pub mod Places

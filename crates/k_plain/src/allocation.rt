@@ -1,6 +1,7 @@
 ghost use Rattle.std.specs.Prelude.{◌≡◌, ◌<◌, IfOk, OnErr, OnOk, Some, map, length};
 ghost use Rattle.k_plain.specs.Contents.{content};
 ghost use Rattle.k_plain.specs.Machines.{HasEffect};
+ghost use Rattle.k_types.specs.Sound.{IsOrdered};
 ghost use Rattle.k_types.specs.State.{fresh};
 ghost use Rattle.k_types.specs.Trace.{kinds_of, process_count, segment_count};
 ghost use Rattle.k_types.specs.Types.{HaveFewFields, type_row};
@@ -52,6 +53,7 @@ impl PlainLists {
     pub(crate) fn create(&mut self, alloc: Global, seg: Seg, ty: TypeId) -> Result<Name, NoMemory>
         requires seg { seg.0 < segment_count self.old.setup }
         requires ty { ty.0 < length self.old.setup.types }
+        requires ordered { IsOrdered self.old.state.objects }
         ensures setup { self.new.setup ≡ self.old.setup }
         ensures name { IfOk result (λ name. name ≡ next_name seg.0 self.old.state) }
         ensures ok { OnOk result (self.new.state ≡ create seg.0 ty (kinds_of self.old.setup ty) self.old.state) }
@@ -90,6 +92,7 @@ impl PlainLists {
         requires process { pid.0 < process_count self.old.setup }
         requires reg { reg.0 < 16 }
         requires ty { ty.0 < length self.old.setup.types }
+        requires ordered { IsOrdered self.old.state.objects }
         ensures ok { IfOk result (λ said. HasEffect self.old self.new pid.0 (New reg ty) said) }
         ensures err { OnErr result (self.new ≡ self.old) }
     {

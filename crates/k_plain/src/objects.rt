@@ -1,7 +1,9 @@
-ghost use Rattle.std.specs.Prelude.{◌≡◌, ℕ, ◌≤◌, ◌<◌, map, length, slice_index_or, option_copied, insert};
+ghost use Rattle.std.specs.Prelude.{◌≡◌, ◌≤◌, ◌<◌, IfNone, IfSome, IsFalse, length, slice_index_or, option_copied, insert};
 ghost use Rattle.k_plain.specs.Contents.{content};
 ghost use Rattle.k_types.specs.Owners.{object_bytes};
-ghost use Rattle.k_types.specs.State.{Object, object_at, Holds};
+ghost use Rattle.k_plain.specs.Places.{IsNamedAt};
+ghost use Rattle.k_types.specs.Sound.{IsOrdered};
+ghost use Rattle.k_types.specs.State.{Object, has, object_at, Holds};
 ghost use Rattle.k_types.specs.Updates.{object_after_write, with_object};
 
 use crate::names::{is_before, is_same_name};
@@ -95,26 +97,28 @@ pub(crate) fn find(objects: &[PlainObject], name: Name) -> Option<&PlainObject>
     None
 }
 
-// Writes the field of the object of that name.
-pub(crate) fn write(objects: &mut [PlainObject], name: Name, i: usize, value: FieldValue)
-    ensures { objects.new ≡ map (object_after_write name i (content value)) objects.old }
+// The index of the object of that name.
+pub(crate) fn index_of(objects: &[PlainObject], name: Name) -> Option<usize>
+    ensures some { IfSome result (λ k. IsNamedAt objects.now k name) }
+    ensures none { IfNone result (IsFalse (has objects.now name)) }
 {
-    for o in objects.iter_mut() {
-        o.write(name, i, value);
+    for (k, o) in objects.iter().enumerate() {
+        if is_same_name(o.name(), name) {
+            return Some(k);
+        }
     }
+    None
 }
 
-// The place of an object of that name among the objects in order.
+// The place of an object of that name among the objects in order. A name that comes after all others is placed at once.
 pub(crate) fn place_of(objects: &[PlainObject], name: Name) -> usize
+    requires { IsOrdered objects.now }
     ensures within { result ≤ length objects.now }
     ensures place { (o : Object) → o.name ≡ name → with_object o objects.now ≡ insert objects.now result o }
 {
-    let mut at = 0;
-    for o in objects {
-        if !is_before(o.name(), name) {
-            return at;
-        }
-        at += 1;
+    let mut at = objects.len();
+    while at > 0 && !is_before(objects[at - 1].name(), name) {
+        at -= 1;
     }
     at
 }

@@ -3,6 +3,7 @@ ghost use Rattle.k_plain.specs.Built.{is_built};
 ghost use Rattle.k_plain.specs.Machines.{HasEffect};
 ghost use Rattle.k_types.specs.Effects.{step};
 ghost use Rattle.k_types.specs.Replies.{reply_to};
+ghost use Rattle.k_types.specs.Sound.{IsOrdered};
 ghost use Rattle.k_types.specs.Steps.{in_range};
 ghost use Rattle.k_types.specs.Trace.{process_count};
 ghost use Rattle.k_types.specs.declared.event.Event.TheVariants.{Done};
@@ -18,6 +19,7 @@ impl PlainLists {
         requires process { pid.0 < process_count self.old.setup }
         requires in_range { IsTrue (in_range self.old.setup op.now) }
         requires built { IsTrue (is_built op.now) }
+        requires ordered { IsOrdered self.old.state.objects }
         ensures ok { IfOk result (λ said. HasEffect self.old self.new pid.0 op.now said) }
         ensures err { OnErr result (self.new ≡ self.old) }
     {
@@ -38,6 +40,7 @@ impl PlainLists {
         requires process { pid.0 < process_count self.old.setup }
         requires in_range { IsTrue (in_range self.old.setup op.now) }
         requires built { IsTrue (is_built op.now) }
+        requires ordered { IsOrdered self.old.state.objects }
         ensures setup { self.new.setup ≡ self.old.setup }
         ensures reply { IfOk result (λ said. said ≡ reply_to self.old.setup self.old.state pid.0 op.now) }
         ensures state { IfOk result (λ said. self.new.state ≡ step self.old.setup self.old.state (Done pid op.now said)) }

@@ -3,6 +3,7 @@ ghost use Rattle.k_plain.specs.Contents.{content};
 ghost use Rattle.k_plain.specs.Machines.{HasEffect};
 ghost use Rattle.k_types.specs.Effects.{with_exit_of_store};
 ghost use Rattle.k_types.specs.Replies.{faults, first_fault, passes_barrier};
+ghost use Rattle.k_types.specs.Sound.{IsOrdered};
 ghost use Rattle.k_types.specs.State.{register};
 ghost use Rattle.k_types.specs.Trace.{process_count};
 ghost use Rattle.k_types.specs.Updates.{write};
@@ -11,7 +12,7 @@ ghost use Rattle.k_types.specs.declared.op.Op.TheVariants.{Store};
 use crate::items::{ExitItem, has_exit};
 use crate::lists::PlainLists;
 use crate::names::{is_same_heap, kind_of};
-use crate::objects::{FieldValue, write};
+use crate::objects::{FieldValue, index_of};
 use k_io::NoMemory;
 use k_types::{Fault, Name, Pid, Reg, Reply, legal};
 
@@ -90,12 +91,15 @@ impl PlainLists {
     }
 
     // Writes the field of the object.
-    #[tactic(auto, unfolding(k_types::specs::Updates::write))]
     pub(crate) fn write(&mut self, x: Name, field: u32, value: FieldValue)
+        requires { IsOrdered self.old.state.objects }
         ensures setup { self.new.setup ≡ self.old.setup }
         ensures state { self.new.state ≡ write x field (content value) self.old.state }
     {
-        write(&mut self.objects, x, field as usize, value);
+        if let Some(k) = index_of(&self.objects, x) {
+            let object = &mut self.objects[k];
+            object.write(x, field as usize, value);
+        }
     }
 
     // A store, but for the count of operations done. `NoMemory` comes where the exit item finds no memory, and leaves the
@@ -110,6 +114,7 @@ impl PlainLists {
         requires process { pid.0 < process_count self.old.setup }
         requires base { base.0 < 16 }
         requires value { value.0 < 16 }
+        requires ordered { IsOrdered self.old.state.objects }
         ensures ok { IfOk result (λ said. HasEffect self.old self.new pid.0 (Store base field value) said) }
         ensures err { OnErr result (self.new ≡ self.old) }
     {

@@ -1,9 +1,11 @@
-use Rattle.std.proofs.Common.{refl, ap, ◌∙◌, ◌≡◌}
+use Rattle.std.proofs.Common.{subst, sym, refl, ap, ◌∙◌, ◌≡◌}
 use Rattle.k_types.specs.State.{Refers, State}
 use Rattle.k_types.specs.Updates.{write}
 use Rattle.k_types.specs.Effects.{with_exit_of_store}
 use Rattle.k_types.specs.declared.op.Op.TheVariants.{Store}
 use Rattle.k_plain.proofs.Effects.{refused}
+use Rattle.k_types.specs.Sound.{IsOrdered}
+use Rattle.k_plain.proofs.Done.{item_objects}
 use Rattle.k_plain.proofs.Stores.{store_done}
 use Rattle.k_plain.proofs.lists.PlainLists.store.Goals as goal
 
@@ -18,3 +20,10 @@ returns-in_ok-add_exit_of_store-in-Ok-clause-ok c =
     c.in-Ok.ensures.0 c.in-Ok.ensures.1 c.in-Ok.ensures.2
     (c.write.ensures.setup ∙ added.setup)
     (c.write.ensures.state ∙ ap (λ (st : State). write c.in-Ok.x c.args.field (Refers c.in-Ok.to) st) added.ok)
+
+pub write-requires : goal.write-requires
+write-requires c =
+    let m = c.args.self.now in
+    let same : c.add_exit_of_store.new.self.state.objects ≡ m.state.objects
+        = ap (λ (st : State). st.objects) c.in_ok-add_exit_of_store-in-Ok.ensures.ok ∙ item_objects m.setup c.in-Ok.x c.in-Ok.to m.state in
+    subst IsOrdered (sym same) c.requires.ordered
