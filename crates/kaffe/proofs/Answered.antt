@@ -1,15 +1,14 @@
 -- What an answer tells, from the part that a called function tells.
-use Rattle.std.proofs.Common.{◌≡◌, ◌⊎◌, ◌∙◌, ℕ, ◌+◌, ◌≤◌, List, [], ◌∷◌, ◌++◌, length, Option, Some, None, inl, inr, refl, sym, ap, subst, arith, length-append}
+use Rattle.std.proofs.Common.{◌≡◌, ◌⊎◌, ◌∙◌, ℕ, ◌≤◌, List, [], ◌∷◌, ◌++◌, length, Option, Some, None, inl, inr, refl, sym, ap, subst, arith, length-append}
 use Rattle.std.proofs.lemmas.List.{append-nil}
 use Rattle.std.specs.Prelude.{codes}
-use Rattle.std.specs.Io.KnownBytes.{Consumes, IsAtEnd}
 use Rattle.k_io.specs.Causes.{RoseOrLast}
 use Rattle.k_io.proofs.Takings.{takes_nothing}
 use Rattle.k_words.specs.Words.{Text}
 use Rattle.k_trace.specs.Named.{NamedTrace}
 use Rattle.kaffe.specs.declared.status.Status.{Status}
 use Rattle.kaffe.specs.declared.status.Status.TheVariants.{Good, BadTrace, Usage, WantOfMemory, ReadFault, WriteFault, Refused}
-use Rattle.kaffe.specs.Answers.{IsAnswered, IsWritten, IsInput, IsReport, IsDone, IsBadInput, WasRead, Tells}
+use Rattle.kaffe.specs.Answers.{IsAnswered, IsWritten, IsInput, WasRead, Tells}
 use Rattle.kaffe.specs.Parts.{TellsOfTrace, TellsOfInput}
 use Rattle.kaffe.specs.Commands.{IsRun}
 

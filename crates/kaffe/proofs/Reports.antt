@@ -1,5 +1,5 @@
 -- What is written of a run of a trace.
-use Rattle.std.proofs.Common.{◌≡◌, ◌∙◌, List, [], refl, ap}
+use Rattle.std.proofs.Common.{◌≡◌, ◌∙◌, List, refl, ap}
 use Rattle.k_types.specs.declared.event.Event.{Event}
 use Rattle.k_types.specs.FileOrder.{file_order}
 use Rattle.k_types.specs.Steps.{state_after}

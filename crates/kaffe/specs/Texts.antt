@@ -1,6 +1,6 @@
 -- The texts that are no reports.
 use Rattle.std.specs.Prelude.{ℕ, ◌++◌, [], ◌∷◌, decimal, codes}
-use Rattle.k_words.specs.Words.{Text, line_text}
+use Rattle.k_words.specs.Words.{Text}
 
 -- What is written where the words are no command.
 unfoldable pub usage_text : Text

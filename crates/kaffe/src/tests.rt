@@ -50,13 +50,13 @@ const BAD_TRACE: &str = "bad trace: line 0 reason 13\n";
 /// none where the number is 0.
 fn call(
     rt: &HostRuntime,
-    words: &[&str],
+    words: &str,
     input: &str,
     failing_read: u32,
     failing_write: u32,
 ) -> Result<(Status, MemSink), Fail> {
     let mut given = Vec::new(rt.alloc());
-    for word in words {
+    for word in words.split_whitespace() {
         given.push(String::from_str(rt.alloc(), word)?)?;
     }
     let bytes = Vec::from_slice(rt.alloc(), input.as_bytes())?;
@@ -69,7 +69,7 @@ fn call(
 #[test]
 fn reports_the_first_trace(rt: HostRuntime) -> Result<(), Fail> {
     for input in [TRACE, TRACE.trim_end()] {
-        let (status, sink) = call(&rt, &["run"], input, 0, 0)?;
+        let (status, sink) = call(&rt, "run", input, 0, 0)?;
         assert_eq!(rt; status, Status::Good);
         assert_eq!(rt; str::from_utf8(sink.bytes()), Ok(REPORT));
     }
@@ -78,14 +78,9 @@ fn reports_the_first_trace(rt: HostRuntime) -> Result<(), Fail> {
 
 #[test]
 fn refuses_other_words(rt: HostRuntime) -> Result<(), Fail> {
-    for words in [
-        [].as_slice(),
-        ["run", "x"].as_slice(),
-        ["big", "0"].as_slice(),
-        ["big", "007"].as_slice(),
-    ] {
+    for words in ["", "run x", "big 0", "big 007"] {
         let (status, sink) = call(&rt, words, TRACE, 1, 0)?;
-        assert_eq!(rt; status, Status::Usage);
+        assert_eq!(rt; status, Status::Usage, "{words}");
         assert_eq!(rt; str::from_utf8(sink.bytes()), Ok(USAGE));
     }
     Ok(())
@@ -98,7 +93,7 @@ fn refuses_what_is_no_trace_of_the_first_form(rt: HostRuntime) -> Result<(), Fai
         "kaffe 1\nkernel 32 2\nlimit a 80\nproc p1 a\nproc p2 a\n",
         "kaffe 1\nkernel 32 2\nlimit a 80\nproc p1 a\np1 dir r0\n",
     ] {
-        let (status, sink) = call(&rt, &["run"], input, 0, 0)?;
+        let (status, sink) = call(&rt, "run", input, 0, 0)?;
         assert_eq!(rt; status, Status::BadTrace, "{input}");
         assert_eq!(rt; str::from_utf8(sink.bytes()), Ok(BAD_TRACE));
     }
@@ -121,7 +116,7 @@ fn tells_faults_of_source_and_sink(rt: HostRuntime) -> Result<(), Fail> {
         ("run", "", 0, 1, Status::WriteFault, ""),
         ("help", TRACE, 0, 1, Status::WriteFault, ""),
     ] {
-        let (status, sink) = call(&rt, &[words], input, failing_read, failing_write)?;
+        let (status, sink) = call(&rt, words, input, failing_read, failing_write)?;
         assert_eq!(rt;
             status,
             want,

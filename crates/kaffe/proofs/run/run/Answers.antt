@@ -1,5 +1,4 @@
-use Rattle.std.proofs.Common.{◌≡◌, ◌≤◌, length, refl, subst, sym, ap, arith, ℕ, Err}
-use Rattle.std.specs.Io.KnownBytes.{IsAtEnd}
+use Rattle.std.proofs.Common.{length, refl, subst, sym, ap, arith, Err}
 use Rattle.k_words.specs.Words.{Text}
 use Rattle.kaffe.specs.Answers.{WasRead}
 use Rattle.kaffe.proofs.Answered.{answered_unwritten, answered_more, input_tells}

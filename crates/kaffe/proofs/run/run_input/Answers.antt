@@ -1,6 +1,6 @@
 use Rattle.std.proofs.Common.{refl}
 use Rattle.k_trace.specs.Meaning.{meaning_of}
-use Rattle.kaffe.proofs.Answered.{answered_unwritten, answered_more, answered_written, trace_tells}
+use Rattle.kaffe.proofs.Answered.{answered_unwritten, answered_more, trace_tells}
 use Rattle.kaffe.proofs.run.run_input.Goals as goal
 
 pub returns-in-Ok-clause-answered : goal.returns-in-Ok-clause-answered

@@ -1,5 +1,3 @@
-use Rattle.std.proofs.Common.{◌≡◌}
-use Rattle.kaffe.specs.Answers.{IsWritten}
 use Rattle.kaffe.proofs.Lines.{bad_line}
 use Rattle.kaffe.proofs.Written.{written_by}
 use Rattle.k_io.proofs.Writings.{writes_same}
