@@ -1,10 +1,7 @@
-use Rattle.std.proofs.Common.{◌≡◌, ◌<◌, ◌≤◌, ℕ, Some, List, map, length, slice_get, get_or, sym, ap, ◌∙◌, arith}
-use Rattle.k_types.specs.declared.names.Heap.TheVariants.{Kernel}
-use Rattle.k_types.specs.Names.{heap_eq}
-use Rattle.k_types.specs.Agree.{Counted}
+use Rattle.std.proofs.Common.{map, get_or, sym, ◌∙◌, arith}
 use Rattle.k_entry.specs.Entries.{is_at_home}
 use Rattle.k_entry.specs.Items.{row_of}
-use Rattle.k_entry.proofs.Counts.{row_at, blank, any_default}
+use Rattle.k_entry.proofs.Counts.{row_at, blank}
 use Rattle.k_entry.proofs.Walks.{first_here, first_later}
 use Rattle.k_entry.proofs.table.first_from.Goals as goal
 

@@ -1,8 +1,7 @@
-use Rattle.std.proofs.Common.{◌≡◌, ◌<◌, ◌≤◌, ℕ, Some, List, map, length, slice_get, get_or, sym, ap, ◌∙◌, inl, inr, arith}
+use Rattle.std.proofs.Common.{◌≡◌, map, slice_get, get_or, sym, ap, ◌∙◌, inl, inr, arith}
 use Rattle.std.proofs.lemmas.Bool.{cases_eq}
 use Rattle.k_types.specs.Names.{name_eq}
 use Rattle.k_types.specs.Agree.{Counted}
-use Rattle.k_entry.specs.declared.table.Item.{Item}
 use Rattle.k_entry.specs.Items.{row_of}
 use Rattle.k_entry.proofs.Counts.{row_at, row_here, blank}
 use Rattle.k_entry.proofs.table.place.Goals as goal

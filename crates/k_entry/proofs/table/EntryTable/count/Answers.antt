@@ -1,5 +1,4 @@
-use Rattle.std.proofs.Common.{◌≡◌, ◌<◌, ◌≤◌, ℕ, Some, List, map, length, slice_get, get_or, sym, ap, subst, ◌∙◌, arith}
-use Rattle.std.proofs.lemmas.Option.{slice_get_within}
+use Rattle.std.proofs.Common.{◌≡◌, List, map, length, sym, ap, subst, ◌∙◌}
 use Rattle.k_types.specs.Agree.{Counted, counted}
 use Rattle.k_entry.specs.declared.table.Item.{Item}
 use Rattle.k_entry.specs.Entries.{EntryValue}

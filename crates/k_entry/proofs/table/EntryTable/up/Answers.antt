@@ -1,19 +1,14 @@
-use Rattle.std.proofs.Common.{◌≡◌, ◌≢◌, ◌+◌, ◌-◌, ◌<◌, ◌≤◌, ℕ, Some, None, List, [], ◌∷◌, ◌++◌, map, length, set, get_or, slice_get, sym, ap, ap₂, subst, ◌∙◌, arith}
-use Rattle.std.proofs.lemmas.Bool.{false≢true, and_from}
+use Rattle.std.proofs.Common.{◌≡◌, ◌+◌, ◌<◌, ℕ, List, [], ◌∷◌, ◌++◌, map, length, set, sym, ap, ap₂, subst, ◌∙◌, arith}
 use Rattle.std.proofs.lemmas.List.{map-append}
 use Rattle.std.proofs.lemmas.Option.{slice_get_within}
 use Rattle.k_types.specs.declared.names.Name.{Name}
 use Rattle.k_types.specs.declared.names.Heap.{Heap}
-use Rattle.k_types.specs.declared.names.Heap.TheVariants.{Kernel}
-use Rattle.k_types.specs.Names.{name_of, name_eq, heap_eq}
+use Rattle.k_types.specs.Names.{name_of}
 use Rattle.k_types.specs.Agree.{Counted, counted}
 use Rattle.k_entry.specs.declared.table.Item.{Item}
-use Rattle.k_entry.specs.Entries.{EntryValue, AreEntries, HasMore, HasLess, first_object, object_after, items_of, is_at_home, home_of}
+use Rattle.k_entry.specs.Entries.{EntryValue, AreEntries, HasMore}
 use Rattle.k_entry.specs.Items.{row_of, IsPlace, HasNone}
-use Rattle.k_entry.proofs.Counts.{counted_at, counted_none, row_here, map_len, rows_set, rows_swapped, entries_set, entries_push, entries_without, more_there, more_new, less_there, less_gone, name_is, any_default}
-use Rattle.k_entry.proofs.Walks.{after_is, heap_same}
-use Rattle.std.specs.List.{filter}
-use Rattle.std.specs.List.{swap_remove}
+use Rattle.k_entry.proofs.Counts.{counted_at, counted_none, row_here, map_len, rows_set, entries_set, entries_push, more_there, more_new}
 use Rattle.k_entry.proofs.table.EntryTable.up.Goals as goal
 
 -- the table as a value
