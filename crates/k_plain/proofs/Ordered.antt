@@ -33,7 +33,7 @@ placed_after o (x ∷ xs) (suc (suc at)) d ordered within last here =
     let one : suc (suc at) - 1 ≡ suc at = omega arith in
     let back : at ≡ suc at - 1 = omega arith in
     let end : name_lt (get_or xs at d).name o.name ≡ true
-        = subst (λ k. name_lt (get_or (x ∷ xs) k d).name o.name ≡ true) one (last (omega arith)) in
+    = subst (λ k. name_lt (get_or (x ∷ xs) k d).name o.name ≡ true) one (last (omega arith)) in
     place_first o x xs (name_lt_trans x.name (get_or xs at d).name o.name (before_all x.name xs at d ordered (omega arith)) end)
     ∙ ap (λ ys. x ∷ ys) (placed_after o xs (suc at) d (ordered_rest x.name xs ordered) (omega arith)
     (λ positive. subst (λ k. name_lt (get_or xs k d).name o.name ≡ true) back end) here)

@@ -11,9 +11,9 @@ returns-else-not-is_before-clause-place c = λ o named.
     let at = c.loop-at.at in
     let d : Object = c.index-objects-at.result in
     let last : name_lt (get_or xs (at - 1) d).name o.name ≡ true
-        = ap (λ (x : Object). name_lt x.name o.name) (sym c.index-objects-at.is)
-        ∙ ap (name_lt d.name) named
-        ∙ ap (λ (n : Name). name_lt n c.args.name) (sym c.name.ensures)
-        ∙ sym c.is_before.ensures
-        ∙ c.if-not-is_before.false in
+    = ap (λ (x : Object). name_lt x.name o.name) (sym c.index-objects-at.is)
+    ∙ ap (name_lt d.name) named
+    ∙ ap (λ (n : Name). name_lt n c.args.name) (sym c.name.ensures)
+    ∙ sym c.is_before.ensures
+    ∙ c.if-not-is_before.false in
     placed_after o xs at d c.requires c.loop-at.invariant.within (λ positive. last) (c.loop-at.invariant.here o named)

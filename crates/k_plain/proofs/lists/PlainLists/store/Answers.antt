@@ -25,5 +25,5 @@ pub write-requires : goal.write-requires
 write-requires c =
     let m = c.args.self.now in
     let same : c.add_exit_of_store.new.self.state.objects ≡ m.state.objects
-        = ap (λ (st : State). st.objects) c.in_ok-add_exit_of_store-in-Ok.ensures.ok ∙ item_objects m.setup c.in-Ok.x c.in-Ok.to m.state in
+    = ap (λ (st : State). st.objects) c.in_ok-add_exit_of_store-in-Ok.ensures.ok ∙ item_objects m.setup c.in-Ok.x c.in-Ok.to m.state in
     subst IsOrdered (sym same) c.requires.ordered

@@ -20,9 +20,9 @@ returns-in-Some-clause-state c =
     let ordered : IsOrdered objects = subst (λ (m : Machine). IsOrdered m.state.objects) (sym c.self.view_is) c.requires in
     let named : IsNamedAt objects c.in-Some.k x = subst (λ (xs : List Object). IsNamedAt xs c.in-Some.k x) c.deref.ensures.value c.in-Some.ensures.some in
     let wrote : c.write.new.self ≡ object_after_write x c.args.field held (get_or objects c.in-Some.k d)
-        = c.write.ensures ∙ ap (object_after_write x c.args.field held) c.index_mut-object.ensures.value in
+    = c.write.ensures ∙ ap (object_after_write x c.args.field held) c.index_mut-object.ensures.value in
     let done : set objects c.in-Some.k c.write.new.self ≡ map (object_after_write x c.args.field held) objects
-        = ap (λ (o : Object). set objects c.in-Some.k o) wrote ∙ sym (written_once x c.args.field held objects c.in-Some.k d ordered named.0 (named.1 d)) in
+    = ap (λ (o : Object). set objects c.in-Some.k o) wrote ∙ sym (written_once x c.args.field held objects c.in-Some.k d ordered named.0 (named.1 d)) in
     let after : List Object → State = λ os. record {
       objects = os;
       made = i.made.items;
@@ -45,6 +45,6 @@ returns-in_default-clause-state c =
     let objects = c.deref.result.now in
     let same : objects ≡ m.state.objects = c.deref.ensures.value ∙ ap (λ (n : Machine). n.state.objects) c.self.view_is in
     let stays : map (object_after_write c.args.x c.args.field (content c.args.value)) m.state.objects ≡ m.state.objects
-        = subst (λ (xs : List Object). map (object_after_write c.args.x c.args.field (content c.args.value)) xs ≡ xs) same
-        (written_none c.args.x c.args.field (content c.args.value) objects c.in_default.ensures.none) in
+    = subst (λ (xs : List Object). map (object_after_write c.args.x c.args.field (content c.args.value)) xs ≡ xs) same
+    (written_none c.args.x c.args.field (content c.args.value) objects c.in_default.ensures.none) in
     ap (λ (os : List Object). record m.state { objects = os }) (sym stays)
