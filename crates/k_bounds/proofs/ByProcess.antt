@@ -1,5 +1,5 @@
 -- What a history counts, process by process.
-use Rattle.std.proofs.Common.{◌≡◌, ℕ, ◌+◌, ◌≤◌, ◌==◌, Bool, true, false, cond, refl, sym, ◌∙◌, List, [], ◌∷◌, length, arith, subst}
+use Rattle.std.proofs.Common.{◌≡◌, ℕ, ◌+◌, ◌≤◌, ◌==◌, Bool, true, false, cond, refl, sym, ap, ◌∙◌, List, [], ◌∷◌, ◌++◌, length, arith, subst, zero, suc, take, drop, get_or, ap₂}
 use Rattle.std.proofs.lemmas.Bool.{false≢true}
 use Rattle.std.proofs.lemmas.Bool.Decides.{nat_tests}
 use Rattle.k_types.specs.declared.op.Op.{Op}
@@ -7,12 +7,14 @@ use Rattle.k_types.specs.declared.event.Event.{Event}
 use Rattle.k_types.specs.declared.event.Event.TheVariants.{Done, Ended, Absorbed, Closing}
 use Rattle.k_types.specs.Totals.{total}
 use Rattle.k_types.specs.Numbers.{numbers_below}
-use Rattle.k_types.specs.Trace.{Trace, process_count}
+use Rattle.k_types.specs.Trace.{Trace, process_count, operations_of}
 use Rattle.k_types.specs.State.{State, opening}
 use Rattle.k_types.specs.Effects.{step}
-use Rattle.k_types.specs.Steps.{IsRun, IsLegalHistory, done_by}
+use Rattle.k_types.specs.Steps.{IsRun, IsLegalHistory, done_by, state_after}
 use Rattle.k_types.specs.Complete.{IsPrefixOf}
+use Rattle.k_types.specs.Following.{FollowsOwn}
 use Rattle.k_bounds.specs.Counts.{one_if, of_operation, is_store, store_count, stores_by, operation_count, allocation_count, allocates_in, has_stored, has_allocated_in, is_operation}
+use Rattle.k_bounds.proofs.Dones.{done_count}
 use Rattle.k_frame.proofs.Sums.{sum_same, sum_both, one_counts, total_append, zeros}
 
 -- of the first elements no more is counted than of all
@@ -85,3 +87,28 @@ pub allocations_by_process : (trace : Trace) (seg : ℕ) (history : List Event) 
 allocations_by_process trace seg history legal =
     sum_same (λ event. one_if (has_allocated_in trace seg event)) (of_operation (λ p op. one_if (allocates_in trace seg p op))) (same_allocation trace seg) history
     ∙ by_process trace (λ p op. one_if (allocates_in trace seg p op)) (opening trace) history legal
+
+taken : {A : Type 0} (xs rest : List A) → take (length xs) (xs ++ rest) ≡ xs
+taken [] rest = take_none rest
+  where
+    take_none : {A : Type 0} (rest : List A) → take 0 rest ≡ []
+    take_none [] = refl
+    take_none (x ∷ rest) = refl
+taken (x ∷ xs) rest = ap (λ ys. x ∷ ys) (taken xs rest)
+
+-- the operations of a process that stand first in the trace are those up to done
+pub follows_own : (trace : Trace) (p : ℕ) (history : List Event) → IsLegalHistory trace history → IsPrefixOf (done_by p history) (operations_of trace p) → FollowsOwn trace p history
+follows_own trace p history legal front =
+    sym (ap₂ (λ n ops. take n ops) (done_count trace p history legal) (sym front.1) ∙ taken (done_by p history) front.0)
+
+pub first_of : (trace : Trace) (p : ℕ) (history : List Event) → FollowsOwn trace p history → IsPrefixOf (done_by p history) (operations_of trace p)
+first_of trace p history own = (
+  drop (get_or (state_after trace history).done p 0) (operations_of trace p),
+  ap (λ ops. ops ++ drop (get_or (state_after trace history).done p 0) (operations_of trace p)) own ∙ take_drop (get_or (state_after trace history).done p 0) (operations_of trace p),
+)
+  where
+    take_drop : {A : Type 0} (n : ℕ) (xs : List A) → take n xs ++ drop n xs ≡ xs
+    take_drop zero [] = refl
+    take_drop zero (x ∷ xs) = refl
+    take_drop (suc n) [] = refl
+    take_drop (suc n) (x ∷ xs) = ap (λ ys. x ∷ ys) (take_drop n xs)

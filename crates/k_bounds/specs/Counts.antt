@@ -14,9 +14,11 @@ use Rattle.k_types.specs.State.{ExitItem}
 use Rattle.k_types.specs.Owners.{user}
 use Rattle.k_types.specs.Steps.{done_by}
 
+-- 1 where the test holds, else 0
 abbrev pub one_if : Bool → ℕ
 one_if b = if b then 1 else 0
 
+-- the operation is a store
 abbrev pub is_store : Op → Bool
 is_store (Store base i value) = true
 is_store _ = false
@@ -29,6 +31,7 @@ stores_in ops = total (λ op. one_if (is_store op)) ops
 abbrev pub stores_by : ℕ → List Event → ℕ
 stores_by p history = stores_in (done_by p history)
 
+-- the event is an operation of a process
 abbrev pub is_operation : Event → Bool
 is_operation (Done pid op said) = true
 is_operation _ = false
@@ -37,6 +40,7 @@ is_operation _ = false
 abbrev pub operation_count : List Event → ℕ
 operation_count history = total (λ event. one_if (is_operation event)) history
 
+-- the event is a store
 abbrev pub has_stored : Event → Bool
 has_stored (Done pid op said) = is_store op
 has_stored _ = false
@@ -52,6 +56,7 @@ allocates_in trace seg p (KNew r ty) = segment_of trace Kernel == seg
 allocates_in trace seg p (SNew r s ty) = segment_of trace (Shared s) == seg
 allocates_in trace seg p _ = false
 
+-- the event allocates in the segment
 abbrev pub has_allocated_in : Trace → ℕ → Event → Bool
 has_allocated_in trace seg (Done pid op said) = allocates_in trace seg pid.0 op
 has_allocated_in trace seg _ = false
@@ -60,39 +65,46 @@ has_allocated_in trace seg _ = false
 abbrev pub allocation_count : Trace → ℕ → List Event → ℕ
 allocation_count trace seg history = total (λ event. one_if (has_allocated_in trace seg event)) history
 
--- the event begins a collection
+-- the operation begins a collection
 abbrev pub begins_collection : Op → Bool
 begins_collection Collect = true
 begins_collection KCollect = true
 begins_collection _ = false
 
+-- the event begins a collection
 abbrev pub has_begun : Event → Bool
 has_begun (Done pid op said) = begins_collection op
 has_begun Closing = true
 has_begun _ = false
 
--- how many collections the history begins, and how many it ends
+-- how many collections the history begins
 abbrev pub begun_count : List Event → ℕ
 begun_count history = total (λ event. one_if (has_begun event)) history
 
+-- the event ends a collection
 abbrev pub is_end : Event → Bool
 is_end (Ended h objects bytes exits shares) = true
 is_end _ = false
 
+-- how many collections the history ends
 abbrev pub ended_count : List Event → ℕ
 ended_count history = total (λ event. one_if (is_end event)) history
 
+-- the event absorbs a shared heap
 abbrev pub is_absorption : Event → Bool
 is_absorption (Absorbed s) = true
 is_absorption _ = false
 
+-- how many absorptions the history has
 abbrev pub absorbed_count : List Event → ℕ
 absorbed_count history = total (λ event. one_if (is_absorption event)) history
 
+-- the event is the closing
 abbrev pub is_closing_event : Event → Bool
 is_closing_event Closing = true
 is_closing_event _ = false
 
+-- how many closings it has
 abbrev pub closing_count : List Event → ℕ
 closing_count history = total (λ event. one_if (is_closing_event event)) history
 

@@ -1,10 +1,11 @@
-ghost use Rattle.std.specs.Prelude.{List, length, ◌≡◌, ◌≤◌, ℕ};
+ghost use Rattle.std.specs.Prelude.{List, length, ◌≡◌, ◌≤◌, ◌↔◌, ℕ};
 ghost use Rattle.k_bounds.specs.Counts.{allocates_in, allocation_count, one_if, operation_count, store_count, stores_by};
 ghost use Rattle.k_types.specs.Complete.{IsPrefixOf};
+ghost use Rattle.k_types.specs.Following.{FollowsOwn};
 ghost use Rattle.k_types.specs.Numbers.{numbers_below};
 ghost use Rattle.k_types.specs.Steps.{IsLegalHistory, done_by};
 ghost use Rattle.k_types.specs.Totals.{total};
-ghost use Rattle.k_types.specs.Trace.{Trace, process_count};
+ghost use Rattle.k_types.specs.Trace.{Trace, operations_of, process_count};
 ghost use Rattle.k_types.specs.declared.event.Event.{Event};
 ghost use Rattle.k_types.specs.declared.op.Op.{Op};
 
@@ -29,4 +30,13 @@ pub fn histories_count_by_process()
 /// Source: own.
 pub fn first_operations_count_less()
     ensures { (f : Op → ℕ) (first all : List Op) → IsPrefixOf first all → total f first ≤ total f all }
+{}
+
+/// The operations that a legal history has done for a process stand first among the trace's exactly where they are the trace's
+/// up to the number done. So what the book knows of the journal and what a cell knows of its process say the same.
+///
+/// Source: own.
+pub fn first_operations_are_those_up_to_done()
+    ensures { (trace : Trace) (p : ℕ) (history : List Event) → IsLegalHistory trace history →
+        IsPrefixOf (done_by p history) (operations_of trace p) ↔ FollowsOwn trace p history }
 {}

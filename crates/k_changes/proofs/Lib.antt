@@ -12,3 +12,4 @@ pub mod TakenOnBook
 pub mod WaysInto
 pub mod CollectedOnBook
 pub mod RootsTold
+pub mod ToldBy

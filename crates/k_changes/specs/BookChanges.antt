@@ -36,6 +36,7 @@ with_pin_moved own p old new b = record b { pins = λ n. (b.pins n + pins_by own
 abbrev pub with_charge : ℕ → ℕ → BookPart → BookPart
 with_charge m bytes b = record b { direct = slice_set b.direct m (slice_index_or b.direct m 0 + bytes) }
 
+-- so many bytes fewer are charged directly at the limit
 abbrev pub with_credit : ℕ → ℕ → BookPart → BookPart
 with_credit m bytes b = record b { direct = slice_set b.direct m (slice_index_or b.direct m 0 - bytes) }
 
@@ -47,6 +48,7 @@ with_shared_bytes s bytes b = record b { shared_bytes = slice_set b.shared_bytes
 abbrev pub with_entry : Bool → Name → BookPart → BookPart
 with_entry is_new y b = record b { entries = λ n. b.entries n + (if is_new && name_eq y n then 1 else 0) }
 
+-- the shared heap is in the phase
 abbrev pub with_phase : ℕ → Phase → BookPart → BookPart
 with_phase s phase b = record b { phases = slice_set b.phases s phase }
 
@@ -54,6 +56,7 @@ with_phase s phase b = record b { phases = slice_set b.phases s phase }
 abbrev pub with_share : ℕ → ℕ → BookPart → BookPart
 with_share p s b = record b { shares = λ q t. b.shares q t || ((p == q) && (s == t)) }
 
+-- the closing has happened
 abbrev pub when_closed : BookPart → BookPart
 when_closed b = record b { closed = true }
 
@@ -69,6 +72,7 @@ keeping_shares p stays b = record b { shares = λ q t. b.shares q t && (not (q =
 abbrev pub shared_by : Trace → BookPart → ℕ → (ℕ → Bool) → ℕ
 shared_by trace b p test = total (λ t. if b.shares p t && test t then slice_index_or b.shared_bytes t 0 else 0) (numbers_below trace.shared_heaps)
 
+-- the bytes of the cell's objects
 abbrev pub bytes_in : CellPart → ℕ
 bytes_in c = total object_bytes c.objects
 
@@ -76,6 +80,7 @@ bytes_in c = total object_bytes c.objects
 abbrev pub charge_in : Trace → BookPart → CellPart → ℕ → ℕ
 charge_in trace b heap p = bytes_in heap + shared_by trace b p (λ t. true)
 
+-- the registers of the process, none where the cell has none
 abbrev pub registers_in : Option ProcessPart → List (Option Name)
 registers_in None = []
 registers_in (Some q) = q.registers
@@ -85,6 +90,7 @@ abbrev pub leads_into : (ℕ → Heap) → ℕ → Option Name → Bool
 leads_into own t None = false
 leads_into own t (Some n) = heap_eq (own n.seg.0) (shared t)
 
+-- the field refers into the shared heap
 abbrev pub content_into : (ℕ → Heap) → ℕ → Content → Bool
 content_into own t (Refers r) = leads_into own t r
 content_into own t (Holds n) = false
@@ -116,6 +122,7 @@ without_pins own p registers b = record b { pins = λ n. b.pins n - (if heap_eq 
 abbrev pub lost_with : (ℕ → Heap) → CellPart → CellPart → Name → Bool
 lost_with own heap kernel n = heap.exits n && not (is_shared_heap (own n.seg.0) && not (kernel.exits n))
 
+-- the kernel's exit items into the heap that goes
 abbrev pub led_back : (ℕ → Heap) → Heap → CellPart → Name → Bool
 led_back own g kernel n = kernel.exits n && heap_eq (own n.seg.0) g
 

@@ -36,6 +36,7 @@ with_exit_to y c = record c { exits = λ n. c.exits n || name_eq y n }
 abbrev pub with_scan : List Name → CellPart → CellPart
 with_scan roots c = record c { scan = Some roots }
 
+-- the shared heap is in the phase
 abbrev pub in_phase : Phase → CellPart → CellPart
 in_phase phase c = record c { phase = Some phase }
 
@@ -55,13 +56,15 @@ collected c = record c {
 abbrev pub given_away : CellPart → CellPart
 given_away c = record c { objects = []; made = λ at. None; exits = λ n. false }
 
+-- the process has ended, and its registers are null
 abbrev pub ended_process : ProcessPart → ProcessPart
 ended_process q = record q { registers = replicate 16 None; has_ended = true }
 
--- the cell of a process that has ended, and that of a shared heap that was absorbed
+-- the cell of a process that has ended
 abbrev pub at_its_end : CellPart → CellPart
 at_its_end c = record (given_away c) { process = option_map ended_process c.process }
 
+-- the cell of a shared heap that was absorbed
 abbrev pub when_absorbed : CellPart → CellPart
 when_absorbed c = record (given_away c) { phase = Some Absorbed }
 
@@ -70,6 +73,7 @@ abbrev pub with_objects : List Object → List Object → List Object
 with_objects [] objects = objects
 with_objects (o ∷ more) objects = with_object o (with_objects more objects)
 
+-- the first of two that is there
 abbrev pub either_of : Option ℕ → Option ℕ → Option ℕ
 either_of None other = other
 either_of (Some n) other = Some n

@@ -1,3 +1,4 @@
 pub mod CellChanges
 pub mod BookChanges
 pub mod Roots
+pub mod Told

@@ -9,6 +9,7 @@ mod objects;
 mod registers;
 mod roots;
 mod sharing;
+mod told;
 
 pub use ends::{
     the_charge_is_told, what_absorption_changes_in_the_book,
@@ -28,3 +29,4 @@ pub use registers::{
 };
 pub use roots::a_collection_begins_from_its_cell_and_the_book;
 pub use sharing::{what_a_new_share_changes, what_a_phase_changes, what_closing_changes};
+pub use told::{cells_tell_what_is_read_of_them, the_book_tells_what_fits};

@@ -23,6 +23,7 @@ abbrev pub charged_unless : Option Fault → ℕ → ℕ
 charged_unless None bytes = bytes
 charged_unless (Some fault) bytes = 0
 
+-- the bytes that the operation adds to what its process is charged
 abbrev pub bytes_added : Trace → State → ℕ → Op → ℕ
 bytes_added trace st p op = charged_unless (first_fault (faults trace st p op)) (bytes_charged trace st p op)
 
