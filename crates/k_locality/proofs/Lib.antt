@@ -1,0 +1,4 @@
+pub mod SameRead
+pub mod SameReplies
+pub mod SamePossible
+pub mod SameEnds
