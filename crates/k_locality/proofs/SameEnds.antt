@@ -1,5 +1,5 @@
 -- The end of a collection has the same numbers in two sound states where the heap's cell and the book have the same parts.
-use Rattle.std.proofs.Common.{◌≡◌, ℕ, ◌+◌, ◌==◌, ◌&&◌, ◌||◌, not, Bool, true, false, cond, refl, sym, ap, ap₂, ◌∙◌, inl, inr, List, [], ◌∷◌, map, filter, length, count_by, Option, Some, None, is_some, unwrap_or, arith, IsTrue, eq-eqb}
+use Rattle.std.proofs.Common.{◌≡◌, ℕ, ◌+◌, ◌==◌, ◌&&◌, ◌||◌, not, Bool, true, false, cond, refl, sym, ap, ap₂, ◌∙◌, List, [], ◌∷◌, map, filter, length, count_by, Option, Some, None, is_some, arith, IsTrue}
 use Rattle.std.specs.List.{list_any}
 use Rattle.std.proofs.lemmas.Bool.{false≢true}
 use Rattle.std.proofs.lemmas.List.Recursion.{is_count_by}
@@ -12,10 +12,10 @@ use Rattle.k_types.specs.Names.{name_eq, heap_eq, name_among}
 use Rattle.k_types.specs.Totals.{total}
 use Rattle.k_types.specs.Numbers.{numbers_below}
 use Rattle.k_types.specs.Trace.{Trace}
-use Rattle.k_types.specs.State.{State, Object, ExitItem, Sharing, has, refers, has_exit, has_share, scan_of, is_scanned}
-use Rattle.k_types.specs.Owners.{owner_of, objects_of, object_bytes, user}
+use Rattle.k_types.specs.State.{State, Object, ExitItem, Sharing, has, refers, has_exit, scan_of, is_scanned}
+use Rattle.k_types.specs.Owners.{owner_of, object_bytes, user}
 use Rattle.k_types.specs.Effects.{survives, exit_stays, share_stays, open_roots}
-use Rattle.k_types.specs.Steps.{IsPossible, MayEnd}
+use Rattle.k_types.specs.Steps.{IsPossible}
 use Rattle.k_types.specs.Sound.{IsSound, AreDistinctExits}
 use Rattle.k_types.specs.Cells.{BookPart, CellPart, part, book_part, cells_touched}
 use Rattle.k_bounds.specs.Distinct.{AreDistinctNames}

@@ -1,12 +1,12 @@
 -- Operations, absorptions and the closing are possible alike in two states where the parts are the same to them.
-use Rattle.std.proofs.Common.{◌≡◌, ℕ, ◌==◌, ◌&&◌, ◌||◌, not, Bool, true, false, refl, sym, ap, ap₂, ◌∙◌, inl, inr, List, [], ◌∷◌, is_some, eq-eqb, IsTrue}
+use Rattle.std.proofs.Common.{◌≡◌, ℕ, ◌==◌, ◌&&◌, ◌||◌, not, refl, sym, ap, ap₂, ◌∙◌, inl, inr, List, [], ◌∷◌, is_some, eq-eqb, IsTrue}
 use Rattle.std.specs.List.{list_any, list_all}
 use Rattle.std.proofs.Math.Path.{fun_ext}
 use Rattle.std.proofs.lemmas.Bool.{or_left, or_right, or_cases, and_from, false≢true}
 use Rattle.k_types.specs.declared.names.Pid.{Pid}
 use Rattle.k_types.specs.declared.names.SharedId.{SharedId}
 use Rattle.k_types.specs.declared.names.Heap.{Heap}
-use Rattle.k_types.specs.declared.names.Heap.TheVariants.{Kernel, Shared}
+use Rattle.k_types.specs.declared.names.Heap.TheVariants.{Kernel}
 use Rattle.k_types.specs.declared.names.Phase.{Phase}
 use Rattle.k_types.specs.declared.op.Op.{Op}
 use Rattle.k_types.specs.declared.event.Reply.{Reply}
@@ -17,8 +17,8 @@ use Rattle.k_types.specs.Trace.{Trace, process_count}
 use Rattle.k_types.specs.TraceRules.{AreLimits}
 use Rattle.k_types.specs.State.{State, Sharing, has_share, scan_of, is_scanned}
 use Rattle.k_types.specs.Owners.{phase_of}
-use Rattle.k_types.specs.Steps.{MayBeDone, MayBeAbsorbed, MayClose, IsPossible, has_sharer, is_live, is_orphan, no_orphan, waits_for_orphans}
-use Rattle.k_types.specs.Cells.{Cell, CellPart, part, book_part, cells_touched}
+use Rattle.k_types.specs.Steps.{IsPossible, has_sharer, is_live, is_orphan, no_orphan, waits_for_orphans}
+use Rattle.k_types.specs.Cells.{CellPart, part, book_part, cells_touched}
 use Rattle.k_locality.specs.Same.{SameToEvent}
 use Rattle.k_locality.proofs.SameRead.{shares_same, phases_same, ended_same, closed_same}
 use Rattle.k_locality.proofs.SameReplies.{touched_same, done_reply_same}

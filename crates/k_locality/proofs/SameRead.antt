@@ -1,13 +1,10 @@
 -- What is read is the same in two states where the parts are.
-use Rattle.std.proofs.Common.{◌≡◌, ℕ, ◌<◌, cond, not, refl, sym, ap, ap₂, ◌∙◌, List, [], ◌∷◌, length, Option, Some, None, get_or}
+use Rattle.std.proofs.Common.{◌≡◌, ℕ, ◌<◌, cond, not, refl, sym, ap, ◌∙◌, [], ◌∷◌, length, Option, Some, None, get_or}
 use Rattle.k_types.specs.declared.names.Name.{Name}
-use Rattle.k_types.specs.declared.names.Pid.{Pid}
 use Rattle.k_types.specs.declared.names.Heap.{Heap}
 use Rattle.k_types.specs.declared.names.Heap.TheVariants.{Kernel, User, Shared}
-use Rattle.k_types.specs.declared.names.Phase.{Phase}
 use Rattle.k_types.specs.declared.op.Op.{Op}
 use Rattle.k_types.specs.declared.op.Op.TheVariants.{New, KNew, SNew, Store, Load, Move, Clear, Dir, Put, Get, Collect, KCollect, Share, Freeze, Attach, Exit}
-use Rattle.k_types.specs.declared.event.Fault.{Fault}
 use Rattle.k_types.specs.declared.event.Fault.TheVariants.{NotSharer}
 use Rattle.k_types.specs.Names.{among}
 use Rattle.k_types.specs.Trace.{Trace}
@@ -16,7 +13,7 @@ use Rattle.k_types.specs.State.{State, object_at, register, has_share}
 use Rattle.k_types.specs.Owners.{owner_of, user, shared, bytes_of, phase_of}
 use Rattle.k_types.specs.Limits.{full_limit}
 use Rattle.k_types.specs.Updates.{next_name}
-use Rattle.k_types.specs.Replies.{fault_where, sharer_fault, is_frozen_heap, is_frozen, passes_barrier}
+use Rattle.k_types.specs.Replies.{fault_where, sharer_fault, is_frozen_heap, is_frozen}
 use Rattle.k_types.specs.PartUpdates.{held_in}
 use Rattle.k_types.specs.Cells.{BookPart, CellPart, part, book_part, base_cell, access_cell, other_cells}
 use Rattle.k_changes.specs.CellChanges.{next_name_in}

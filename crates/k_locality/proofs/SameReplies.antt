@@ -1,7 +1,7 @@
 -- Operations are answered the same in two states where the parts are the same to them.
-use Rattle.std.proofs.Common.{◌≡◌, ℕ, ◌+◌, ◌<◌, ◌==◌, ◌&&◌, ◌⊎◌, nat_lt, nat_le, not, Bool, true, false, cond, refl, sym, ap, ap₂, ◌∙◌, inl, inr, List, [], ◌∷◌, ◌++◌, length, Option, Some, None, IsTrue, IsFalse, eqb-true, ltb-true, get_or}
+use Rattle.std.proofs.Common.{◌≡◌, ℕ, ◌+◌, ◌<◌, ◌==◌, ◌⊎◌, nat_lt, nat_le, not, true, false, cond, refl, sym, ap, ap₂, ◌∙◌, inl, inr, List, [], ◌∷◌, ◌++◌, length, Option, Some, None, IsTrue, IsFalse, eqb-true, ltb-true, get_or}
 use Rattle.std.specs.List.{list_any}
-use Rattle.std.proofs.lemmas.Bool.{cases_Bool, or_left, or_right, and_parts, false≢true, false_from_ne_true}
+use Rattle.std.proofs.lemmas.Bool.{cases_Bool, or_left, or_right, and_parts, false≢true}
 use Rattle.k_types.specs.declared.names.Name.{Name}
 use Rattle.k_types.specs.declared.names.Pid.{Pid}
 use Rattle.k_types.specs.declared.names.Heap.{Heap}
@@ -21,11 +21,11 @@ use Rattle.k_types.specs.Updates.{next_name}
 use Rattle.k_types.specs.Names.{heap_eq, kind_of, among}
 use Rattle.k_types.specs.Trace.{Trace, process_count, limit_of, size_of_type, segment_of}
 use Rattle.k_types.specs.TraceRules.{AreLimits}
-use Rattle.k_types.specs.State.{State, Content, Object, object_at, fields_of, register, has_share, Holds}
-use Rattle.k_types.specs.Owners.{owner_of, user, shared, bytes_of, phase_of, is_absorbed}
+use Rattle.k_types.specs.State.{State, object_at, fields_of, register, has_share, Holds}
+use Rattle.k_types.specs.Owners.{owner_of, user, bytes_of, phase_of, is_absorbed}
 use Rattle.k_types.specs.Steps.{in_range}
 use Rattle.k_types.specs.Replies.{fault_where, first_fault, faults, access_faults, sharer_fault, at_base, answer, reply_to, refused_or, field_at, field_count, is_ref, reference_from, reference, passes_barrier, is_foreign, is_frozen_heap, is_frozen, is_populating, is_unmade, root_of, load_faults, store_faults, number_faults, number_from, number_in, size_fault, limit_fault}
-use Rattle.k_types.specs.Cells.{part, book_part, base_cell, access_cell, other_cells, cells_touched, touches}
+use Rattle.k_types.specs.Cells.{part, book_part, base_cell, access_cell, other_cells, cells_touched}
 use Rattle.k_locality.specs.Same.{SameToEvent}
 use Rattle.k_locality.proofs.SameRead.{owners_same, owner_same, shares_same, phases_same, limit_same, shared_bytes_same, sharer_same, frozen_same, object_same, name_same, bytes_same, register_same, others_same}
 use Rattle.k_frame.proofs.NameTests.{heap_eq_refl}
