@@ -1,9 +1,9 @@
 -- What a contract sees of an area.
-use Rattle.std.specs.Prelude.{◌≡◌, ℕ, ◌==◌, not, Bool, List, map, slice_get, slice_set, Option, Some, None, is_some, option_map}
+use Rattle.std.specs.Prelude.{◌≡◌, ℕ, ◌==◌, not, Bool, false, List, map, slice_get, slice_set, Option, Some, None, is_some, option_map}
 use Rattle.std.specs.List.{position_or_len, sum_by}
 use Rattle.k_types.specs.declared.names.Name.{Name}
 use Rattle.k_types.specs.State.{Content}
-use Rattle.k_space.specs.Segments.{SegmentValue, Row, row_at, with_row, some_gray, some_black, some_marked, unmarked_segment, gray_or_black}
+use Rattle.k_space.specs.Segments.{SegmentValue, Row, Black, Gray, row_at, with_row, some_gray, some_black, some_marked, unmarked_segment, gray_or_black}
 
 pub record AreaValue : Type 0 where
   pub segments : List SegmentValue
@@ -15,6 +15,10 @@ place_of segments number = position_or_len (λ s. s.number == number) segments
 
 abbrev pub segment_at : List SegmentValue → ℕ → Option SegmentValue
 segment_at segments number = slice_get segments (place_of segments number)
+
+abbrev pub has_number : Option SegmentValue → ℕ → Bool
+has_number None number = false
+has_number (Some s) number = s.number == number
 
 -- the numbers are distinct
 abbrev pub HasDistinct : List SegmentValue → Type 0
@@ -68,6 +72,13 @@ grayed_row a n (Some row) = with_row_of a n (Some (record row { color = gray_or_
 -- the area where that object is gray, if it was white
 abbrev pub grayed : AreaValue → Name → AreaValue
 grayed a n = grayed_row a n (row_of_name a.segments n)
+
+-- that object was gray, and is black
+pub record IsBlackened (old new : AreaValue) (n : Name) : Type 0 where
+  pub row : Row
+  pub there : row_of_name old.segments n ≡ Some row
+  pub was : row.color ≡ Gray
+  pub now : new ≡ with_row_of old n (Some (record row { color = Black }))
 
 -- the sum of what the function gives for each serial of each segment
 abbrev pub rows_total : (Option Row → ℕ) → AreaValue → ℕ

@@ -1,9 +1,9 @@
-ghost use Rattle.std.specs.Prelude.{◌≡◌, ◌≢◌, ◌<◌, ◌+◌, ◌==◌, ◌++◌, ◌∷◌, [], ℕ, length, map, Some, None, IfOk, IfNone, IfSome, OnSome, slice_get, slice_set, slice_index_or, position, option_copied, IsFalse};
+ghost use Rattle.std.specs.Prelude.{◌≡◌, ◌≢◌, ◌<◌, ◌+◌, ◌==◌, ◌++◌, ◌∷◌, [], ℕ, length, map, Some, None, IfOk, IfNone, IfSome, OnSome, slice_get, slice_set, slice_index_or, position, option_copied, IsFalse, IsTrue};
 ghost use Rattle.std.specs.Option.{option_copied_mut};
 ghost use Rattle.std.specs.Borrow.{sem};
 ghost use Rattle.std.specs.List.{position_or_len};
-ghost use Rattle.k_space.specs.Segments.{SegmentValue, Row, Black, Gray, some_gray, unmarked_segment};
-ghost use Rattle.k_space.specs.Areas.{place_of, segment_at, row_of_name, with_row_of, HasDistinct, gray_at, grayed, unmarked};
+ghost use Rattle.k_space.specs.Segments.{SegmentValue, row_at, some_gray, unmarked_segment};
+ghost use Rattle.k_space.specs.Areas.{place_of, segment_at, row_of_name, with_row_of, HasDistinct, IsBlackened, gray_at, grayed, has_number, unmarked};
 ghost use Rattle.k_types.specs.Names.{name_of};
 
 use crate::segment::Segment;
@@ -17,6 +17,10 @@ use std::marker::Model;
 pub struct Area {
     segments: Vec<Segment>,
     room: u32,
+    // Where the segment of each number below the room may stand. A hint is tested where it is used.
+    hints: Vec<usize>,
+    // Where a gray object was found last.
+    gray_at: usize,
 }
 
 impl Model for Area {
@@ -31,15 +35,32 @@ impl Model for Area {
     ghost invariant = { λ a. a.room ≤ vec_capacity a.segments };
 }
 
+/// Whether the segment of that number stands there.
+fn stands_at(segments: &[Segment], at: usize, seg: Seg) -> bool
+    ensures { result ≡ has_number (slice_get segments.now at) seg.0 }
+{
+    match segments.get(at) {
+        Some(segment) => segment.number().0 == seg.0,
+        None => false,
+    }
+}
+
 fn first(segments: &[Segment], seg: Seg) -> Option<usize>
     ensures { result ≡ position (λ s. s.number == seg.0) segments.now }
 {
     segments.iter().position(|s| s.number().0 == seg.0)
 }
 
-fn place(segments: &[Segment], seg: Seg) -> usize
+/// Where the segment of that number stands; the number of segments where there is none.
+fn place(segments: &[Segment], hints: &[usize], seg: Seg) -> usize
+    requires { HasDistinct segments.now }
     ensures { result ≡ position_or_len (λ s. s.number == seg.0) segments.now }
 {
+    if let Some(hint) = hints.get(seg.0 as usize) {
+        if stands_at(segments, *hint, seg) {
+            return *hint;
+        }
+    }
     match first(segments, seg) {
         Some(at) => at,
         None => segments.len(),
@@ -65,6 +86,8 @@ impl Area {
         Ok(Area {
             segments: Vec::with_capacity(alloc, room as usize)?,
             room,
+            hints: vec![in alloc; 0usize; room as usize]?,
+            gray_at: 0,
         })
     }
 
@@ -91,25 +114,28 @@ impl Area {
         ensures added { self.new ≡ record self.old { segments = self.old.segments ++ segment ∷ [] } }
         ensures distinct { HasDistinct self.new.segments }
     {
+        let at = self.segments.len();
+        self.hint(segment.number(), at);
         self.segments.push_reserved(segment);
     }
 
-    /// The segment of that number.
+    /// The segment of that number. A number below the room is found at once where it is there; any other
+    /// costs a look through the numbers.
     pub fn get(&self, seg: Seg) -> Option<&Segment>
         requires { HasDistinct self.now.segments }
         ensures { option_copied result ≡ segment_at self.now.segments seg.0 }
     {
-        let at = place(&self.segments, seg);
+        let at = place(&self.segments, &self.hints, seg);
         self.segments.get(at)
     }
 
-    /// The segment of that number, for writing. The others stay.
+    /// The segment of that number, for writing. The others stay. It costs as much as `get`.
     pub fn get_mut(&mut self, seg: Seg) -> Option<&mut Segment>
         requires { HasDistinct self.old.segments }
         ensures* writes_back { sem 𝓛 (lends_segment self.entry seg.0 result) }
         ensures value { option_copied_mut result ≡ segment_at self.old.segments seg.0 }
     {
-        let at = place(&self.segments, seg);
+        let at = place(&self.segments, &self.hints, seg);
         self.segments.get_mut(at)
     }
 
@@ -124,8 +150,11 @@ impl Area {
         ensures fewer { OnSome result (length self.new.segments + 1 ≡ length self.old.segments) }
         ensures kept { IfNone result (self.new ≡ self.old) }
     {
-        let at = place(&self.segments, seg);
+        let at = place(&self.segments, &self.hints, seg);
         if at < self.segments.len() {
+            let last = self.segments.len() - 1;
+            let moved = self.segments[last].number();
+            self.hint(moved, at);
             Some(self.segments.swap_remove(at))
         } else {
             None
@@ -142,23 +171,40 @@ impl Area {
         }
     }
 
-    /// Takes a gray object, and makes it black.
+    /// Takes a gray object, and makes it black. It looks first where the last one was found.
     pub fn take_gray(&mut self) -> Option<Name>
         requires { HasDistinct self.old.segments }
-        ensures some { IfSome result (λ n. (row : Row) × (row_of_name self.old.segments n ≡ Some row) × (row.color ≡ Gray)
-            × (self.new ≡ with_row_of self.old n (Some (record row { color = Black })))) }
+        ensures some { IfSome result (λ n. IsBlackened self.old self.new n) }
         ensures none { IfNone result ((n : Name) → IsFalse (gray_at self.old n)) }
         ensures kept { IfNone result (self.new ≡ self.old) }
     {
+        if let Some(name) = self.take_gray_at(self.gray_at) {
+            return Some(name);
+        }
         let len = self.segments.len();
         for i in 0..len {
-            let segment = &mut self.segments[i];
-            let seg = segment.number();
-            if let Some(serial) = segment.take_gray() {
-                return Some(Name { seg, serial });
+            if let Some(name) = self.take_gray_at(i) {
+                self.gray_at = i;
+                return Some(name);
             }
         }
         None
+    }
+
+    /// Takes a gray object of the segment at that place.
+    fn take_gray_at(&mut self, at: usize) -> Option<Name>
+        requires { HasDistinct self.old.segments }
+        ensures some { IfSome result (λ n. IsBlackened self.old self.new n) }
+        ensures none { IfNone result ((s : SegmentValue) (serial : ℕ) → slice_get self.old.segments at ≡ Some s → IsFalse (some_gray (row_at s serial))) }
+        ensures kept { IfNone result (self.new ≡ self.old) }
+    {
+        if at >= self.segments.len() {
+            return None;
+        }
+        let segment = &mut self.segments[at];
+        let seg = segment.number();
+        let serial = segment.take_gray()?;
+        Some(Name { seg, serial })
     }
 
     /// Takes the marks of all objects away.
@@ -166,5 +212,14 @@ impl Area {
         ensures { self.new ≡ unmarked self.old }
     {
         unmark(&mut self.segments);
+    }
+
+    /// Notes where the segment of that number stands.
+    fn hint(&mut self, seg: Seg, at: usize)
+        ensures { self.new ≡ self.old }
+    {
+        if let Some(hint) = self.hints.get_mut(seg.0 as usize) {
+            *hint = at;
+        }
     }
 }

@@ -18,28 +18,28 @@ loop-at-init g c = record {
 pub trace-requires-clause-live : goal.trace-requires-clause-live
 trace-requires-clause-live g c =
     let t = c.in-Some.ensures.some in
-    still_live c.args.area.now c.loop-at.area c.take_gray.new.self c.take_gray.new.self c.args.exits.now.items c.loop-at.exits.items c.loop-at.exits.items c.in-Some.at t.0 c.loop-at.invariant.marking t.1 t.2 t.3 (demands c.args.area.now c.args.exits.now.items c.requires.exits)
+    still_live c.args.area.now c.loop-at.area c.take_gray.new.self c.take_gray.new.self c.args.exits.now.items c.loop-at.exits.items c.loop-at.exits.items c.in-Some.at t.row c.loop-at.invariant.marking t.there t.was t.now (demands c.args.area.now c.args.exits.now.items c.requires.exits)
 
 pub trace-requires-clause-exits : goal.trace-requires-clause-exits
 trace-requires-clause-exits g c =
     let t = c.in-Some.ensures.some in
-    demand_now c.args.area.now c.loop-at.area c.take_gray.new.self c.take_gray.new.self c.args.exits.now.items c.loop-at.exits.items c.loop-at.exits.items c.in-Some.at t.0 c.loop-at.invariant.marking t.1 t.2 t.3 (demands c.args.area.now c.args.exits.now.items c.requires.exits)
+    demand_now c.args.area.now c.loop-at.area c.take_gray.new.self c.take_gray.new.self c.args.exits.now.items c.loop-at.exits.items c.loop-at.exits.items c.in-Some.at t.row c.loop-at.invariant.marking t.there t.was t.now (demands c.args.area.now c.args.exits.now.items c.requires.exits)
 
 pub loop-at-smaller : goal.loop-at-smaller
 loop-at-smaller g c =
     let t = c.in-Some.ensures.some in
-    let looked = looked_now c.args.area.now c.loop-at.area c.take_gray.new.self c.trace.new.area c.args.exits.now.items c.loop-at.exits.items c.trace.new.exits.items c.in-Some.at t.0 c.loop-at.invariant.marking t.1 t.2 t.3 (demands c.args.area.now c.args.exits.now.items c.requires.exits) c.trace.ensures.looked in
-    let less : left c.trace.new.area + 1 ≡ left c.loop-at.area = less_left c.args.area.now c.loop-at.area c.trace.new.area c.args.exits.now.items c.loop-at.exits.items c.trace.new.exits.items c.in-Some.at t.0 c.loop-at.invariant.marking t.1 t.2 (demands c.args.area.now c.args.exits.now.items c.requires.exits) looked in
+    let looked = looked_now c.args.area.now c.loop-at.area c.take_gray.new.self c.trace.new.area c.args.exits.now.items c.loop-at.exits.items c.trace.new.exits.items c.in-Some.at t.row c.loop-at.invariant.marking t.there t.was t.now (demands c.args.area.now c.args.exits.now.items c.requires.exits) c.trace.ensures.looked in
+    let less : left c.trace.new.area + 1 ≡ left c.loop-at.area = less_left c.args.area.now c.loop-at.area c.trace.new.area c.args.exits.now.items c.loop-at.exits.items c.trace.new.exits.items c.in-Some.at t.row c.loop-at.invariant.marking t.there t.was (demands c.args.area.now c.args.exits.now.items c.requires.exits) looked in
     omega (arith, less)
 
 pub loop-at-preserved : goal.loop-at-preserved
 loop-at-preserved g c =
     let t = c.in-Some.ensures.some in
-    let looked = looked_now c.args.area.now c.loop-at.area c.take_gray.new.self c.trace.new.area c.args.exits.now.items c.loop-at.exits.items c.trace.new.exits.items c.in-Some.at t.0 c.loop-at.invariant.marking t.1 t.2 t.3 (demands c.args.area.now c.args.exits.now.items c.requires.exits) c.trace.ensures.looked in
-    let worked = more_work c.args.area.now c.loop-at.area c.trace.new.area c.args.exits.now.items c.loop-at.exits.items c.trace.new.exits.items c.in-Some.at t.0 c.loop-at.invariant.marking t.1 t.2 (demands c.args.area.now c.args.exits.now.items c.requires.exits) looked in
-    let traced = c.trace.ensures.steps t.0.fields (fields_now c.args.area.now c.loop-at.area c.take_gray.new.self c.trace.new.area c.args.exits.now.items c.loop-at.exits.items c.trace.new.exits.items c.in-Some.at t.0 c.loop-at.invariant.marking t.1 t.2 t.3 (demands c.args.area.now c.args.exits.now.items c.requires.exits)) in
+    let looked = looked_now c.args.area.now c.loop-at.area c.take_gray.new.self c.trace.new.area c.args.exits.now.items c.loop-at.exits.items c.trace.new.exits.items c.in-Some.at t.row c.loop-at.invariant.marking t.there t.was t.now (demands c.args.area.now c.args.exits.now.items c.requires.exits) c.trace.ensures.looked in
+    let worked = more_work c.args.area.now c.loop-at.area c.trace.new.area c.args.exits.now.items c.loop-at.exits.items c.trace.new.exits.items c.in-Some.at t.row c.loop-at.invariant.marking t.there t.was (demands c.args.area.now c.args.exits.now.items c.requires.exits) looked in
+    let traced = c.trace.ensures.steps t.row.fields (fields_now c.args.area.now c.loop-at.area c.take_gray.new.self c.trace.new.area c.args.exits.now.items c.loop-at.exits.items c.trace.new.exits.items c.in-Some.at t.row c.loop-at.invariant.marking t.there t.was t.now (demands c.args.area.now c.args.exits.now.items c.requires.exits)) in
     record {
-      marking = stepped c.args.area.now c.loop-at.area c.trace.new.area c.args.exits.now.items c.loop-at.exits.items c.trace.new.exits.items c.in-Some.at t.0 c.loop-at.invariant.marking t.1 t.2 (demands c.args.area.now c.args.exits.now.items c.requires.exits) looked;
+      marking = stepped c.args.area.now c.loop-at.area c.trace.new.area c.args.exits.now.items c.loop-at.exits.items c.trace.new.exits.items c.in-Some.at t.row c.loop-at.invariant.marking t.there t.was (demands c.args.area.now c.args.exits.now.items c.requires.exits) looked;
       steps = omega (arith, worked, traced, c.tick.ensures, c.loop-at.invariant.steps);
       room = c.trace.ensures.room ∙ c.loop-at.invariant.room;
     }
@@ -70,8 +70,8 @@ returns-clause-steps g c =
 pub trace-requires-clause-distinct : goal.trace-requires-clause-distinct
 trace-requires-clause-distinct g c =
     let t = c.in-Some.ensures.some in
-    subst (λ (a : AreaValue). HasDistinct a.segments) (sym t.3)
-    (after_distinct c.loop-at.area c.in-Some.at t.0 (record t.0 { color = Black }) (found c.loop-at.area c.in-Some.at t.0 t.1) c.loop-at.invariant.marking.distinct)
+    subst (λ (a : AreaValue). HasDistinct a.segments) (sym t.now)
+    (after_distinct c.loop-at.area c.in-Some.at t.row (record t.row { color = Black }) (found c.loop-at.area c.in-Some.at t.row t.there) c.loop-at.invariant.marking.distinct)
 
 pub take_gray-requires : goal.take_gray-requires
 take_gray-requires g c = c.loop-at.invariant.marking.distinct

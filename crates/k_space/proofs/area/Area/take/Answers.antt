@@ -9,15 +9,21 @@ use Rattle.k_space.proofs.area.Area.take.Goals as goal
 same : (c : goal.After-swap_remove) → c.self.inside.segments.items ≡ c.args.self.now.segments
 same c = ap (λ (a : AreaValue). a.segments) c.self.view_is
 
+-- the hint left the segments
+still : (c : goal.After-swap_remove) → c.self-then-at-len.inside.segments.items ≡ c.args.self.now.segments
+still c = ap (λ (a : AreaValue). a.segments) (c.self-then-at-len.view_is ∙ c.hint.ensures)
+
 without : (c : goal.After-swap_remove) → IsWithout c.args.self.now.segments c.swap_remove.new.self.items c.place-at.result
 without c =
-    subst (λ (xs : List SegmentValue). IsWithout xs c.swap_remove.new.self.items c.place-at.result) (same c)
-    (let len : length c.self.inside.segments.items ≡ c.self.inside.segments.len = sym c.self.inside.segments.ok.0 in
+    subst (λ (xs : List SegmentValue). IsWithout xs c.swap_remove.new.self.items c.place-at.result) (still c)
+    (let old = c.self-then-at-len.inside.segments in
+    let len : length old.items ≡ old.len = sym old.ok.0 in
+    let before : length old.items ≡ c.self.inside.segments.len = ap (λ (xs : List SegmentValue). length xs) (still c ∙ sym (same c)) ∙ sym c.self.inside.segments.ok.0 in
     let after : length c.swap_remove.new.self.items ≡ c.swap_remove.new.self.len = sym c.swap_remove.new.self.ok.0 in
     record {
       len = omega (arith, len, after, c.swap_remove.ensures.len);
-      within = omega (arith, len, c.if-at-len.true, c.len.ensures);
-      moved = λ d more. c.swap_remove.ensures.by_index.0 d (omega (arith, more, len)) ∙ ap (λ n. get_or c.self.inside.segments.items (n - 1) d) (sym len);
+      within = omega (arith, before, c.if-at-len.true, c.len.ensures);
+      moved = λ d more. c.swap_remove.ensures.by_index.0 d (omega (arith, more, len)) ∙ ap (λ n. get_or old.items (n - 1) d) (sym len);
       others = λ k d apart more. c.swap_remove.ensures.by_index.1 k d apart (omega (arith, more, len));
     })
 
