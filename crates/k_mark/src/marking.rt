@@ -29,7 +29,7 @@ pub fn root(area: &mut Area, target: Link)
     requires { HasDistinct area.old.segments }
     ensures { area.new ≡ grayed area.old (name_of target) }
 {
-    area.make_gray(target);
+    area.make_gray(target.name());
 }
 
 /// What the field of that object holds; nothing past the last field.
@@ -75,16 +75,17 @@ fn look<L: Ledger>(area: &mut Area, exits: &mut ExitTable, steps: &mut Steps<L>,
     ensures room { exits.new.room ≡ exits.old.room }
     ensures steps { steps.new ≡ steps.old + count_by is_ref (content_of stored ∷ []) }
 {
-    let Stored::Refers(target) = stored else {
-        return;
-    };
-    steps.tick();
-    if let Some(link) = target {
-        if area.get(link.seg).is_some() {
-            area.make_gray(link);
-        } else {
-            exits.mark(link.name());
+    match stored {
+        Stored::Null => steps.tick(),
+        Stored::Refers(target) => {
+            steps.tick();
+            if area.get(target.seg).is_some() {
+                area.make_gray(target);
+            } else {
+                exits.mark(target);
+            }
         }
+        Stored::Holds(_) => {}
     }
 }
 

@@ -1,13 +1,12 @@
 -- What an object holds, and what a contract sees of a body.
-use Rattle.std.specs.Prelude.{◌≡◌, ℕ, List, map, replicate, slice_get, Option, Some, None, option_map}
+use Rattle.std.specs.Prelude.{◌≡◌, ℕ, List, map, replicate, slice_get, Option, Some, None}
 use Rattle.k_types.specs.declared.names.Name.{Name}
 use Rattle.k_types.specs.declared.names.TypeId.{TypeId}
 use Rattle.k_types.specs.declared.names.Field.{Field}
-use Rattle.k_types.specs.Names.{name_of}
 use Rattle.k_types.specs.Types.{type_row}
 use Rattle.k_types.specs.State.{Content, Refers, Holds, fresh}
 use Rattle.k_space.specs.declared.body.Stored.{Stored}
-use Rattle.k_space.specs.declared.body.Stored.TheVariants.{Refers as StoredRef, Holds as StoredInt}
+use Rattle.k_space.specs.declared.body.Stored.TheVariants.{Null as StoredNull, Refers as StoredRef, Holds as StoredInt}
 
 -- the content of one object; the directory has no type
 pub record BodyValue : Type 0 where
@@ -24,7 +23,8 @@ new_directory fields = record { ty = None; fields = replicate fields (Refers Non
 
 -- a field as the machine sees it
 abbrev pub content_of : Stored → Content
-content_of (StoredRef link) = Refers (option_map name_of link)
+content_of StoredNull = Refers None
+content_of (StoredRef name) = Refers (Some name)
 content_of (StoredInt n) = Holds n
 
 -- the field is there, and it is a reference

@@ -4,11 +4,10 @@ ghost use Rattle.std.specs.Borrow.{sem};
 ghost use Rattle.std.specs.List.{position_or_len};
 ghost use Rattle.k_space.specs.Segments.{SegmentValue, row_at, some_gray, unmarked_segment};
 ghost use Rattle.k_space.specs.Areas.{place_of, segment_at, row_of_name, with_row_of, HasDistinct, IsBlackened, gray_at, grayed, has_number, unmarked};
-ghost use Rattle.k_types.specs.Names.{name_of};
 
 use crate::segment::Segment;
 use k_io::NoMemory;
-use k_types::{Link, Name, Seg};
+use k_types::{Name, Seg};
 use std::alloc::Global;
 use std::marker::Model;
 
@@ -162,9 +161,9 @@ impl Area {
     }
 
     /// Makes a white object gray. A name that is no live object of the area changes nothing.
-    pub fn make_gray(&mut self, target: Link)
+    pub fn make_gray(&mut self, target: Name)
         requires { HasDistinct self.old.segments }
-        ensures { self.new ≡ grayed self.old (name_of target) }
+        ensures { self.new ≡ grayed self.old target }
     {
         if let Some(segment) = self.get_mut(target.seg) {
             segment.make_gray(target.serial);

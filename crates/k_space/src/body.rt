@@ -5,14 +5,15 @@ ghost use Rattle.k_space.specs.Objects.{HasRef, HasInt, content_of, new_body, ne
 ghost use Rattle.k_types.specs.Names.{name_of};
 
 use k_io::NoMemory;
-use k_types::{Field, Link, TypeId, TypeTable};
+use k_types::{Field, Link, Name, Slot, TypeId, TypeTable};
 use std::alloc::Global;
 use std::marker::Model;
 
-/// What a field holds.
+/// What a field holds. A reference is kept by its name.
 #[derive(Clone, Copy, Debug)]
 pub enum Stored {
-    Refers(Option<Link>),
+    Null,
+    Refers(Name),
     Holds(u64),
 }
 
@@ -22,8 +23,18 @@ impl Stored {
         ensures { content_of result ≡ fresh kind }
     {
         match kind {
-            Field::Ref => Stored::Refers(None),
+            Field::Ref => Stored::Null,
             Field::Int => Stored::Holds(0),
+        }
+    }
+
+    /// A reference as a field keeps it.
+    fn of_ref(value: Option<Link>) -> Stored
+        ensures { content_of result ≡ Refers (option_map name_of value) }
+    {
+        match value {
+            Some(link) => Stored::Refers(link.name()),
+            None => Stored::Null,
         }
     }
 }
@@ -71,7 +82,7 @@ impl Body {
         requires { fields ≤ 16 }
         ensures { IfOk result (λ b. b ≡ new_directory fields) }
     {
-        let fields = vec![in alloc; Stored::Refers(None); fields as usize]?;
+        let fields = vec![in alloc; Stored::Null; fields as usize]?;
         Ok(Body { ty: None, fields })
     }
 
@@ -102,6 +113,7 @@ impl Body {
         ensures { result ≡ option_map field_kind (slice_get self.now.fields field) }
     {
         match self.fields.get(field as usize) {
+            Some(Stored::Null) => Some(Field::Ref),
             Some(Stored::Refers(_)) => Some(Field::Ref),
             Some(Stored::Holds(_)) => Some(Field::Int),
             None => None,
@@ -121,7 +133,12 @@ impl Body {
         ensures { slice_get self.now.fields field ≡ Some (Refers (option_map name_of result)) }
     {
         match self.fields[field as usize] {
-            Stored::Refers(link) => link,
+            Stored::Refers(name) => Some(Link {
+                seg: name.seg,
+                slot: Slot(0),
+                serial: name.serial,
+            }),
+            Stored::Null => None,
             Stored::Holds(_) => None,
         }
     }
@@ -131,8 +148,9 @@ impl Body {
         ensures { slice_get self.now.fields field ≡ Some (Holds result) }
     {
         match self.fields[field as usize] {
-            Stored::Refers(_) => 0,
             Stored::Holds(number) => number,
+            Stored::Null => 0,
+            Stored::Refers(_) => 0,
         }
     }
 
@@ -140,7 +158,7 @@ impl Body {
         requires { field < length self.old.fields }
         ensures { self.new ≡ record self.old { fields = slice_set self.old.fields field (Refers (option_map name_of value)) } }
     {
-        self.fields[field as usize] = Stored::Refers(value);
+        self.fields[field as usize] = Stored::of_ref(value);
     }
 
     pub(crate) fn write_int(&mut self, field: u32, value: u64)
