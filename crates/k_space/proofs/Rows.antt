@@ -59,7 +59,7 @@ same_At : (s t : ℕ) (m n : Mark) → At s m ≡ At t n → (s ≡ t) × (m ≡
 same_At s t m n e = (cc, cc)
 
 -- another mark at one place
-pub recolored : (places : List Place) (cells : Slab Cell) (room capacity : ℕ) (head after : Option ℕ) (i slot : ℕ) (m n : Mark) → IsSound places cells room capacity head → get_or places i Empty ≡ At slot m →
+pub recolored : (places : List Place) (cells : Slab Cell) (room capacity head after i slot : ℕ) (m n : Mark) → IsSound places cells room capacity head → get_or places i Empty ≡ At slot m →
     IsGrayList (set places i (At slot n)) (count_by is_gray_place (set places i (At slot n))) after → IsSound (set places i (At slot n)) cells room capacity after
 recolored places cells room capacity head after i slot m n sound here grays =
     let not_first : 0 ≢ i = λ e. apart e in
@@ -201,7 +201,7 @@ pub read_at : (places : List Place) (i : ℕ) (p q : Place) → i < length place
 read_at places i p q within read is = any_default places i Empty p within ∙ sym read ∙ is
 
 -- the first gray object, made black
-pub taken : (number room : ℕ) (places : List Place) (cells : Slab Cell) (s : SegmentValue) (i k slot : ℕ) (next : Option ℕ) (cell : Cell) →
+pub taken : (number room : ℕ) (places : List Place) (cells : Slab Cell) (s : SegmentValue) (i k slot : ℕ) (next : ℕ) (cell : Cell) →
     record { number = number; room = room; rows = map (row_of cells) places } ≡ s → get_or places i Empty ≡ At slot (MarkGray next) → get cells slot ≡ Some cell → i ≡ k →
     (row : Row) × LiesAt s row.slot k row × (row.color ≡ Gray) × (record { number = number; room = room; rows = map (row_of cells) (set places i (At slot MarkBlack)) } ≡ with_row s k (Some (record row { color = Black })))
 taken number room places cells s i k slot next cell is here found e =
@@ -230,7 +230,7 @@ pub same_cell : {x y : Cell} → ◌≡◌ {A = Option Cell} (Some x) (Some y) �
 same_cell e = cc
 
 -- another body in one slot
-pub rewritten : (places : List Place) (cells : Slab Cell) (room capacity : ℕ) (head : Option ℕ) (slot : ℕ) (cell new : Cell) → IsSound places cells room capacity head → get cells slot ≡ Some cell → new.serial.0 ≡ cell.serial.0 →
+pub rewritten : (places : List Place) (cells : Slab Cell) (room capacity : ℕ) (head : ℕ) (slot : ℕ) (cell new : Cell) → IsSound places cells room capacity head → get cells slot ≡ Some cell → new.serial.0 ≡ cell.serial.0 →
     IsSound places (with_value cells slot new) room capacity head
 rewritten places cells room capacity head slot cell new sound found serial =
     record {
@@ -273,7 +273,7 @@ rewritten places cells room capacity head slot cell new sound found serial =
         ]
 
 -- what a contract sees of it
-pub rewritten_view : (number room capacity : ℕ) (places : List Place) (cells : Slab Cell) (head : Option ℕ) (s : SegmentValue) (slot serial : ℕ) (cell new : Cell) (row : Row) → IsSound places cells room capacity head →
+pub rewritten_view : (number room capacity : ℕ) (places : List Place) (cells : Slab Cell) (head : ℕ) (s : SegmentValue) (slot serial : ℕ) (cell new : Cell) (row : Row) → IsSound places cells room capacity head →
     record { number = number; room = room; rows = map (row_of cells) places } ≡ s → get cells slot ≡ Some cell → LiesAt s slot serial row → new.body.ty ≡ row.ty →
     record { number = number; room = room; rows = map (row_of (with_value cells slot new)) places } ≡ with_row s serial (Some (record row { fields = new.body.fields }))
 rewritten_view number room capacity places cells head s slot serial cell new row sound is found lies tys =
@@ -308,7 +308,7 @@ at_pushed [] x (suc i) slot mark e = absurd (cc)
 at_pushed (y ∷ ys) x zero slot mark e = inl e
 at_pushed (y ∷ ys) x (suc i) slot mark e = elim (at_pushed ys x i slot mark e) [ inl there ↦ inl there | inr here ↦ inr (ap suc here.0, here.1) ]
 
-pub pushed : (places : List Place) (cells after : Slab Cell) (room capacity : ℕ) (head : Option ℕ) (slot : ℕ) (cell : Cell) → IsSound places cells room capacity head → length places ≤ room →
+pub pushed : (places : List Place) (cells after : Slab Cell) (room capacity : ℕ) (head : ℕ) (slot : ℕ) (cell : Cell) → IsSound places cells room capacity head → length places ≤ room →
     get cells slot ≡ None → Updates cells after slot (Some cell) → slab_len after ≡ slab_len cells + 1 → after.capacity ≡ cells.capacity → cell.serial.0 ≡ length places →
     IsSound (places ++ At slot MarkWhite ∷ []) after room capacity head
 pushed places cells after room capacity head slot cell sound more vacant updates len stays serial =
@@ -353,7 +353,7 @@ pushed places cells after room capacity head slot cell sound more vacant updates
         ]
 
 -- the rows that were there
-pub rows_kept : (places : List Place) (cells after : Slab Cell) (room capacity : ℕ) (head : Option ℕ) (slot : ℕ) (o : Option Cell) → IsSound places cells room capacity head →
+pub rows_kept : (places : List Place) (cells after : Slab Cell) (room capacity : ℕ) (head : ℕ) (slot : ℕ) (o : Option Cell) → IsSound places cells room capacity head →
     get cells slot ≡ None → Updates cells after slot o → map (row_of after) places ≡ map (row_of cells) places
 rows_kept places cells after room capacity head slot o sound vacant updates =
     maps_agree (row_of after) (row_of cells) places Empty (λ j. others j (get_or places j Empty) refl)
@@ -369,7 +369,7 @@ rows_kept places cells after room capacity head slot o sound vacant updates =
             cc
 
 -- what a contract sees of it
-pub pushed_view : (number room capacity : ℕ) (places : List Place) (cells after : Slab Cell) (head : Option ℕ) (s : SegmentValue) (slot : ℕ) (cell : Cell) → IsSound places cells room capacity head →
+pub pushed_view : (number room capacity : ℕ) (places : List Place) (cells after : Slab Cell) (head : ℕ) (s : SegmentValue) (slot : ℕ) (cell : Cell) → IsSound places cells room capacity head →
     record { number = number; room = room; rows = map (row_of cells) places } ≡ s → get cells slot ≡ None → Updates cells after slot (Some cell) →
     record { number = number; room = room; rows = map (row_of after) (places ++ At slot MarkWhite ∷ []) } ≡ placed s slot cell.body
 pushed_view number room capacity places cells after head s slot cell sound is vacant updates =
@@ -391,7 +391,7 @@ count_none (x ∷ xs) zero cell e =
 count_none (x ∷ xs) (suc key) cell e =
     omega (arith, sum_by-cons (λ (o : Option Cell). bit (is_some o)) x xs, sum_by-cons (λ (o : Option Cell). bit (is_some o)) x (set xs key None), count_none xs key cell e)
 
-pub freed : (places : List Place) (cells after : Slab Cell) (room capacity : ℕ) (head : Option ℕ) (i slot : ℕ) (cell : Cell) → IsSound places cells room capacity head → get_or places i Empty ≡ At slot MarkWhite → get cells slot ≡ Some cell →
+pub freed : (places : List Place) (cells after : Slab Cell) (room capacity : ℕ) (head : ℕ) (i slot : ℕ) (cell : Cell) → IsSound places cells room capacity head → get_or places i Empty ≡ At slot MarkWhite → get cells slot ≡ Some cell →
     Updates cells after slot None → slab_len after + 1 ≡ slab_len cells → after.capacity ≡ cells.capacity → IsSound (set places i Empty) after room capacity head
 freed places cells after room capacity head i slot cell sound here found updates len stays =
     let not_first : 0 ≢ i = λ e. apart e in
@@ -420,11 +420,10 @@ freed places cells after room capacity head i slot cell sound here found updates
     same_count : count_by is_gray_place (set places i Empty) ≡ count_by is_gray_place places
     same_count = let off : bit (is_gray_place (get_or places i Empty)) ≡ 0 = ap bit plain in omega (arith, count-set places i Empty within, off)
 
-    not_gray : (m : ℕ) → IsGrayList places m (Some i) → ⊥
-    not_gray zero q = cc
-    not_gray (suc m) q =
-        let first = head_gray places (suc m) i q in
-        let both : At first.0 (MarkGray first.1) ≡ At slot MarkWhite = sym first.2 ∙ here in
+    not_gray : (m : ℕ) → IsGrayList places m i → ⊥
+    not_gray zero q = apart (sym q)
+    not_gray (suc m) (some, s, next, gray, rest) =
+        let both : At s (MarkGray next) ≡ At slot MarkWhite = sym gray ∙ here in
         cc
 
     -- no other place has the slot
@@ -459,7 +458,7 @@ freed places cells after room capacity head i slot cell sound here found updates
         ]
 
 -- what a contract sees of it
-pub freed_rows : (places : List Place) (cells after : Slab Cell) (room capacity : ℕ) (head : Option ℕ) (i slot : ℕ) (mark : Mark) → IsSound places cells room capacity head → get_or places i Empty ≡ At slot mark →
+pub freed_rows : (places : List Place) (cells after : Slab Cell) (room capacity : ℕ) (head : ℕ) (i slot : ℕ) (mark : Mark) → IsSound places cells room capacity head → get_or places i Empty ≡ At slot mark →
     Updates cells after slot None → map (row_of after) (set places i Empty) ≡ set (map (row_of cells) places) i None
 freed_rows places cells after room capacity head i slot mark sound here updates =
     map-set (row_of after) places i Empty ∙ sets (map (row_of after) places) (map (row_of cells) places) (map_len (row_of after) places ∙ sym (map_len (row_of cells) places)) agree
@@ -499,7 +498,7 @@ no_gray_left (p ∷ places) = omega (arith, sum_by-cons (λ x. bit (is_gray_plac
     not_gray Empty = refl
     not_gray (At slot mark) = refl
 
-pub whitened : (places : List Place) (cells : Slab Cell) (room capacity : ℕ) (head : Option ℕ) → IsSound places cells room capacity head → IsSound (map white_place places) cells room capacity None
+pub whitened : (places : List Place) (cells : Slab Cell) (room capacity : ℕ) (head : ℕ) → IsSound places cells room capacity head → IsSound (map white_place places) cells room capacity 0
 whitened places cells room capacity head sound =
     record {
       first = get_or-map white_place places 0 Empty ∙ ap white_place sound.first;
@@ -511,7 +510,7 @@ whitened places cells room capacity head sound =
       fits = omega (arith, map_len white_place places, sound.fits);
       placed = λ j s mark e. let was = white_there places j s mark e in sound.placed j s was.0 was.1;
       kept = λ s x e. let was = sound.kept s x e in record { mark = MarkWhite; there = get_or-map white_place places x.serial.0 Empty ∙ ap white_place was.there };
-      grays = subst (λ (n : ℕ). IsGrayList (map white_place places) n None) (sym (no_gray_left places)) refl;
+      grays = subst (λ (n : ℕ). IsGrayList (map white_place places) n 0) (sym (no_gray_left places)) refl;
     }
 
 white_row : (cells : Slab Cell) (p : Place) → row_of cells (white_place p) ≡ unmarked_row (row_of cells p)
@@ -527,7 +526,7 @@ whitened_rows cells [] = refl
 whitened_rows cells (p ∷ places) = ap₂ (λ y ys. y ∷ ys) (white_row cells p) (whitened_rows cells places)
 
 -- the object of a slot, by the place of its serial
-at_slot : (number room : ℕ) (places : List Place) (cells : Slab Cell) (capacity : ℕ) (head : Option ℕ) (s : SegmentValue) (slot : ℕ) (cell : Cell) (mark : Mark) → IsSound places cells room capacity head →
+at_slot : (number room : ℕ) (places : List Place) (cells : Slab Cell) (capacity : ℕ) (head : ℕ) (s : SegmentValue) (slot : ℕ) (cell : Cell) (mark : Mark) → IsSound places cells room capacity head →
     record { number = number; room = room; rows = map (row_of cells) places } ≡ s → get cells slot ≡ Some cell → get_or places cell.serial.0 Empty ≡ At slot mark →
     LiesAt s slot cell.serial.0 (record { slot = slot; color = color_of mark; ty = cell.body.ty; fields = cell.body.fields })
 at_slot number room places cells capacity head s slot cell mark sound is found here =
@@ -543,7 +542,7 @@ other_mark slot MarkWhite e = absurd (cc)
 other_mark slot (MarkGray next) e = refl
 other_mark slot MarkBlack e = refl
 
-pub unmarked_there : (number room : ℕ) (places : List Place) (cells : Slab Cell) (capacity : ℕ) (head : Option ℕ) (s : SegmentValue) (slot : ℕ) (cell : Cell) → IsSound places cells room capacity head →
+pub unmarked_there : (number room : ℕ) (places : List Place) (cells : Slab Cell) (capacity : ℕ) (head : ℕ) (s : SegmentValue) (slot : ℕ) (cell : Cell) → IsSound places cells room capacity head →
     record { number = number; room = room; rows = map (row_of cells) places } ≡ s → get cells slot ≡ Some cell → is_white_place (get_or places cell.serial.0 Empty) ≡ true →
     IsUnmarkedAt s slot
 unmarked_there number room places cells capacity head s slot cell sound is found white =
@@ -555,7 +554,7 @@ unmarked_there number room places cells capacity head s slot cell sound is found
       unmarked = white_mark slot kept.mark (sym (ap is_white_place kept.there) ∙ white);
     }
 
-pub marked_there : (number room : ℕ) (places : List Place) (cells : Slab Cell) (capacity : ℕ) (head : Option ℕ) (s : SegmentValue) (slot : ℕ) (cell : Cell) → IsSound places cells room capacity head →
+pub marked_there : (number room : ℕ) (places : List Place) (cells : Slab Cell) (capacity : ℕ) (head : ℕ) (s : SegmentValue) (slot : ℕ) (cell : Cell) → IsSound places cells room capacity head →
     record { number = number; room = room; rows = map (row_of cells) places } ≡ s → get cells slot ≡ Some cell → is_white_place (get_or places cell.serial.0 Empty) ≡ false →
     (serial : ℕ) (row : Row) → row_at s serial ≡ Some row → row.slot ≡ slot → is_marked row.color ≡ true
 marked_there number room places cells capacity head s slot cell sound is found dark serial row at slot_is =
@@ -575,7 +574,7 @@ none_there number room places cells s slot is none serial row at slot_is =
     cc
 
 -- what the freed object was
-pub freed_view : (number room : ℕ) (places : List Place) (cells after : Slab Cell) (capacity : ℕ) (head : Option ℕ) (s : SegmentValue) (slot i : ℕ) (cell : Cell) (mark : Mark) → IsSound places cells room capacity head →
+pub freed_view : (number room : ℕ) (places : List Place) (cells after : Slab Cell) (capacity : ℕ) (head : ℕ) (s : SegmentValue) (slot i : ℕ) (cell : Cell) (mark : Mark) → IsSound places cells room capacity head →
     record { number = number; room = room; rows = map (row_of cells) places } ≡ s → get_or places i Empty ≡ At slot mark → Updates cells after slot None →
     record { number = number; room = room; rows = map (row_of after) (set places i Empty) } ≡ with_row s i None
 freed_view number room places cells after capacity head s slot i cell mark sound is here updates =
@@ -589,7 +588,7 @@ pub record Placed (places : List Place) (slot serial : ℕ) (row : Row) (cell : 
   pub serial_is : cell.serial.0 ≡ serial
   pub row_is : row ≡ record { slot = slot; color = color_of mark; ty = cell.body.ty; fields = cell.body.fields }
 
-pub place_there : (number room : ℕ) (places : List Place) (cells : Slab Cell) (capacity : ℕ) (head : Option ℕ) (s : SegmentValue) (slot serial : ℕ) (row : Row) (cell : Cell) → IsSound places cells room capacity head →
+pub place_there : (number room : ℕ) (places : List Place) (cells : Slab Cell) (capacity : ℕ) (head : ℕ) (s : SegmentValue) (slot serial : ℕ) (row : Row) (cell : Cell) → IsSound places cells room capacity head →
     record { number = number; room = room; rows = map (row_of cells) places } ≡ s → LiesAt s slot serial row → get cells slot ≡ Some cell → Placed places slot serial row cell
 place_there number room places cells capacity head s slot serial row cell sound is lies found =
     let l = lies_in number room places cells s slot serial row is lies in

@@ -29,10 +29,10 @@ is_gray_place (At slot (MarkGray next)) = true
 is_gray_place _ = false
 
 -- so many gray places, each with the next
-abbrev pub IsGrayList : List Place → ℕ → Option ℕ → Type 0
-IsGrayList places zero head = head ≡ None
-IsGrayList places (suc n) head = (i : ℕ) × (slot : ℕ) × (next : Option ℕ) × (head ≡ Some i)
-    × (slice_index_or places i Empty ≡ At slot (MarkGray next)) × IsGrayList places n next
+abbrev pub IsGrayList : List Place → ℕ → ℕ → Type 0
+IsGrayList places zero head = head ≡ 0
+IsGrayList places (suc n) head = (0 < head) × (slot : ℕ) × (next : ℕ) × (slice_index_or places head Empty ≡ At slot (MarkGray next))
+    × IsGrayList places n next
 
 -- the slot has the object of that serial
 pub record IsPlaced (cells : Slab Cell) (serial slot : ℕ) : Type 0 where
@@ -50,7 +50,7 @@ row_bytes None = 0
 row_bytes (Some row) = object_size (length row.fields)
 
 -- places and slots name each other, the gray places are one list, there is room for every serial, and the bytes are kept
-pub record IsSound (places : List Place) (cells : Slab Cell) (room capacity : ℕ) (head : Option ℕ) : Type 0 where
+pub record IsSound (places : List Place) (cells : Slab Cell) (room capacity head : ℕ) : Type 0 where
   pub first : slice_index_or places 0 Empty ≡ Empty
   pub begun : 0 < length places
   pub within : length places ≤ room + 1

@@ -14,11 +14,12 @@ use slab::Slab;
 use std::alloc::Global;
 use std::marker::Model;
 
-/// How far the marking of an object has come. A gray one names the next gray one by its serial.
+/// How far the marking of an object has come. A gray one names the next gray one by its serial, the last
+/// one names 0.
 #[derive(Clone, Copy)]
 enum Mark {
     White,
-    Gray(Option<usize>),
+    Gray(u32),
     Black,
 }
 
@@ -70,8 +71,8 @@ pub struct Segment {
     room: u32,
     places: Vec<Place>,
     cells: Slab<Cell>,
-    // The first gray object.
-    gray: Option<usize>,
+    // The serial of the first gray object; 0 where there is none.
+    gray: u32,
     // Those of the live objects.
     bytes: u64,
     // One more than the highest slot that was ever used.
@@ -119,7 +120,7 @@ impl Segment {
             room,
             places,
             cells,
-            gray: None,
+            gray: 0,
             bytes: 0,
             end: 0,
         })
@@ -279,7 +280,7 @@ impl Segment {
             Place::At(slot, mark) => match mark {
                 Mark::White => {
                     self.places[at] = Place::At(slot, Mark::Gray(self.gray));
-                    self.gray = Some(at);
+                    self.gray = serial.0;
                 }
                 Mark::Gray(_) => {}
                 Mark::Black => {}
@@ -295,14 +296,18 @@ impl Segment {
         ensures none { IfNone result ((serial : ℕ) → IsFalse (some_gray (row_at self.old serial))) }
         ensures kept { IfNone result (self.new ≡ self.old) }
     {
-        let Some(at) = self.gray else { return None };
+        if self.gray == 0 {
+            return None;
+        }
+        let serial = self.gray;
+        let at = serial as usize;
         let place = self.places[at];
         match place {
             Place::At(slot, mark) => match mark {
                 Mark::Gray(next) => {
                     self.places[at] = Place::At(slot, Mark::Black);
                     self.gray = next;
-                    Some(Serial(at as u32))
+                    Some(Serial(serial))
                 }
                 Mark::White => unreachable!(),
                 Mark::Black => unreachable!(),
@@ -316,7 +321,7 @@ impl Segment {
         ensures { self.new ≡ unmarked_segment self.old }
     {
         whiten(&mut self.places);
-        self.gray = None;
+        self.gray = 0;
     }
 
     /// Frees the first object that isn't marked, by slots from that one on.

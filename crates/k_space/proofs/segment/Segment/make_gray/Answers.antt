@@ -3,7 +3,7 @@ use Rattle.k_space.specs.declared.segment.Place.TheVariants.{At}
 use Rattle.k_space.specs.declared.segment.Mark.TheVariants.{White as MarkWhite, Gray as MarkGray}
 use Rattle.k_space.specs.Segments.{Row, Color, with_row, gray_or_black}
 use Rattle.k_space.specs.Places.{is_gray_place}
-use Rattle.k_space.proofs.GrayLists.{joined}
+use Rattle.k_space.proofs.GrayLists.{joined, past_first}
 use Rattle.k_space.proofs.Rows.{same_row, read_at, recolored, recolored_view, row_there}
 use Rattle.k_space.proofs.Bytes.{bytes_recolored}
 use Rattle.k_space.proofs.segment.Segment.make_gray.Goals as goal
@@ -15,8 +15,8 @@ invariant_of-self c =
     let here = read_at places c.args.serial.0 c.index-place.result.now (At c.in-At.slot MarkWhite) within c.index-place.ensures (c.in-At.is ∙ ap (At c.in-At.slot) c.in-White.is) in
     record {
       sound =
-          recolored places c.self.inside.cells c.self.inside.room _ c.self.inside.gray (Some c.args.serial.0) c.args.serial.0 c.in-At.slot MarkWhite (MarkGray c.self.inside.gray) c.self.invariant.sound here
-          (joined places c.args.serial.0 c.in-At.slot c.self.inside.gray (ap is_gray_place here) within c.self.invariant.sound.grays);
+          recolored places c.self.inside.cells c.self.inside.room _ c.self.inside.gray c.args.serial.0 c.args.serial.0 c.in-At.slot MarkWhite (MarkGray c.self.inside.gray) c.self.invariant.sound here
+          (joined places c.args.serial.0 c.in-At.slot c.self.inside.gray (ap is_gray_place here) (past_first places c.args.serial.0 c.in-At.slot MarkWhite c.self.invariant.sound.first here) within c.self.invariant.sound.grays);
       bytes = bytes_recolored places c.self.inside.cells c.self.inside.bytes c.args.serial.0 c.in-At.slot MarkWhite (MarkGray c.self.inside.gray) c.self.invariant.bytes here;
       end = c.self.invariant.end;
     }

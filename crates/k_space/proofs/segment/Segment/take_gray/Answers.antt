@@ -1,18 +1,19 @@
-use Rattle.std.proofs.Common.{◌≡◌, ℕ, Option, Some, None, refl, sym, ap, subst, ◌∙◌, get_or, count_by}
+use Rattle.std.proofs.Common.{◌≡◌, ℕ, ◌<◌, Option, Some, refl, sym, ap, subst, ◌∙◌, get_or, count_by}
+use Rattle.k_types.specs.declared.names.Serial.{Serial}
 use Rattle.k_space.specs.declared.segment.Place.TheVariants.{Empty, At}
+use Rattle.k_space.specs.declared.segment.Mark.{Mark}
 use Rattle.k_space.specs.declared.segment.Mark.TheVariants.{White as MarkWhite, Gray as MarkGray, Black as MarkBlack}
 use Rattle.k_space.specs.Segments.{SegmentValue, row_at, some_gray}
 use Rattle.k_space.specs.Places.{IsGrayList, is_gray_place}
-use Rattle.k_space.proofs.GrayLists.{first_left, head_gray, none_gray, no_head, At_inside}
-use Rattle.k_types.specs.declared.names.Serial.{Serial}
-use Rattle.k_space.proofs.Rows.{recolored, taken, read_at, gray_row, row_at_view}
 use Rattle.k_space.proofs.Bytes.{bytes_recolored}
+use Rattle.k_space.proofs.GrayLists.{above_zero, first_left, head_gray, none_gray, no_head, At_inside}
+use Rattle.k_space.proofs.Rows.{recolored, taken, read_at, gray_row, row_at_view}
 use Rattle.k_space.proofs.segment.Segment.take_gray.Goals as goal
 
-pub returns-in_default-clause-none : goal.returns-in_default-clause-none
-returns-in_default-clause-none c = λ serial.
+pub returns-then-self-eq0-clause-none : goal.returns-then-self-eq0-clause-none
+returns-then-self-eq0-clause-none c = λ serial.
     let places = c.self.inside.places.items in
-    let grays : IsGrayList places (count_by is_gray_place places) None = subst (λ (h : Option ℕ). IsGrayList places (count_by is_gray_place places) h) c.in_default.is c.self.invariant.sound.grays in
+    let grays : IsGrayList places (count_by is_gray_place places) 0 = subst (λ (h : ℕ). IsGrayList places (count_by is_gray_place places) h) c.if-self-eq0.true c.self.invariant.sound.grays in
     ap (λ (s : SegmentValue). some_gray (row_at s serial)) (sym c.self.view_is)
     ∙ ap some_gray (row_at_view c.self.inside.cells places serial)
     ∙ gray_row c.self.inside.cells (get_or places serial Empty) (none_gray places (no_head places _ grays) serial)
@@ -20,43 +21,44 @@ returns-in_default-clause-none c = λ serial.
 pub invariant_of-self : goal.invariant_of-self
 invariant_of-self c =
     let places = c.self.inside.places.items in
-    let grays : IsGrayList places (count_by is_gray_place places) (Some c.in-Some.at) = subst (λ (h : Option ℕ). IsGrayList places (count_by is_gray_place places) h) c.in-Some.is c.self.invariant.sound.grays in
-    let first = head_gray places _ c.in-Some.at grays in
-    let here = read_at places c.in-Some.at c.index-place.result.now (At c.in-At.slot (MarkGray c.in-Gray.next)) (At_inside places c.in-Some.at first.0 (MarkGray first.1) first.2) c.index-place.ensures (c.in-At.is ∙ ap (At c.in-At.slot) c.in-Gray.is) in
+    let at = c.self.inside.gray in
+    let some = above_zero at c.if-self-eq0.false in
+    let first = head_gray places _ at some c.self.invariant.sound.grays in
+    let here = read_at places at c.index-place.result.now (At c.in-At.slot (MarkGray c.in-Gray.next)) (At_inside places at first.0 (MarkGray first.1) first.2) c.index-place.ensures (c.in-At.is ∙ ap (At c.in-At.slot) c.in-Gray.is) in
     record {
       sound =
-          recolored places c.self.inside.cells c.self.inside.room _ c.self.inside.gray c.in-Gray.next c.in-Some.at c.in-At.slot (MarkGray c.in-Gray.next) MarkBlack c.self.invariant.sound here
-          (first_left places _ c.in-Some.at c.in-At.slot c.in-Gray.next (At c.in-At.slot MarkBlack) refl here grays refl);
-      bytes = bytes_recolored places c.self.inside.cells c.self.inside.bytes c.in-Some.at c.in-At.slot (MarkGray c.in-Gray.next) MarkBlack c.self.invariant.bytes here;
+          recolored places c.self.inside.cells c.self.inside.room _ at c.in-Gray.next at c.in-At.slot (MarkGray c.in-Gray.next) MarkBlack c.self.invariant.sound here
+          (first_left places _ at c.in-At.slot c.in-Gray.next (At c.in-At.slot MarkBlack) refl here some c.self.invariant.sound.grays refl);
+      bytes = bytes_recolored places c.self.inside.cells c.self.inside.bytes at c.in-At.slot (MarkGray c.in-Gray.next) MarkBlack c.self.invariant.bytes here;
       end = c.self.invariant.end;
     }
 
 pub unreachable-requires : goal.unreachable-requires
 unreachable-requires c =
     let places = c.self.inside.places.items in
-    let grays : IsGrayList places (count_by is_gray_place places) (Some c.in-Some.at) = subst (λ (h : Option ℕ). IsGrayList places (count_by is_gray_place places) h) c.in-Some.is c.self.invariant.sound.grays in
-    let first = head_gray places _ c.in-Some.at grays in
-    let here = read_at places c.in-Some.at c.index-place.result.now (At c.in-At.slot MarkWhite) (At_inside places c.in-Some.at first.0 (MarkGray first.1) first.2) c.index-place.ensures (c.in-At.is ∙ ap (At c.in-At.slot) c.in-White.is) in
+    let at = c.self.inside.gray in
+    let first = head_gray places _ at (above_zero at c.if-self-eq0.false) c.self.invariant.sound.grays in
+    let here = read_at places at c.index-place.result.now (At c.in-At.slot MarkWhite) (At_inside places at first.0 (MarkGray first.1) first.2) c.index-place.ensures (c.in-At.is ∙ ap (At c.in-At.slot) c.in-White.is) in
     let both : At first.0 (MarkGray first.1) ≡ At c.in-At.slot MarkWhite = sym first.2 ∙ here in
     cc
 
 pub unreachable-requires-in-Black : goal.unreachable-requires-in-Black
 unreachable-requires-in-Black c =
     let places = c.self.inside.places.items in
-    let grays : IsGrayList places (count_by is_gray_place places) (Some c.in-Some.at) = subst (λ (h : Option ℕ). IsGrayList places (count_by is_gray_place places) h) c.in-Some.is c.self.invariant.sound.grays in
-    let first = head_gray places _ c.in-Some.at grays in
-    let here = read_at places c.in-Some.at c.index-place.result.now (At c.in-At.slot MarkBlack) (At_inside places c.in-Some.at first.0 (MarkGray first.1) first.2) c.index-place.ensures (c.in-At.is ∙ ap (At c.in-At.slot) c.in-Black.is) in
+    let at = c.self.inside.gray in
+    let first = head_gray places _ at (above_zero at c.if-self-eq0.false) c.self.invariant.sound.grays in
+    let here = read_at places at c.index-place.result.now (At c.in-At.slot MarkBlack) (At_inside places at first.0 (MarkGray first.1) first.2) c.index-place.ensures (c.in-At.is ∙ ap (At c.in-At.slot) c.in-Black.is) in
     let both : At first.0 (MarkGray first.1) ≡ At c.in-At.slot MarkBlack = sym first.2 ∙ here in
     cc
 
 pub returns-clause-some : goal.returns-clause-some
 returns-clause-some c = λ serial e.
     let places = c.self.inside.places.items in
-    let grays : IsGrayList places (count_by is_gray_place places) (Some c.in-Some.at) = subst (λ (h : Option ℕ). IsGrayList places (count_by is_gray_place places) h) c.in-Some.is c.self.invariant.sound.grays in
-    let first = head_gray places _ c.in-Some.at grays in
-    let here = read_at places c.in-Some.at c.index-place.result.now (At c.in-At.slot (MarkGray c.in-Gray.next)) (At_inside places c.in-Some.at first.0 (MarkGray first.1) first.2) c.index-place.ensures (c.in-At.is ∙ ap (At c.in-At.slot) c.in-Gray.is) in
-    let placed = c.self.invariant.sound.placed c.in-Some.at c.in-At.slot (MarkGray c.in-Gray.next) here in
-    taken _ _ places c.self.inside.cells c.args.self.now c.in-Some.at serial.0 c.in-At.slot c.in-Gray.next placed.cell c.self.view_is here placed.there (same_serial e)
+    let at = c.self.inside.gray in
+    let first = head_gray places _ at (above_zero at c.if-self-eq0.false) c.self.invariant.sound.grays in
+    let here = read_at places at c.index-place.result.now (At c.in-At.slot (MarkGray c.in-Gray.next)) (At_inside places at first.0 (MarkGray first.1) first.2) c.index-place.ensures (c.in-At.is ∙ ap (At c.in-At.slot) c.in-Gray.is) in
+    let placed = c.self.invariant.sound.placed at c.in-At.slot (MarkGray c.in-Gray.next) here in
+    taken _ _ places c.self.inside.cells c.args.self.now at serial.0 c.in-At.slot c.in-Gray.next placed.cell c.self.view_is here placed.there (same_serial e)
   where
     same_serial : {a : ℕ} {s : Serial} → ◌≡◌ {A = Option Serial} (Some (record { 0 = a })) (Some s) → a ≡ s.0
     same_serial {a} {s} e = let same : record { 0 = a } ≡ s = cc in ap (λ (s : Serial). s.0) same

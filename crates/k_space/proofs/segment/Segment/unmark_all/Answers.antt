@@ -1,4 +1,4 @@
-use Rattle.std.proofs.Common.{◌≡◌, List, Option, None, map, sym, ap, subst, ◌∙◌, length, take, drop, ◌++◌}
+use Rattle.std.proofs.Common.{◌≡◌, List, Option, map, sym, ap, subst, ◌∙◌, length, take, drop, ◌++◌}
 use Rattle.k_space.specs.declared.segment.Place.{Place}
 use Rattle.k_space.specs.Segments.{Row, SegmentValue, unmarked_segment}
 use Rattle.k_space.specs.Places.{row_of, white_place, IsSound, AreBytes}
@@ -14,7 +14,7 @@ invariant_of-self c =
     let items : take c.self.inside.places.len (c.whiten.new.places ++ drop (length c.whiten.new.places) places) ≡ map white_place places =
     front_whole c.whiten.new.places (drop (length c.whiten.new.places) places) c.self.inside.places.len len ∙ new in
     record {
-      sound = subst (λ (ps : List Place). IsSound ps c.self.inside.cells c.self.inside.room c.self.inside.places.cap None) (sym items)
+      sound = subst (λ (ps : List Place). IsSound ps c.self.inside.cells c.self.inside.room c.self.inside.places.cap 0) (sym items)
           (whitened places c.self.inside.cells c.self.inside.room _ c.self.inside.gray c.self.invariant.sound);
       bytes = subst (λ (ps : List Place). AreBytes ps c.self.inside.cells c.self.inside.bytes) (sym items) (bytes_whitened places c.self.inside.cells c.self.inside.bytes c.self.invariant.bytes);
       end = c.self.invariant.end;
