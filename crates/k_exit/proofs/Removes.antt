@@ -2,7 +2,8 @@
 use Rattle.std.proofs.Common.{◌≡◌, ◌≢◌, ◌==◌, ℕ, zero, suc, ◌<◌, ◌≤◌, ◌&&◌, not, true, refl, sym, ap, ap₂, ◌∙◌, inl, inr, List, [], ◌∷◌, length, map, take, replicate, get_or, set, arith, ◌^◌, eq-eqb}
 use Rattle.std.proofs.lemmas.Bool.{cases_eq}
 use Rattle.k_exit.specs.declared.chains.Item.{Item}
-use Rattle.k_exit.specs.Chains.{row_of, bucket, at, last, in_chain, IsLinked, IsChained}
+use Rattle.k_hash.specs.Hash.{bucket}
+use Rattle.k_exit.specs.Chains.{row_of, at, last, in_chain, IsLinked, IsChained}
 use Rattle.k_exit.specs.Exits.{ExitRow}
 use Rattle.k_exit.proofs.Last.{last_same, last_not}
 use Rattle.k_exit.proofs.Links.{out_other, in_out}

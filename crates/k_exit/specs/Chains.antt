@@ -1,6 +1,7 @@
 -- How the items are linked. No public clause cites this file.
 use Rattle.std.specs.Prelude.{◌≡◌, ℕ, zero, suc, ◌+◌, ◌-◌, ◌*◌, ◌%◌, ◌<◌, ◌≤◌, ◌==◌, ◌^◌, ◌&&◌, ◌⊎◌, not, Bool, true, false, List, length, take, slice_get, slice_set, slice_index_or, if◌then◌else◌, Option, Some, None}
 use Rattle.k_types.specs.declared.names.Name.{Name}
+use Rattle.k_hash.specs.Hash.{bucket}
 use Rattle.k_exit.specs.declared.chains.Item.{Item}
 use Rattle.k_exit.specs.declared.table.Wanted.{Wanted}
 use Rattle.k_exit.specs.declared.table.Wanted.TheVariants.{Any, Unmarked, Into}
@@ -8,10 +9,6 @@ use Rattle.k_exit.specs.Exits.{ExitRow}
 
 abbrev pub row_of : Item → ExitRow
 row_of s = record { target = s.target; marked = s.marked }
-
--- the number of the chain that a name is in, of so many
-unfoldable pub bucket : ℕ → Name → ℕ
-bucket room t = (t.seg.0 * 31 + t.serial.0) % room
 
 abbrev pub blank : Item
 blank = record { target = record { seg = record { 0 = 0 }; serial = record { 0 = 0 } }; marked = false; next = 0 }

@@ -1,6 +1,8 @@
 ghost use Rattle.std.specs.Prelude.{◌≡◌, ◌<◌, ◌≤◌, ◌^◌, ◌≢◌, IsTrue, IsFalse, Some, None, IfSome, IfNone, length, map, ℕ, slice_set, vec_capacity};
-ghost use Rattle.k_exit.specs.Chains.{IsChained, IsLinked, IsLinkedAbove, IsNextAbove, HasNoneAbove, bucket, at, row_of, rows_without, with_next};
+ghost use Rattle.k_hash.specs.Hash.{bucket};
+ghost use Rattle.k_exit.specs.Chains.{IsChained, IsLinked, IsLinkedAbove, IsNextAbove, HasNoneAbove, at, row_of, rows_without, with_next};
 
+use k_hash::chain_of;
 use k_types::Name;
 
 /// A target, and the next item of its chain.
@@ -10,15 +12,6 @@ pub(crate) struct Item {
     pub(crate) marked: bool,
     // One more than the place of the next item; 0 at the end.
     pub(crate) next: u32,
-}
-
-/// The number of the chain of a name, by a fixed hash.
-pub(crate) fn chain_of(room: usize, target: Name) -> usize
-    requires { 0 < room }
-    ensures value { result ≡ bucket room target }
-    ensures within { result < room }
-{
-    ((target.seg.0 as u64 * 31 + target.serial.0 as u64) % room as u64) as usize
 }
 
 /// The place of the target, if it is there.
