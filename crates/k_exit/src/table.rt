@@ -20,6 +20,7 @@ enum Wanted {
 }
 
 /// The exit items of one heap: distinct targets, each marked or not, in a table of a fixed room.
+/// Source: KaffeOS paper, on exit items; the hash chains are own.
 #[derive(Drop)]
 pub struct ExitTable {
     items: Vec<Item>,
@@ -105,7 +106,8 @@ impl Wanted {
 }
 
 impl ExitTable {
-    /// A table with no target, and room for so many.
+    /// A table with no target, and room for so many. It takes the memory for all of them at once;
+    /// `NoMemory` comes where there is none. Source: own.
     pub fn make(alloc: Global, room: u32) -> Result<ExitTable, NoMemory>
         ensures { IfOk result (λ t. t ≡ record { items = []; room = room }) }
     {
@@ -119,7 +121,7 @@ impl ExitTable {
         })
     }
 
-    /// The number of targets. They are distinct, and as many as the room at most.
+    /// The number of targets. They are distinct, and as many as the room at most. Source: own.
     pub fn len(&self) -> u32
         ensures len { result ≡ length self.now.items }
         ensures distinct { AreDistinct self.now.items }
@@ -128,21 +130,21 @@ impl ExitTable {
         self.items.len() as u32
     }
 
-    /// Whether the target is there.
+    /// Whether the target is there. It passes one chain at most. Source: own.
     pub fn has(&self, target: Name) -> bool
         ensures { result ≡ has_target self.now.items target }
     {
         find(&self.items, &self.heads, target).is_some()
     }
 
-    /// Whether some target lies in that segment. It looks through the list.
+    /// Whether some target lies in that segment. It looks through the list. Source: own.
     pub fn leads_into(&self, seg: Seg) -> bool
         ensures { result ≡ leads_into self.now.items seg.0 }
     {
         some_in(&self.items, seg)
     }
 
-    /// The target at place `i` of the list, counted from 0.
+    /// The target at place `i` of the list, counted from 0. Constant time. Source: own.
     pub fn target(&self, i: u32) -> Name
         requires { i < length self.now.items }
         ensures { (row : ExitRow) → slice_get self.now.items i ≡ Some row → result ≡ row.target }
@@ -150,7 +152,8 @@ impl ExitTable {
         self.items[i as usize].target
     }
 
-    /// Adds the target, unmarked, where it is new, and says whether it was. It comes last.
+    /// Adds the target, unmarked, where it is new, and says whether it was. It comes last. It passes one
+    /// chain at most, and takes no memory. Source: own.
     pub fn add(&mut self, target: Link) -> bool
         requires { IsTrue (has_target self.old.items (name_of target)) ⊎ (length self.old.items < self.old.room) }
         ensures value { result ≡ not (has_target self.old.items (name_of target)) }
@@ -171,7 +174,7 @@ impl ExitTable {
         true
     }
 
-    /// Marks the target.
+    /// Marks the target. It passes one chain at most. Source: own.
     pub fn mark(&mut self, target: Name)
         requires { IsTrue (has_target self.old.items target) }
         ensures { self.new ≡ with_marked self.old target }
@@ -182,7 +185,7 @@ impl ExitTable {
         self.items[i].marked = true;
     }
 
-    /// Takes all marks away.
+    /// Takes all marks away. It passes each item. Source: own.
     pub fn unmark_all(&mut self)
         ensures { self.new ≡ unmarked self.old }
     {
@@ -190,7 +193,7 @@ impl ExitTable {
         self.from = self.items.len();
     }
 
-    /// Puts the list in order of segment and serial.
+    /// Puts the list in order of segment and serial. It sorts in place, and takes no memory. Source: own.
     pub fn arrange(&mut self)
         ensures items { IsPermutation self.old.items self.new.items }
         ensures order { AreInOrder self.new.items }
@@ -201,7 +204,8 @@ impl ExitTable {
         self.from = self.items.len();
     }
 
-    /// Removes a target that isn't marked. The slot of a link that a table gives is 0.
+    /// Removes a target that isn't marked. The slot of a link that a table gives is 0. Calls until there
+    /// is none pass each item once. Source: own.
     pub fn take_unmarked(&mut self) -> Option<Link>
         ensures some { IfSome result (λ link. (row : ExitRow) × IsTaken self.old self.new link row × IsFalse row.marked) }
         ensures none { IfNone result ((i : ℕ) (row : ExitRow) → slice_get self.old.items i ≡ Some row → IsTrue row.marked) }
@@ -210,7 +214,8 @@ impl ExitTable {
         self.take(Wanted::Unmarked)
     }
 
-    /// Removes a target that lies in that segment.
+    /// Removes a target that lies in that segment. Calls for one segment until there is none pass each
+    /// item once. Source: own.
     pub fn take_into(&mut self, seg: Seg) -> Option<Link>
         ensures some { IfSome result (λ link. (row : ExitRow) × IsTaken self.old self.new link row × (row.target.seg.0 ≡ seg.0)) }
         ensures none { IfNone result (IsFalse (leads_into self.old.items seg.0)) }
@@ -219,7 +224,7 @@ impl ExitTable {
         self.take(Wanted::Into(seg))
     }
 
-    /// Removes some target.
+    /// Removes some target. Constant time. Source: own.
     pub fn take_first(&mut self) -> Option<Link>
         ensures some { IfSome result (λ link. (row : ExitRow) × IsTaken self.old self.new link row) }
         ensures none { IfNone result (self.old.items ≡ []) }

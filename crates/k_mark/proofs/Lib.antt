@@ -6,3 +6,4 @@ pub mod Work
 pub mod SweepSteps
 pub mod SweepAll
 pub mod ReachedIs
+pub mod Example

@@ -1,3 +1,4 @@
 pub mod Reached
 pub mod Marking
 pub mod Sweeping
+pub mod Example

@@ -14,6 +14,8 @@ mod laws;
 mod marking;
 mod steps;
 mod sweeping;
+#[cfg(test)]
+mod tests;
 
 pub use laws::{marked_is_the_closure, reached_is_the_closure};
 pub use marking::{clear, mark, mark_uncounted, root};

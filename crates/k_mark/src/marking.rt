@@ -14,7 +14,7 @@ use k_types::{Link, Name};
 use std::marker::Brand;
 use std::sync::ledger::{Blank, Ledger};
 
-/// Takes all marks away.
+/// Takes all marks away, from objects and exit items. It passes each of them once. Source: own.
 pub fn clear(area: &mut Area, exits: &mut ExitTable)
     ensures area { area.new ≡ unmarked area.old }
     ensures exits { exits.new ≡ unmarked_exits exits.old }
@@ -24,7 +24,7 @@ pub fn clear(area: &mut Area, exits: &mut ExitTable)
 }
 
 /// Makes a live object of the area gray, so that marking begins with it. A marked one stays as it is, and
-/// a name that is no live object of the area changes nothing.
+/// a name that is no live object of the area changes nothing. It looks through the segments. Source: own.
 pub fn root(area: &mut Area, target: Link)
     requires { HasDistinct area.old.segments }
     ensures { area.new ≡ grayed area.old (name_of target) }
@@ -110,7 +110,8 @@ fn trace<L: Ledger>(area: &mut Area, exits: &mut ExitTable, steps: &mut Steps<L>
 
 /// Marks what is reached from the gray objects by references inside the area, and the exit items of
 /// foreign targets of marked objects. One step is one object taken from the gray ones, or one
-/// reference field looked at.
+/// reference field looked at, and looks through the segments. Takes no memory. Source: KaffeOS paper, on
+/// the separate collection of heaps; the marks in three colors are own.
 pub fn mark<L: Ledger>(area: &mut Area, exits: &mut ExitTable, steps: &mut Steps<L>)
     requires distinct { HasDistinct area.old.segments }
     requires exits { (a n : Named) → IsTrue (refers_at area.old a n) → IsTrue (is_foreign area.old n) → IsTrue (has_target exits.old.items n) }
@@ -130,7 +131,7 @@ pub fn mark<L: Ledger>(area: &mut Area, exits: &mut ExitTable, steps: &mut Steps
     }
 }
 
-/// Marks with a counter of its own, for a caller that counts no steps.
+/// Marks with a counter of its own, for a caller that counts no steps. Source: own.
 pub fn mark_uncounted(area: &mut Area, exits: &mut ExitTable)
     requires distinct { HasDistinct area.old.segments }
     requires exits { (a n : Named) → IsTrue (refers_at area.old a n) → IsTrue (is_foreign area.old n) → IsTrue (has_target exits.old.items n) }

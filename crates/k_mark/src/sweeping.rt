@@ -6,7 +6,7 @@ ghost use Rattle.k_mark.specs.Sweeping.{swept, swept_segment, dead_objects, dead
 use k_space::{Area, Segment};
 use k_types::Slot;
 
-/// What was freed.
+/// What was freed: how many objects, and how many bytes they took. Source: own.
 #[derive(Clone, Copy, Debug)]
 pub struct Swept {
     pub objects: u32,
@@ -29,7 +29,8 @@ fn sweep_segment(segment: &mut Segment, from_dead: &mut Swept)
     }
 }
 
-/// Frees the objects that aren't marked, and adds their number and bytes.
+/// Frees the objects that aren't marked, and adds their number and bytes. It passes each slot once, and
+/// takes no memory. Source: KaffeOS paper, on the separate collection of heaps.
 pub fn sweep(area: &mut Area, from_dead: &mut Swept)
     requires distinct { HasDistinct area.old.segments }
     requires objects { from_dead.old.objects + dead_objects area.old < 2 ^ 32 }

@@ -11,7 +11,7 @@ use k_types::{Name, Seg};
 use std::alloc::Global;
 use std::marker::Model;
 
-/// The segments of one heap. Their numbers are different, which each call but `make` needs.
+/// The segments of one heap. Their numbers are different, which each call but `make` needs. Source: own.
 #[derive(Drop)]
 pub struct Area {
     segments: Vec<Segment>,
@@ -78,7 +78,8 @@ fn unmark(segments: &mut [Segment])
 impl Area {
     ghost use Rattle.k_space.specs.AreaLends.{lends_segment};
 
-    /// An area with no segment, and room for so many.
+    /// An area with no segment, and room for so many. It takes the memory for all of them at once;
+    /// `NoMemory` comes where there is none. Source: own.
     pub fn make(alloc: Global, room: u32) -> Result<Area, NoMemory>
         ensures { IfOk result (λ a. a ≡ record { segments = []; room = room }) }
     {
@@ -90,14 +91,14 @@ impl Area {
         })
     }
 
-    /// The number of segments.
+    /// The number of segments. Source: own.
     pub fn len(&self) -> usize
         ensures { result ≡ length self.now.segments }
     {
         self.segments.len()
     }
 
-    /// The number of the segment at place `i`, counted from 0.
+    /// The number of the segment at place `i`, counted from 0. Source: own.
     pub fn seg_at(&self, i: usize) -> Seg
         requires { i < length self.now.segments }
         ensures { (s : SegmentValue) → slice_get self.now.segments i ≡ Some s → result.0 ≡ s.number }
@@ -105,7 +106,7 @@ impl Area {
         self.segments[i].number()
     }
 
-    /// Adds a segment. It comes last.
+    /// Adds a segment. It comes last. Constant time, and no memory. Source: own.
     pub fn add(&mut self, segment: Segment)
         requires distinct { HasDistinct self.old.segments }
         requires room { length self.old.segments < self.old.room }
@@ -119,7 +120,7 @@ impl Area {
     }
 
     /// The segment of that number. A number below the room is found at once where it is there; any other
-    /// costs a look through the numbers.
+    /// costs a look through the numbers. Source: own.
     pub fn get(&self, seg: Seg) -> Option<&Segment>
         requires { HasDistinct self.now.segments }
         ensures { option_copied result ≡ segment_at self.now.segments seg.0 }
@@ -128,7 +129,7 @@ impl Area {
         self.segments.get(at)
     }
 
-    /// The segment of that number, for writing. The others stay. It costs as much as `get`.
+    /// The segment of that number, for writing. The others stay. It costs as much as `get`. Source: own.
     pub fn get_mut(&mut self, seg: Seg) -> Option<&mut Segment>
         requires { HasDistinct self.old.segments }
         ensures* writes_back { sem 𝓛 (lends_segment self.entry seg.0 result) }
@@ -138,7 +139,8 @@ impl Area {
         self.segments.get_mut(at)
     }
 
-    /// Takes the segment of that number out, with its objects. The others stay, in any order.
+    /// Takes the segment of that number out, with its objects. The others stay, in any order. It looks
+    /// through the segments. Source: own.
     pub fn take(&mut self, seg: Seg) -> Option<Segment>
         requires { HasDistinct self.old.segments }
         ensures value { result ≡ segment_at self.old.segments seg.0 }
@@ -160,7 +162,8 @@ impl Area {
         }
     }
 
-    /// Makes a white object gray. A name that is no live object of the area changes nothing.
+    /// Makes a white object gray. A name that is no live object of the area changes nothing. It costs as
+    /// much as `get`. Source: own.
     pub fn make_gray(&mut self, target: Name)
         requires { HasDistinct self.old.segments }
         ensures { self.new ≡ grayed self.old target }
@@ -170,7 +173,8 @@ impl Area {
         }
     }
 
-    /// Takes a gray object, and makes it black. It looks first where the last one was found.
+    /// Takes a gray object, and makes it black. It looks first in the segment where it found the last one,
+    /// and then through the segments. Source: own.
     pub fn take_gray(&mut self) -> Option<Name>
         requires { HasDistinct self.old.segments }
         ensures some { IfSome result (λ n. IsBlackened self.old self.new n) }
@@ -206,7 +210,7 @@ impl Area {
         Some(Name { seg, serial })
     }
 
-    /// Takes the marks of all objects away.
+    /// Takes the marks of all objects away. It passes each serial that was given. Source: own.
     pub fn unmark_all(&mut self)
         ensures { self.new ≡ unmarked self.old }
     {

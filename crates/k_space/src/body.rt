@@ -9,7 +9,7 @@ use k_types::{Field, Link, Name, Slot, TypeId, TypeTable};
 use std::alloc::Global;
 use std::marker::Model;
 
-/// What a field holds. A reference is kept by its name.
+/// What a field holds: a reference, kept by its name, or null, or a number.
 #[derive(Clone, Copy, Debug)]
 pub enum Stored {
     Null,
@@ -39,7 +39,7 @@ impl Stored {
     }
 }
 
-/// The content of one object.
+/// The content of one object, of at most 16 fields. Source: own.
 #[derive(Drop)]
 pub struct Body {
     ty: Option<TypeId>,
@@ -58,7 +58,8 @@ impl Model for Body {
 }
 
 impl Body {
-    /// A new object of the type: references are null, integers are 0.
+    /// A new object of the type: references are null, integers are 0. `NoMemory` comes where its fields
+    /// find no memory. Source: own.
     pub fn make(alloc: Global, types: &TypeTable, ty: TypeId) -> Result<Body, NoMemory>
         requires { ty.0 < length types.now }
         ensures { IfOk result (λ b. b ≡ new_body types.now ty) }
@@ -77,7 +78,8 @@ impl Body {
         })
     }
 
-    /// The directory, with so many references, all null.
+    /// The directory, with so many references, all null. `NoMemory` comes where they find no memory.
+    /// Source: own.
     pub fn directory(alloc: Global, fields: u32) -> Result<Body, NoMemory>
         requires { fields ≤ 16 }
         ensures { IfOk result (λ b. b ≡ new_directory fields) }
@@ -86,14 +88,14 @@ impl Body {
         Ok(Body { ty: None, fields })
     }
 
-    /// The object's type. The directory alone has none.
+    /// The object's type. The directory alone has none. Source: own.
     pub fn type_of(&self) -> Option<TypeId>
         ensures { result ≡ self.now.ty }
     {
         self.ty
     }
 
-    /// The size of the object: 16 bytes, and 8 for each field.
+    /// The size of the object in bytes: 16, and 8 for each field. Constant time. Source: own.
     pub fn bytes(&self) -> u64
         ensures size { result ≡ object_size (length self.now.fields) }
         ensures most { result ≤ 144 }
@@ -128,6 +130,7 @@ impl Body {
         self.fields[field as usize]
     }
 
+    /// What the reference field refers to; nothing where it is null.
     pub(crate) fn read_ref(&self, field: u32) -> Option<Link>
         requires { HasRef self.now.fields field }
         ensures { slice_get self.now.fields field ≡ Some (Refers (option_map name_of result)) }
@@ -143,6 +146,7 @@ impl Body {
         }
     }
 
+    /// The number in the integer field.
     pub(crate) fn read_int(&self, field: u32) -> u64
         requires { HasInt self.now.fields field }
         ensures { slice_get self.now.fields field ≡ Some (Holds result) }
@@ -154,6 +158,7 @@ impl Body {
         }
     }
 
+    /// Makes the field a reference, or null.
     pub(crate) fn write_ref(&mut self, field: u32, value: Option<Link>)
         requires { field < length self.old.fields }
         ensures { self.new ≡ record self.old { fields = slice_set self.old.fields field (Refers (option_map name_of value)) } }
@@ -161,6 +166,7 @@ impl Body {
         self.fields[field as usize] = Stored::of_ref(value);
     }
 
+    /// Makes the field an integer.
     pub(crate) fn write_int(&mut self, field: u32, value: u64)
         requires { field < length self.old.fields }
         ensures { self.new ≡ record self.old { fields = slice_set self.old.fields field (Holds value) } }

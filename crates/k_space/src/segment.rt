@@ -55,7 +55,7 @@ struct Cell {
     body: Body,
 }
 
-/// An object that was freed.
+/// An object that was freed: where it lay, its serial, and its size in bytes.
 #[derive(Clone, Copy, Debug)]
 pub struct Gone {
     pub slot: Slot,
@@ -64,7 +64,7 @@ pub struct Gone {
 }
 
 /// The objects that were made under one number. Each has a serial, which is never used again, and
-/// lies in a slot, which is.
+/// lies in a slot, which is. Source: own.
 #[derive(Drop)]
 pub struct Segment {
     number: Seg,
@@ -106,7 +106,8 @@ fn whiten(places: &mut [Place])
 }
 
 impl Segment {
-    /// A segment with no object, in which `room` serials can be given.
+    /// A segment with no object, in which `room` serials can be given. It takes the memory for all of
+    /// them at once; `NoMemory` comes where there is none. Source: own.
     pub fn make(alloc: Global, seg: Seg, room: u32) -> Result<Segment, NoMemory>
         ensures { IfOk result (λ s. s ≡ record { number = seg.0; room = room; rows = None ∷ [] }) }
     {
@@ -126,28 +127,29 @@ impl Segment {
         })
     }
 
-    /// The number of the segment.
+    /// The number of the segment. Constant time. Source: own.
     pub fn number(&self) -> Seg
         ensures { result.0 ≡ self.now.number }
     {
         self.number
     }
 
-    /// How many serials were given.
+    /// How many serials were given, which never falls. Constant time. Source: own.
     pub fn made(&self) -> u32
         ensures { result ≡ made self.now }
     {
         (self.places.len() - 1) as u32
     }
 
-    /// The bytes of the live objects. They are kept, and not added up here.
+    /// The bytes of the live objects. They are kept, and not added up here: constant time. Source: own.
     pub fn bytes(&self) -> u64
         ensures { result ≡ segment_bytes self.now }
     {
         self.bytes
     }
 
-    /// Puts an object in, under the next serial, and in a slot that has none.
+    /// Puts an object in, under the next serial, and in a slot that has none. Constant time, and no
+    /// memory. Source: own.
     pub fn place(&mut self, body: Body) -> Link
         requires { made self.old < self.old.room }
         ensures seg { result.seg.0 ≡ self.old.number }
@@ -169,7 +171,7 @@ impl Segment {
         }
     }
 
-    /// Where the object of that serial lies.
+    /// Where the object of that serial lies. Constant time. Source: own.
     pub fn find(&self, serial: Serial) -> Option<Slot>
         ensures { option_map (λ s. s.0) result ≡ option_map (λ row. row.slot) (row_at self.now serial.0) }
     {
@@ -183,7 +185,7 @@ impl Segment {
         }
     }
 
-    /// The serial of the object there.
+    /// The serial of the object there. Constant time. Source: own.
     pub fn serial_of(&self, slot: Slot) -> Serial
         requires { IsLive self.now slot.0 }
         ensures { (serial : ℕ) (row : Row) → LiesAt self.now slot.0 serial row → result.0 ≡ serial }
@@ -191,7 +193,7 @@ impl Segment {
         self.cells[slot.0].serial
     }
 
-    /// The size of the object there.
+    /// The size of the object there, in bytes. Constant time. Source: own.
     pub fn bytes_of(&self, slot: Slot) -> u64
         requires { IsLive self.now slot.0 }
         ensures { (serial : ℕ) (row : Row) → LiesAt self.now slot.0 serial row → result ≡ object_size (length row.fields) }
@@ -199,7 +201,7 @@ impl Segment {
         self.body_at(slot).bytes()
     }
 
-    /// The type of the object there. The directory alone has none.
+    /// The type of the object there. The directory alone has none. Constant time. Source: own.
     pub fn type_of(&self, slot: Slot) -> Option<TypeId>
         requires { IsLive self.now slot.0 }
         ensures { (serial : ℕ) (row : Row) → LiesAt self.now slot.0 serial row → result ≡ row.ty }
@@ -207,7 +209,7 @@ impl Segment {
         self.body_at(slot).type_of()
     }
 
-    /// The kind of a field of the object there; nothing past the last field.
+    /// The kind of a field of the object there; nothing past the last field. Constant time. Source: own.
     pub fn kind_of(&self, slot: Slot, field: u32) -> Option<Field>
         requires { IsLive self.now slot.0 }
         ensures { (serial : ℕ) (row : Row) → LiesAt self.now slot.0 serial row → result ≡ option_map field_kind (slice_get row.fields field) }
@@ -215,7 +217,7 @@ impl Segment {
         self.body_at(slot).kind_of(field)
     }
 
-    /// The number of fields of the object there.
+    /// The number of fields of the object there. Constant time. Source: own.
     pub fn field_count(&self, slot: Slot) -> u32
         requires { IsLive self.now slot.0 }
         ensures { (serial : ℕ) (row : Row) → LiesAt self.now slot.0 serial row → result ≡ length row.fields }
@@ -223,7 +225,7 @@ impl Segment {
         self.body_at(slot).len()
     }
 
-    /// What a field of either kind holds.
+    /// What a field of either kind holds. Constant time. Source: own.
     pub fn stored(&self, slot: Slot, field: u32) -> Stored
         requires live { IsLive self.now slot.0 }
         requires field { (serial : ℕ) (row : Row) → LiesAt self.now slot.0 serial row → field < length row.fields }
@@ -232,6 +234,8 @@ impl Segment {
         self.body_at(slot).stored(field)
     }
 
+    /// What a reference field of the object there refers to; nothing where it is null. Its slot
+    /// is a hint. Constant time. Source: own.
     pub fn read_ref(&self, slot: Slot, field: u32) -> Option<Link>
         requires live { IsLive self.now slot.0 }
         requires kind { (serial : ℕ) (row : Row) → LiesAt self.now slot.0 serial row → HasRef row.fields field }
@@ -240,6 +244,7 @@ impl Segment {
         self.body_at(slot).read_ref(field)
     }
 
+    /// The number in an integer field of the object there. Constant time. Source: own.
     pub fn read_int(&self, slot: Slot, field: u32) -> u64
         requires live { IsLive self.now slot.0 }
         requires kind { (serial : ℕ) (row : Row) → LiesAt self.now slot.0 serial row → HasInt row.fields field }
@@ -248,6 +253,8 @@ impl Segment {
         self.body_at(slot).read_int(field)
     }
 
+    /// Writes a reference, or null, into a reference field of the object there. It asks no write
+    /// barrier, and adds no exit item: both are the caller's. Constant time, and no memory. Source: own.
     pub fn write_ref(&mut self, slot: Slot, field: u32, value: Option<Link>)
         requires live { IsLive self.old slot.0 }
         requires kind { (serial : ℕ) (row : Row) → LiesAt self.old slot.0 serial row → HasRef row.fields field }
@@ -257,6 +264,8 @@ impl Segment {
         self.cells[slot.0].body.write_ref(field, value);
     }
 
+    /// Writes a number into an integer field of the object there. Constant time, and no memory.
+    /// Source: own.
     pub fn write_int(&mut self, slot: Slot, field: u32, value: u64)
         requires live { IsLive self.old slot.0 }
         requires kind { (serial : ℕ) (row : Row) → LiesAt self.old slot.0 serial row → HasInt row.fields field }
@@ -266,7 +275,8 @@ impl Segment {
         self.cells[slot.0].body.write_int(field, value);
     }
 
-    /// Makes a white object gray. Other objects, and serials with no object, stay as they are.
+    /// Makes a white object gray. Other objects, and serials with no object, stay as they are. Constant
+    /// time, and no memory. Source: own.
     pub fn make_gray(&mut self, serial: Serial)
         ensures grayed { (row : Row) → row_at self.old serial.0 ≡ Some row → self.new ≡ with_row self.old serial.0 (Some (record row { color = gray_or_black row.color })) }
         ensures gone { row_at self.old serial.0 ≡ None → self.new ≡ self.old }
@@ -289,7 +299,7 @@ impl Segment {
         }
     }
 
-    /// Takes a gray object, and makes it black.
+    /// Takes a gray object, and makes it black. Constant time. Source: own.
     pub fn take_gray(&mut self) -> Option<Serial>
         ensures some { (serial : Serial) → result ≡ Some serial → (row : Row) × LiesAt self.old row.slot serial.0 row × (row.color ≡ Gray)
             × (self.new ≡ with_row self.old serial.0 (Some (record row { color = Black }))) }
@@ -316,7 +326,7 @@ impl Segment {
         }
     }
 
-    /// Takes the marks of all objects away.
+    /// Takes the marks of all objects away. It passes each serial that was given. Source: own.
     pub fn unmark_all(&mut self)
         ensures { self.new ≡ unmarked_segment self.old }
     {
@@ -324,7 +334,8 @@ impl Segment {
         self.gray = 0;
     }
 
-    /// Frees the first object that isn't marked, by slots from that one on.
+    /// Frees the first object that isn't marked, by slots from that one on. It passes the slots up to
+    /// that object, so that calls from the freed slot on pass each slot once. Source: own.
     pub fn sweep_next(&mut self, from: Slot) -> Option<Gone>
         ensures freed { IfSome result (λ gone. IsFreed self.old self.new from.0 gone) }
         ensures none { IfNone result ((serial : ℕ) (row : Row) → row_at self.old serial ≡ Some row → from.0 ≤ row.slot → IsTrue (is_marked row.color)) }

@@ -1,5 +1,5 @@
 use crate::{Area, Body, Segment};
-use k_types::{Seg, Slot, TypeId, TypeTable};
+use k_types::{Field, Seg, Slot, TypeId, TypeTable};
 use std::test::Fail;
 
 // Two objects of 40 bytes, one after the other: the second lies in the slot of the first, under a serial of its own.
@@ -23,5 +23,16 @@ fn a_slot_used_again_has_a_new_serial(rt: HostRuntime) -> Result<(), Fail> {
     area.add(segment);
     assert!(rt; area.get(Seg(1)).is_some());
     assert!(rt; area.get(Seg(0)).is_none());
+    Ok(())
+}
+
+// An object of two references and an integer takes 40 bytes.
+#[test]
+fn a_new_object_has_its_type_and_size(rt: HostRuntime) -> Result<(), Fail> {
+    let node = Vec::from_array(rt.alloc(), [Field::Ref, Field::Ref, Field::Int])?;
+    let types = TypeTable::make(rt.alloc(), &[node])?;
+    let body = Body::make(rt.alloc(), &types, TypeId(0))?;
+    assert_eq!(rt; body.bytes(), 40);
+    assert_eq!(rt; body.type_of(), Some(TypeId(0)));
     Ok(())
 }
