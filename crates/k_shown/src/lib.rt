@@ -9,4 +9,7 @@
 
 mod laws;
 
-pub use laws::{areas_have_their_objects, marking_sees_the_objects, segments_change_their_objects};
+pub use laws::{
+    areas_have_their_objects, marking_sees_the_objects, segments_change_their_objects,
+    third_node_is_freed,
+};
