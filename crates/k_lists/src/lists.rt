@@ -1,5 +1,6 @@
-ghost use Rattle.std.specs.Prelude.{◌≡◌, ◌<◌, ◌+◌, ◌∷◌, [], ℕ, Some, IfOk, IsTrue, length, replicate, slice_get, slice_set};
+ghost use Rattle.std.specs.Prelude.{◌≡◌, ◌<◌, ◌≤◌, ◌+◌, ◌∷◌, [], ℕ, Some, IfOk, IsTrue, length, replicate, slice_get, slice_set};
 ghost use Rattle.k_lists.specs.Lists.{AreApart, IsFree, members, is_in, without};
+ghost use Rattle.k_lists.specs.Linked.{with_head, with_next, with_prev};
 
 use k_io::NoMemory;
 use std::alloc::Global;
@@ -25,12 +26,36 @@ impl Model for Lists {
 
     ghost Value = { ListsValue };
 
-    ghost use Rattle.std.specs.Prelude.{length, map};
-    ghost use Rattle.k_lists.specs.Linked.{walk, AreLinked};
+    ghost use Rattle.k_lists.specs.Linked.{lists_of, AreLinked};
 
-    ghost view = { λ l. record { lists = map (walk l.links.items (length l.links.items)) l.heads.items; room = length l.links.items } };
+    ghost view = { λ l. lists_of l.links.items l.heads.items };
 
     ghost invariant = { λ l. AreLinked l.links.items l.heads.items };
+}
+
+/// Sets the link back of the number that a link leads to.
+fn set_prev(links: &mut Vec<Links>, link: u32, prev: u32)
+    requires { link ≤ length links.old.items }
+    ensures { links.new.items ≡ with_prev links.old.items link prev }
+{
+    if link != 0 {
+        links[(link - 1) as usize].prev = prev;
+    }
+}
+
+/// Sets the link on of the number that a link leads to; the head of the list where it leads to
+/// none.
+fn set_next(links: &mut Vec<Links>, heads: &mut Vec<u32>, list: usize, link: u32, next: u32)
+    requires list { list < length heads.old.items }
+    requires link { link ≤ length links.old.items }
+    ensures links { links.new.items ≡ with_next links.old.items link next }
+    ensures heads { heads.new.items ≡ with_head heads.old.items list link next }
+{
+    if link == 0 {
+        heads[list] = next;
+    } else {
+        links[(link - 1) as usize].next = next;
+    }
 }
 
 impl Lists {
@@ -70,10 +95,11 @@ impl Lists {
         ensures apart { AreApart self.new }
     {
         let head = self.heads[list];
-        self.links[i as usize] = Links { prev: 0, next: head };
-        if head != 0 {
-            self.links[(head - 1) as usize].prev = i + 1;
-        }
+        self.links[i as usize] = Links {
+            prev: 0,
+            next: head,
+        };
+        set_prev(&mut self.links, head, i + 1);
         self.heads[list] = i + 1;
     }
 
@@ -84,13 +110,7 @@ impl Lists {
         ensures apart { AreApart self.new }
     {
         let Links { prev, next } = self.links[i as usize];
-        if prev == 0 {
-            self.heads[list] = next;
-        } else {
-            self.links[(prev - 1) as usize].next = next;
-        }
-        if next != 0 {
-            self.links[(next - 1) as usize].prev = prev;
-        }
+        set_next(&mut self.links, &mut self.heads, list, prev, next);
+        set_prev(&mut self.links, next, prev);
     }
 }
