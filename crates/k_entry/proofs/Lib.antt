@@ -1,3 +1,4 @@
+pub mod Counts
 pub mod Joined
 pub mod Members
 pub mod Ways

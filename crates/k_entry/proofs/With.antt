@@ -41,7 +41,7 @@ with_right x xs ys zs w = record {
   more = ap (λ front. front ++ zs) w.more ∙ append_assoc w.before (x ∷ w.after) zs;
 }
 
-total_append : {X : Type 0} (f : X → ℕ) (xs ys : List X) → total f (xs ++ ys) ≡ total f xs + total f ys
+pub total_append : {X : Type 0} (f : X → ℕ) (xs ys : List X) → total f (xs ++ ys) ≡ total f xs + total f ys
 total_append f [] ys = omega arith
 total_append f (x ∷ xs) ys = omega (arith, total_append f xs ys)
 

@@ -1,5 +1,5 @@
 -- How the items are kept. No public clause cites this file.
-use Rattle.std.specs.Prelude.{◌≡◌, ℕ, ◌+◌, ◌-◌, ◌*◌, ◌%◌, ◌<◌, ◌≤◌, ◌==◌, ◌^◌, Bool, IsTrue, IsFalse, List, [], ◌∷◌, map, filter, length, slice_get, slice_set, slice_index_or, Option, Some, None, if◌then◌else◌}
+use Rattle.std.specs.Prelude.{◌≡◌, ℕ, ◌+◌, ◌-◌, ◌*◌, ◌%◌, ◌<◌, ◌≤◌, ◌==◌, ◌^◌, Bool, IsTrue, IsFalse, List, [], ◌∷◌, map, filter, length, count_by, slice_get, slice_set, slice_index_or, Option, Some, None, if◌then◌else◌}
 use Rattle.std.specs.List.{concat}
 use Rattle.k_types.specs.declared.names.Name.{Name}
 use Rattle.k_types.specs.declared.names.Heap.{Heap}
@@ -8,7 +8,7 @@ use Rattle.k_types.specs.Names.{name_eq, heap_eq}
 use Rattle.k_types.specs.Agree.{Counted}
 use Rattle.k_lists.specs.Lists.{ListsValue, AreApart, IsFree, members, is_in, without}
 use Rattle.k_entry.specs.declared.item.Item.{Item}
-use Rattle.k_entry.specs.Entries.{EntryValue, AreEntries, home_of}
+use Rattle.k_entry.specs.Entries.{EntryValue, home_of}
 
 abbrev pub row_of : Item → Counted
 row_of item = record { object = item.target; count = item.count }
@@ -107,17 +107,24 @@ pub record HaveSizes (p : Parts) : Type 0 where
   pub homes : length p.homes < 2 ^ 32
   pub slots : length p.slots ≤ p.room
 
--- what is in a list of a segment is an item of that segment, in its chain; what is in a chain is in the list of its segment;
+-- the slot is an item's, and that chain is its object's
+pub record IsListed (p : Parts) (chain i : ℕ) : Type 0 where
+  pub own : chain ≡ bucket p.room (at p.slots i).target
+  pub homed : (at p.slots i).target.seg.0 < length p.homes
+  pub there : IsTrue (is_in (members p.segments (at p.slots i).target.seg.0) i)
+
+-- the objects are distinct; what is in a list of a segment is an item of that segment, in its chain; what is in a chain is in the list of its segment;
 -- a segment that has an item, and no other, is on the walk of its home; and each slot is an item's or free
 pub record AreKept (p : Parts) : Type 0 where
-  pub entries : AreEntries (shown p)
+  pub distinct : (t : Name) → count_by (λ item. name_eq item.object t) (shown p).items ≤ 1
   pub sizes : HaveSizes p
   pub segments_apart : AreApart p.segments
   pub walks_apart : AreApart p.walks
   pub below : (list i : ℕ) → IsTrue (is_in (members p.segments list) i) → i < length p.slots
+  pub positive : (s i : ℕ) → s < length p.homes → IsTrue (is_in (members p.segments s) i) → 0 < (at p.slots i).count
   pub placed : (s i : ℕ) → s < length p.homes → IsTrue (is_in (members p.segments s) i) → (at p.slots i).target.seg.0 ≡ s
   pub chained : (s i : ℕ) → s < length p.homes → IsTrue (is_in (members p.segments s) i) → IsTrue (is_in (members p.chains (bucket p.room (at p.slots i).target)) i)
-  pub listed : (chain i : ℕ) → IsTrue (is_in (members p.chains chain) i) → ((at p.slots i).target.seg.0 < length p.homes) × IsTrue (is_in (members p.segments (at p.slots i).target.seg.0) i)
+  pub listed : (chain i : ℕ) → IsTrue (is_in (members p.chains chain) i) → IsListed p chain i
   pub walked : (s i : ℕ) → s < length p.homes → IsTrue (is_in (members p.segments s) i) → IsTrue (is_in (members p.walks (walk_of (length p.homes) (home_of p.homes s))) s)
   pub live : (walk s : ℕ) → IsTrue (is_in (members p.walks walk) s) → (walk ≡ walk_of (length p.homes) (home_of p.homes s)) × (0 < length (members p.segments s))
   pub full : length (used p) + length (members p.segments (length p.homes)) ≡ length p.slots
