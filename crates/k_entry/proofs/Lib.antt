@@ -1,5 +1,9 @@
+pub mod Changes
 pub mod Counts
+pub mod Entered
+pub mod Items
 pub mod Joined
 pub mod Members
+pub mod More
 pub mod Ways
 pub mod With

@@ -237,3 +237,11 @@ in_below v list i apart e = let p = place_of (members v list) i e in apart.below
 
 pub in_one : (v : ListsValue) (a b i : ℕ) → AreApart v → is_in (members v a) i ≡ true → is_in (members v b) i ≡ true → a ≡ b
 in_one v a b i apart x y = let p = place_of (members v a) i x in let q = place_of (members v b) i y in (apart.once a b p.0 q.0 i p.1 q.1).0
+
+pub in_within : (v : ListsValue) (list i : ℕ) → is_in (members v list) i ≡ true → list < length v.lists
+in_within v list i e = by_place v.lists list e
+  where
+    by_place : (ls : List (List ℕ)) (k : ℕ) → is_in (get_or ls k []) i ≡ true → k < length ls
+    by_place [] k t = absurd (cc)
+    by_place (l ∷ ls) zero t = omega arith
+    by_place (l ∷ ls) (suc k) t = let ih : k < length ls = by_place ls k t in omega arith
