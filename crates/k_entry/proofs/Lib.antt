@@ -3,7 +3,9 @@ pub mod Counts
 pub mod Entered
 pub mod Items
 pub mod Joined
+pub mod Less
 pub mod Members
 pub mod More
+pub mod Recounts
 pub mod Ways
 pub mod With
