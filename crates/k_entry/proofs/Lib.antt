@@ -1,6 +1,7 @@
 pub mod Changes
 pub mod Counts
 pub mod Entered
+pub mod HomeWalks
 pub mod Items
 pub mod Joined
 pub mod Less

@@ -75,7 +75,7 @@ pub way_left : (xs before : List ℕ) (next : Option ℕ) (w : IsOnWay xs before
 way_left xs before next w once =
     ap₂ (λ ys o. onward ys o) w.whole w.first ∙ onward_rest before w.rest (subst (λ ys. Once ys) w.whole once)
 
-shifted : (before rest : List ℕ) (i : ℕ) → (before ++ i ∷ []) ++ rest ≡ before ++ i ∷ rest
+pub shifted : (before rest : List ℕ) (i : ℕ) → (before ++ i ∷ []) ++ rest ≡ before ++ i ∷ rest
 shifted [] rest i = refl
 shifted (b ∷ before) rest i = ap (λ ys. b ∷ ys) (shifted before rest i)
 
