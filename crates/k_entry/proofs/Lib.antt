@@ -1,6 +1,7 @@
 pub mod Changes
 pub mod Counts
 pub mod Entered
+pub mod Given
 pub mod HomeWalks
 pub mod Items
 pub mod Joined
@@ -8,5 +9,6 @@ pub mod Less
 pub mod Members
 pub mod More
 pub mod Recounts
+pub mod Rehomes
 pub mod Ways
 pub mod With
