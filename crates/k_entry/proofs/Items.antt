@@ -1,5 +1,5 @@
 -- The items of a table, by the slots in which they stand.
-use Rattle.std.proofs.Common.{◌≡◌, ◌≢◌, ◌==◌, ◌||◌, ℕ, zero, suc, ◌+◌, ◌<◌, ◌≤◌, Bool, true, false, refl, sym, ap, ap₂, subst, ◌∙◌, List, [], ◌∷◌, ◌++◌, length, map, slice_get, Some, eqb-true, eq-eqb, ◌&&◌, arith}
+use Rattle.std.proofs.Common.{◌≡◌, ◌≢◌, ◌==◌, ◌||◌, ℕ, zero, suc, ◌+◌, ◌<◌, ◌≤◌, Bool, true, false, refl, sym, ap, ap₂, subst, ◌∙◌, List, [], ◌∷◌, ◌++◌, length, map, slice_get, get_or, Some, eqb-true, eq-eqb, ◌&&◌, arith}
 use Rattle.std.proofs.lemmas.Bool.{false_from_ne_true}
 use Rattle.std.proofs.lemmas.List.{length-map}
 use Rattle.std.specs.List.{concat}
@@ -10,7 +10,7 @@ use Rattle.k_types.specs.Agree.{Counted, counted}
 use Rattle.k_lists.specs.Lists.{members, is_in}
 use Rattle.k_entry.specs.declared.item.Item.{Item}
 use Rattle.k_entry.specs.Entries.{EntryValue, AreEntries, home_of}
-use Rattle.k_entry.specs.Slots.{at, row_at, bucket, walk_of, Parts, order, used, shown, AreKept, IsListed}
+use Rattle.k_entry.specs.Slots.{at, blank, row_at, bucket, walk_of, Parts, order, used, shown, AreKept, IsListed}
 use Rattle.k_entry.proofs.Members.{cons_in, cons_here, in_below, in_one, once_of}
 use Rattle.k_entry.proofs.With.{IsWith, with_map}
 use Rattle.k_entry.proofs.Joined.{Single, in_concat, concat_in, in_joined, joined_in, single_concat}
@@ -113,3 +113,21 @@ found p t i k there target =
           (with_map (row_at p.slots) i (single.before ++ single.after) (used p) (record { before = single.before; after = single.after; less = refl; more = single.whole })) (once_hit p t k) hit;
       positive = k.positive (at p.slots i).target.seg.0 i l.homed l.there;
     }
+
+-- what a search of a chain tells, of the slots that it was given
+pub found_by : (p : Parts) (t : Name) (looked : List Item) (chain i : ℕ) → AreKept p → looked ≡ p.slots → chain ≡ bucket p.room t → is_in (members p.chains chain) i ≡ true → (at looked i).target ≡ t → IsFound p t i
+found_by p t looked chain i k same its there target =
+    found p t i k (subst (λ b. is_in (members p.chains b) i ≡ true) its there) (sym (ap (λ (xs : List Item). (at xs i).target) same) ∙ target)
+
+pub none_by : (p : Parts) (t : Name) (looked : List Item) (chain : ℕ) → AreKept p → looked ≡ p.slots → chain ≡ bucket p.room t → ((i : ℕ) → is_in (members p.chains chain) i ≡ true → name_eq (at looked i).target t ≡ false) → total (hits t) (shown p).items ≡ 0
+none_by p t looked chain k same its none =
+    none_hit p t k (λ i e. sym (ap (λ (xs : List Item). name_eq (at xs i).target t) same) ∙ none i (subst (λ b. is_in (members p.chains b) i ≡ true) (sym its) e))
+
+-- an item that was read is the slot's
+pub read_at : (slots : List Item) (i : ℕ) (x : Item) → i < length slots → x ≡ get_or slots i x → x ≡ at slots i
+read_at slots i x within read = read ∙ any_default slots i x blank within
+  where
+    any_default : (xs : List Item) (i : ℕ) (d e : Item) → i < length xs → get_or xs i d ≡ get_or xs i e
+    any_default [] i d e w = absurd (omega arith)
+    any_default (y ∷ ys) zero d e w = refl
+    any_default (y ∷ ys) (suc i) d e w = any_default ys i d e (omega arith)

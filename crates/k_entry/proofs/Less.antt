@@ -1,22 +1,22 @@
 -- A table with an item less.
-use Rattle.std.proofs.Common.{◌≡◌, ◌≢◌, ◌==◌, ℕ, zero, suc, ◌+◌, ◌<◌, ◌≤◌, Bool, count_by, true, false, cond, refl, sym, ap, ap₂, subst, ◌∙◌, List, [], ◌∷◌, length, map, arith}
+use Rattle.std.proofs.Common.{◌≡◌, ◌≢◌, ◌==◌, ℕ, zero, suc, ◌+◌, ◌<◌, ◌≤◌, Bool, count_by, true, false, cond, refl, sym, ap, ap₂, subst, ◌∙◌, List, [], ◌∷◌, length, map, set, arith}
 use Rattle.std.proofs.lemmas.List.{length-map}
 use Rattle.std.specs.List.{concat}
 use Rattle.k_types.specs.Totals.{total}
 use Rattle.k_types.specs.declared.names.Name.{Name}
 use Rattle.k_types.specs.Names.{name_eq}
 use Rattle.k_types.specs.Agree.{Counted, counted}
-use Rattle.k_lists.specs.Lists.{ListsValue, AreApart, members, is_in}
+use Rattle.k_lists.specs.Lists.{ListsValue, AreApart, members, is_in, without}
 use Rattle.k_entry.specs.declared.item.Item.{Item}
 use Rattle.k_entry.specs.Entries.{EntryValue, HasLess, home_of}
 use Rattle.k_entry.specs.Slots.{at, row_at, bucket, walk_of, left, Parts, order, used, shown, AreKept, HaveSizes, IsListed}
-use Rattle.k_entry.proofs.Members.{in_below, in_one, without_in}
+use Rattle.k_entry.proofs.Members.{in_below, in_one, in_within}
 use Rattle.k_entry.proofs.With.{IsWith, with_map, with_total, with_length}
 use Rattle.k_entry.proofs.Joined.{joined, joined_same, joined_with, map_same, in_concat, concat_in}
 use Rattle.k_entry.proofs.Counts.{hits, hits_are, less_gone}
 use Rattle.k_entry.proofs.Items.{order_below, order_single, used_is, used_of, once_hit, IsFound}
 use Rattle.k_entry.proofs.Changes.{same_or_not, IsPut, put_here, put_there, put_old, put_new, put_cases, put_size, IsOut, out_here, out_there, out_old, out_other, out_gone, out_size, out_with}
-use Rattle.k_entry.proofs.Entered.{IsLeft}
+use Rattle.k_entry.proofs.Entered.{IsLeft, left_of}
 use Rattle.k_entry.proofs.More.{moved}
 
 -- the slot of the object was taken out of its lists, and is free
@@ -129,3 +129,20 @@ kept_less p v t i chains segments walks k m =
 pub has_less : (p : Parts) (v : ListsValue) (t : Name) (i : ℕ) (chains segments walks : ListsValue) → AreKept p → IsLess p v t i chains segments walks → (at p.slots i).count ≡ 1 → HasLess (shown p) (shown (moved p p.slots chains segments walks)) t
 has_less p v t i chains segments walks k m one =
     less_gone (row_at p.slots i) (shown p) (shown (moved p p.slots chains segments walks)) t (items_less p v t i chains segments walks k m) (once_hit p t k) m.found.target m.found.hit one refl refl
+
+-- what the calls tell
+pub less_by : (p : Parts) (v : ListsValue) (t : Name) (i free chain walk : ℕ) (chains segments walks : ListsValue) → AreKept p → IsFound p t i → free ≡ length p.homes → chain ≡ bucket p.room t → walk ≡ walk_of (length p.homes) (home_of p.homes t.seg.0) → chains ≡ record p.chains { lists = set p.chains.lists chain (without i (members p.chains chain)) } → v ≡ record p.segments { lists = set p.segments.lists t.seg.0 (without i (members p.segments t.seg.0)) } → walks ≡ left p.walks walk t.seg.0 (without i (members p.segments t.seg.0)) → segments ≡ record v { lists = set v.lists free (i ∷ members v free) } → AreApart segments → AreApart walks → IsLess p v t i chains segments walks
+less_by p v t i free chain walk chains segments walks k f free_is chain_is walk_is chain_out segment_out walk_left freed segments_apart walks_apart =
+    let o : IsOut p.segments v t.seg.0 i = record { within = omega (arith, f.homed, k.sizes.segments); is = segment_out } in
+    let on : is_in (members p.walks walk) t.seg.0 ≡ true = subst (λ w. is_in (members p.walks w) t.seg.0 ≡ true) (sym walk_is) (k.walked t.seg.0 i f.homed f.there) in
+    let chained : is_in (members p.chains (bucket p.room t)) i ≡ true = subst (λ (n : Name). is_in (members p.chains (bucket p.room n)) i ≡ true) f.target (k.chained t.seg.0 i f.homed f.there) in
+    let l : IsLeft p.walks walks walk t.seg.0 (without i (members p.segments t.seg.0)) = left_of p.walks walks walk t.seg.0 (without i (members p.segments t.seg.0)) k.walks_apart walk_left on in
+    record {
+      found = f;
+      chain_out = subst (λ b. IsOut p.chains chains b i) chain_is (record { within = in_within p.chains chain i (subst (λ b. is_in (members p.chains b) i ≡ true) (sym chain_is) chained); is = chain_out });
+      segment_out = o;
+      walk_left = subst (λ w. IsLeft p.walks walks w t.seg.0 (members v t.seg.0)) walk_is (subst (λ xs. IsLeft p.walks walks walk t.seg.0 xs) (sym (out_here p.segments v t.seg.0 i o)) l);
+      freed = subst (λ n. IsPut v segments n i) free_is (record { within = omega (arith, free_is, (out_size p.segments v t.seg.0 i o).0, k.sizes.segments); is = freed });
+      segments_apart = segments_apart;
+      walks_apart = walks_apart;
+    }

@@ -1,5 +1,6 @@
 -- A table with an item more.
-use Rattle.std.proofs.Common.{◌≡◌, ◌≢◌, ◌==◌, ℕ, zero, suc, ◌+◌, ◌<◌, ◌≤◌, Bool, count_by, true, false, cond, refl, sym, ap, ap₂, subst, ◌∙◌, List, [], ◌∷◌, length, map, arith}
+use Rattle.std.proofs.Common.{◌≡◌, ◌≢◌, ◌==◌, ℕ, zero, suc, ◌+◌, ◌<◌, ◌≤◌, Bool, count_by, true, false, cond, refl, sym, ap, ap₂, subst, ◌∙◌, List, [], ◌∷◌, length, map, set, arith}
+use Rattle.std.proofs.lemmas.Bool.{false_from_ne_true}
 use Rattle.std.proofs.lemmas.List.{length-map}
 use Rattle.std.specs.List.{concat}
 use Rattle.k_types.specs.Totals.{total}
@@ -9,14 +10,14 @@ use Rattle.k_types.specs.Agree.{Counted, counted}
 use Rattle.k_lists.specs.Lists.{ListsValue, AreApart, members, is_in}
 use Rattle.k_entry.specs.declared.item.Item.{Item}
 use Rattle.k_entry.specs.Entries.{EntryValue, HasMore, home_of}
-use Rattle.k_entry.specs.Slots.{at, row_at, bucket, walk_of, entered, Parts, order, used, shown, AreKept, HaveSizes, IsListed, GivesSlot}
+use Rattle.k_entry.specs.Slots.{at, row_at, bucket, buckets, walk_of, entered, Parts, order, used, shown, AreKept, HaveSizes, IsListed, GivesSlot}
 use Rattle.k_entry.proofs.Members.{in_below}
 use Rattle.k_entry.proofs.With.{IsWith, with_front, with_map, with_total, with_length}
 use Rattle.k_entry.proofs.Joined.{joined, joined_same, joined_with, map_same}
 use Rattle.k_entry.proofs.Counts.{name_is, bit, hits, hits_are, no_hits, more_new}
 use Rattle.k_entry.proofs.Items.{order_below, used_is, used_of}
 use Rattle.k_entry.proofs.Changes.{same_or_not, IsPut, put_here, put_there, put_old, put_new, put_cases, put_size}
-use Rattle.k_entry.proofs.Entered.{IsEntered}
+use Rattle.k_entry.proofs.Entered.{IsEntered, entered_of}
 
 abbrev pub moved : Parts → List Item → ListsValue → ListsValue → ListsValue → Parts
 moved p slots chains segments walks = record { slots = slots; chains = chains; segments = segments; walks = walks; homes = p.homes; room = p.room }
@@ -79,6 +80,14 @@ to_segments : (p : Parts) (v : ListsValue) (t : Name) (i : ℕ) (slots : List It
 to_segments p v t i slots chains segments walks s j m within e =
     put_old v segments t.seg.0 i s j m.segment_put (ap (λ xs. is_in xs j) (m.given.same s (λ same. omega (arith, within, same))) ∙ e)
 
+-- the slots are within the room
+pub slots_fit : (p : Parts) (v : ListsValue) (slots : List Item) (item : Item) (i : ℕ) → AreKept p → GivesSlot p.slots slots p.segments v (length p.homes) i item → length (shown p).items < p.room → length slots ≤ p.room
+slots_fit p v slots item i k g room = by_free (length (members p.segments (length p.homes))) refl
+  where
+    by_free : (f : ℕ) → length (members p.segments (length p.homes)) ≡ f → length slots ≤ p.room
+    by_free zero e = omega (arith, e, k.full, length-map (used p) (row_at p.slots), room, g.by_one)
+    by_free (suc f) e = omega (arith, g.again (omega (arith, e)), k.sizes.slots)
+
 sizes_more : (p : Parts) (v : ListsValue) (t : Name) (i : ℕ) (slots : List Item) (chains segments walks : ListsValue) → AreKept p → IsMore p v t i slots chains segments walks → HaveSizes (moved p slots chains segments walks)
 sizes_more p v t i slots chains segments walks k m =
     let c = put_size p.chains chains (bucket p.room t) i m.chain_put in
@@ -91,12 +100,8 @@ sizes_more p v t i slots chains segments walks k m =
       walks = m.walk_in.size ∙ k.sizes.walks;
       walks_room = m.walk_in.room ∙ k.sizes.walks_room;
       homes = k.sizes.homes;
-      slots = by_free (length (members p.segments (length p.homes))) refl;
+      slots = slots_fit p v slots (fresh t) i k m.given m.room;
     }
-  where
-    by_free : (f : ℕ) → length (members p.segments (length p.homes)) ≡ f → length slots ≤ p.room
-    by_free zero e = omega (arith, e, k.full, length-map (used p) (row_at p.slots), m.room, m.given.by_one)
-    by_free (suc f) e = omega (arith, m.given.again (omega (arith, e)), k.sizes.slots)
 
 pub kept_more : (p : Parts) (v : ListsValue) (t : Name) (i : ℕ) (slots : List Item) (chains segments walks : ListsValue) → AreKept p → IsMore p v t i slots chains segments walks → AreKept (moved p slots chains segments walks)
 kept_more p v t i slots chains segments walks k m =
@@ -165,3 +170,23 @@ kept_more p v t i slots chains segments walks k m =
 pub has_more : (p : Parts) (v : ListsValue) (t : Name) (i : ℕ) (slots : List Item) (chains segments walks : ListsValue) → AreKept p → IsMore p v t i slots chains segments walks → HasMore (shown p) (shown (moved p slots chains segments walks)) t
 has_more p v t i slots chains segments walks k m =
     more_new (record { object = t; count = 1 }) (shown p) (shown (moved p slots chains segments walks)) t (items_more p v t i slots chains segments walks k m) refl refl (no_hits (shown p).items t m.none) refl refl
+
+-- what the calls tell
+pub more_by : (p : Parts) (v : ListsValue) (t : Name) (i free chain walk : ℕ) (slots : List Item) (chains segments walks : ListsValue) → AreKept p → t.seg.0 < length p.homes → length (shown p).items < p.room → total (hits t) (shown p).items ≡ 0 → free ≡ length p.homes → chain ≡ bucket p.room t → chain < buckets p.room → walk ≡ walk_of (length p.homes) (home_of p.homes t.seg.0) → walk ≤ length p.homes → GivesSlot p.slots slots p.segments v free i (fresh t) → chains ≡ record p.chains { lists = set p.chains.lists chain (i ∷ members p.chains chain) } → segments ≡ record v { lists = set v.lists t.seg.0 (i ∷ members v t.seg.0) } → walks ≡ entered p.walks walk t.seg.0 (members v t.seg.0) → AreApart segments → AreApart walks → IsMore p v t i slots chains segments walks
+more_by p v t i free chain walk slots chains segments walks k homed room none free_is chain_is chain_in walk_is walk_in given put_chain put_segment put_walk segments_apart walks_apart =
+    let g : GivesSlot p.slots slots p.segments v (length p.homes) i (fresh t) = subst (λ n. GivesSlot p.slots slots p.segments v n i (fresh t)) free_is given in
+    let same : members v t.seg.0 ≡ members p.segments t.seg.0 = g.same t.seg.0 (λ e. omega (arith, homed, e)) in
+    record {
+      given = g;
+      chain_put = subst (λ b. IsPut p.chains chains b i) chain_is (record { within = omega (arith, chain_in, k.sizes.chains); is = put_chain });
+      segment_put = record { within = omega (arith, homed, g.size, k.sizes.segments); is = put_segment };
+      walk_in = subst (λ w. IsEntered p.walks walks w t.seg.0 (members v t.seg.0)) walk_is
+          (entered_of p.walks walks walk t.seg.0 (members v t.seg.0) (omega (arith, walk_in, k.sizes.walks)) k.walks_apart put_walk
+            (λ empty a. false_from_ne_true (is_in (members p.walks a) t.seg.0) (λ e. absurd (omega (arith, (k.live a t.seg.0 e).1, ap (λ xs. length xs) same, ap (λ xs. length xs) empty))))
+            (λ j e. subst (λ w. is_in (members p.walks w) t.seg.0 ≡ true) (sym walk_is) (k.walked t.seg.0 j homed (sym (ap (λ xs. is_in xs j) same) ∙ e))));
+      segments_apart = segments_apart;
+      walks_apart = walks_apart;
+      homed = homed;
+      room = room;
+      none = none;
+    }

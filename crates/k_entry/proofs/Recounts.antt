@@ -12,7 +12,7 @@ use Rattle.k_entry.specs.Slots.{at, row_of, row_at, blank, bucket, Parts, used, 
 use Rattle.k_entry.proofs.With.{IsWith, with_map}
 use Rattle.k_entry.proofs.Joined.{map_same, off_members}
 use Rattle.k_entry.proofs.Counts.{hits, hits_are, more_there, less_there}
-use Rattle.k_entry.proofs.Items.{once_hit, IsFound}
+use Rattle.k_entry.proofs.Items.{once_hit, read_at, IsFound}
 use Rattle.k_entry.proofs.Changes.{same_or_not}
 use Rattle.k_entry.proofs.More.{moved}
 
@@ -26,6 +26,10 @@ with_slots p slots = moved p slots p.chains p.segments p.walks
 pub record IsRecount (slots after : List Item) (i n : ℕ) : Type 0 where
   pub is : after ≡ set slots i (recounted (at slots i) n)
   pub within : i < length slots
+
+-- what the calls tell: the item that was read, and the one that was written
+pub recount_by : (slots : List Item) (i n : ℕ) (x y : Item) → i < length slots → x ≡ get_or slots i x → y ≡ recounted x n → IsRecount slots (set slots i y) i n
+recount_by slots i n x y within read written = record { is = ap (λ (z : Item). set slots i z) (written ∙ ap (λ (z : Item). recounted z n) (read_at slots i x within read)); within = within }
 
 pub recount_here : (slots after : List Item) (i n : ℕ) → IsRecount slots after i n → at after i ≡ recounted (at slots i) n
 recount_here slots after i n r = ap (λ xs. at xs i) r.is ∙ get_or-set_same slots i (recounted (at slots i) n) blank r.within

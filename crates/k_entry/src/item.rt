@@ -1,4 +1,4 @@
-ghost use Rattle.std.specs.Prelude.{◌≡◌, ◌<◌, ◌≤◌, ℕ, Some, None, IfSome, IfNone, IsTrue, IsFalse, length, vec_capacity, slice_get, option_map};
+ghost use Rattle.std.specs.Prelude.{◌≡◌, ◌<◌, ◌≤◌, ◌^◌, ℕ, Some, None, IfSome, IfNone, IsTrue, IsFalse, length, vec_capacity, slice_get, option_map};
 ghost use Rattle.k_types.specs.Names.{name_eq, name_of};
 ghost use Rattle.k_lists.specs.Lists.{AreApart, members, is_in};
 ghost use Rattle.k_entry.specs.Slots.{at, bucket, buckets, GivesSlot};
@@ -69,10 +69,10 @@ pub(crate) fn find(slots: &[Item], chains: &Lists, chain: usize, target: Name) -
 /// Writes the item into a slot that is in no list: one from the list of free slots, else a new one.
 pub(crate) fn take_slot(slots: &mut Vec<Item>, segments: &mut Lists, free: usize, item: Item) -> u32
     requires list { free < length segments.old.lists }
-    requires slots { (i : ℕ) → IsTrue (is_in (members segments.old free) i) → i < length slots.old.items }
     requires fresh { (list i : ℕ) → IsTrue (is_in (members segments.old list) i) → i < length slots.old.items }
     requires room { length (members segments.old free) ≡ 0 → length slots.old.items < segments.old.room }
     requires reserved { segments.old.room ≤ vec_capacity slots.old }
+    requires small { segments.old.room < 2 ^ 32 }
     requires apart { AreApart segments.old }
     ensures given { GivesSlot slots.old.items slots.new.items segments.old segments.new free result item }
     ensures apart { AreApart segments.new }
