@@ -5,13 +5,15 @@ use Rattle.std.proofs.lemmas.List.{length-map}
 use Rattle.std.specs.List.{concat}
 use Rattle.k_types.specs.Totals.{total}
 use Rattle.k_types.specs.declared.names.Name.{Name}
+use Rattle.k_types.specs.declared.names.Heap.{Heap}
+use Rattle.k_types.specs.declared.names.Heap.TheVariants.{Kernel}
 use Rattle.k_types.specs.Names.{name_eq}
 use Rattle.k_types.specs.Agree.{Counted, counted}
 use Rattle.k_lists.specs.Lists.{members, is_in}
 use Rattle.k_entry.specs.declared.item.Item.{Item}
 use Rattle.k_entry.specs.Entries.{EntryValue, AreEntries, home_of}
 use Rattle.k_entry.specs.Slots.{at, blank, row_at, bucket, walk_of, Parts, order, used, shown, AreKept, IsListed}
-use Rattle.k_entry.proofs.Members.{cons_in, cons_here, in_below, in_one, once_of}
+use Rattle.k_entry.proofs.Members.{cons_in, cons_here, in_below, in_one, once_of, any_default}
 use Rattle.k_entry.proofs.With.{IsWith, with_map}
 use Rattle.k_entry.proofs.Joined.{Single, in_concat, concat_in, in_joined, joined_in, single_concat}
 use Rattle.k_entry.proofs.Counts.{name_is, hits, hits_are, no_hits, none_at, one_slot, single_slot, counted_with}
@@ -126,8 +128,11 @@ none_by p t looked chain k same its none =
 -- an item that was read is the slot's
 pub read_at : (slots : List Item) (i : ℕ) (x : Item) → i < length slots → x ≡ get_or slots i x → x ≡ at slots i
 read_at slots i x within read = read ∙ any_default slots i x blank within
-  where
-    any_default : (xs : List Item) (i : ℕ) (d e : Item) → i < length xs → get_or xs i d ≡ get_or xs i e
-    any_default [] i d e w = absurd (omega arith)
-    any_default (y ∷ ys) zero d e w = refl
-    any_default (y ∷ ys) (suc i) d e w = any_default ys i d e (omega arith)
+
+-- and so a home
+pub read_home : (homes : List Heap) (s : ℕ) (h : Heap) → s < length homes → h ≡ get_or homes s h → h ≡ home_of homes s
+read_home homes s h within read = read ∙ any_default homes s h Kernel within
+
+-- the number of a walk, by what the calls tell
+pub walk_read : (homes : List Heap) (s n walk : ℕ) (h : Heap) → s < length homes → h ≡ get_or homes s h → n ≡ length homes → walk ≡ walk_of n h → walk ≡ walk_of (length homes) (home_of homes s)
+walk_read homes s n walk h within read len is = is ∙ ap₂ (λ m g. walk_of m g) len (read_home homes s h within read)

@@ -1,12 +1,12 @@
 -- A table with an item less.
 use Rattle.std.proofs.Common.{◌≡◌, ◌≢◌, ◌==◌, ℕ, zero, suc, ◌+◌, ◌<◌, ◌≤◌, Bool, count_by, true, false, cond, refl, sym, ap, ap₂, subst, ◌∙◌, List, [], ◌∷◌, length, map, set, arith}
-use Rattle.std.proofs.lemmas.List.{length-map}
+use Rattle.std.proofs.lemmas.Bool.{false_from_ne_true}
 use Rattle.std.specs.List.{concat}
 use Rattle.k_types.specs.Totals.{total}
 use Rattle.k_types.specs.declared.names.Name.{Name}
 use Rattle.k_types.specs.Names.{name_eq}
 use Rattle.k_types.specs.Agree.{Counted, counted}
-use Rattle.k_lists.specs.Lists.{ListsValue, AreApart, members, is_in, without}
+use Rattle.k_lists.specs.Lists.{ListsValue, AreApart, IsFree, members, is_in, without}
 use Rattle.k_entry.specs.declared.item.Item.{Item}
 use Rattle.k_entry.specs.Entries.{EntryValue, HasLess, home_of}
 use Rattle.k_entry.specs.Slots.{at, row_at, bucket, walk_of, left, Parts, order, used, shown, AreKept, HaveSizes, IsListed}
@@ -146,3 +146,11 @@ less_by p v t i free chain walk chains segments walks k f free_is chain_is walk_
       segments_apart = segments_apart;
       walks_apart = walks_apart;
     }
+
+-- a slot that was taken out of its list is in none
+pub freed_is_free : (p : Parts) (v : ListsValue) (t : Name) (i : ℕ) → AreKept p → IsFound p t i → v ≡ record p.segments { lists = set p.segments.lists t.seg.0 (without i (members p.segments t.seg.0)) } → IsFree v i
+freed_is_free p v t i k f segment_out =
+    let o : IsOut p.segments v t.seg.0 i = record { within = omega (arith, f.homed, k.sizes.segments); is = segment_out } in
+    λ list. false_from_ne_true (is_in (members v list) i) (λ e.
+      let same : list ≡ t.seg.0 = in_one p.segments list t.seg.0 i k.segments_apart (out_old p.segments v t.seg.0 i list i o e) f.there in
+      out_gone p.segments v t.seg.0 i o (subst (λ l. is_in (members v l) i ≡ true) same e))

@@ -245,3 +245,8 @@ in_within v list i e = by_place v.lists list e
     by_place [] k t = absurd (cc)
     by_place (l ∷ ls) zero t = omega arith
     by_place (l ∷ ls) (suc k) t = let ih : k < length ls = by_place ls k t in omega arith
+
+pub any_default : {A : Type 0} (xs : List A) (i : ℕ) (d e : A) → i < length xs → get_or xs i d ≡ get_or xs i e
+any_default [] i d e within = absurd (omega arith)
+any_default (x ∷ xs) zero d e within = refl
+any_default (x ∷ xs) (suc i) d e within = any_default xs i d e (omega arith)
