@@ -1,5 +1,5 @@
 -- The walk of a home, by the slots of its segments.
-use Rattle.std.proofs.Common.{◌≡◌, ◌≢◌, ◌==◌, ◌||◌, ℕ, zero, suc, ◌+◌, ◌<◌, ◌≤◌, Bool, true, false, cond, refl, sym, ap, ap₂, subst, ◌∙◌, List, [], ◌∷◌, ◌++◌, append_assoc, append-nil, length, map, filter, slice_get, get_or, Option, Some, None, option_map, eq-eqb, eqb-true, arith}
+use Rattle.std.proofs.Common.{◌≡◌, ◌≢◌, ◌==◌, ◌||◌, ℕ, zero, suc, ◌+◌, ◌<◌, ◌≤◌, Bool, true, false, cond, refl, sym, ap, ap₂, subst, ◌∙◌, List, [], ◌∷◌, ◌++◌, append_assoc, append-nil, length, map, filter, slice_get, get_or, Option, Some, None, IfSome, option_map, eq-eqb, eqb-true, arith}
 use Rattle.std.proofs.lemmas.Bool.{false_from_ne_true}
 use Rattle.std.proofs.lemmas.List.{map-append}
 use Rattle.std.proofs.lemmas.List.Elements.{filter-append}
@@ -13,7 +13,7 @@ use Rattle.k_lists.specs.Lists.{members, is_in}
 use Rattle.k_entry.specs.declared.item.Item.{Item}
 use Rattle.k_entry.specs.Entries.{first_object, object_after, items_of, is_at_home, home_of}
 use Rattle.k_entry.specs.Slots.{at, row_at, walk_of, homed, first_slot, onward, Parts, order, used, shown, AreKept}
-use Rattle.k_entry.proofs.Members.{Once, Split, split, seam, seam_next, cons_in, cons_here, once_of, in_below, in_one, onward_rest, is_in_append, shifted, or_right}
+use Rattle.k_entry.proofs.Members.{Once, Split, split, seam, seam_next, cons_in, cons_here, once_of, in_below, in_one, onward_rest, is_in_append, shifted, or_right, is_in_at, place_of}
 use Rattle.k_entry.proofs.Joined.{joined, joined_append, IsJoined, in_joined, joined_in, in_concat, off_members, or_cases}
 use Rattle.k_entry.proofs.Counts.{one_slot}
 use Rattle.k_entry.proofs.Items.{once_hit, IsFound, used_of, name_same}
@@ -208,3 +208,28 @@ next_segment p t i next k f last leads =
     by_rest : (ys : List ℕ) → None ≡ slice_get ys 0 → ys ≡ []
     by_rest [] e = refl
     by_rest (y ∷ ys) e = absurd (cc)
+
+-- what the calls tell
+pub answer_below : (p : Parts) (xs : List ℕ) (i : ℕ) → AreKept p → Some i ≡ first_slot p.segments xs → i < length p.slots
+answer_below p [] i k e = absurd (cc)
+answer_below p (s ∷ xs) i k e = k.below s i (is_in_at (members p.segments s) 0 i (sym e))
+
+pub first_may : (xs : List ℕ) (o : Option ℕ) → o ≡ slice_get xs 0 → IfSome o (λ s. is_in xs s ≡ true)
+first_may xs None e = tt
+first_may xs (Some s) e = is_in_at xs 0 s (sym e)
+
+pub next_may : (xs : List ℕ) (i : ℕ) (o : Option ℕ) → is_in xs i ≡ true → ((place : ℕ) → slice_get xs place ≡ Some i → o ≡ slice_get xs (place + 1)) → IfSome o (λ s. is_in xs s ≡ true)
+next_may xs i None there leads = tt
+next_may xs i (Some s) there leads = let at = place_of xs i there in is_in_at xs (at.0 + 1) s (sym (leads at.0 at.1))
+
+pub first_told : (p : Parts) (h : Heap) (homes : List Heap) (n walk : ℕ) (first answer : Option ℕ) → AreKept p → homes ≡ p.homes → n ≡ length p.homes → walk ≡ walk_of n h → first ≡ slice_get (members p.walks walk) 0 → answer ≡ first_slot p.segments (homed homes h (onward (members p.walks (walk_of (length homes) h)) first)) → answer ≡ first_slot p.segments (segments_of p h)
+first_told p h homes n walk first answer k same len is begins told =
+    let xs = members p.walks (walk_of (length p.homes) h) in
+    let first_is : first ≡ slice_get xs 0 = begins ∙ ap (λ w. slice_get (members p.walks w) 0) (is ∙ ap (λ m. walk_of m h) len) in
+    told ∙ ap (λ (hs : List Heap). first_slot p.segments (homed hs h (onward (members p.walks (walk_of (length hs) h)) first))) same
+    ∙ ap (λ o. first_slot p.segments (homed p.homes h (onward xs o))) first_is
+    ∙ ap (λ ys. first_slot p.segments (homed p.homes h ys)) (onward_first xs (once_of p.walks (walk_of (length p.homes) h) k.walks_apart))
+
+pub next_told : (p : Parts) (g h : Heap) (homes : List Heap) (next answer : Option ℕ) → homes ≡ p.homes → g ≡ h → answer ≡ first_slot p.segments (homed homes g (onward (members p.walks (walk_of (length homes) g)) next)) → answer ≡ first_slot p.segments (homed p.homes h (onward (members p.walks (walk_of (length p.homes) h)) next))
+next_told p g h homes next answer same is told =
+    told ∙ ap₂ (λ (hs : List Heap) (f : Heap). first_slot p.segments (homed hs f (onward (members p.walks (walk_of (length hs) f)) next))) same is

@@ -1,5 +1,5 @@
 -- The items of a table, by the slots in which they stand.
-use Rattle.std.proofs.Common.{◌≡◌, ◌≢◌, ◌==◌, ◌||◌, ℕ, zero, suc, ◌+◌, ◌<◌, ◌≤◌, Bool, true, false, refl, sym, ap, ap₂, subst, ◌∙◌, List, [], ◌∷◌, ◌++◌, length, map, slice_get, get_or, Some, eqb-true, eq-eqb, ◌&&◌, arith}
+use Rattle.std.proofs.Common.{◌≡◌, ◌≢◌, ◌==◌, ◌||◌, ℕ, zero, suc, ◌+◌, ◌<◌, ◌≤◌, Bool, true, false, refl, sym, ap, ap₂, subst, ◌∙◌, List, [], ◌∷◌, ◌++◌, length, map, slice_get, get_or, replicate, count_by, ◌^◌, Some, None, eqb-true, eq-eqb, ◌&&◌, arith}
 use Rattle.std.proofs.lemmas.Bool.{false_from_ne_true}
 use Rattle.std.proofs.lemmas.List.{length-map}
 use Rattle.std.specs.List.{concat}
@@ -9,13 +9,13 @@ use Rattle.k_types.specs.declared.names.Heap.{Heap}
 use Rattle.k_types.specs.declared.names.Heap.TheVariants.{Kernel}
 use Rattle.k_types.specs.Names.{name_eq}
 use Rattle.k_types.specs.Agree.{Counted, counted}
-use Rattle.k_lists.specs.Lists.{members, is_in}
+use Rattle.k_lists.specs.Lists.{ListsValue, AreApart, members, is_in}
 use Rattle.k_entry.specs.declared.item.Item.{Item}
 use Rattle.k_entry.specs.Entries.{EntryValue, AreEntries, home_of}
-use Rattle.k_entry.specs.Slots.{at, blank, row_at, bucket, walk_of, Parts, order, used, shown, AreKept, IsListed}
+use Rattle.k_entry.specs.Slots.{at, blank, row_at, buckets, bucket, walk_of, Parts, order, used, shown, AreKept, IsListed}
 use Rattle.k_entry.proofs.Members.{cons_in, cons_here, in_below, in_one, once_of, any_default}
 use Rattle.k_entry.proofs.With.{IsWith, with_map}
-use Rattle.k_entry.proofs.Joined.{Single, in_concat, concat_in, in_joined, joined_in, single_concat}
+use Rattle.k_entry.proofs.Joined.{Single, joined, in_concat, concat_in, in_joined, joined_in, single_concat}
 use Rattle.k_entry.proofs.Counts.{name_is, hits, hits_are, no_hits, none_at, one_slot, single_slot, counted_with}
 
 pub name_same : (t : Name) → name_eq t t ≡ true
@@ -136,3 +136,67 @@ read_home homes s h within read = read ∙ any_default homes s h Kernel within
 -- the number of a walk, by what the calls tell
 pub walk_read : (homes : List Heap) (s n walk : ℕ) (h : Heap) → s < length homes → h ≡ get_or homes s h → n ≡ length homes → walk ≡ walk_of n h → walk ≡ walk_of (length homes) (home_of homes s)
 walk_read homes s n walk h within read len is = is ∙ ap₂ (λ m g. walk_of m g) len (read_home homes s h within read)
+
+-- a table with no item
+empty_members : (m room list : ℕ) → members (record { lists = replicate m []; room = room }) list ≡ []
+empty_members m room list = by_place m list
+  where
+    by_place : (n k : ℕ) → get_or (replicate n []) k [] ≡ []
+    by_place zero k = refl
+    by_place (suc n) zero = refl
+    by_place (suc n) (suc k) = by_place n k
+
+empty_joined : (m : ℕ) → concat (replicate m []) ≡ []
+empty_joined zero = refl
+empty_joined (suc m) = empty_joined m
+
+empty_size : (m : ℕ) → length (replicate {A = List ℕ} m []) ≡ m
+empty_size zero = refl
+empty_size (suc m) = ap suc (empty_size m)
+
+empty_apart : (m room : ℕ) → AreApart (record { lists = replicate m []; room = room })
+empty_apart m room = record {
+  below = λ list place i e. absurd (none list place i e);
+  once = λ a b j k i x y. absurd (none a j i x);
+}
+  where
+    none : (list place i : ℕ) → slice_get (members (record { lists = replicate m []; room = room }) list) place ≡ Some i → ⊥
+    none list place i e = let bad : None ≡ Some i = sym (ap (λ xs. slice_get xs place) (empty_members m room list)) ∙ e in absurd (cc)
+
+pub kept_empty : (homes : List Heap) (room : ℕ) → length homes < 2 ^ 32 → AreKept (record { slots = []; chains = record { lists = replicate (buckets room) []; room = room }; segments = record { lists = replicate (length homes + 1) []; room = room }; walks = record { lists = replicate (length homes + 1) []; room = length homes }; homes = homes; room = room })
+kept_empty homes room small = record {
+  distinct = λ t. omega (arith, ap (λ (xs : List Counted). count_by (λ (item : Counted). name_eq item.object t) xs) rows);
+  sizes = record {
+    chains = empty_size (buckets room);
+    chains_room = refl;
+    segments = empty_size (length homes + 1);
+    segments_room = refl;
+    walks = empty_size (length homes + 1);
+    walks_room = refl;
+    homes = small;
+    slots = omega arith;
+  };
+  segments_apart = empty_apart (length homes + 1) room;
+  walks_apart = empty_apart (length homes + 1) (length homes);
+  below = λ list i e. absurd (none (length homes + 1) room list i e);
+  positive = λ s i within e. absurd (none (length homes + 1) room s i e);
+  placed = λ s i within e. absurd (none (length homes + 1) room s i e);
+  chained = λ s i within e. absurd (none (length homes + 1) room s i e);
+  listed = λ chain i e. absurd (none (buckets room) room chain i e);
+  walked = λ s i within e. absurd (none (length homes + 1) room s i e);
+  live = λ walk s e. absurd (none (length homes + 1) (length homes) walk s e);
+  full = omega (arith, ap (λ xs. length xs) slots, ap (λ xs. length xs) (empty_members (length homes + 1) room (length homes)));
+}
+  where
+    none : (m r list i : ℕ) → is_in (members (record { lists = replicate m []; room = r }) list) i ≡ true → ⊥
+    none m r list i e = let bad : false ≡ true = sym (ap (λ xs. is_in xs i) (empty_members m r list)) ∙ e in absurd (cc)
+
+    slots : joined (members (record { lists = replicate (length homes + 1) []; room = room })) (concat (replicate (length homes + 1) [])) ≡ []
+    slots = ap (λ xs. joined (members (record { lists = replicate (length homes + 1) []; room = room })) xs) (empty_joined (length homes + 1))
+
+    rows : map (row_at []) (joined (members (record { lists = replicate (length homes + 1) []; room = room })) (concat (replicate (length homes + 1) []))) ≡ []
+    rows = ap (λ xs. map (row_at []) xs) slots
+
+-- and what it shows
+pub shows_none : (slots : List Item) (segments : ListsValue) (n : ℕ) → map (row_at slots) (joined (members segments) (concat (replicate n []))) ≡ []
+shows_none slots segments n = ap (λ xs. map (row_at slots) (joined (members segments) xs)) (empty_joined n)

@@ -11,8 +11,8 @@ use Rattle.k_types.specs.Names.{name_eq}
 use Rattle.k_types.specs.Agree.{Counted}
 use Rattle.k_lists.specs.Lists.{ListsValue, AreApart, members, is_in}
 use Rattle.k_entry.specs.Entries.{home_of}
-use Rattle.k_entry.specs.Slots.{at, row_at, walk_of, Parts, order, used, shown, AreKept, IsListed}
-use Rattle.k_entry.proofs.Members.{in_below, in_one}
+use Rattle.k_entry.specs.Slots.{at, row_at, walk_of, left, changed, Parts, order, used, shown, AreKept, IsListed}
+use Rattle.k_entry.proofs.Members.{in_below, in_one, in_within, cons_here}
 use Rattle.k_entry.proofs.With.{IsWith}
 use Rattle.k_entry.proofs.Joined.{joined, joined_append}
 use Rattle.k_entry.proofs.Counts.{hits, hits_are, total_is}
@@ -130,3 +130,18 @@ kept_rehomed p walks s to k r =
   where
     len : length (set p.homes s to) ≡ length p.homes
     len = length-set p.homes s to
+
+-- what the calls tell
+pub rehomed_by : (p : Parts) (walks : ListsValue) (s from into : ℕ) (to : Heap) → AreKept p → s < length p.homes → from ≡ walk_of (length p.homes) (home_of p.homes s) → into ≡ walk_of (length p.homes) to → into ≤ length p.homes → walks ≡ changed p.walks from into s (members p.segments s) → AreApart walks → AreRehomed p walks s to
+rehomed_by p walks s from into to k within from_is into_is into_in moved apart = by_list (members p.segments s) refl
+  where
+    by_list : (xs : List ℕ) → members p.segments s ≡ xs → AreRehomed p walks s to
+    by_list [] e = subst (λ (w : ListsValue). AreRehomed p w s to) (sym (moved ∙ ap (λ xs. changed p.walks from into s xs) e)) (rehomed_empty p s to k within e)
+    by_list (x ∷ xs) e =
+        let there : is_in (members p.segments s) x ≡ true = ap (λ ys. is_in ys x) e ∙ cons_here x xs in
+        let on = k.walked s x within there in
+        let v : ListsValue = left p.walks from s [] in
+        let is : walks ≡ changed p.walks from into s (x ∷ xs) = moved ∙ ap (λ ys. changed p.walks from into s ys) e in
+        let out : IsOut p.walks v from s = record { within = in_within p.walks from s (subst (λ w. is_in (members p.walks w) s ≡ true) (sym from_is) on); is = refl } in
+        let put : IsPut v walks into s = record { within = omega (arith, into_in, (out_size p.walks v from s out).0, k.sizes.walks); is = is } in
+        rehomed_full p v walks s to k within (omega (arith, ap (λ ys. length ys) e)) on (subst (λ w. IsOut p.walks v w s) from_is out) (subst (λ w. IsPut v walks w s) into_is put) apart

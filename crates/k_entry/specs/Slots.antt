@@ -45,6 +45,11 @@ abbrev pub left : ListsValue → ℕ → ℕ → List ℕ → ListsValue
 left walks walk seg [] = record walks { lists = slice_set walks.lists walk (without seg (members walks walk)) }
 left walks walk seg (i ∷ is) = walks
 
+-- the walks after a segment that has a slot went from one to another
+abbrev pub changed : ListsValue → ℕ → ℕ → ℕ → List ℕ → ListsValue
+changed walks from into seg [] = walks
+changed walks from into seg (i ∷ is) = entered (left walks from seg []) into seg []
+
 -- the segments of that home
 abbrev pub homed : List Heap → Heap → List ℕ → List ℕ
 homed homes heap segs = filter (λ s. heap_eq (home_of homes s) heap) segs

@@ -5,7 +5,7 @@ ghost use Rattle.k_types.specs.Agree.{counted};
 ghost use Rattle.k_entry.specs.Entries.{AreEntries, HasMore, HasLess, first_object, object_after, items_of, home_of};
 
 use crate::item::{Item, chain_count, chain_of, find, link_at, take_slot};
-use crate::walks::{first_from, put_in, take_out, walk_number};
+use crate::walks::{change_walk, first_from, put_in, take_out, walk_number};
 use k_io::NoMemory;
 use k_lists::Lists;
 use k_types::{Heap, Link, Name, Seg};
@@ -160,12 +160,9 @@ impl EntryTable {
         ensures items { IsPermutation self.old.items self.new.items }
         ensures room { self.new.room ≡ self.old.room }
     {
-        if self.segments.first(seg.0 as usize).is_some() {
-            let from = walk_number(self.homes[seg.0 as usize], self.homes.len());
-            let into = walk_number(to, self.homes.len());
-            self.walks.remove(from, seg.0);
-            self.walks.push_front(into, seg.0);
-        }
+        let from = walk_number(self.homes[seg.0 as usize], self.homes.len());
+        let into = walk_number(to, self.homes.len());
+        change_walk(&self.segments, &mut self.walks, from, into, seg);
         self.homes[seg.0 as usize] = to;
     }
 

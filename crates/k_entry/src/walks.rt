@@ -2,7 +2,7 @@ ghost use Rattle.std.specs.Prelude.{◌≡◌, ◌<◌, ◌≤◌, ◌+◌, ◌�
 ghost use Rattle.k_types.specs.Names.{heap_eq};
 ghost use Rattle.k_lists.specs.Lists.{AreApart, IsFree, members, is_in, without};
 ghost use Rattle.k_entry.specs.Entries.{home_of};
-ghost use Rattle.k_entry.specs.Slots.{walk_of, entered, left, first_slot, homed, onward};
+ghost use Rattle.k_entry.specs.Slots.{walk_of, entered, left, changed, first_slot, homed, onward};
 
 use k_lists::Lists;
 use k_types::{Heap, Seg};
@@ -70,6 +70,21 @@ pub(crate) fn take_out(segments: &mut Lists, walks: &mut Lists, walk: usize, seg
     segments.remove(seg.0 as usize, slot);
     if segments.first(seg.0 as usize).is_none() {
         walks.remove(walk, seg.0);
+    }
+}
+
+/// Moves a segment that has a slot from one walk to the other.
+pub(crate) fn change_walk(segments: &Lists, walks: &mut Lists, from: usize, into: usize, seg: Seg)
+    requires list { seg.0 < length segments.now.lists }
+    requires on { 0 < length (members segments.now seg.0) → IsTrue (is_in (members walks.old from) seg.0) }
+    requires into { into < length walks.old.lists }
+    requires apart { AreApart walks.old }
+    ensures walks { walks.new ≡ changed walks.old from into seg.0 (members segments.now seg.0) }
+    ensures apart { AreApart walks.new }
+{
+    if segments.first(seg.0 as usize).is_some() {
+        walks.remove(from, seg.0);
+        walks.push_front(into, seg.0);
     }
 }
 

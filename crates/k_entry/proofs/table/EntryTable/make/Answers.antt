@@ -1,0 +1,6 @@
+use Rattle.k_entry.proofs.table.EntryTable.make.Goals as goal
+
+pub invariant_of-result : goal.invariant_of-result
+invariant_of-result c = ?
+pub returns : goal.returns
+returns c = ?
