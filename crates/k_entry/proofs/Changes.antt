@@ -2,7 +2,7 @@
 use Rattle.std.proofs.Common.{◌≡◌, ◌≢◌, ◌==◌, ℕ, ◌<◌, Bool, true, false, refl, sym, ap, subst, ◌∙◌, List, [], ◌∷◌, length, set, eqb-true, eq-eqb, arith, length-set}
 use Rattle.std.proofs.lemmas.Bool.{false_from_ne_true}
 use Rattle.std.specs.List.{concat}
-use Rattle.k_lists.specs.Lists.{ListsValue, AreApart, members, is_in, without}
+use Rattle.k_lists.specs.Lists.{ListsValue, AreApart, IsFree, members, is_in, without}
 use Rattle.k_entry.specs.Slots.{entered, left}
 use Rattle.k_entry.proofs.Members.{members_here, members_there, cons_in, cons_here, in_cons, without_in, in_without, once_of, in_below, in_one}
 use Rattle.k_entry.proofs.With.{IsWith, with_front, with_without, concat_more, concat_less}
@@ -68,6 +68,12 @@ out_other v w list i other x p e off = same_or_not other list (is_in (members w 
 -- it is in that list no more
 pub out_gone : (v w : ListsValue) (list i : ℕ) → IsOut v w list i → is_in (members w list) i ≡ true → ⊥
 out_gone v w list i p e = (without_in i i (members v list) (sym (ap (λ xs. is_in xs i) (out_here v w list i p)) ∙ e)).0 refl
+
+-- and in no other
+pub out_free : (v w : ListsValue) (list i : ℕ) → AreApart v → IsOut v w list i → is_in (members v list) i ≡ true → IsFree w i
+out_free v w list i apart p there = λ other. false_from_ne_true (is_in (members w other) i) (λ e.
+  let same : other ≡ list = in_one v other list i apart (out_old v w list i other i p e) there in
+  out_gone v w list i p (subst (λ l. is_in (members w l) i ≡ true) same e))
 
 pub out_size : (v w : ListsValue) (list i : ℕ) → IsOut v w list i → (length w.lists ≡ length v.lists) × (w.room ≡ v.room)
 out_size v w list i p = (ap (λ (u : ListsValue). length u.lists) p.is ∙ length-set v.lists list (without i (members v list)), ap (λ (u : ListsValue). u.room) p.is)

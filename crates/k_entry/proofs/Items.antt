@@ -141,7 +141,7 @@ walk_read homes s n walk h within read len is = is ∙ ap₂ (λ m g. walk_of m 
 empty_members : (m room list : ℕ) → members (record { lists = replicate m []; room = room }) list ≡ []
 empty_members m room list = by_place m list
   where
-    by_place : (n k : ℕ) → get_or (replicate n []) k [] ≡ []
+    by_place : (n k : ℕ) → get_or (replicate {A = List ℕ} n []) k [] ≡ []
     by_place zero k = refl
     by_place (suc n) zero = refl
     by_place (suc n) (suc k) = by_place n k

@@ -15,7 +15,7 @@ use Rattle.k_entry.proofs.With.{IsWith, with_map, with_total, with_length}
 use Rattle.k_entry.proofs.Joined.{joined, joined_same, joined_with, map_same, in_concat, concat_in}
 use Rattle.k_entry.proofs.Counts.{hits, hits_are, less_gone}
 use Rattle.k_entry.proofs.Items.{order_below, order_single, used_is, used_of, once_hit, IsFound}
-use Rattle.k_entry.proofs.Changes.{same_or_not, IsPut, put_here, put_there, put_old, put_new, put_cases, put_size, IsOut, out_here, out_there, out_old, out_other, out_gone, out_size, out_with}
+use Rattle.k_entry.proofs.Changes.{same_or_not, IsPut, put_here, put_there, put_old, put_new, put_cases, put_size, IsOut, out_here, out_there, out_old, out_other, out_gone, out_free, out_size, out_with}
 use Rattle.k_entry.proofs.Entered.{IsLeft, left_of}
 use Rattle.k_entry.proofs.More.{moved}
 
@@ -151,6 +151,4 @@ less_by p v t i free chain walk chains segments walks k f free_is chain_is walk_
 pub freed_is_free : (p : Parts) (v : ListsValue) (t : Name) (i : ℕ) → AreKept p → IsFound p t i → v ≡ record p.segments { lists = set p.segments.lists t.seg.0 (without i (members p.segments t.seg.0)) } → IsFree v i
 freed_is_free p v t i k f segment_out =
     let o : IsOut p.segments v t.seg.0 i = record { within = omega (arith, f.homed, k.sizes.segments); is = segment_out } in
-    λ list. false_from_ne_true (is_in (members v list) i) (λ e.
-      let same : list ≡ t.seg.0 = in_one p.segments list t.seg.0 i k.segments_apart (out_old p.segments v t.seg.0 i list i o e) f.there in
-      out_gone p.segments v t.seg.0 i o (subst (λ l. is_in (members v l) i ≡ true) same e))
+    out_free p.segments v t.seg.0 i k.segments_apart o f.there
