@@ -200,3 +200,15 @@ kept_empty homes room small = record {
 -- and what it shows
 pub shows_none : (slots : List Item) (segments : ListsValue) (n : ℕ) → map (row_at slots) (joined (members segments) (concat (replicate n []))) ≡ []
 shows_none slots segments n = ap (λ xs. map (row_at slots) (joined (members segments) xs)) (empty_joined n)
+
+-- what the calls tell of a new table
+pub kept_made : (slots : List Item) (chains segments walks : ListsValue) (homes : List Heap) (room b n m k : ℕ) → slots ≡ [] → chains ≡ record { lists = replicate b []; room = room } → segments ≡ record { lists = replicate n []; room = room } → walks ≡ record { lists = replicate m []; room = k } → b ≡ buckets room → n ≡ length homes + 1 → m ≡ length homes + 1 → k ≡ length homes → length homes < 2 ^ 32 → AreKept (record { slots = slots; chains = chains; segments = segments; walks = walks; homes = homes; room = room })
+kept_made slots chains segments walks homes room b n m k slots_is chains_is segments_is walks_is b_is n_is m_is k_is small =
+    subst (λ (xs : List Item). AreKept (record { slots = xs; chains = chains; segments = segments; walks = walks; homes = homes; room = room })) (sym slots_is)
+    (subst (λ (v : ListsValue). AreKept (record { slots = []; chains = v; segments = segments; walks = walks; homes = homes; room = room })) (sym (chains_is ∙ ap (λ x. record { lists = replicate x []; room = room }) b_is))
+    (subst (λ (v : ListsValue). AreKept (record { slots = []; chains = record { lists = replicate (buckets room) []; room = room }; segments = v; walks = walks; homes = homes; room = room })) (sym (segments_is ∙ ap (λ x. record { lists = replicate x []; room = room }) n_is))
+    (subst (λ (v : ListsValue). AreKept (record { slots = []; chains = record { lists = replicate (buckets room) []; room = room }; segments = record { lists = replicate (length homes + 1) []; room = room }; walks = v; homes = homes; room = room })) (sym (walks_is ∙ ap₂ (λ x y. record { lists = replicate x []; room = y }) m_is k_is))
+    (kept_empty homes room small))))
+
+pub shows_made : (slots : List Item) (segments walks : ListsValue) (m k : ℕ) → walks ≡ record { lists = replicate m []; room = k } → map (row_at slots) (joined (members segments) (concat walks.lists)) ≡ []
+shows_made slots segments walks m k is = ap (λ (v : ListsValue). map (row_at slots) (joined (members segments) (concat v.lists))) is ∙ shows_none slots segments m
