@@ -1,2 +1,14 @@
+pub mod Changes
 pub mod Counts
-pub mod Walks
+pub mod Entered
+pub mod Given
+pub mod HomeWalks
+pub mod Items
+pub mod Joined
+pub mod Less
+pub mod Members
+pub mod More
+pub mod Recounts
+pub mod Rehomes
+pub mod Ways
+pub mod With

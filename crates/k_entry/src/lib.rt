@@ -5,13 +5,18 @@
 //! free. A walk from [`EntryTable::first_of`] by [`EntryTable::next`] gives each object of a home
 //! once. Only [`EntryTable::make`] takes memory.
 //!
-//! The items are kept in a plain list, which the calls look through.
+//! The items stand in slots, and lists linked by index lead to them: by a fixed hash of the object,
+//! by its segment, and from each heap to the segments of its home that have an item. Where the hash
+//! spreads the objects and no two heaps share a walk number, each call but [`EntryTable::make`] takes
+//! constant time.
 //!
-//! The crate stands on `k_types` for names and heaps.
+//! The crate stands on `k_types` for names and heaps, and on `k_lists` for the lists.
 #![tactic(auto)]
 
+mod item;
 mod table;
 #[cfg(test)]
 mod tests;
+mod walks;
 
 pub use table::EntryTable;

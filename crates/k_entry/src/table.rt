@@ -1,43 +1,27 @@
-ghost use Rattle.std.specs.Prelude.{◌≡◌, ◌+◌, ◌-◌, ◌<◌, ◌≤◌, ◌^◌, [], ℕ, Some, None, IfOk, IfSome, IfNone, length, map, filter, drop, option_map, slice_get, slice_set};
+ghost use Rattle.std.specs.Prelude.{◌≡◌, ◌+◌, ◌-◌, ◌<◌, ◌≤◌, ◌^◌, [], ℕ, Some, None, IfOk, IfSome, IfNone, length, option_map, slice_set};
 ghost use Rattle.std.specs.List.Sorted.{IsPermutation};
-ghost use Rattle.k_types.specs.Names.{name_eq, name_of, heap_eq};
-ghost use Rattle.k_types.specs.Agree.{Counted, counted};
-ghost use Rattle.k_entry.specs.Entries.{AreEntries, HasMore, HasLess, first_object, object_after, items_of, is_at_home, home_of};
-ghost use Rattle.k_entry.specs.Items.{row_of, IsPlace, HasNone};
+ghost use Rattle.k_types.specs.Names.{name_of};
+ghost use Rattle.k_types.specs.Agree.{counted};
+ghost use Rattle.k_entry.specs.Entries.{AreEntries, HasMore, HasLess, first_object, object_after, items_of, home_of};
 
+use crate::item::{Item, chain_count, chain_of, find, link_at, take_slot};
+use crate::walks::{change_walk, first_from, put_in, take_out, walk_number};
 use k_io::NoMemory;
-use k_types::{Heap, Link, Name, Seg, Slot};
+use k_lists::Lists;
+use k_types::{Heap, Link, Name, Seg};
 use std::alloc::Global;
 use std::marker::Model;
-
-/// An object, and how often something holds it.
-#[derive(Clone, Copy)]
-struct Item {
-    target: Name,
-    count: u32,
-}
-
-impl Item {
-    fn with_count(self, count: u32) -> Item
-        ensures { result ≡ record { target = self.target; count = count } }
-    {
-        Item {
-            target: self.target,
-            count,
-        }
-    }
-
-    fn is_of(self, target: Name) -> bool
-        ensures { result ≡ name_eq self.target target }
-    {
-        self.target.seg.0 == target.seg.0 && self.target.serial.0 == target.serial.0
-    }
-}
 
 /// Objects with counts above 0, and the home heap of each segment.
 #[derive(Drop)]
 pub struct EntryTable {
-    items: Vec<Item>,
+    slots: Vec<Item>,
+    // The slots of each hash chain.
+    chains: Lists,
+    // The slots of each segment, and after these lists the free slots.
+    segments: Lists,
+    // The segments that have an item, by the walk number of their home.
+    walks: Lists,
     homes: Vec<Heap>,
     room: u32,
 }
@@ -47,70 +31,15 @@ impl Model for EntryTable {
 
     ghost Value = { EntryValue };
 
-    ghost use Rattle.std.specs.Prelude.{map, vec_capacity, ◌≤◌};
-    ghost use Rattle.k_entry.specs.Entries.{AreEntries};
-    ghost use Rattle.k_entry.specs.Items.{row_of};
+    ghost use Rattle.std.specs.Prelude.{vec_capacity, ◌≤◌};
+    ghost use Rattle.k_entry.specs.Slots.{shown, AreKept};
 
-    ghost view = { λ t. record { items = map row_of t.items.items; homes = t.homes.items; room = t.room } };
+    ghost view = { λ t. shown (record { slots = t.slots.items; chains = t.chains; segments = t.segments; walks = t.walks; homes = t.homes.items; room = t.room }) };
 
     ghost invariant = { λ t. record {
-      reserved : t.room ≤ vec_capacity t.items;
-      entries : AreEntries (record { items = map row_of t.items.items; homes = t.homes.items; room = t.room });
+      reserved : t.room ≤ vec_capacity t.slots;
+      kept : AreKept (record { slots = t.slots.items; chains = t.chains; segments = t.segments; walks = t.walks; homes = t.homes.items; room = t.room });
     } };
-}
-
-/// The place of the object, if it is there.
-fn place(items: &[Item], target: Name) -> Option<usize>
-    ensures some { IfSome result (λ i. IsPlace (map row_of items.now) target i) }
-    ensures none { IfNone result (HasNone (map row_of items.now) target (length items.now)) }
-{
-    for i in 0..items.len() {
-        let item = items[i];
-        if item.is_of(target) {
-            return Some(i);
-        }
-    }
-    None
-}
-
-/// Whether the two heaps are one.
-fn is_same(a: Heap, b: Heap) -> bool
-    ensures { result ≡ heap_eq a b }
-{
-    match (a, b) {
-        (Heap::Kernel, Heap::Kernel) => true,
-        (Heap::User(p), Heap::User(q)) => p.0 == q.0,
-        (Heap::Shared(s), Heap::Shared(t)) => s.0 == t.0,
-        _ => false,
-    }
-}
-
-/// The first object from place `from` on whose home is that heap.
-fn first_from(items: &[Item], homes: &[Heap], heap: Heap, from: usize) -> Option<Name>
-    requires { (i : ℕ) (item : Counted) → slice_get (map row_of items.now) i ≡ Some item → item.object.seg.0 < length homes.now }
-    ensures { result ≡ first_object (filter (is_at_home homes.now heap) (drop from (map row_of items.now))) }
-{
-    for i in from..items.len() {
-        let target = items[i].target;
-        if is_same(homes[target.seg.0 as usize], heap) {
-            return Some(target);
-        }
-    }
-    None
-}
-
-/// A reference to the object. Its slot, a hint, is 0.
-fn as_link(name: Option<Name>) -> Option<Link>
-    ensures { option_map name_of result ≡ name }
-{
-    match name {
-        Some(name) => Some(Link {
-            seg: name.seg,
-            slot: Slot(0),
-            serial: name.serial,
-        }),
-        None => None,
-    }
 }
 
 impl EntryTable {
@@ -118,9 +47,22 @@ impl EntryTable {
     pub fn make(alloc: Global, homes: &[Heap], room: u32) -> Result<EntryTable, NoMemory>
         ensures { IfOk result (λ t. t ≡ record { items = []; homes = homes.now; room = room }) }
     {
-        let items = Vec::with_capacity(alloc, room as usize)?;
+        if homes.len() >= u32::MAX as usize {
+            return Err(NoMemory);
+        }
+        let slots = Vec::with_capacity(alloc, room as usize)?;
+        let chains = Lists::make(alloc, chain_count(room), room)?;
+        let segments = Lists::make(alloc, homes.len() + 1, room)?;
+        let walks = Lists::make(alloc, homes.len() + 1, homes.len() as u32)?;
         let homes = homes.to_vec(alloc)?;
-        Ok(EntryTable { items, homes, room })
+        Ok(EntryTable {
+            slots,
+            chains,
+            segments,
+            walks,
+            homes,
+            room,
+        })
     }
 
     /// How often the object is counted; 0 where it isn't there.
@@ -128,8 +70,8 @@ impl EntryTable {
         ensures count { result ≡ counted self.now.items target }
         ensures entries { AreEntries self.now }
     {
-        match place(&self.items, target) {
-            Some(i) => self.items[i].count,
+        match find(&self.slots, &self.chains, chain_of(target, self.room), target) {
+            Some(i) => self.slots[i as usize].count,
             None => 0,
         }
     }
@@ -142,15 +84,22 @@ impl EntryTable {
         ensures { HasMore self.old self.new (name_of target) }
     {
         let name = target.name();
-        match place(&self.items, name) {
+        let chain = chain_of(name, self.room);
+        match find(&self.slots, &self.chains, chain, name) {
             Some(i) => {
-                let item = self.items[i];
-                self.items[i] = item.with_count(item.count + 1);
+                let item = self.slots[i as usize];
+                self.slots[i as usize] = item.with_count(item.count + 1);
             }
-            None => self.items.push_reserved(Item {
-                target: name,
-                count: 1,
-            }),
+            None => {
+                let item = Item {
+                    target: name,
+                    count: 1,
+                };
+                let walk = walk_number(self.homes[name.seg.0 as usize], self.homes.len());
+                let i = take_slot(&mut self.slots, &mut self.segments, self.homes.len(), item);
+                self.chains.push_front(chain, i);
+                put_in(&mut self.segments, &mut self.walks, walk, name.seg, i);
+            }
         }
     }
 
@@ -159,14 +108,18 @@ impl EntryTable {
         requires { 0 < counted self.old.items target }
         ensures { HasLess self.old self.new target }
     {
-        let Some(i) = place(&self.items, target) else {
+        let chain = chain_of(target, self.room);
+        let Some(i) = find(&self.slots, &self.chains, chain, target) else {
             unreachable!()
         };
-        let item = self.items[i];
+        let item = self.slots[i as usize];
         if item.count == 1 {
-            self.items.swap_remove(i);
+            let walk = walk_number(self.homes[target.seg.0 as usize], self.homes.len());
+            self.chains.remove(chain, i);
+            take_out(&mut self.segments, &mut self.walks, walk, target.seg, i);
+            self.segments.push_front(self.homes.len(), i);
         } else {
-            self.items[i] = item.with_count(item.count - 1);
+            self.slots[i as usize] = item.with_count(item.count - 1);
         }
     }
 
@@ -174,7 +127,11 @@ impl EntryTable {
     pub fn first_of(&self, heap: Heap) -> Option<Link>
         ensures { option_map name_of result ≡ first_object (items_of self.now heap) }
     {
-        as_link(first_from(&self.items, &self.homes, heap, 0))
+        let first = self.walks.first(walk_number(heap, self.homes.len()));
+        match first_from(&self.segments, &self.walks, &self.homes, heap, first) {
+            Some(i) => Some(link_at(&self.slots, i)),
+            None => None,
+        }
     }
 
     /// The object after that one on the walk of its home.
@@ -182,11 +139,18 @@ impl EntryTable {
         requires { 0 < counted self.now.items target }
         ensures { option_map name_of result ≡ object_after (items_of self.now (home_of self.now.homes target.seg.0)) target }
     {
-        let Some(i) = place(&self.items, target) else {
+        let Some(i) = find(&self.slots, &self.chains, chain_of(target, self.room), target) else {
             unreachable!()
         };
+        if let Some(j) = self.segments.next(i) {
+            return Some(link_at(&self.slots, j));
+        }
         let heap = self.homes[target.seg.0 as usize];
-        as_link(first_from(&self.items, &self.homes, heap, i + 1))
+        let next = self.walks.next(target.seg.0);
+        match first_from(&self.segments, &self.walks, &self.homes, heap, next) {
+            Some(j) => Some(link_at(&self.slots, j)),
+            None => None,
+        }
     }
 
     /// Changes the home of a segment, and with it the walks on which its objects are.
@@ -196,6 +160,9 @@ impl EntryTable {
         ensures items { IsPermutation self.old.items self.new.items }
         ensures room { self.new.room ≡ self.old.room }
     {
+        let from = walk_number(self.homes[seg.0 as usize], self.homes.len());
+        let into = walk_number(to, self.homes.len());
+        change_walk(&self.segments, &mut self.walks, from, into, seg);
         self.homes[seg.0 as usize] = to;
     }
 

@@ -1,37 +1,76 @@
-use Rattle.std.proofs.Common.{◌≡◌, ◌+◌, ◌<◌, true, drop, List, map, length, sym, ap, ap₂, subst, ◌∙◌, arith}
-use Rattle.k_types.specs.declared.names.Name.{Name}
+use Rattle.std.proofs.Common.{◌≡◌, ◌<◌, ◌+◌, ℕ, List, Option, Some, None, IfSome, length, option_map, slice_get, true, refl, sym, ap, ap₂, subst, ◌∙◌, arith}
 use Rattle.k_types.specs.declared.names.Heap.{Heap}
-use Rattle.k_types.specs.declared.names.Heap.TheVariants.{Kernel}
-use Rattle.k_types.specs.Names.{heap_eq}
 use Rattle.k_types.specs.Agree.{counted}
-use Rattle.k_entry.specs.declared.table.Item.{Item}
-use Rattle.k_entry.specs.Entries.{EntryValue, first_object, object_after, items_of, is_at_home, home_of}
-use Rattle.k_entry.specs.Items.{row_of, IsPlace, HasNone}
-use Rattle.k_entry.proofs.Counts.{counted_none, map_len, name_is, any_default}
-use Rattle.k_entry.proofs.Walks.{after_is, heap_same}
-use Rattle.std.specs.List.{filter}
+use Rattle.k_lists.specs.Lists.{members, is_in}
+use Rattle.k_entry.specs.declared.item.Item.{Item}
+use Rattle.k_entry.specs.Entries.{EntryValue, object_after, items_of, home_of}
+use Rattle.k_entry.specs.Slots.{Parts, shown, at, walk_of, homed, onward, first_slot}
+use Rattle.k_entry.proofs.Members.{place_of, is_in_at}
+use Rattle.k_entry.proofs.Counts.{no_hits}
+use Rattle.k_entry.proofs.Items.{found_by, none_by, read_home}
+use Rattle.k_entry.proofs.HomeWalks.{next_may, next_told, next_slot, next_segment, answer_below, object_at}
 use Rattle.k_entry.proofs.table.EntryTable.next.Goals as goal
 
 pub unreachable-requires : goal.unreachable-requires
 unreachable-requires c =
-    let items = c.self.inside.items.items in
-    let none : HasNone (map row_of items) c.args.target (length (map row_of items)) =
-    subst (λ n. HasNone (map row_of items) c.args.target n) (sym (map_len row_of items)) (subst (λ (xs : List Item). HasNone (map row_of xs) c.args.target (length xs)) c.deref.ensures.value c.in_default.ensures.none) in
-    let zero_is : counted c.args.self.now.items c.args.target ≡ 0 = ap (λ (v : EntryValue). counted v.items c.args.target) (sym c.self.view_is) ∙ counted_none (map row_of items) c.args.target none in
-    omega (arith, zero_is, c.requires)
+    let p : Parts = record { slots = c.self.inside.slots.items; chains = c.self.inside.chains; segments = c.self.inside.segments; walks = c.self.inside.walks; homes = c.self.inside.homes.items; room = c.self.inside.room } in
+    let none = none_by p c.args.target c.deref.result.now c.chain_of.result c.self.invariant.kept c.deref.ensures.value c.chain_of.ensures.value c.in_default.ensures.none in
+    omega (arith, c.requires, ap (λ (v : EntryValue). counted v.items c.args.target) c.self.view_is, no_hits (shown p).items c.args.target none)
 
-pub returns : goal.returns
-returns c =
-    let items = c.self.inside.items.items in
-    let homes = c.self.inside.homes.items in
-    let t = c.args.target in
-    let p : IsPlace (map row_of items) c.args.target c.in-Some.i = subst (λ (xs : List Item). IsPlace (map row_of xs) c.args.target c.in-Some.i) c.deref.ensures.value c.in-Some.ensures.some in
-    let object : p.item.object ≡ c.args.target = name_is p.item.object c.args.target p.is in
-    let within : c.args.target.seg.0 < length homes = omega (arith, c.self.invariant.entries.homed c.in-Some.i p.item p.there, ap (λ (n : Name). n.seg.0) object) in
-    let heap : c.index-heap.result.now ≡ home_of homes c.args.target.seg.0 = c.index-heap.ensures ∙ any_default homes c.args.target.seg.0 c.index-heap.result.now Kernel within in
-    let on : is_at_home homes (home_of homes c.args.target.seg.0) p.item ≡ true = ap (λ (n : Name). heap_eq (home_of homes n.seg.0) (home_of homes c.args.target.seg.0)) object ∙ heap_same (home_of homes c.args.target.seg.0) in
-    c.as_link.ensures ∙ c.first_from.ensures
-    ∙ ap₂ (λ (hs : List Heap) (xs : List Item). first_object (filter (is_at_home hs c.index-heap.result.now) (drop (c.in-Some.i + 1) (map row_of xs)))) c.deref-3.ensures.value c.deref-2.ensures.value
-    ∙ ap (λ (h : Heap). first_object (filter (is_at_home homes h) (drop (c.in-Some.i + 1) (map row_of items)))) heap
-    ∙ sym (after_is (is_at_home homes (home_of homes c.args.target.seg.0)) (map row_of items) c.in-Some.i p.item c.args.target p.there p.is on p.before)
+pub link_at-requires : goal.link_at-requires
+link_at-requires c =
+    let p : Parts = record { slots = c.self.inside.slots.items; chains = c.self.inside.chains; segments = c.self.inside.segments; walks = c.self.inside.walks; homes = c.self.inside.homes.items; room = c.self.inside.room } in
+    let f = found_by p c.args.target c.deref.result.now c.chain_of.result c.in-Some.i c.self.invariant.kept c.deref.ensures.value c.chain_of.ensures.value c.in-Some.ensures.there c.in-Some.ensures.target in
+    let xs = members c.self.inside.segments c.args.target.seg.0 in
+    let place = place_of xs c.in-Some.i f.there in
+    let there : is_in xs c.in-Some-next.j ≡ true = is_in_at xs (place.0 + 1) c.in-Some-next.j (sym (c.in-Some-next.ensures.value c.args.target.seg.0 place.0 place.1)) in
+    omega (arith, c.self.invariant.kept.below c.args.target.seg.0 c.in-Some-next.j there, ap (λ (ys : List Item). length ys) c.deref-in-Some-next.ensures.value)
+
+pub returns-in-Some-next : goal.returns-in-Some-next
+returns-in-Some-next c =
+    let p : Parts = record { slots = c.self.inside.slots.items; chains = c.self.inside.chains; segments = c.self.inside.segments; walks = c.self.inside.walks; homes = c.self.inside.homes.items; room = c.self.inside.room } in
+    let f = found_by p c.args.target c.deref.result.now c.chain_of.result c.in-Some.i c.self.invariant.kept c.deref.ensures.value c.chain_of.ensures.value c.in-Some.ensures.there c.in-Some.ensures.target in
+    ap Some (c.link_at.ensures ∙ ap (λ (xs : List Item). (at xs c.in-Some-next.j).target) c.deref-in-Some-next.ensures.value)
+    ∙ sym (next_slot p c.args.target c.in-Some.i c.in-Some-next.j c.self.invariant.kept f (c.in-Some-next.ensures.value c.args.target.seg.0))
+    ∙ ap (λ (v : EntryValue). object_after (items_of v (home_of v.homes c.args.target.seg.0)) c.args.target) c.self.view_is
+
+pub first_from-requires-clause-from : goal.first_from-requires-clause-from
+first_from-requires-clause-from c =
+    let p : Parts = record { slots = c.self.inside.slots.items; chains = c.self.inside.chains; segments = c.self.inside.segments; walks = c.self.inside.walks; homes = c.self.inside.homes.items; room = c.self.inside.room } in
+    let f = found_by p c.args.target c.deref.result.now c.chain_of.result c.in-Some.i c.self.invariant.kept c.deref.ensures.value c.chain_of.ensures.value c.in-Some.ensures.there c.in-Some.ensures.target in
+    let home : c.index-heap.result.now ≡ home_of c.self.inside.homes.items c.args.target.seg.0 = read_home c.self.inside.homes.items c.args.target.seg.0 c.index-heap.result.now f.homed c.index-heap.ensures in
+    let walk = walk_of (length c.self.inside.homes.items) (home_of c.self.inside.homes.items c.args.target.seg.0) in
+    let is : walk ≡ walk_of (length c.deref-2.result.now) c.index-heap.result.now = sym (ap₂ (λ (hs : List Heap) (g : Heap). walk_of (length hs) g) c.deref-2.ensures.value home) in
+    subst (λ w. IfSome c.next-next.result (λ s. is_in (members c.self.inside.walks w) s ≡ true)) is
+    (next_may (members c.self.inside.walks walk) c.args.target.seg.0 c.next-next.result (c.self.invariant.kept.walked c.args.target.seg.0 c.in-Some.i f.homed f.there) (c.next-next.ensures.value walk))
+
+pub link_at-requires-in-Some-first_from : goal.link_at-requires-in-Some-first_from
+link_at-requires-in-Some-first_from c =
+    let p : Parts = record { slots = c.self.inside.slots.items; chains = c.self.inside.chains; segments = c.self.inside.segments; walks = c.self.inside.walks; homes = c.self.inside.homes.items; room = c.self.inside.room } in
+    let f = found_by p c.args.target c.deref.result.now c.chain_of.result c.in-Some.i c.self.invariant.kept c.deref.ensures.value c.chain_of.ensures.value c.in-Some.ensures.there c.in-Some.ensures.target in
+    let home : c.index-heap.result.now ≡ home_of c.self.inside.homes.items c.args.target.seg.0 = read_home c.self.inside.homes.items c.args.target.seg.0 c.index-heap.result.now f.homed c.index-heap.ensures in
+    let told = next_told p c.index-heap.result.now (home_of c.self.inside.homes.items c.args.target.seg.0) c.deref-2.result.now c.next-next.result (Some c.in-Some-first_from.j) c.deref-2.ensures.value home c.in-Some-first_from.ensures in
+    omega (arith, answer_below p (homed c.self.inside.homes.items (home_of c.self.inside.homes.items c.args.target.seg.0) (onward (members c.self.inside.walks (walk_of (length c.self.inside.homes.items) (home_of c.self.inside.homes.items c.args.target.seg.0))) c.next-next.result)) c.in-Some-first_from.j c.self.invariant.kept told, ap (λ (xs : List Item). length xs) c.deref-in-Some-first_from.ensures.value)
+
+pub returns-in-Some-first_from : goal.returns-in-Some-first_from
+returns-in-Some-first_from c =
+    let p : Parts = record { slots = c.self.inside.slots.items; chains = c.self.inside.chains; segments = c.self.inside.segments; walks = c.self.inside.walks; homes = c.self.inside.homes.items; room = c.self.inside.room } in
+    let f = found_by p c.args.target c.deref.result.now c.chain_of.result c.in-Some.i c.self.invariant.kept c.deref.ensures.value c.chain_of.ensures.value c.in-Some.ensures.there c.in-Some.ensures.target in
+    let home : c.index-heap.result.now ≡ home_of c.self.inside.homes.items c.args.target.seg.0 = read_home c.self.inside.homes.items c.args.target.seg.0 c.index-heap.result.now f.homed c.index-heap.ensures in
+    let walk = walk_of (length c.self.inside.homes.items) (home_of c.self.inside.homes.items c.args.target.seg.0) in
+    let told = next_told p c.index-heap.result.now (home_of c.self.inside.homes.items c.args.target.seg.0) c.deref-2.result.now c.next-next.result (Some c.in-Some-first_from.j) c.deref-2.ensures.value home c.in-Some-first_from.ensures in
+    ap Some (c.link_at-in-Some-first_from.ensures ∙ ap (λ (xs : List Item). (at xs c.in-Some-first_from.j).target) c.deref-in-Some-first_from.ensures.value)
+    ∙ ap (λ o. option_map (object_at c.self.inside.slots.items) o) told
+    ∙ sym (next_segment p c.args.target c.in-Some.i c.next-next.result c.self.invariant.kept f (c.in_default-next.ensures.value c.args.target.seg.0) (c.next-next.ensures.value walk))
+    ∙ ap (λ (v : EntryValue). object_after (items_of v (home_of v.homes c.args.target.seg.0)) c.args.target) c.self.view_is
+
+pub returns-in-None : goal.returns-in-None
+returns-in-None c =
+    let p : Parts = record { slots = c.self.inside.slots.items; chains = c.self.inside.chains; segments = c.self.inside.segments; walks = c.self.inside.walks; homes = c.self.inside.homes.items; room = c.self.inside.room } in
+    let f = found_by p c.args.target c.deref.result.now c.chain_of.result c.in-Some.i c.self.invariant.kept c.deref.ensures.value c.chain_of.ensures.value c.in-Some.ensures.there c.in-Some.ensures.target in
+    let home : c.index-heap.result.now ≡ home_of c.self.inside.homes.items c.args.target.seg.0 = read_home c.self.inside.homes.items c.args.target.seg.0 c.index-heap.result.now f.homed c.index-heap.ensures in
+    let walk = walk_of (length c.self.inside.homes.items) (home_of c.self.inside.homes.items c.args.target.seg.0) in
+    let told = next_told p c.index-heap.result.now (home_of c.self.inside.homes.items c.args.target.seg.0) c.deref-2.result.now c.next-next.result None c.deref-2.ensures.value home c.in-None.ensures in
+    ap (λ o. option_map (object_at c.self.inside.slots.items) o) told
+    ∙ sym (next_segment p c.args.target c.in-Some.i c.next-next.result c.self.invariant.kept f (c.in_default-next.ensures.value c.args.target.seg.0) (c.next-next.ensures.value walk))
     ∙ ap (λ (v : EntryValue). object_after (items_of v (home_of v.homes c.args.target.seg.0)) c.args.target) c.self.view_is

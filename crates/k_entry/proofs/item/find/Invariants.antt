@@ -1,0 +1,12 @@
+use Rattle.std.proofs.Common.{◌≡◌, ℕ, List, false, length}
+use Rattle.k_types.specs.Names.{name_eq}
+use Rattle.k_lists.specs.Lists.{members, is_in}
+use Rattle.k_entry.specs.Slots.{at, onward}
+use Rattle.k_entry.proofs.Ways.{HasPassed}
+use Rattle.k_entry.proofs.item.find.Given as goal
+
+abbrev pub invariant-loop-next : goal.invariant-loop-next
+invariant-loop-next l = HasPassed l.slots l.target (members l.chains l.chain) l.next
+
+abbrev pub decreases-loop-next : goal.decreases-loop-next
+decreases-loop-next l = length (onward (members l.chains l.chain) l.next)

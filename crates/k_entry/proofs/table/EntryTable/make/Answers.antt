@@ -1,0 +1,24 @@
+use Rattle.std.proofs.Common.{rules, ◌≡◌, ◌<◌, ◌≤◌, ◌+◌, ◌^◌, ℕ, List, [], length, map, replicate, sym, ap, ap₂, subst, ◌∙◌, arith}
+use Rattle.k_types.specs.declared.names.Heap.{Heap}
+use Rattle.k_types.specs.Agree.{Counted}
+use Rattle.k_lists.specs.Lists.{ListsValue}
+use Rattle.k_entry.specs.declared.item.Item.{Item}
+use Rattle.k_entry.specs.Entries.{EntryValue}
+use Rattle.k_entry.specs.Slots.{Parts, AreKept, buckets}
+use Rattle.k_entry.proofs.Items.{kept_made, shows_made}
+use Rattle.k_entry.proofs.table.EntryTable.make.Goals as goal
+
+pub invariant_of-result : goal.invariant_of-result
+invariant_of-result c =
+    let same : c.in_ok-homes.homes.items ≡ c.args.homes.now = search rules in
+    let len : length c.args.homes.now ≡ length c.in_ok-homes.homes.items = ap (λ (hs : List Heap). length hs) (sym same) in
+    record {
+      reserved = omega (arith, c.in_ok-slots.ensures.capacity);
+      kept = kept_made c.in_ok-slots.slots.items c.in_ok-chains.chains c.in_ok-segments.segments c.in_ok-walks.walks c.in_ok-homes.homes.items c.args.room c.chain_count.result (length c.args.homes.now + 1) (length c.args.homes.now + 1) (length c.args.homes.now)
+          c.in_ok-slots.ensures.items c.in_ok-chains.ensures c.in_ok-segments.ensures c.in_ok-walks.ensures c.chain_count.ensures (ap (λ n. n + 1) len) (ap (λ n. n + 1) len) len (omega (arith, len, c.if-homes.false));
+    }
+
+pub returns : goal.returns
+returns c =
+    let same : c.in_ok-homes.homes.items ≡ c.args.homes.now = search rules in
+    ap₂ (λ (xs : List Counted) (hs : List Heap). record { items = xs; homes = hs; room = c.args.room }) (shows_made c.in_ok-slots.slots.items c.in_ok-segments.segments c.in_ok-walks.walks (length c.args.homes.now + 1) (length c.args.homes.now) c.in_ok-walks.ensures) same

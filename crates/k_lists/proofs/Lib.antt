@@ -1,0 +1,6 @@
+pub mod Members
+pub mod Walks
+pub mod Writes
+pub mod Apart
+pub mod Steps
+pub mod Removes

@@ -1,0 +1,34 @@
+use Rattle.std.proofs.Common.{length, ap, arith}
+use Rattle.k_lists.proofs.Writes.{next_length}
+use Rattle.k_lists.proofs.Steps.{member_within, links_within}
+use Rattle.k_lists.proofs.Removes.{removed}
+use Rattle.k_lists.proofs.lists.Lists.remove.Goals as goal
+
+pub index-requires : goal.index-requires
+index-requires c = omega (arith, member_within c.self.inside.links.items c.self.inside.heads.items c.args.self.now c.args.list c.args.i c.self.invariant c.self.view_is c.requires, c.self.inside.links.ok.0)
+
+pub set_next-requires-clause-link : goal.set_next-requires-clause-link
+set_next-requires-clause-link c = (links_within c.self.inside.links.items c.self.inside.heads.items c.args.self.now c.args.list c.args.i c.index.result.now c.self.invariant c.self.view_is c.requires c.index.ensures).0
+
+pub set_prev-requires : goal.set_prev-requires
+set_prev-requires c =
+    let within = links_within c.self.inside.links.items c.self.inside.heads.items c.args.self.now c.args.list c.args.i c.index.result.now c.self.invariant c.self.view_is c.requires c.index.ensures in
+    omega (arith, within.1, ap length c.set_next.ensures.links, next_length c.self.inside.links.items c.index.result.now.prev c.index.result.now.next)
+
+pub invariant_of-self : goal.invariant_of-self
+invariant_of-self c =
+    let step = removed c.self.inside.links.items c.set_next.new.links.items c.set_prev.new.links.items c.self.inside.heads.items c.set_next.new.heads.items c.args.self.now c.args.list c.args.i c.index.result.now c.self.invariant c.self.view_is
+    c.requires c.index.ensures c.set_next.ensures.links c.set_next.ensures.heads c.set_prev.ensures in
+    step.linked
+
+pub returns-clause-removed : goal.returns-clause-removed
+returns-clause-removed c =
+    let step = removed c.self.inside.links.items c.set_next.new.links.items c.set_prev.new.links.items c.self.inside.heads.items c.set_next.new.heads.items c.args.self.now c.args.list c.args.i c.index.result.now c.self.invariant c.self.view_is
+    c.requires c.index.ensures c.set_next.ensures.links c.set_next.ensures.heads c.set_prev.ensures in
+    step.value
+
+pub returns-clause-apart : goal.returns-clause-apart
+returns-clause-apart c =
+    let step = removed c.self.inside.links.items c.set_next.new.links.items c.set_prev.new.links.items c.self.inside.heads.items c.set_next.new.heads.items c.args.self.now c.args.list c.args.i c.index.result.now c.self.invariant c.self.view_is
+    c.requires c.index.ensures c.set_next.ensures.links c.set_next.ensures.heads c.set_prev.ensures in
+    step.linked.apart
