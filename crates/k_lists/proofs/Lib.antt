@@ -3,4 +3,5 @@ pub mod Walks
 pub mod Writes
 pub mod Apart
 pub mod Steps
+pub mod Pushes
 pub mod Removes

@@ -95,7 +95,7 @@ lists_closed links heads list i old is =
     was : IsList links 0 link xs
     was = old.linked list within
 
--- as the calls have it
+-- the same from what the call knows: the value that it saw, and the links that it read
 pub removed : (links mid new : List Links) (heads new_heads : List ℕ) (v : ListsValue) (list i : ℕ) (was : Links) → AreLinked links heads → lists_of links heads ≡ v →
     is_in (members v list) i ≡ true → was ≡ get_or links i was → mid ≡ with_next links was.prev was.next → new_heads ≡ with_head heads list was.prev was.next →
     new ≡ with_prev mid was.next was.prev → AreLists new new_heads (with_list v list (without i (members v list)))

@@ -28,7 +28,4 @@ returns-clause-removed c =
     step.value
 
 pub returns-clause-apart : goal.returns-clause-apart
-returns-clause-apart c =
-    let step = removed c.self.inside.links.items c.set_next.new.links.items c.set_prev.new.links.items c.self.inside.heads.items c.set_next.new.heads.items c.args.self.now c.args.list c.args.i c.index.result.now c.self.invariant c.self.view_is
-    c.requires c.index.ensures c.set_next.ensures.links c.set_next.ensures.heads c.set_prev.ensures in
-    step.linked.apart
+returns-clause-apart c = (invariant_of-self c).apart
