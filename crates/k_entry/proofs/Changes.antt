@@ -29,17 +29,17 @@ put_there v w list i other p ne = ap (λ (u : ListsValue). members u other) p.is
 
 pub put_old : (v w : ListsValue) (list i other x : ℕ) → IsPut v w list i → is_in (members v other) x ≡ true → is_in (members w other) x ≡ true
 put_old v w list i other x p e = same_or_not other list (is_in (members w other) x ≡ true)
-  (λ same. subst (λ l. is_in (members w l) x ≡ true) (sym same) (ap (λ xs. is_in xs x) (put_here v w list i p) ∙ cons_in i x (members v list) (subst (λ l. is_in (members v l) x ≡ true) same e)))
-  (λ ne. ap (λ xs. is_in xs x) (put_there v w list i other p ne) ∙ e)
+    (λ same. subst (λ l. is_in (members w l) x ≡ true) (sym same) (ap (λ xs. is_in xs x) (put_here v w list i p) ∙ cons_in i x (members v list) (subst (λ l. is_in (members v l) x ≡ true) same e)))
+    (λ ne. ap (λ xs. is_in xs x) (put_there v w list i other p ne) ∙ e)
 
 pub put_new : (v w : ListsValue) (list i : ℕ) → IsPut v w list i → is_in (members w list) i ≡ true
 put_new v w list i p = ap (λ xs. is_in xs i) (put_here v w list i p) ∙ cons_here i (members v list)
 
 pub put_cases : (v w : ListsValue) (list i other x : ℕ) (P : Type 0) → IsPut v w list i → is_in (members w other) x ≡ true → (is_in (members v other) x ≡ true → P) → (other ≡ list → x ≡ i → P) → P
 put_cases v w list i other x P p e old new = same_or_not other list P
-  (λ same. same_or_not x i P (λ is. new same is)
+    (λ same. same_or_not x i P (λ is. new same is)
     (λ ne. old (subst (λ l. is_in (members v l) x ≡ true) (sym same) (in_cons i x (members v list) (sym (ap (λ xs. is_in xs x) (put_here v w list i p)) ∙ subst (λ l. is_in (members w l) x ≡ true) same e) (λ t. ne (sym t))))))
-  (λ ne. old (sym (ap (λ xs. is_in xs x) (put_there v w list i other p ne)) ∙ e))
+    (λ ne. old (sym (ap (λ xs. is_in xs x) (put_there v w list i other p ne)) ∙ e))
 
 pub put_size : (v w : ListsValue) (list i : ℕ) → IsPut v w list i → (length w.lists ≡ length v.lists) × (w.room ≡ v.room)
 put_size v w list i p = (ap (λ (u : ListsValue). length u.lists) p.is ∙ length-set v.lists list (i ∷ members v list), ap (λ (u : ListsValue). u.room) p.is)
@@ -57,13 +57,13 @@ out_there v w list i other p ne = ap (λ (u : ListsValue). members u other) p.is
 
 pub out_old : (v w : ListsValue) (list i other x : ℕ) → IsOut v w list i → is_in (members w other) x ≡ true → is_in (members v other) x ≡ true
 out_old v w list i other x p e = same_or_not other list (is_in (members v other) x ≡ true)
-  (λ same. subst (λ l. is_in (members v l) x ≡ true) (sym same) (without_in i x (members v list) (sym (ap (λ xs. is_in xs x) (out_here v w list i p)) ∙ subst (λ l. is_in (members w l) x ≡ true) same e)).1)
-  (λ ne. sym (ap (λ xs. is_in xs x) (out_there v w list i other p ne)) ∙ e)
+    (λ same. subst (λ l. is_in (members v l) x ≡ true) (sym same) (without_in i x (members v list) (sym (ap (λ xs. is_in xs x) (out_here v w list i p)) ∙ subst (λ l. is_in (members w l) x ≡ true) same e)).1)
+    (λ ne. sym (ap (λ xs. is_in xs x) (out_there v w list i other p ne)) ∙ e)
 
 pub out_other : (v w : ListsValue) (list i other x : ℕ) → IsOut v w list i → is_in (members v other) x ≡ true → (x ≢ i) → is_in (members w other) x ≡ true
 out_other v w list i other x p e off = same_or_not other list (is_in (members w other) x ≡ true)
-  (λ same. subst (λ l. is_in (members w l) x ≡ true) (sym same) (ap (λ xs. is_in xs x) (out_here v w list i p) ∙ in_without i x (members v list) (subst (λ l. is_in (members v l) x ≡ true) same e) (λ t. off (sym t))))
-  (λ ne. ap (λ xs. is_in xs x) (out_there v w list i other p ne) ∙ e)
+    (λ same. subst (λ l. is_in (members w l) x ≡ true) (sym same) (ap (λ xs. is_in xs x) (out_here v w list i p) ∙ in_without i x (members v list) (subst (λ l. is_in (members v l) x ≡ true) same e) (λ t. off (sym t))))
+    (λ ne. ap (λ xs. is_in xs x) (out_there v w list i other p ne) ∙ e)
 
 -- it is in that list no more
 pub out_gone : (v w : ListsValue) (list i : ℕ) → IsOut v w list i → is_in (members w list) i ≡ true → ⊥
@@ -72,8 +72,8 @@ out_gone v w list i p e = (without_in i i (members v list) (sym (ap (λ xs. is_i
 -- and in no other
 pub out_free : (v w : ListsValue) (list i : ℕ) → AreApart v → IsOut v w list i → is_in (members v list) i ≡ true → IsFree w i
 out_free v w list i apart p there = λ other. false_from_ne_true (is_in (members w other) i) (λ e.
-  let same : other ≡ list = in_one v other list i apart (out_old v w list i other i p e) there in
-  out_gone v w list i p (subst (λ l. is_in (members w l) i ≡ true) same e))
+    let same : other ≡ list = in_one v other list i apart (out_old v w list i other i p e) there in
+    out_gone v w list i p (subst (λ l. is_in (members w l) i ≡ true) same e))
 
 pub out_size : (v w : ListsValue) (list i : ℕ) → IsOut v w list i → (length w.lists ≡ length v.lists) × (w.room ≡ v.room)
 out_size v w list i p = (ap (λ (u : ListsValue). length u.lists) p.is ∙ length-set v.lists list (without i (members v list)), ap (λ (u : ListsValue). u.room) p.is)

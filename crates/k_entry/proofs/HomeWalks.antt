@@ -80,12 +80,12 @@ segments_of p h = homed p.homes h (members p.walks (walk_of (length p.homes) h))
 pub walk_is : (p : Parts) (h : Heap) → AreKept p → items_of (shown p) h ≡ map (row_at p.slots) (joined (members p.segments) (segments_of p h))
 walk_is p h k =
     filter_joined (is_at_home p.homes h) (row_at p.slots) (λ s. heap_eq (home_of p.homes s) h) (members p.segments) (order p)
-      (λ s j e there.
-        let w = in_concat p.walks.lists s e in
-        let below : s < length p.homes = omega (arith, in_below p.walks w.0 s k.walks_apart w.1, k.sizes.walks_room) in
-        ap (λ n. heap_eq (home_of p.homes n) h) (k.placed s j below there))
+    (λ s j e there.
+    let w = in_concat p.walks.lists s e in
+    let below : s < length p.homes = omega (arith, in_below p.walks w.0 s k.walks_apart w.1, k.sizes.walks_room) in
+    ap (λ n. heap_eq (home_of p.homes n) h) (k.placed s j below there))
     ∙ ap (λ xs. map (row_at p.slots) (joined (members p.segments) xs)) (filter_concat (λ s. heap_eq (home_of p.homes s) h) p.walks.lists (walk_of (length p.homes) h)
-      (λ a s ne e. false_from_ne_true (heap_eq (home_of p.homes s) h) (λ is. absurd (ne ((k.live a s e).0 ∙ ap (λ x. walk_of (length p.homes) x) (heap_is (home_of p.homes s) h is))))))
+    (λ a s ne e. false_from_ne_true (heap_eq (home_of p.homes s) h) (λ is. absurd (ne ((k.live a s e).0 ∙ ap (λ x. walk_of (length p.homes) x) (heap_is (home_of p.homes s) h is))))))
 
 in_filter : (q : ℕ → Bool) (xs : List ℕ) (s : ℕ) → is_in (filter q xs) s ≡ true → is_in xs s ≡ true
 in_filter q [] s e = e
@@ -150,30 +150,30 @@ after_is p t i k f w =
     let front = joined g (filter q w.seg.before) in
     let back = joined g (filter q w.seg.after) in
     let segs : filter q ws ≡ filter q w.seg.before ++ t.seg.0 ∷ filter q w.seg.after =
-        ap (λ xs. filter q xs) w.seg.whole ∙ filter-append q w.seg.before (t.seg.0 ∷ w.seg.after)
-        ∙ ap (λ b. filter q w.seg.before ++ cond b (t.seg.0 ∷ filter q w.seg.after) (filter q w.seg.after)) (heap_same h) in
+    ap (λ xs. filter q xs) w.seg.whole ∙ filter-append q w.seg.before (t.seg.0 ∷ w.seg.after)
+    ∙ ap (λ b. filter q w.seg.before ++ cond b (t.seg.0 ∷ filter q w.seg.after) (filter q w.seg.after)) (heap_same h) in
     let slots : joined g (filter q ws) ≡ (front ++ w.slot.before) ++ i ∷ (w.slot.after ++ back) =
-        ap (λ xs. joined g xs) segs ∙ joined_append g (filter q w.seg.before) (t.seg.0 ∷ filter q w.seg.after)
-        ∙ ap (λ xs. front ++ (xs ++ back)) w.slot.whole
-        ∙ ap (λ xs. front ++ xs) (append_assoc w.slot.before (i ∷ w.slot.after) back)
-        ∙ sym (append_assoc front w.slot.before (i ∷ (w.slot.after ++ back))) in
+    ap (λ xs. joined g xs) segs ∙ joined_append g (filter q w.seg.before) (t.seg.0 ∷ filter q w.seg.after)
+    ∙ ap (λ xs. front ++ (xs ++ back)) w.slot.whole
+    ∙ ap (λ xs. front ++ xs) (append_assoc w.slot.before (i ∷ w.slot.after) back)
+    ∙ sym (append_assoc front w.slot.before (i ∷ (w.slot.after ++ back))) in
     ap (λ xs. object_after xs t) (walk_is p h k) ∙ ap (λ xs. object_after (map (row_at p.slots) xs) t) slots
     ∙ after_append p.slots (front ++ w.slot.before) (w.slot.after ++ back) i t
-      (λ j e. false_from_ne_true (name_eq (at p.slots j).target t) (λ is.
-        or_cases (is_in front j) (is_in w.slot.before j) (sym (is_in_append front w.slot.before j) ∙ e) ⊥
-        (λ in_front.
-          let at = in_joined g (filter q w.seg.before) j in_front in
-          let listed : is_in w.seg.before at.list ≡ true = in_filter q w.seg.before at.list at.listed in
-          let on : is_in ws at.list ≡ true = ap (λ xs. is_in xs at.list) w.seg.whole ∙ is_in_append w.seg.before (t.seg.0 ∷ w.seg.after) at.list ∙ ap (λ b. b || is_in (t.seg.0 ∷ w.seg.after) at.list) listed in
-          let below : at.list < length p.homes = omega (arith, in_below p.walks (walk_of (length p.homes) h) at.list k.walks_apart on, k.sizes.walks_room) in
-          let same : j ≡ i = one_slot p.slots (used p) t i j (once_hit p t k) f.in_use f.hit (used_of p at.list j k below at.there) is in
-          let seg : at.list ≡ t.seg.0 = in_one p.segments at.list t.seg.0 i k.segments_apart (subst (λ n. is_in (g at.list) n ≡ true) same at.there) f.there in
-          off_members w.seg.before t.seg.0 at.list w.seg.absent listed seg)
-        (λ in_slots.
-          let there : is_in (g t.seg.0) j ≡ true = ap (λ xs. is_in xs j) w.slot.whole ∙ is_in_append w.slot.before (i ∷ w.slot.after) j ∙ ap (λ b. b || is_in (i ∷ w.slot.after) j) in_slots in
-          let same : j ≡ i = one_slot p.slots (used p) t i j (once_hit p t k) f.in_use f.hit (used_of p t.seg.0 j k f.homed there) is in
-          off_members w.slot.before i j w.slot.absent in_slots same)))
-      f.hit
+    (λ j e. false_from_ne_true (name_eq (at p.slots j).target t) (λ is.
+    or_cases (is_in front j) (is_in w.slot.before j) (sym (is_in_append front w.slot.before j) ∙ e) ⊥
+    (λ in_front.
+    let at = in_joined g (filter q w.seg.before) j in_front in
+    let listed : is_in w.seg.before at.list ≡ true = in_filter q w.seg.before at.list at.listed in
+    let on : is_in ws at.list ≡ true = ap (λ xs. is_in xs at.list) w.seg.whole ∙ is_in_append w.seg.before (t.seg.0 ∷ w.seg.after) at.list ∙ ap (λ b. b || is_in (t.seg.0 ∷ w.seg.after) at.list) listed in
+    let below : at.list < length p.homes = omega (arith, in_below p.walks (walk_of (length p.homes) h) at.list k.walks_apart on, k.sizes.walks_room) in
+    let same : j ≡ i = one_slot p.slots (used p) t i j (once_hit p t k) f.in_use f.hit (used_of p at.list j k below at.there) is in
+    let seg : at.list ≡ t.seg.0 = in_one p.segments at.list t.seg.0 i k.segments_apart (subst (λ n. is_in (g at.list) n ≡ true) same at.there) f.there in
+    off_members w.seg.before t.seg.0 at.list w.seg.absent listed seg)
+    (λ in_slots.
+    let there : is_in (g t.seg.0) j ≡ true = ap (λ xs. is_in xs j) w.slot.whole ∙ is_in_append w.slot.before (i ∷ w.slot.after) j ∙ ap (λ b. b || is_in (i ∷ w.slot.after) j) in_slots in
+    let same : j ≡ i = one_slot p.slots (used p) t i j (once_hit p t k) f.in_use f.hit (used_of p t.seg.0 j k f.homed there) is in
+    off_members w.slot.before i j w.slot.absent in_slots same)))
+    f.hit
 
 -- the next slot in the list of the segment
 pub next_slot : (p : Parts) (t : Name) (i j : ℕ) → AreKept p → IsFound p t i → ((place : ℕ) → slice_get (members p.segments t.seg.0) place ≡ Some i → Some j ≡ slice_get (members p.segments t.seg.0) (place + 1)) → object_after (items_of (shown p) (home_of p.homes t.seg.0)) t ≡ Some (object_at p.slots j)
@@ -195,11 +195,11 @@ next_segment p t i next k f last leads =
     let next_is : next ≡ slice_get w.seg.after 0 = leads (length w.seg.before) (ap (λ xs. slice_get xs (length w.seg.before)) w.seg.whole ∙ seam w.seg.before w.seg.after t.seg.0) ∙ ap (λ xs. slice_get xs (length w.seg.before + 1)) w.seg.whole ∙ seam_next w.seg.before w.seg.after t.seg.0 in
     let whole : members p.walks walk ≡ (w.seg.before ++ t.seg.0 ∷ []) ++ w.seg.after = w.seg.whole ∙ sym (shifted w.seg.before w.seg.after t.seg.0) in
     let rest : onward (members p.walks walk) next ≡ w.seg.after =
-        ap₂ (λ xs o. onward xs o) whole next_is ∙ onward_rest (w.seg.before ++ t.seg.0 ∷ []) w.seg.after (subst (λ xs. Once xs) whole (once_of p.walks walk k.walks_apart)) in
+    ap₂ (λ xs o. onward xs o) whole next_is ∙ onward_rest (w.seg.before ++ t.seg.0 ∷ []) w.seg.after (subst (λ xs. Once xs) whole (once_of p.walks walk k.walks_apart)) in
     after_is p t i k f w
     ∙ ap (λ xs. first_object (map (row_at p.slots) (xs ++ joined (members p.segments) (homed p.homes h w.seg.after)))) (by_rest w.slot.after none)
     ∙ first_is p (homed p.homes h w.seg.after) (live_segments p walk (λ s. heap_eq (home_of p.homes s) h) w.seg.after k (λ s e.
-        ap (λ xs. is_in xs s) w.seg.whole ∙ is_in_append w.seg.before (t.seg.0 ∷ w.seg.after) s ∙ or_right (is_in w.seg.before s) (is_in (t.seg.0 ∷ w.seg.after) s) (cons_in t.seg.0 s w.seg.after e)))
+    ap (λ xs. is_in xs s) w.seg.whole ∙ is_in_append w.seg.before (t.seg.0 ∷ w.seg.after) s ∙ or_right (is_in w.seg.before s) (is_in (t.seg.0 ∷ w.seg.after) s) (cons_in t.seg.0 s w.seg.after e)))
     ∙ sym (ap (λ xs. option_map (object_at p.slots) (first_slot p.segments (homed p.homes h xs))) rest)
   where
     w : IsOnWalk p t i

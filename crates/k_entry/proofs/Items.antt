@@ -77,8 +77,8 @@ once_hit p t k = omega (arith, hits_are (shown p).items t, k.distinct t)
 -- an object that no slot of its chain has is not counted
 pub none_hit : (p : Parts) (t : Name) → AreKept p → ((i : ℕ) → is_in (members p.chains (bucket p.room t)) i ≡ true → name_eq (at p.slots i).target t ≡ false) → total (hits t) (shown p).items ≡ 0
 none_hit p t k none = none_at p.slots (used p) t (λ j e.
-  let u = used_is p j k e in
-  false_from_ne_true (name_eq (at p.slots j).target t) (λ is.
+    let u = used_is p j k e in
+    false_from_ne_true (name_eq (at p.slots j).target t) (λ is.
     let chained : is_in (members p.chains (bucket p.room t)) j ≡ true = subst (λ (n : Name). is_in (members p.chains (bucket p.room n)) j ≡ true) (name_is (at p.slots j).target t is) (k.chained (at p.slots j).target.seg.0 j u.homed u.there) in
     let bad : true ≡ false = sym is ∙ none j chained in absurd (cc)))
 

@@ -51,15 +51,15 @@ used_less : (p : Parts) (v : ListsValue) (t : Name) (i : ℕ) (chains segments w
 used_less p v t i chains segments walks k m =
     let s = t.seg.0 in
     let out : IsWith i (joined (members v) (order p)) (used p) =
-        joined_with (members v) (members p.segments) (order p) s i (order_single p s i k m.found.homed m.found.there)
-        (λ x ne. out_there p.segments v s i x m.segment_out ne)
-        (out_with p.segments v s i k.segments_apart m.segment_out m.found.there) in
+    joined_with (members v) (members p.segments) (order p) s i (order_single p s i k m.found.homed m.found.there)
+    (λ x ne. out_there p.segments v s i x m.segment_out ne)
+    (out_with p.segments v s i k.segments_apart m.segment_out m.found.there) in
     let empty : joined (members v) (order p) ≡ joined (members v) (concat walks.lists) = m.walk_left.same (members v) refl in
     let free : joined (members v) (concat walks.lists) ≡ joined (members segments) (concat walks.lists) =
-        joined_same (members v) (members segments) (concat walks.lists) (λ x e.
-          let w = in_concat walks.lists x e in
-          let below = order_below p x k (concat_in p.walks.lists w.0 x (m.walk_left.old w.0 x w.1)) in
-          sym (put_there v segments (length p.homes) i x m.freed (λ same. omega (arith, below, same)))) in
+    joined_same (members v) (members segments) (concat walks.lists) (λ x e.
+    let w = in_concat walks.lists x e in
+    let below = order_below p x k (concat_in p.walks.lists w.0 x (m.walk_left.old w.0 x w.1)) in
+    sym (put_there v segments (length p.homes) i x m.freed (λ same. omega (arith, below, same)))) in
     subst (λ ys. IsWith i ys (used p)) (empty ∙ free) out
 
 pub items_less : (p : Parts) (v : ListsValue) (t : Name) (i : ℕ) (chains segments walks : ListsValue) → AreKept p → IsLess p v t i chains segments walks → IsWith (row_at p.slots i) (shown (moved p p.slots chains segments walks)).items (shown p).items
@@ -85,8 +85,13 @@ pub kept_less : (p : Parts) (v : ListsValue) (t : Name) (i : ℕ) (chains segmen
 kept_less p v t i chains segments walks k m =
     record {
       distinct = λ n.
-          omega (arith, k.distinct n, hits_are (shown p).items n, hits_are (shown (moved p p.slots chains segments walks)).items n,
-          with_total (hits n) (row_at p.slots i) (shown (moved p p.slots chains segments walks)).items (shown p).items (items_less p v t i chains segments walks k m));
+          omega (
+            arith,
+            k.distinct n,
+            hits_are (shown p).items n,
+            hits_are (shown (moved p p.slots chains segments walks)).items n,
+            with_total (hits n) (row_at p.slots i) (shown (moved p p.slots chains segments walks)).items (shown p).items (items_less p v t i chains segments walks k m),
+          );
       sizes = sizes_less p v t i chains segments walks k m;
       segments_apart = m.segments_apart;
       walks_apart = m.walks_apart;
@@ -104,26 +109,32 @@ kept_less p v t i chains segments walks k m =
             own = l.own;
             homed = l.homed;
             there = still p v t i chains segments walks (at p.slots j).target.seg.0 j m l.there (λ same.
-              let chain : b ≡ bucket p.room t = l.own ∙ ap (λ n. bucket p.room (at p.slots n).target) same ∙ ap (λ (n : Name). bucket p.room n) m.found.target in
-              out_gone p.chains chains (bucket p.room t) i m.chain_out (subst (λ c. is_in (members chains c) i ≡ true) chain (subst (λ n. is_in (members chains b) n ≡ true) same e)));
+                let chain : b ≡ bucket p.room t = l.own ∙ ap (λ n. bucket p.room (at p.slots n).target) same ∙ ap (λ (n : Name). bucket p.room n) m.found.target in
+                out_gone p.chains chains (bucket p.room t) i m.chain_out (subst (λ c. is_in (members chains c) i ≡ true) chain (subst (λ n. is_in (members chains b) n ≡ true) same e)));
           };
       walked = λ s j within e. same_or_not s t.seg.0 (is_in (members walks (walk_of (length p.homes) (home_of p.homes s))) s ≡ true)
           (λ same. subst (λ l. is_in (members walks (walk_of (length p.homes) (home_of p.homes l))) l ≡ true) (sym same)
-            (m.walk_left.stays j (subst (λ l. is_in (members v l) j ≡ true) same (was_in p v t i chains segments walks s j m within e))))
+          (m.walk_left.stays j (subst (λ l. is_in (members v l) j ≡ true) same (was_in p v t i chains segments walks s j m within e))))
           (λ ne. m.walk_left.others (walk_of (length p.homes) (home_of p.homes s)) s (k.walked s j within (was p v t i chains segments walks s j m within e)) ne);
       live = λ a s e.
           let l = k.live a s (m.walk_left.old a s e) in
           let below : s < length p.homes = omega (arith, in_below p.walks a s k.walks_apart (m.walk_left.old a s e), k.sizes.walks_room) in
-          let list : members segments s ≡ members v s = put_there v segments (length p.homes) i s m.freed (λ same. omega (arith, below, same)) in
-          (l.0, same_or_not s t.seg.0 (0 < length (members segments s))
-            (λ same.
-              let some : 0 < length (members v t.seg.0) = m.walk_left.some a (subst (λ x. is_in (members walks a) x ≡ true) same e) in
-              omega (arith, some, ap (λ xs. length xs) list, ap (λ x. length (members v x)) same))
-            (λ ne. omega (arith, l.1, ap (λ xs. length xs) list, ap (λ xs. length xs) (out_there p.segments v t.seg.0 i s m.segment_out ne))));
+          let list : members segments s ≡ members v s = put_there v segments (length p.homes) i s m.freed (λ same. omega (arith, below, same)) in (
+            l.0,
+            same_or_not s t.seg.0 (0 < length (members segments s))
+                (λ same.
+                let some : 0 < length (members v t.seg.0) = m.walk_left.some a (subst (λ x. is_in (members walks a) x ≡ true) same e) in
+                omega (arith, some, ap (λ xs. length xs) list, ap (λ x. length (members v x)) same))
+                (λ ne. omega (arith, l.1, ap (λ xs. length xs) list, ap (λ xs. length xs) (out_there p.segments v t.seg.0 i s m.segment_out ne))),
+          );
       full =
-          omega (arith, k.full, with_length i (used (moved p p.slots chains segments walks)) (used p) (used_less p v t i chains segments walks k m),
-          ap (λ xs. length xs) (put_here v segments (length p.homes) i m.freed),
-          ap (λ xs. length xs) (out_there p.segments v t.seg.0 i (length p.homes) m.segment_out (λ same. omega (arith, m.found.homed, same))));
+          omega (
+            arith,
+            k.full,
+            with_length i (used (moved p p.slots chains segments walks)) (used p) (used_less p v t i chains segments walks k m),
+            ap (λ xs. length xs) (put_here v segments (length p.homes) i m.freed),
+            ap (λ xs. length xs) (out_there p.segments v t.seg.0 i (length p.homes) m.segment_out (λ same. omega (arith, m.found.homed, same))),
+          );
     }
 
 pub has_less : (p : Parts) (v : ListsValue) (t : Name) (i : ℕ) (chains segments walks : ListsValue) → AreKept p → IsLess p v t i chains segments walks → (at p.slots i).count ≡ 1 → HasLess (shown p) (shown (moved p p.slots chains segments walks)) t

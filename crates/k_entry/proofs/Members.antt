@@ -49,6 +49,7 @@ seam_next before rest i = rw (one_more (length before)) (by_place before)
   where
     one_more : (n : ℕ) → n + 1 ≡ suc n
     one_more n = omega arith
+
     by_place : (before : List ℕ) → slice_get (before ++ i ∷ rest) (suc (length before)) ≡ slice_get rest 0
     by_place [] = refl
     by_place (x ∷ before) = by_place before
@@ -191,9 +192,9 @@ without_split x (y ∷ before) after a b =
 pub once_after : (before after : List ℕ) (i : ℕ) → Once (before ++ i ∷ after) → is_in after i ≡ false
 once_after before after i once =
     false_from_ne_true (is_in after i) (λ e.
-      let p = place_of after i e in
-      let k : length before ≡ length before + suc p.0 = once (length before) (length before + suc p.0) i (seam before after i) (later before p.0 p.1) in
-      absurd (omega arith))
+    let p = place_of after i e in
+    let k : length before ≡ length before + suc p.0 = once (length before) (length before + suc p.0) i (seam before after i) (later before p.0 p.1) in
+    absurd (omega arith))
   where
     later : (before : List ℕ) (k : ℕ) → slice_get after k ≡ Some i → slice_get (before ++ i ∷ after) (length before + suc k) ≡ Some i
     later [] k e = subst (λ n. slice_get (i ∷ after) n ≡ Some i) (by_zero k) e

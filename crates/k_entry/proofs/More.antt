@@ -51,8 +51,8 @@ used_more p v t i slots chains segments walks k m =
     let empty : joined (members v) (concat walks.lists) ≡ joined (members v) (order p) = m.walk_in.same (members v) refl in
     subst (λ ys. IsWith i ys (used (moved p slots chains segments walks))) (empty ∙ old)
     (joined_with (members v) (members segments) (concat walks.lists) s i m.walk_in.single
-      (λ x ne. sym (put_there v segments s i x m.segment_put ne))
-      (subst (λ ys. IsWith i (members v s) ys) (sym (put_here v segments s i m.segment_put)) (with_front i (members v s))))
+    (λ x ne. sym (put_there v segments s i x m.segment_put ne))
+    (subst (λ ys. IsWith i (members v s) ys) (sym (put_here v segments s i m.segment_put)) (with_front i (members v s))))
 
 -- what stays of another slot
 stays : (p : Parts) (v : ListsValue) (t : Name) (i : ℕ) (slots : List Item) (s j : ℕ) → AreKept p → GivesSlot p.slots slots p.segments v (length p.homes) i (fresh t) → s < length p.homes → is_in (members p.segments s) j ≡ true → at slots j ≡ at p.slots j
@@ -62,8 +62,8 @@ pub items_more : (p : Parts) (v : ListsValue) (t : Name) (i : ℕ) (slots : List
 items_more p v t i slots chains segments walks k m =
     let q = moved p slots chains segments walks in
     let rows : map (row_at slots) (used p) ≡ map (row_at p.slots) (used p) = map_same (row_at slots) (row_at p.slots) (used p) (λ j e.
-        let u = used_is p j k e in
-        ap (λ (x : Item). record { object = x.target; count = x.count }) (stays p v t i slots (at p.slots j).target.seg.0 j k m.given u.homed u.there)) in
+    let u = used_is p j k e in
+    ap (λ (x : Item). record { object = x.target; count = x.count }) (stays p v t i slots (at p.slots j).target.seg.0 j k m.given u.homed u.there)) in
     let here : row_at slots i ≡ record { object = t; count = 1 } = ap (λ (x : Item). record { object = x.target; count = x.count }) m.given.here in
     subst (λ (c : Counted). IsWith c (map (row_at p.slots) (used p)) (map (row_at slots) (used q))) here
     (subst (λ (cs : List Counted). IsWith (row_at slots i) cs (map (row_at slots) (used q))) rows
@@ -112,8 +112,8 @@ kept_more p v t i slots chains segments walks k m =
       walks_apart = m.walks_apart;
       below = λ s j e. put_cases v segments t.seg.0 i s j (j < length slots) m.segment_put e
           (λ in_v. same_or_not s (length p.homes) (j < length slots)
-            (λ free. omega (arith, m.given.grows, k.below (length p.homes) j (m.given.rest j (subst (λ l. is_in (members v l) j ≡ true) free in_v))))
-            (λ ne. omega (arith, m.given.grows, k.below s j (sym (ap (λ xs. is_in xs j) (m.given.same s ne)) ∙ in_v))))
+          (λ free. omega (arith, m.given.grows, k.below (length p.homes) j (m.given.rest j (subst (λ l. is_in (members v l) j ≡ true) free in_v))))
+          (λ ne. omega (arith, m.given.grows, k.below s j (sym (ap (λ xs. is_in xs j) (m.given.same s ne)) ∙ in_v))))
           (λ list is. subst (λ n. n < length slots) (sym is) m.given.within);
       positive = λ s j within e. in_segments p v t i slots chains segments walks s j (0 < (at slots j).count) m within e
           (λ old. subst (λ (x : Item). 0 < x.count) (sym (stays p v t i slots s j k m.given within old)) (k.positive s j within old))
@@ -123,18 +123,18 @@ kept_more p v t i slots chains segments walks k m =
           (λ list is. ap (λ n. (at slots n).target.seg.0) is ∙ ap (λ (x : Item). x.target.seg.0) m.given.here ∙ sym list);
       chained = λ s j within e. in_segments p v t i slots chains segments walks s j (is_in (members chains (bucket p.room (at slots j).target)) j ≡ true) m within e
           (λ old. subst (λ (x : Item). is_in (members chains (bucket p.room x.target)) j ≡ true) (sym (stays p v t i slots s j k m.given within old))
-            (put_old p.chains chains (bucket p.room t) i (bucket p.room (at p.slots j).target) j m.chain_put (k.chained s j within old)))
+          (put_old p.chains chains (bucket p.room t) i (bucket p.room (at p.slots j).target) j m.chain_put (k.chained s j within old)))
           (λ list is. subst (λ n. is_in (members chains (bucket p.room (at slots n).target)) n ≡ true) (sym is)
-            (subst (λ (x : Item). is_in (members chains (bucket p.room x.target)) i ≡ true) (sym m.given.here) (put_new p.chains chains (bucket p.room t) i m.chain_put)));
+          (subst (λ (x : Item). is_in (members chains (bucket p.room x.target)) i ≡ true) (sym m.given.here) (put_new p.chains chains (bucket p.room t) i m.chain_put)));
       listed = λ b j e. put_cases p.chains chains (bucket p.room t) i b j (IsListed (moved p slots chains segments walks) b j) m.chain_put e
           (λ old.
-            let l = k.listed b j old in
-            let same = stays p v t i slots (at p.slots j).target.seg.0 j k m.given l.homed l.there in
-            record {
-              own = l.own ∙ sym (ap (λ (x : Item). bucket p.room x.target) same);
-              homed = subst (λ (x : Item). x.target.seg.0 < length p.homes) (sym same) l.homed;
-              there = subst (λ (x : Item). is_in (members segments x.target.seg.0) j ≡ true) (sym same) (to_segments p v t i slots chains segments walks (at p.slots j).target.seg.0 j m l.homed l.there);
-            })
+          let l = k.listed b j old in
+          let same = stays p v t i slots (at p.slots j).target.seg.0 j k m.given l.homed l.there in
+          record {
+            own = l.own ∙ sym (ap (λ (x : Item). bucket p.room x.target) same);
+            homed = subst (λ (x : Item). x.target.seg.0 < length p.homes) (sym same) l.homed;
+            there = subst (λ (x : Item). is_in (members segments x.target.seg.0) j ≡ true) (sym same) (to_segments p v t i slots chains segments walks (at p.slots j).target.seg.0 j m l.homed l.there);
+          })
           (λ list is. subst (λ n. IsListed (moved p slots chains segments walks) b n) (sym is) (record {
             own = list ∙ sym (ap (λ (x : Item). bucket p.room x.target) m.given.here);
             homed = subst (λ (x : Item). x.target.seg.0 < length p.homes) (sym m.given.here) m.homed;
@@ -144,15 +144,22 @@ kept_more p v t i slots chains segments walks k m =
           (λ old. m.walk_in.old (walk_of (length p.homes) (home_of p.homes s)) s (k.walked s j within old))
           (λ list is. subst (λ l. is_in (members walks (walk_of (length p.homes) (home_of p.homes l))) l ≡ true) (sym list) m.walk_in.there);
       live = λ a s e. same_or_not s t.seg.0 ((a ≡ walk_of (length p.homes) (home_of p.homes s)) × (0 < length (members segments s)))
-          (λ same. (m.walk_in.only a (subst (λ l. is_in (members walks a) l ≡ true) same e) ∙ ap (λ l. walk_of (length p.homes) (home_of p.homes l)) (sym same),
-            subst (λ l. 0 < length (members segments l)) (sym same) (omega (arith, ap (λ xs. length xs) (put_here v segments t.seg.0 i m.segment_put)))))
+          (λ same. (
+            m.walk_in.only a (subst (λ l. is_in (members walks a) l ≡ true) same e) ∙ ap (λ l. walk_of (length p.homes) (home_of p.homes l)) (sym same),
+            subst (λ l. 0 < length (members segments l)) (sym same) (omega (arith, ap (λ xs. length xs) (put_here v segments t.seg.0 i m.segment_put))),
+          ))
           (λ ne.
-            let was = k.live a s (m.walk_in.others a s e ne) in
-            let below = on_walk s a (m.walk_in.others a s e ne) in
-            (was.0, omega (arith, was.1, ap (λ xs. length xs) (put_there v segments t.seg.0 i s m.segment_put ne), ap (λ xs. length xs) (m.given.same s (λ same. omega (arith, below, same))))));
+          let was = k.live a s (m.walk_in.others a s e ne) in
+          let below = on_walk s a (m.walk_in.others a s e ne) in
+          (was.0, omega (arith, was.1, ap (λ xs. length xs) (put_there v segments t.seg.0 i s m.segment_put ne), ap (λ xs. length xs) (m.given.same s (λ same. omega (arith, below, same))))));
       full =
-          omega (arith, k.full, m.given.count, with_length i (used p) (used (moved p slots chains segments walks)) (used_more p v t i slots chains segments walks k m),
-          ap (λ xs. length xs) (put_there v segments t.seg.0 i (length p.homes) m.segment_put (λ same. omega (arith, m.homed, same))));
+          omega (
+            arith,
+            k.full,
+            m.given.count,
+            with_length i (used p) (used (moved p slots chains segments walks)) (used_more p v t i slots chains segments walks k m),
+            ap (λ xs. length xs) (put_there v segments t.seg.0 i (length p.homes) m.segment_put (λ same. omega (arith, m.homed, same))),
+          );
     }
   where
     on_walk : (s a : ℕ) → is_in (members p.walks a) s ≡ true → s < length p.homes
@@ -182,8 +189,8 @@ more_by p v t i free chain walk slots chains segments walks k homed room none fr
       segment_put = record { within = omega (arith, homed, g.size, k.sizes.segments); is = put_segment };
       walk_in = subst (λ w. IsEntered p.walks walks w t.seg.0 (members v t.seg.0)) walk_is
           (entered_of p.walks walks walk t.seg.0 (members v t.seg.0) (omega (arith, walk_in, k.sizes.walks)) k.walks_apart put_walk
-            (λ empty a. false_from_ne_true (is_in (members p.walks a) t.seg.0) (λ e. absurd (omega (arith, (k.live a t.seg.0 e).1, ap (λ xs. length xs) same, ap (λ xs. length xs) empty))))
-            (λ j e. subst (λ w. is_in (members p.walks w) t.seg.0 ≡ true) (sym walk_is) (k.walked t.seg.0 j homed (sym (ap (λ xs. is_in xs j) same) ∙ e))));
+          (λ empty a. false_from_ne_true (is_in (members p.walks a) t.seg.0) (λ e. absurd (omega (arith, (k.live a t.seg.0 e).1, ap (λ xs. length xs) same, ap (λ xs. length xs) empty))))
+          (λ j e. subst (λ w. is_in (members p.walks w) t.seg.0 ≡ true) (sym walk_is) (k.walked t.seg.0 j homed (sym (ap (λ xs. is_in xs j) same) ∙ e))));
       segments_apart = segments_apart;
       walks_apart = walks_apart;
       homed = homed;

@@ -39,8 +39,8 @@ recount_there slots after i n j r ne = ap (λ xs. at xs j) r.is ∙ get_or-set_o
 
 targets : (slots after : List Item) (i n j : ℕ) → IsRecount slots after i n → (at after j).target ≡ (at slots j).target
 targets slots after i n j r = same_or_not j i ((at after j).target ≡ (at slots j).target)
-  (λ same. subst (λ x. (at after x).target ≡ (at slots x).target) (sym same) (ap (λ (x : Item). x.target) (recount_here slots after i n r)))
-  (λ ne. ap (λ (x : Item). x.target) (recount_there slots after i n j r ne))
+    (λ same. subst (λ x. (at after x).target ≡ (at slots x).target) (sym same) (ap (λ (x : Item). x.target) (recount_here slots after i n r)))
+    (λ ne. ap (λ (x : Item). x.target) (recount_there slots after i n j r ne))
 
 hits_same : (slots after : List Item) (i n : ℕ) (xs : List ℕ) (t : Name) → IsRecount slots after i n → total (hits t) (map (row_at after) xs) ≡ total (hits t) (map (row_at slots) xs)
 hits_same slots after i n [] t r = refl
@@ -97,7 +97,7 @@ items_recount p t after i n f r =
     let front : map (row_at after) s.before ≡ map (row_at p.slots) s.before = map_same (row_at after) (row_at p.slots) s.before (λ j e. ap row_of (recount_there p.slots after i n j r (off_members s.before i j s.absent e))) in
     let back : map (row_at after) s.after ≡ map (row_at p.slots) s.after = map_same (row_at after) (row_at p.slots) s.after (λ j e. ap row_of (recount_there p.slots after i n j r (off_members s.after i j s.gone e))) in
     let rest : map (row_at after) (s.before ++ s.after) ≡ map (row_at p.slots) (s.before ++ s.after) =
-        map-append (row_at after) s.before s.after ∙ ap₂ (λ xs ys. xs ++ ys) front back ∙ sym (map-append (row_at p.slots) s.before s.after) in
+    map-append (row_at after) s.before s.after ∙ ap₂ (λ xs ys. xs ++ ys) front back ∙ sym (map-append (row_at p.slots) s.before s.after) in
     record {
       rest = map (row_at p.slots) (s.before ++ s.after);
       was = with_map (row_at p.slots) i (s.before ++ s.after) (used p) w;

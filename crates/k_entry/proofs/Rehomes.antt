@@ -70,8 +70,8 @@ rehomed_full p v walks s to k within some there out put apart =
       others = λ a x e ne. put_old v walks into s a x put (out_other p.walks v from s a x out e ne);
       only = λ a e. put_cases v walks into s a s ((a ≡ into) × (0 < length (members p.segments s))) put e
           (λ in_v.
-            let same : a ≡ from = in_one p.walks a from s k.walks_apart (out_old p.walks v from s a s out in_v) there in
-            absurd (out_gone p.walks v from s out (subst (λ l. is_in (members v l) s ≡ true) same in_v)))
+          let same : a ≡ from = in_one p.walks a from s k.walks_apart (out_old p.walks v from s a s out in_v) there in
+          absurd (out_gone p.walks v from s out (subst (λ l. is_in (members v l) s ≡ true) same in_v)))
           (λ list same. (list, some));
       permuted =
           IsPermutation-trans (used p) (members p.segments s ++ joined (members p.segments) (concat v.lists)) (joined (members p.segments) (concat walks.lists)) was
@@ -95,7 +95,7 @@ kept_rehomed p walks s to k r =
     record {
       distinct = λ t.
           let same : total (hits t) (shown q).items ≡ total (hits t) (shown p).items =
-              total_is (hits t) (shown q).items ∙ sum_by-IsPermutation (hits t) (shown p).items (shown q).items (items_rehomed p walks s to r) ∙ sym (total_is (hits t) (shown p).items) in
+          total_is (hits t) (shown q).items ∙ sum_by-IsPermutation (hits t) (shown p).items (shown q).items (items_rehomed p walks s to r) ∙ sym (total_is (hits t) (shown p).items) in
           omega (arith, same, k.distinct t, hits_are (shown p).items t, hits_are (shown q).items t);
       sizes = record {
         chains = k.sizes.chains;
@@ -116,13 +116,13 @@ kept_rehomed p walks s to k r =
       listed = λ b j e. let l = k.listed b j e in record { own = l.own; homed = omega (arith, len, l.homed); there = l.there };
       walked = λ x j within e. same_or_not x s (is_in (members walks (walk_of (length (set p.homes s to)) (home_of (set p.homes s to) x))) x ≡ true)
           (λ same. subst (λ y. is_in (members walks (walk_of (length (set p.homes s to)) (home_of (set p.homes s to) y))) y ≡ true) (sym same)
-            (subst (λ w. is_in (members walks w) s ≡ true) (sym (ap₂ (λ n h. walk_of n h) len (home_here p s to r.within))) (r.on j (subst (λ y. is_in (members p.segments y) j ≡ true) same e))))
+          (subst (λ w. is_in (members walks w) s ≡ true) (sym (ap₂ (λ n h. walk_of n h) len (home_here p s to r.within))) (r.on j (subst (λ y. is_in (members p.segments y) j ≡ true) same e))))
           (λ ne. subst (λ w. is_in (members walks w) x ≡ true) (sym (ap₂ (λ n h. walk_of n h) len (home_there p s x to ne)))
-            (r.others (walk_of (length p.homes) (home_of p.homes x)) x (k.walked x j (omega (arith, len, within)) e) ne));
+          (r.others (walk_of (length p.homes) (home_of p.homes x)) x (k.walked x j (omega (arith, len, within)) e) ne));
       live = λ a x e. same_or_not x s ((a ≡ walk_of (length (set p.homes s to)) (home_of (set p.homes s to) x)) × (0 < length (members p.segments x)))
           (λ same.
-            let at = r.only a (subst (λ y. is_in (members walks a) y ≡ true) same e) in
-            (at.0 ∙ sym (ap₂ (λ n h. walk_of n h) len (ap (λ y. home_of (set p.homes s to) y) same ∙ home_here p s to r.within)), subst (λ y. 0 < length (members p.segments y)) (sym same) at.1))
+          let at = r.only a (subst (λ y. is_in (members walks a) y ≡ true) same e) in
+          (at.0 ∙ sym (ap₂ (λ n h. walk_of n h) len (ap (λ y. home_of (set p.homes s to) y) same ∙ home_here p s to r.within)), subst (λ y. 0 < length (members p.segments y)) (sym same) at.1))
           (λ ne. let at = k.live a x (r.old a x e ne) in (at.0 ∙ sym (ap₂ (λ n h. walk_of n h) len (home_there p s x to ne)), at.1));
       full =
           omega (arith, k.full, length_permutation (used p) (joined (members p.segments) (concat walks.lists)) r.permuted, ap (λ n. length (members p.segments n)) len);

@@ -70,7 +70,12 @@ impl EntryTable {
         ensures count { result ≡ counted self.now.items target }
         ensures entries { AreEntries self.now }
     {
-        match find(&self.slots, &self.chains, chain_of(target, self.room), target) {
+        match find(
+            &self.slots,
+            &self.chains,
+            chain_of(target, self.room),
+            target,
+        ) {
             Some(i) => self.slots[i as usize].count,
             None => 0,
         }
@@ -139,7 +144,12 @@ impl EntryTable {
         requires { 0 < counted self.now.items target }
         ensures { option_map name_of result ≡ object_after (items_of self.now (home_of self.now.homes target.seg.0)) target }
     {
-        let Some(i) = find(&self.slots, &self.chains, chain_of(target, self.room), target) else {
+        let Some(i) = find(
+            &self.slots,
+            &self.chains,
+            chain_of(target, self.room),
+            target,
+        ) else {
             unreachable!()
         };
         if let Some(j) = self.segments.next(i) {

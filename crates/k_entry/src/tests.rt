@@ -39,3 +39,28 @@ fn an_item_goes_when_its_count_is_zero(rt: HostRuntime) -> Result<(), Fail> {
     assert!(rt; table.first_of(user).is_none());
     Ok(())
 }
+
+// A walk goes on to each segment of its home, also to one that came to it later, and passes by a segment of
+// another heap that has the same walk number.
+#[test]
+fn a_walk_goes_through_each_segment_of_its_home(rt: HostRuntime) -> Result<(), Fail> {
+    let user = Heap::User(Pid(0));
+    let homes = vec![in rt.alloc(); Heap::User(Pid(4)), user, Heap::Kernel]?;
+    let mut table = EntryTable::make(rt.alloc(), &homes, 4)?;
+    table.up(link(1, 7));
+    table.up(link(0, 5));
+    table.up(link(2, 9));
+    table.rehome(Seg(2), user);
+    let mut serials = [0, 0, 0];
+    let mut next = table.first_of(user);
+    for i in 0..3 {
+        if let Some(at) = next {
+            serials[i] = at.serial.0;
+            assert!(rt; table.count(at.name()) == 1);
+            next = table.next(at.name());
+        }
+    }
+    assert!(rt; next.is_none());
+    assert!(rt; serials == [9, 7, 0] || serials == [7, 9, 0]);
+    Ok(())
+}

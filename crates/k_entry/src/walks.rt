@@ -89,7 +89,13 @@ pub(crate) fn change_walk(segments: &Lists, walks: &mut Lists, from: usize, into
 }
 
 /// The first slot of the first segment of that home, from one place of its walk on.
-pub(crate) fn first_from(segments: &Lists, walks: &Lists, homes: &[Heap], heap: Heap, from: Option<u32>) -> Option<u32>
+pub(crate) fn first_from(
+    segments: &Lists,
+    walks: &Lists,
+    homes: &[Heap],
+    heap: Heap,
+    from: Option<u32>,
+) -> Option<u32>
     requires from { IfSome from (λ seg. IsTrue (is_in (members walks.now (walk_of (length homes.now) heap)) seg)) }
     requires homes { length homes.now ≡ walks.now.room }
     requires lists { length homes.now < length segments.now.lists }

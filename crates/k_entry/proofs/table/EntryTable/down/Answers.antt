@@ -61,7 +61,7 @@ invariant_of-self c =
     let free : c.len-then-item-eq1.result ≡ length c.self.inside.homes.items = omega (arith, c.len-then-item-eq1.ensures, c.self.inside.homes.ok.0) in
     let walk = walk_read c.self.inside.homes.items c.args.target.seg.0 c.len.result c.walk_number-walk.result c.index.result.now f.homed c.index.ensures len c.walk_number-walk.ensures.value in
     let m = less_by p c.take_out.new.segments c.args.target c.in-Some.i c.len-then-item-eq1.result c.chain_of-chain.result c.walk_number-walk.result c.remove.new.self c.push_front.new.self c.take_out.new.walks c.self.invariant.kept f free c.chain_of-chain.ensures.value walk
-          c.remove.ensures.removed c.take_out.ensures.segments c.take_out.ensures.walks c.push_front.ensures.pushed c.push_front.ensures.apart c.take_out.ensures.walks_apart in
+    c.remove.ensures.removed c.take_out.ensures.segments c.take_out.ensures.walks c.push_front.ensures.pushed c.push_front.ensures.apart c.take_out.ensures.walks_apart in
     record {
       reserved = c.self.invariant.reserved;
       kept = kept_less p c.take_out.new.segments c.args.target c.in-Some.i c.remove.new.self c.push_front.new.self c.take_out.new.walks c.self.invariant.kept m;
@@ -76,7 +76,7 @@ returns-then-item-eq1 c =
     let free : c.len-then-item-eq1.result ≡ length c.self.inside.homes.items = omega (arith, c.len-then-item-eq1.ensures, c.self.inside.homes.ok.0) in
     let walk = walk_read c.self.inside.homes.items c.args.target.seg.0 c.len.result c.walk_number-walk.result c.index.result.now f.homed c.index.ensures len c.walk_number-walk.ensures.value in
     let m = less_by p c.take_out.new.segments c.args.target c.in-Some.i c.len-then-item-eq1.result c.chain_of-chain.result c.walk_number-walk.result c.remove.new.self c.push_front.new.self c.take_out.new.walks c.self.invariant.kept f free c.chain_of-chain.ensures.value walk
-          c.remove.ensures.removed c.take_out.ensures.segments c.take_out.ensures.walks c.push_front.ensures.pushed c.push_front.ensures.apart c.take_out.ensures.walks_apart in
+    c.remove.ensures.removed c.take_out.ensures.segments c.take_out.ensures.walks c.push_front.ensures.pushed c.push_front.ensures.apart c.take_out.ensures.walks_apart in
     let new : Parts = moved p c.self.inside.slots.items c.remove.new.self c.push_front.new.self c.take_out.new.walks in
     subst (λ (v : EntryValue). HasLess v (shown new) c.args.target) c.self.view_is
     (has_less p c.take_out.new.segments c.args.target c.in-Some.i c.remove.new.self c.push_front.new.self c.take_out.new.walks c.self.invariant.kept m (sym read ∙ c.if-item-eq1.true))

@@ -91,8 +91,8 @@ invariant_of-self-in-None c =
     let len : c.len.result ≡ length c.self.inside.homes.items = omega (arith, c.len.ensures, c.self.inside.homes.ok.0) in
     let walk = walk_read c.self.inside.homes.items c.name-name.result.seg.0 c.len.result c.walk_number-walk.result c.index.result.now homed c.index.ensures len c.walk_number-walk.ensures.value in
     let m = more_by p c.take_slot-i.new.segments c.name-name.result c.take_slot-i.result c.len-in-None.result c.chain_of-chain.result c.walk_number-walk.result c.take_slot-i.new.slots.items c.push_front.new.self c.put_in.new.segments c.put_in.new.walks
-          c.self.invariant.kept homed room none free c.chain_of-chain.ensures.value c.chain_of-chain.ensures.within walk (omega (arith, c.walk_number-walk.ensures.within, len)) c.take_slot-i.ensures.given
-          c.push_front.ensures.pushed c.put_in.ensures.segments c.put_in.ensures.walks c.put_in.ensures.segments_apart c.put_in.ensures.walks_apart in
+    c.self.invariant.kept homed room none free c.chain_of-chain.ensures.value c.chain_of-chain.ensures.within walk (omega (arith, c.walk_number-walk.ensures.within, len)) c.take_slot-i.ensures.given
+    c.push_front.ensures.pushed c.put_in.ensures.segments c.put_in.ensures.walks c.put_in.ensures.segments_apart c.put_in.ensures.walks_apart in
     record {
       reserved = omega (arith, c.take_slot-i.ensures.capacity, c.self.invariant.reserved);
       kept = kept_more p c.take_slot-i.new.segments c.name-name.result c.take_slot-i.result c.take_slot-i.new.slots.items c.push_front.new.self c.put_in.new.segments c.put_in.new.walks c.self.invariant.kept m;
@@ -108,8 +108,8 @@ returns-in-None c =
     let len : c.len.result ≡ length c.self.inside.homes.items = omega (arith, c.len.ensures, c.self.inside.homes.ok.0) in
     let walk = walk_read c.self.inside.homes.items c.name-name.result.seg.0 c.len.result c.walk_number-walk.result c.index.result.now homed c.index.ensures len c.walk_number-walk.ensures.value in
     let m = more_by p c.take_slot-i.new.segments c.name-name.result c.take_slot-i.result c.len-in-None.result c.chain_of-chain.result c.walk_number-walk.result c.take_slot-i.new.slots.items c.push_front.new.self c.put_in.new.segments c.put_in.new.walks
-          c.self.invariant.kept homed room none free c.chain_of-chain.ensures.value c.chain_of-chain.ensures.within walk (omega (arith, c.walk_number-walk.ensures.within, len)) c.take_slot-i.ensures.given
-          c.push_front.ensures.pushed c.put_in.ensures.segments c.put_in.ensures.walks c.put_in.ensures.segments_apart c.put_in.ensures.walks_apart in
+    c.self.invariant.kept homed room none free c.chain_of-chain.ensures.value c.chain_of-chain.ensures.within walk (omega (arith, c.walk_number-walk.ensures.within, len)) c.take_slot-i.ensures.given
+    c.push_front.ensures.pushed c.put_in.ensures.segments c.put_in.ensures.walks c.put_in.ensures.segments_apart c.put_in.ensures.walks_apart in
     let new : Parts = moved p c.take_slot-i.new.slots.items c.push_front.new.self c.put_in.new.segments c.put_in.new.walks in
     subst (λ (v : EntryValue). HasMore v (shown new) (name_of c.args.target)) c.self.view_is
     (subst (λ (t : Name). HasMore (shown p) (shown new) t) c.name-name.ensures
