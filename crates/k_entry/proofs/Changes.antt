@@ -1,12 +1,12 @@
 -- What lists have after a number was put into one of them, or taken out.
-use Rattle.std.proofs.Common.{◌≡◌, ◌≢◌, ◌==◌, ℕ, ◌<◌, Bool, true, false, refl, sym, ap, subst, ◌∙◌, List, [], ◌∷◌, length, set, eqb-true, eq-eqb, arith, length-set}
+use Rattle.std.proofs.Common.{◌≡◌, ◌≢◌, ◌==◌, ℕ, ◌<◌, Bool, true, false, refl, sym, ap, subst, ◌∙◌, ◌∷◌, length, set, eqb-true, eq-eqb, length-set}
 use Rattle.std.proofs.lemmas.Bool.{false_from_ne_true}
 use Rattle.std.specs.List.{concat}
 use Rattle.k_lists.specs.Lists.{ListsValue, AreApart, IsFree, members, is_in, without}
-use Rattle.k_entry.specs.Slots.{entered, left}
-use Rattle.k_entry.proofs.Members.{members_here, members_there, cons_in, cons_here, in_cons, without_in, in_without, once_of, in_below, in_one}
+use Rattle.k_lists.proofs.Apart.{apart_one}
+use Rattle.k_lists.proofs.Members.{in_head}
+use Rattle.k_entry.proofs.Members.{members_here, members_there, cons_in, in_cons, without_in, in_without, once_of}
 use Rattle.k_entry.proofs.With.{IsWith, with_front, with_without, concat_more, concat_less}
-use Rattle.k_entry.proofs.Joined.{Single}
 
 -- two numbers are one, or they are not
 pub same_or_not : (a b : ℕ) (P : Type 0) → (a ≡ b → P) → ((a ≢ b) → P) → P
@@ -33,7 +33,7 @@ put_old v w list i other x p e = same_or_not other list (is_in (members w other)
     (λ ne. ap (λ xs. is_in xs x) (put_there v w list i other p ne) ∙ e)
 
 pub put_new : (v w : ListsValue) (list i : ℕ) → IsPut v w list i → is_in (members w list) i ≡ true
-put_new v w list i p = ap (λ xs. is_in xs i) (put_here v w list i p) ∙ cons_here i (members v list)
+put_new v w list i p = ap (λ xs. is_in xs i) (put_here v w list i p) ∙ in_head i (members v list)
 
 pub put_cases : (v w : ListsValue) (list i other x : ℕ) (P : Type 0) → IsPut v w list i → is_in (members w other) x ≡ true → (is_in (members v other) x ≡ true → P) → (other ≡ list → x ≡ i → P) → P
 put_cases v w list i other x P p e old new = same_or_not other list P
@@ -72,7 +72,7 @@ out_gone v w list i p e = (without_in i i (members v list) (sym (ap (λ xs. is_i
 -- and in no other
 pub out_free : (v w : ListsValue) (list i : ℕ) → AreApart v → IsOut v w list i → is_in (members v list) i ≡ true → IsFree w i
 out_free v w list i apart p there = λ other. false_from_ne_true (is_in (members w other) i) (λ e.
-    let same : other ≡ list = in_one v other list i apart (out_old v w list i other i p e) there in
+    let same : other ≡ list = apart_one v other list i apart (out_old v w list i other i p e) there in
     out_gone v w list i p (subst (λ l. is_in (members w l) i ≡ true) same e))
 
 pub out_size : (v w : ListsValue) (list i : ℕ) → IsOut v w list i → (length w.lists ≡ length v.lists) × (w.room ≡ v.room)

@@ -1,5 +1,5 @@
 -- Counts of objects in lists of items.
-use Rattle.std.proofs.Common.{◌≡◌, ◌≢◌, ◌==◌, ◌||◌, ℕ, zero, suc, ◌+◌, ◌-◌, ◌<◌, ◌≤◌, Bool, true, false, cond, refl, sym, ap, ap₂, subst, ◌∙◌, List, [], ◌∷◌, ◌++◌, length, map, slice_get, sum_by, count_by, Some, eqb-true, arith}
+use Rattle.std.proofs.Common.{◌≡◌, ◌≢◌, ◌==◌, ℕ, ◌+◌, ◌<◌, ◌≤◌, Bool, true, false, cond, refl, sym, ap, ap₂, ◌∙◌, List, [], ◌∷◌, ◌++◌, map, sum_by, count_by, eqb-true, arith}
 use Rattle.std.proofs.lemmas.Bool.{and_parts, false_from_ne_true}
 use Rattle.std.proofs.lemmas.List.Sums.{sum_by-cons}
 use Rattle.std.proofs.lemmas.List.{map-append}
@@ -11,7 +11,8 @@ use Rattle.k_lists.specs.Lists.{is_in}
 use Rattle.k_entry.specs.declared.item.Item.{Item}
 use Rattle.k_entry.specs.Entries.{EntryValue, HasMore, HasLess}
 use Rattle.k_entry.specs.Slots.{at, row_at}
-use Rattle.k_entry.proofs.Members.{Split, split, cons_in, cons_here, is_in_append}
+use Rattle.k_lists.proofs.Members.{in_head}
+use Rattle.k_entry.proofs.Members.{Split, split, cons_in, is_in_append}
 use Rattle.k_entry.proofs.With.{IsWith, with_total, with_length, total_append}
 use Rattle.k_entry.proofs.Joined.{Single, or_cases}
 
@@ -145,7 +146,7 @@ less_gone x old new t was distinct named hit one homes room =
 pub none_at : (slots : List Item) (xs : List ℕ) (t : Name) → ((j : ℕ) → is_in xs j ≡ true → name_eq (at slots j).target t ≡ false) → total (hits t) (map (row_at slots) xs) ≡ 0
 none_at slots [] t none = refl
 none_at slots (x ∷ xs) t none =
-    let off : hits t (row_at slots x) ≡ 0 = ap bit (none x (cons_here x xs)) in
+    let off : hits t (row_at slots x) ≡ 0 = ap bit (none x (in_head x xs)) in
     omega (arith, off, none_at slots xs t (λ j e. none j (cons_in x j xs e)))
 
 rows_split : (slots : List Item) (before after : List ℕ) (j : ℕ) (t : Name) → total (hits t) (map (row_at slots) (before ++ j ∷ after)) ≡ total (hits t) (map (row_at slots) before) + (hits t (row_at slots j) + total (hits t) (map (row_at slots) after))

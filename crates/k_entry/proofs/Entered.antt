@@ -1,10 +1,11 @@
 -- A segment that came onto a walk, or went off it, where its list was empty.
-use Rattle.std.proofs.Common.{◌≡◌, ◌≢◌, ℕ, ◌<◌, ◌≤◌, true, false, refl, sym, ap, subst, ◌∙◌, List, [], ◌∷◌, length, set, arith}
+use Rattle.std.proofs.Common.{◌≡◌, ◌≢◌, ℕ, ◌<◌, true, false, refl, sym, ap, subst, ◌∙◌, List, [], ◌∷◌, length, arith}
 use Rattle.std.specs.List.{concat}
-use Rattle.k_lists.specs.Lists.{ListsValue, AreApart, IsFree, members, is_in, without}
+use Rattle.k_lists.specs.Lists.{ListsValue, AreApart, IsFree, members, is_in}
 use Rattle.k_entry.specs.Slots.{entered, left}
-use Rattle.k_entry.proofs.Members.{cons_here, in_one, once_of, in_within}
-use Rattle.k_entry.proofs.With.{IsWith}
+use Rattle.k_lists.proofs.Apart.{apart_one}
+use Rattle.k_lists.proofs.Members.{in_head}
+use Rattle.k_entry.proofs.Members.{once_of, in_within}
 use Rattle.k_entry.proofs.Joined.{Single, joined, joined_empty, single_with, single_concat, in_concat}
 use Rattle.k_entry.proofs.Changes.{IsPut, put_old, put_new, put_cases, put_size, put_joined, IsOut, out_old, out_other, out_gone, out_size, out_joined}
 use Rattle.std.proofs.lemmas.Bool.{false_from_ne_true}
@@ -35,13 +36,13 @@ entered_of v w walk s [] within apart e free on =
       room = (put_size v w walk s p).1;
     }
 entered_of v w walk s (j ∷ js) within apart e free on =
-    let there : is_in (members v walk) s ≡ true = on j (cons_here j js) in
+    let there : is_in (members v walk) s ≡ true = on j (in_head j js) in
     record {
       there = ap (λ (u : ListsValue). is_in (members u walk) s) e ∙ there;
       old = λ a x t. ap (λ (u : ListsValue). is_in (members u a) x) e ∙ t;
       others = λ a x t ne. sym (ap (λ (u : ListsValue). is_in (members u a) x) e) ∙ t;
-      only = λ a t. in_one v a walk s apart (sym (ap (λ (u : ListsValue). is_in (members u a) s) e) ∙ t) there;
-      single = subst (λ (u : ListsValue). Single (concat u.lists) s) (sym e) (single_concat v.lists walk s (λ a b x y. in_one v a b s apart x y) (λ a. once_of v a apart) there);
+      only = λ a t. apart_one v a walk s apart (sym (ap (λ (u : ListsValue). is_in (members u a) s) e) ∙ t) there;
+      single = subst (λ (u : ListsValue). Single (concat u.lists) s) (sym e) (single_concat v.lists walk s (λ a b x y. apart_one v a b s apart x y) (λ a. once_of v a apart) there);
       same = λ g full. ap (λ (u : ListsValue). joined g (concat u.lists)) e;
       size = ap (λ (u : ListsValue). length u.lists) e;
       room = ap (λ (u : ListsValue). u.room) e;
@@ -65,7 +66,7 @@ left_of v w walk s [] apart e on =
       others = λ a x t ne. out_other v w walk s a x p t ne;
       stays = λ j t. absurd (cc);
       some = λ a t.
-          let same : a ≡ walk = in_one v a walk s apart (out_old v w walk s a s p t) on in
+          let same : a ≡ walk = apart_one v a walk s apart (out_old v w walk s a s p t) on in
           absurd (out_gone v w walk s p (subst (λ l. is_in (members w l) s ≡ true) same t));
       same = λ g empty. joined_empty g s (concat w.lists) (concat v.lists) (out_joined v w walk s apart p on) empty;
       size = (out_size v w walk s p).0;

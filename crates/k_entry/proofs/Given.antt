@@ -1,13 +1,13 @@
 -- The slot that is taken for an item.
-use Rattle.std.proofs.Common.{◌≡◌, ◌≢◌, ◌==◌, ℕ, zero, suc, ◌+◌, ◌<◌, ◌≤◌, true, false, refl, sym, ap, subst, ◌∙◌, List, [], ◌∷◌, ◌++◌, length, set, get_or, slice_get, Option, Some, None, length-append, length-set, get_or-set_same, get_or-set_other, arith}
+use Rattle.std.proofs.Common.{◌≡◌, ℕ, ◌<◌, true, false, refl, sym, ap, ◌∙◌, List, [], ◌∷◌, ◌++◌, length, set, slice_get, Option, Some, None, length-append, length-set, get_or-set_same, get_or-set_other, arith}
 use Rattle.std.proofs.Math.Seq.{get_or-append_seam}
 use Rattle.std.proofs.lemmas.List.{get_or_append_left}
 use Rattle.std.proofs.lemmas.Bool.{false_from_ne_true}
 use Rattle.std.specs.Option.{is_some}
-use Rattle.k_lists.specs.Lists.{ListsValue, AreApart, members, is_in, without}
+use Rattle.k_lists.specs.Lists.{ListsValue, AreApart, members, is_in}
 use Rattle.k_entry.specs.declared.item.Item.{Item}
-use Rattle.k_entry.specs.Slots.{at, blank, GivesSlot}
-use Rattle.k_entry.proofs.Members.{is_in_at, cons_here}
+use Rattle.k_entry.specs.Slots.{blank, GivesSlot}
+use Rattle.k_lists.proofs.Members.{in_at, in_head}
 use Rattle.k_entry.proofs.With.{with_length}
 use Rattle.k_entry.proofs.Changes.{IsOut, out_there, out_old, out_free, out_size, out_with}
 
@@ -45,7 +45,7 @@ given_new slots v free item fresh none = record {
 
 -- a list has a first member, or is empty
 pub first_in : (xs : List ℕ) (i : ℕ) → Some i ≡ slice_get xs 0 → is_in xs i ≡ true
-first_in xs i e = is_in_at xs 0 i (sym e)
+first_in xs i e = in_at xs 0 i (sym e)
 
 pub first_none : (xs : List ℕ) → None ≡ slice_get xs 0 → xs ≡ []
 first_none [] e = refl
@@ -61,4 +61,4 @@ some_first (x ∷ xs) o e is = omega arith
 
 pub some_in : (xs : List ℕ) → 0 < length xs → (j : ℕ) × (is_in xs j ≡ true)
 some_in [] some = absurd (omega arith)
-some_in (x ∷ xs) some = (x, cons_here x xs)
+some_in (x ∷ xs) some = (x, in_head x xs)

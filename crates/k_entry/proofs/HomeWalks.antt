@@ -1,5 +1,5 @@
 -- The walk of a home, by the slots of its segments.
-use Rattle.std.proofs.Common.{◌≡◌, ◌≢◌, ◌==◌, ◌||◌, ℕ, zero, suc, ◌+◌, ◌<◌, ◌≤◌, Bool, true, false, cond, refl, sym, ap, ap₂, subst, ◌∙◌, List, [], ◌∷◌, ◌++◌, append_assoc, append-nil, length, map, filter, slice_get, get_or, Option, Some, None, IfSome, option_map, eq-eqb, eqb-true, arith}
+use Rattle.std.proofs.Common.{◌≡◌, ◌≢◌, ◌==◌, ◌||◌, ℕ, zero, suc, ◌+◌, ◌<◌, Bool, true, false, cond, refl, sym, ap, ap₂, subst, ◌∙◌, List, [], ◌∷◌, ◌++◌, append_assoc, append-nil, length, map, filter, slice_get, get_or, Option, Some, None, IfSome, option_map, eq-eqb, eqb-true, arith}
 use Rattle.std.proofs.lemmas.Bool.{false_from_ne_true}
 use Rattle.std.proofs.lemmas.List.{map-append}
 use Rattle.std.proofs.lemmas.List.Elements.{filter-append}
@@ -13,10 +13,12 @@ use Rattle.k_lists.specs.Lists.{members, is_in}
 use Rattle.k_entry.specs.declared.item.Item.{Item}
 use Rattle.k_entry.specs.Entries.{first_object, object_after, items_of, is_at_home, home_of}
 use Rattle.k_entry.specs.Slots.{at, row_at, walk_of, homed, first_slot, onward, Parts, order, used, shown, AreKept}
-use Rattle.k_entry.proofs.Members.{Once, Split, split, seam, seam_next, cons_in, cons_here, once_of, in_below, in_one, onward_rest, is_in_append, shifted, or_right, is_in_at, place_of}
-use Rattle.k_entry.proofs.Joined.{joined, joined_append, IsJoined, in_joined, joined_in, in_concat, off_members, or_cases}
+use Rattle.k_lists.proofs.Apart.{apart_in, apart_one}
+use Rattle.k_lists.proofs.Members.{in_head, in_at, place_of}
+use Rattle.k_entry.proofs.Members.{Once, Split, split, seam, seam_next, cons_in, once_of, onward_rest, is_in_append, shifted, or_right}
+use Rattle.k_entry.proofs.Joined.{joined, joined_append, in_joined, in_concat, off_members, or_cases}
 use Rattle.k_entry.proofs.Counts.{one_slot}
-use Rattle.k_entry.proofs.Items.{once_hit, IsFound, used_of, name_same}
+use Rattle.k_entry.proofs.Items.{once_hit, IsFound, used_of}
 
 pub heap_same : (h : Heap) → heap_eq h h ≡ true
 heap_same Kernel = refl
@@ -38,16 +40,16 @@ heap_is (Shared s) (User q) e = absurd (cc)
 filter_all : {X : Type 0} (p : X → Bool) (f : ℕ → X) (xs : List ℕ) → ((j : ℕ) → is_in xs j ≡ true → p (f j) ≡ true) → filter p (map f xs) ≡ map f xs
 filter_all p f [] all = refl
 filter_all p f (x ∷ xs) all =
-    ap (λ b. cond b (f x ∷ filter p (map f xs)) (filter p (map f xs))) (all x (cons_here x xs)) ∙ ap (λ ys. f x ∷ ys) (filter_all p f xs (λ j e. all j (cons_in x j xs e)))
+    ap (λ b. cond b (f x ∷ filter p (map f xs)) (filter p (map f xs))) (all x (in_head x xs)) ∙ ap (λ ys. f x ∷ ys) (filter_all p f xs (λ j e. all j (cons_in x j xs e)))
 
 filter_none : {X : Type 0} (p : X → Bool) (f : ℕ → X) (xs : List ℕ) → ((j : ℕ) → is_in xs j ≡ true → p (f j) ≡ false) → filter p (map f xs) ≡ []
 filter_none p f [] none = refl
 filter_none p f (x ∷ xs) none =
-    ap (λ b. cond b (f x ∷ filter p (map f xs)) (filter p (map f xs))) (none x (cons_here x xs)) ∙ filter_none p f xs (λ j e. none j (cons_in x j xs e))
+    ap (λ b. cond b (f x ∷ filter p (map f xs)) (filter p (map f xs))) (none x (in_head x xs)) ∙ filter_none p f xs (λ j e. none j (cons_in x j xs e))
 
 none_of : (q : ℕ → Bool) (xs : List ℕ) → ((s : ℕ) → is_in xs s ≡ true → q s ≡ false) → filter q xs ≡ []
 none_of q [] none = refl
-none_of q (x ∷ xs) none = ap (λ b. cond b (x ∷ filter q xs) (filter q xs)) (none x (cons_here x xs)) ∙ none_of q xs (λ s e. none s (cons_in x s xs e))
+none_of q (x ∷ xs) none = ap (λ b. cond b (x ∷ filter q xs) (filter q xs)) (none x (in_head x xs)) ∙ none_of q xs (λ s e. none s (cons_in x s xs e))
 
 -- a segment's slots pass where the segment does
 filter_joined : (p : Counted → Bool) (f : ℕ → Counted) (q : ℕ → Bool) (g : ℕ → List ℕ) (xs : List ℕ) → ((s j : ℕ) → is_in xs s ≡ true → is_in (g s) j ≡ true → p (f j) ≡ q s) → filter p (map f (joined g xs)) ≡ map f (joined g (filter q xs))
@@ -57,11 +59,11 @@ filter_joined p f q g (x ∷ xs) same =
   where
     by_test : (b : Bool) → q x ≡ b → filter p (map f (joined g xs)) ≡ map f (joined g (filter q xs)) → filter p (map f (g x)) ++ filter p (map f (joined g xs)) ≡ map f (joined g (filter q (x ∷ xs)))
     by_test true on ih =
-        ap₂ (λ ys zs. ys ++ zs) (filter_all p f (g x) (λ j e. same x j (cons_here x xs) e ∙ on)) ih
+        ap₂ (λ ys zs. ys ++ zs) (filter_all p f (g x) (λ j e. same x j (in_head x xs) e ∙ on)) ih
         ∙ sym (map-append f (g x) (joined g (filter q xs)))
         ∙ sym (ap (λ b. map f (joined g (cond b (x ∷ filter q xs) (filter q xs)))) on)
     by_test false off ih =
-        ap₂ (λ ys zs. ys ++ zs) (filter_none p f (g x) (λ j e. same x j (cons_here x xs) e ∙ off)) ih
+        ap₂ (λ ys zs. ys ++ zs) (filter_none p f (g x) (λ j e. same x j (in_head x xs) e ∙ off)) ih
         ∙ sym (ap (λ b. map f (joined g (cond b (x ∷ filter q xs) (filter q xs)))) off)
 
 -- what passes stands in one of the lists
@@ -82,7 +84,7 @@ walk_is p h k =
     filter_joined (is_at_home p.homes h) (row_at p.slots) (λ s. heap_eq (home_of p.homes s) h) (members p.segments) (order p)
     (λ s j e there.
     let w = in_concat p.walks.lists s e in
-    let below : s < length p.homes = omega (arith, in_below p.walks w.0 s k.walks_apart w.1, k.sizes.walks_room) in
+    let below : s < length p.homes = omega (arith, apart_in p.walks w.0 s k.walks_apart w.1, k.sizes.walks_room) in
     ap (λ n. heap_eq (home_of p.homes n) h) (k.placed s j below there))
     ∙ ap (λ xs. map (row_at p.slots) (joined (members p.segments) xs)) (filter_concat (λ s. heap_eq (home_of p.homes s) h) p.walks.lists (walk_of (length p.homes) h)
     (λ a s ne e. false_from_ne_true (heap_eq (home_of p.homes s) h) (λ is. absurd (ne ((k.live a s e).0 ∙ ap (λ x. walk_of (length p.homes) x) (heap_is (home_of p.homes s) h is))))))
@@ -104,7 +106,7 @@ object_at slots i = (at slots i).target
 -- where each of the segments has a slot, the first object is that of the first slot of the first one
 pub first_is : (p : Parts) (xs : List ℕ) → ((s : ℕ) → is_in xs s ≡ true → 0 < length (members p.segments s)) → first_object (map (row_at p.slots) (joined (members p.segments) xs)) ≡ option_map (object_at p.slots) (first_slot p.segments xs)
 first_is p [] some = refl
-first_is p (s ∷ xs) some = by_list (members p.segments s) refl (some s (cons_here s xs))
+first_is p (s ∷ xs) some = by_list (members p.segments s) refl (some s (in_head s xs))
   where
     by_list : (ys : List ℕ) → members p.segments s ≡ ys → 0 < length (members p.segments s) → first_object (map (row_at p.slots) (members p.segments s ++ joined (members p.segments) xs)) ≡ option_map (object_at p.slots) (slice_get (members p.segments s) 0)
     by_list [] e less = absurd (omega (arith, less, ap (λ zs. length zs) e))
@@ -127,7 +129,7 @@ first_of_is p h k =
 after_append : (slots : List Item) (before after : List ℕ) (i : ℕ) (t : Name) → ((j : ℕ) → is_in before j ≡ true → name_eq (at slots j).target t ≡ false) → name_eq (at slots i).target t ≡ true → object_after (map (row_at slots) (before ++ i ∷ after)) t ≡ first_object (map (row_at slots) after)
 after_append slots [] after i t none is = ap (λ b. cond b (first_object (map (row_at slots) after)) (object_after (map (row_at slots) after) t)) is
 after_append slots (x ∷ before) after i t none is =
-    ap (λ b. cond b (first_object (map (row_at slots) (before ++ i ∷ after))) (object_after (map (row_at slots) (before ++ i ∷ after)) t)) (none x (cons_here x before))
+    ap (λ b. cond b (first_object (map (row_at slots) (before ++ i ∷ after))) (object_after (map (row_at slots) (before ++ i ∷ after)) t)) (none x (in_head x before))
     ∙ after_append slots before after i t (λ j e. none j (cons_in x j before e)) is
 
 -- an object's place on the walk of its home: its slot in the list of its segment, and that segment on the walk
@@ -165,9 +167,9 @@ after_is p t i k f w =
     let at = in_joined g (filter q w.seg.before) j in_front in
     let listed : is_in w.seg.before at.list ≡ true = in_filter q w.seg.before at.list at.listed in
     let on : is_in ws at.list ≡ true = ap (λ xs. is_in xs at.list) w.seg.whole ∙ is_in_append w.seg.before (t.seg.0 ∷ w.seg.after) at.list ∙ ap (λ b. b || is_in (t.seg.0 ∷ w.seg.after) at.list) listed in
-    let below : at.list < length p.homes = omega (arith, in_below p.walks (walk_of (length p.homes) h) at.list k.walks_apart on, k.sizes.walks_room) in
+    let below : at.list < length p.homes = omega (arith, apart_in p.walks (walk_of (length p.homes) h) at.list k.walks_apart on, k.sizes.walks_room) in
     let same : j ≡ i = one_slot p.slots (used p) t i j (once_hit p t k) f.in_use f.hit (used_of p at.list j k below at.there) is in
-    let seg : at.list ≡ t.seg.0 = in_one p.segments at.list t.seg.0 i k.segments_apart (subst (λ n. is_in (g at.list) n ≡ true) same at.there) f.there in
+    let seg : at.list ≡ t.seg.0 = apart_one p.segments at.list t.seg.0 i k.segments_apart (subst (λ n. is_in (g at.list) n ≡ true) same at.there) f.there in
     off_members w.seg.before t.seg.0 at.list w.seg.absent listed seg)
     (λ in_slots.
     let there : is_in (g t.seg.0) j ≡ true = ap (λ xs. is_in xs j) w.slot.whole ∙ is_in_append w.slot.before (i ∷ w.slot.after) j ∙ ap (λ b. b || is_in (i ∷ w.slot.after) j) in_slots in
@@ -212,15 +214,15 @@ next_segment p t i next k f last leads =
 -- what the calls tell
 pub answer_below : (p : Parts) (xs : List ℕ) (i : ℕ) → AreKept p → Some i ≡ first_slot p.segments xs → i < length p.slots
 answer_below p [] i k e = absurd (cc)
-answer_below p (s ∷ xs) i k e = k.below s i (is_in_at (members p.segments s) 0 i (sym e))
+answer_below p (s ∷ xs) i k e = k.below s i (in_at (members p.segments s) 0 i (sym e))
 
 pub first_may : (xs : List ℕ) (o : Option ℕ) → o ≡ slice_get xs 0 → IfSome o (λ s. is_in xs s ≡ true)
 first_may xs None e = tt
-first_may xs (Some s) e = is_in_at xs 0 s (sym e)
+first_may xs (Some s) e = in_at xs 0 s (sym e)
 
 pub next_may : (xs : List ℕ) (i : ℕ) (o : Option ℕ) → is_in xs i ≡ true → ((place : ℕ) → slice_get xs place ≡ Some i → o ≡ slice_get xs (place + 1)) → IfSome o (λ s. is_in xs s ≡ true)
 next_may xs i None there leads = tt
-next_may xs i (Some s) there leads = let at = place_of xs i there in is_in_at xs (at.0 + 1) s (sym (leads at.0 at.1))
+next_may xs i (Some s) there leads = let at = place_of xs i there in in_at xs (at.0 + 1) s (sym (leads at.0 at.1))
 
 pub first_told : (p : Parts) (h : Heap) (homes : List Heap) (n walk : ℕ) (first answer : Option ℕ) → AreKept p → homes ≡ p.homes → n ≡ length p.homes → walk ≡ walk_of n h → first ≡ slice_get (members p.walks walk) 0 → answer ≡ first_slot p.segments (homed homes h (onward (members p.walks (walk_of (length homes) h)) first)) → answer ≡ first_slot p.segments (segments_of p h)
 first_told p h homes n walk first answer k same len is begins told =

@@ -1,5 +1,5 @@
 -- The items of a table, by the slots in which they stand.
-use Rattle.std.proofs.Common.{◌≡◌, ◌≢◌, ◌==◌, ◌||◌, ℕ, zero, suc, ◌+◌, ◌<◌, ◌≤◌, Bool, true, false, refl, sym, ap, ap₂, subst, ◌∙◌, List, [], ◌∷◌, ◌++◌, length, map, slice_get, get_or, replicate, count_by, ◌^◌, Some, None, eqb-true, eq-eqb, ◌&&◌, arith}
+use Rattle.std.proofs.Common.{◌≡◌, ℕ, zero, suc, ◌+◌, ◌<◌, ◌≤◌, true, false, refl, sym, ap, ap₂, subst, ◌∙◌, List, [], ◌∷◌, ◌++◌, length, map, slice_get, get_or, replicate, count_by, ◌^◌, Some, None, eq-eqb, ◌&&◌, arith}
 use Rattle.std.proofs.lemmas.Bool.{false_from_ne_true}
 use Rattle.std.proofs.lemmas.List.{length-map}
 use Rattle.std.specs.List.{concat}
@@ -11,18 +11,20 @@ use Rattle.k_types.specs.Names.{name_eq}
 use Rattle.k_types.specs.Agree.{Counted, counted}
 use Rattle.k_lists.specs.Lists.{ListsValue, AreApart, members, is_in}
 use Rattle.k_entry.specs.declared.item.Item.{Item}
-use Rattle.k_entry.specs.Entries.{EntryValue, AreEntries, home_of}
-use Rattle.k_entry.specs.Slots.{at, blank, row_at, buckets, bucket, walk_of, Parts, order, used, shown, AreKept, IsListed}
-use Rattle.k_entry.proofs.Members.{cons_in, cons_here, in_below, in_one, once_of, any_default}
-use Rattle.k_entry.proofs.With.{IsWith, with_map}
+use Rattle.k_entry.specs.Entries.{AreEntries, home_of}
+use Rattle.k_entry.specs.Slots.{at, blank, row_at, buckets, bucket, walk_of, Parts, order, used, shown, AreKept}
+use Rattle.k_lists.proofs.Apart.{apart_in, apart_one}
+use Rattle.k_lists.proofs.Members.{in_head}
+use Rattle.k_entry.proofs.Members.{cons_in, once_of, any_default}
+use Rattle.k_entry.proofs.With.{with_map}
 use Rattle.k_entry.proofs.Joined.{Single, joined, in_concat, concat_in, in_joined, joined_in, single_concat}
-use Rattle.k_entry.proofs.Counts.{name_is, hits, hits_are, no_hits, none_at, one_slot, single_slot, counted_with}
+use Rattle.k_entry.proofs.Counts.{name_is, hits, hits_are, no_hits, none_at, single_slot, counted_with}
 
 pub name_same : (t : Name) → name_eq t t ≡ true
 name_same t = ap₂ (λ a b. a && b) (eq-eqb t.seg.0 t.seg.0 refl) (eq-eqb t.serial.0 t.serial.0 refl)
 
 pub order_below : (p : Parts) (s : ℕ) → AreKept p → is_in (order p) s ≡ true → s < length p.homes
-order_below p s k e = let w = in_concat p.walks.lists s e in omega (arith, in_below p.walks w.0 s k.walks_apart w.1, k.sizes.walks_room)
+order_below p s k e = let w = in_concat p.walks.lists s e in omega (arith, apart_in p.walks w.0 s k.walks_apart w.1, k.sizes.walks_room)
 
 -- a segment with a slot is on the walks, and there once
 pub order_has : (p : Parts) (s j : ℕ) → AreKept p → s < length p.homes → is_in (members p.segments s) j ≡ true → is_in (order p) s ≡ true
@@ -30,7 +32,7 @@ order_has p s j k within there = concat_in p.walks.lists (walk_of (length p.home
 
 pub order_single : (p : Parts) (s j : ℕ) → AreKept p → s < length p.homes → is_in (members p.segments s) j ≡ true → Single (order p) s
 order_single p s j k within there =
-    single_concat p.walks.lists (walk_of (length p.homes) (home_of p.homes s)) s (λ a b x y. in_one p.walks a b s k.walks_apart x y) (λ a. once_of p.walks a k.walks_apart) (k.walked s j within there)
+    single_concat p.walks.lists (walk_of (length p.homes) (home_of p.homes s)) s (λ a b x y. apart_one p.walks a b s k.walks_apart x y) (λ a. once_of p.walks a k.walks_apart) (k.walked s j within there)
 
 pub used_of : (p : Parts) (s j : ℕ) → AreKept p → s < length p.homes → is_in (members p.segments s) j ≡ true → is_in (used p) j ≡ true
 used_of p s j k within there = joined_in (members p.segments) (order p) s j (order_has p s j k within there) there
@@ -55,7 +57,7 @@ pub record IsRow (slots : List Item) (xs : List ℕ) (item : Counted) : Type 0 w
 
 pub row_from : (slots : List Item) (xs : List ℕ) (i : ℕ) (item : Counted) → slice_get (map (row_at slots) xs) i ≡ Some item → IsRow slots xs item
 row_from slots [] i item e = absurd (cc)
-row_from slots (x ∷ xs) zero item e = record { slot = x; there = cons_here x xs; is = cc }
+row_from slots (x ∷ xs) zero item e = record { slot = x; there = in_head x xs; is = cc }
 row_from slots (x ∷ xs) (suc i) item e = let r = row_from slots xs i item e in record { slot = r.slot; there = cons_in x r.slot xs r.there; is = r.is }
 
 pub entries_of : (p : Parts) → AreKept p → AreEntries (shown p)

@@ -1,9 +1,10 @@
 -- Lists that are joined: which members they have, and what a change of one of them changes.
-use Rattle.std.proofs.Common.{◌≡◌, ◌≢◌, ◌==◌, ◌||◌, ℕ, zero, suc, ◌+◌, ◌<◌, ◌≤◌, Bool, true, false, refl, sym, ap, ap₂, subst, ◌∙◌, List, [], ◌∷◌, ◌++◌, append_assoc, append-nil, length, map, set, get_or, eqb-true, arith}
+use Rattle.std.proofs.Common.{◌≡◌, ◌≢◌, ◌==◌, ◌||◌, ℕ, zero, suc, Bool, true, false, refl, sym, ap, ap₂, subst, ◌∙◌, List, [], ◌∷◌, ◌++◌, append_assoc, map, get_or, eqb-true, arith}
 use Rattle.std.proofs.lemmas.Bool.{false_from_ne_true}
 use Rattle.std.specs.List.{concat}
 use Rattle.k_lists.specs.Lists.{is_in}
-use Rattle.k_entry.proofs.Members.{Once, split, once_after, is_in_append, cons_in, cons_here, or_left, or_right}
+use Rattle.k_lists.proofs.Members.{in_head}
+use Rattle.k_entry.proofs.Members.{Once, split, once_after, is_in_append, cons_in, or_left, or_right}
 use Rattle.k_entry.proofs.With.{IsWith}
 
 abbrev pub joined : (ℕ → List ℕ) → List ℕ → List ℕ
@@ -54,7 +55,7 @@ in_joined g [] i e = absurd (cc)
 in_joined g (x ∷ xs) i e = by_test (is_in (g x) i) refl (in_joined g xs i)
   where
     by_test : (b : Bool) → is_in (g x) i ≡ b → (is_in (joined g xs) i ≡ true → IsJoined g xs i) → IsJoined g (x ∷ xs) i
-    by_test true here ih = record { list = x; listed = cons_here x xs; there = here }
+    by_test true here ih = record { list = x; listed = in_head x xs; there = here }
     by_test false gone ih =
         let found = ih (ap (λ b. b || is_in (joined g xs) i) (sym gone) ∙ sym (is_in_append (g x) (joined g xs) i) ∙ e) in
         record { list = found.list; listed = cons_in x found.list xs found.listed; there = found.there }
@@ -75,11 +76,11 @@ joined_append g (x ∷ xs) ys = ap (λ zs. g x ++ zs) (joined_append g xs ys) �
 
 pub joined_same : (g h : ℕ → List ℕ) (xs : List ℕ) → ((s : ℕ) → is_in xs s ≡ true → g s ≡ h s) → joined g xs ≡ joined h xs
 joined_same g h [] same = refl
-joined_same g h (x ∷ xs) same = ap₂ (λ a b. a ++ b) (same x (cons_here x xs)) (joined_same g h xs (λ s e. same s (cons_in x s xs e)))
+joined_same g h (x ∷ xs) same = ap₂ (λ a b. a ++ b) (same x (in_head x xs)) (joined_same g h xs (λ s e. same s (cons_in x s xs e)))
 
 pub map_same : {X : Type 0} (f h : ℕ → X) (xs : List ℕ) → ((s : ℕ) → is_in xs s ≡ true → f s ≡ h s) → map f xs ≡ map h xs
 map_same f h [] same = refl
-map_same f h (x ∷ xs) same = ap₂ (λ a b. a ∷ b) (same x (cons_here x xs)) (map_same f h xs (λ s e. same s (cons_in x s xs e)))
+map_same f h (x ∷ xs) same = ap₂ (λ a b. a ∷ b) (same x (in_head x xs)) (map_same f h xs (λ s e. same s (cons_in x s xs e)))
 
 -- a number that isn't there is none of the members
 pub off_members : (xs : List ℕ) (s t : ℕ) → is_in xs s ≡ false → is_in xs t ≡ true → t ≢ s

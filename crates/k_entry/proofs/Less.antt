@@ -1,21 +1,17 @@
 -- A table with an item less.
-use Rattle.std.proofs.Common.{◌≡◌, ◌≢◌, ◌==◌, ℕ, zero, suc, ◌+◌, ◌<◌, ◌≤◌, Bool, count_by, true, false, cond, refl, sym, ap, ap₂, subst, ◌∙◌, List, [], ◌∷◌, length, map, set, arith}
-use Rattle.std.proofs.lemmas.Bool.{false_from_ne_true}
+use Rattle.std.proofs.Common.{◌≡◌, ◌≢◌, ℕ, ◌<◌, true, refl, sym, ap, subst, ◌∙◌, ◌∷◌, length, set, arith}
 use Rattle.std.specs.List.{concat}
-use Rattle.k_types.specs.Totals.{total}
 use Rattle.k_types.specs.declared.names.Name.{Name}
-use Rattle.k_types.specs.Names.{name_eq}
-use Rattle.k_types.specs.Agree.{Counted, counted}
 use Rattle.k_lists.specs.Lists.{ListsValue, AreApart, IsFree, members, is_in, without}
-use Rattle.k_entry.specs.declared.item.Item.{Item}
-use Rattle.k_entry.specs.Entries.{EntryValue, HasLess, home_of}
-use Rattle.k_entry.specs.Slots.{at, row_at, bucket, walk_of, left, Parts, order, used, shown, AreKept, HaveSizes, IsListed}
-use Rattle.k_entry.proofs.Members.{in_below, in_one, in_within}
+use Rattle.k_entry.specs.Entries.{HasLess, home_of}
+use Rattle.k_entry.specs.Slots.{at, row_at, bucket, walk_of, left, Parts, order, used, shown, AreKept, HaveSizes}
+use Rattle.k_lists.proofs.Apart.{apart_in, apart_one}
+use Rattle.k_entry.proofs.Members.{in_within}
 use Rattle.k_entry.proofs.With.{IsWith, with_map, with_total, with_length}
-use Rattle.k_entry.proofs.Joined.{joined, joined_same, joined_with, map_same, in_concat, concat_in}
+use Rattle.k_entry.proofs.Joined.{joined, joined_same, joined_with, in_concat, concat_in}
 use Rattle.k_entry.proofs.Counts.{hits, hits_are, less_gone}
-use Rattle.k_entry.proofs.Items.{order_below, order_single, used_is, used_of, once_hit, IsFound}
-use Rattle.k_entry.proofs.Changes.{same_or_not, IsPut, put_here, put_there, put_old, put_new, put_cases, put_size, IsOut, out_here, out_there, out_old, out_other, out_gone, out_free, out_size, out_with}
+use Rattle.k_entry.proofs.Items.{order_below, order_single, once_hit, IsFound}
+use Rattle.k_entry.proofs.Changes.{same_or_not, IsPut, put_here, put_there, put_old, put_cases, put_size, IsOut, out_here, out_there, out_old, out_other, out_gone, out_free, out_size, out_with}
 use Rattle.k_entry.proofs.Entered.{IsLeft, left_of}
 use Rattle.k_entry.proofs.More.{moved}
 
@@ -40,7 +36,7 @@ was p v t i chains segments walks s j m within e = out_old p.segments v t.seg.0 
 other : (p : Parts) (v : ListsValue) (t : Name) (i : ℕ) (chains segments walks : ListsValue) (s j : ℕ) → AreKept p → IsLess p v t i chains segments walks → s < length p.homes → is_in (members segments s) j ≡ true → j ≢ i
 other p v t i chains segments walks s j k m within e same =
     let here : is_in (members v s) i ≡ true = subst (λ n. is_in (members v s) n ≡ true) same (was_in p v t i chains segments walks s j m within e) in
-    let list : s ≡ t.seg.0 = in_one p.segments s t.seg.0 i k.segments_apart (out_old p.segments v t.seg.0 i s i m.segment_out here) m.found.there in
+    let list : s ≡ t.seg.0 = apart_one p.segments s t.seg.0 i k.segments_apart (out_old p.segments v t.seg.0 i s i m.segment_out here) m.found.there in
     out_gone p.segments v t.seg.0 i m.segment_out (subst (λ l. is_in (members v l) i ≡ true) list here)
 
 -- another slot stays in its list
@@ -118,7 +114,7 @@ kept_less p v t i chains segments walks k m =
           (λ ne. m.walk_left.others (walk_of (length p.homes) (home_of p.homes s)) s (k.walked s j within (was p v t i chains segments walks s j m within e)) ne);
       live = λ a s e.
           let l = k.live a s (m.walk_left.old a s e) in
-          let below : s < length p.homes = omega (arith, in_below p.walks a s k.walks_apart (m.walk_left.old a s e), k.sizes.walks_room) in
+          let below : s < length p.homes = omega (arith, apart_in p.walks a s k.walks_apart (m.walk_left.old a s e), k.sizes.walks_room) in
           let list : members segments s ≡ members v s = put_there v segments (length p.homes) i s m.freed (λ same. omega (arith, below, same)) in (
             l.0,
             same_or_not s t.seg.0 (0 < length (members segments s))

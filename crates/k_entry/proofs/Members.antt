@@ -1,7 +1,9 @@
 -- Members of lists, and the way along one.
-use Rattle.std.proofs.Common.{◌≡◌, ◌≢◌, ◌==◌, ◌||◌, not, ℕ, zero, suc, ◌+◌, ◌<◌, ◌≤◌, Bool, true, false, cond, IsTrue, IsFalse, refl, sym, ap, ap₂, subst, ◌∙◌, List, [], ◌∷◌, ◌++◌, length, filter, slice_get, set, get_or, Option, Some, None, eqb-true, eq-eqb, append-nil, arith, length-append}
-use Rattle.std.proofs.lemmas.Bool.{and_parts, false_from_ne_true}
-use Rattle.k_lists.specs.Lists.{ListsValue, AreApart, IsFree, members, is_in, without}
+use Rattle.std.proofs.Common.{◌≡◌, ◌≢◌, ◌==◌, ◌||◌, not, ℕ, zero, suc, ◌+◌, ◌<◌, ◌≤◌, Bool, true, false, cond, refl, sym, ap, ap₂, subst, ◌∙◌, List, [], ◌∷◌, ◌++◌, length, slice_get, set, get_or, Option, Some, None, eqb-true, eq-eqb, append-nil, arith}
+use Rattle.std.proofs.lemmas.Bool.{false_from_ne_true}
+use Rattle.k_lists.specs.Lists.{ListsValue, AreApart, members, is_in, without}
+use Rattle.k_lists.proofs.Members.{in_at, place_of}
+use Rattle.k_lists.proofs.Members.{place_of}
 use Rattle.k_entry.specs.Slots.{since, onward}
 
 -- no number stands in two places
@@ -13,15 +15,6 @@ once_of v list apart = λ j k i a b. (apart.once list list j k i a b).1
 
 pub once_tail : (x : ℕ) (xs : List ℕ) → Once (x ∷ xs) → Once xs
 once_tail x xs once = λ j k i a b. let e : suc j ≡ suc k = once (suc j) (suc k) i a b in omega arith
-
-pub is_in_at : (xs : List ℕ) (k i : ℕ) → slice_get xs k ≡ Some i → is_in xs i ≡ true
-is_in_at [] k i e = absurd (cc)
-is_in_at (x ∷ xs) zero i e = let same : x ≡ i = cc in ap (λ b. b || is_in xs i) (eq-eqb x i same)
-is_in_at (x ∷ xs) (suc k) i e = by_test (x == i) (is_in_at xs k i e)
-  where
-    by_test : (b : Bool) → is_in xs i ≡ true → (b || is_in xs i) ≡ true
-    by_test true there = refl
-    by_test false there = there
 
 -- the number stands after these, where it is met first
 pub record Split (xs : List ℕ) (i : ℕ) : Type 0 where
@@ -53,9 +46,6 @@ seam_next before rest i = rw (one_more (length before)) (by_place before)
     by_place : (before : List ℕ) → slice_get (before ++ i ∷ rest) (suc (length before)) ≡ slice_get rest 0
     by_place [] = refl
     by_place (x ∷ before) = by_place before
-
-pub place_of : (xs : List ℕ) (i : ℕ) → is_in xs i ≡ true → (k : ℕ) × (slice_get xs k ≡ Some i)
-place_of xs i e = let s = split xs i e in (length s.before, ap (λ ys. slice_get ys (length s.before)) s.whole ∙ seam s.before s.after i)
 
 -- from the first of what is left on, just that is left
 pub onward_rest : (before rest : List ℕ) → Once (before ++ rest) → onward (before ++ rest) (slice_get rest 0) ≡ rest
@@ -98,7 +88,7 @@ step xs before i next once w leads = by_rest w.rest refl
         let next_is : next ≡ slice_get rest 0 = leads (length before) at ∙ ap (λ ys. slice_get ys (length before + 1)) whole ∙ seam_next before rest i in
         let on : IsOnWay xs (before ++ i ∷ []) next = record { rest = rest; whole = whole ∙ sym (shifted before rest i); first = next_is } in
         record {
-          there = is_in_at xs (length before) i at;
+          there = in_at xs (length before) i at;
           on = on;
           here = way_left xs before (Some i) w once ∙ e ∙ ap (λ y. y ∷ rest) same ∙ ap (λ ys. i ∷ ys) (sym (way_left xs (before ++ i ∷ []) next on once));
         }
@@ -111,7 +101,7 @@ way_in xs before i w = by_rest w.rest refl
     by_rest (x ∷ rest) e =
         let f : Some i ≡ Some x = w.first ∙ ap (λ ys. slice_get ys 0) e in
         let same : x ≡ i = cc in
-        is_in_at xs (length before) i (ap (λ ys. slice_get ys (length before)) (w.whole ∙ ap (λ ys. before ++ ys) e ∙ ap (λ y. before ++ y ∷ rest) same) ∙ seam before rest i)
+        in_at xs (length before) i (ap (λ ys. slice_get ys (length before)) (w.whole ∙ ap (λ ys. before ++ ys) e ∙ ap (λ y. before ++ y ∷ rest) same) ∙ seam before rest i)
 
 -- where a way can begin
 pub way_at : (xs : List ℕ) (i : ℕ) → is_in xs i ≡ true → (before : List ℕ) × IsOnWay xs before (Some i)
@@ -142,9 +132,6 @@ in_cons x i xs e ne = ap (λ b. b || is_in xs i) (sym (false_from_ne_true (x == 
 
 pub cons_in : (x i : ℕ) (xs : List ℕ) → is_in xs i ≡ true → is_in (x ∷ xs) i ≡ true
 cons_in x i xs e = or_right (x == i) (is_in xs i) e
-
-pub cons_here : (x : ℕ) (xs : List ℕ) → is_in (x ∷ xs) x ≡ true
-cons_here x xs = or_left (x == x) (is_in xs x) (eq-eqb x x refl)
 
 pub without_in : (x i : ℕ) (xs : List ℕ) → is_in (without x xs) i ≡ true → (x ≢ i) × (is_in xs i ≡ true)
 without_in x i [] e = absurd (cc)
@@ -232,12 +219,6 @@ members_past v list past = by_place v.lists list past
     by_place [] k w = refl
     by_place (l ∷ ls) zero w = absurd (omega arith)
     by_place (l ∷ ls) (suc k) w = by_place ls k (omega arith)
-
-pub in_below : (v : ListsValue) (list i : ℕ) → AreApart v → is_in (members v list) i ≡ true → i < v.room
-in_below v list i apart e = let p = place_of (members v list) i e in apart.below list p.0 i p.1
-
-pub in_one : (v : ListsValue) (a b i : ℕ) → AreApart v → is_in (members v a) i ≡ true → is_in (members v b) i ≡ true → a ≡ b
-in_one v a b i apart x y = let p = place_of (members v a) i x in let q = place_of (members v b) i y in (apart.once a b p.0 q.0 i p.1 q.1).0
 
 pub in_within : (v : ListsValue) (list i : ℕ) → is_in (members v list) i ≡ true → list < length v.lists
 in_within v list i e = by_place v.lists list e

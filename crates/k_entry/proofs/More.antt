@@ -1,21 +1,21 @@
 -- A table with an item more.
-use Rattle.std.proofs.Common.{◌≡◌, ◌≢◌, ◌==◌, ℕ, zero, suc, ◌+◌, ◌<◌, ◌≤◌, Bool, count_by, true, false, cond, refl, sym, ap, ap₂, subst, ◌∙◌, List, [], ◌∷◌, length, map, set, arith}
+use Rattle.std.proofs.Common.{◌≡◌, ◌≢◌, ℕ, zero, suc, ◌<◌, ◌≤◌, Bool, count_by, true, false, refl, sym, ap, subst, ◌∙◌, List, ◌∷◌, length, map, set, arith}
 use Rattle.std.proofs.lemmas.Bool.{false_from_ne_true}
 use Rattle.std.proofs.lemmas.List.{length-map}
 use Rattle.std.specs.List.{concat}
 use Rattle.k_types.specs.Totals.{total}
 use Rattle.k_types.specs.declared.names.Name.{Name}
 use Rattle.k_types.specs.Names.{name_eq}
-use Rattle.k_types.specs.Agree.{Counted, counted}
+use Rattle.k_types.specs.Agree.{Counted}
 use Rattle.k_lists.specs.Lists.{ListsValue, AreApart, members, is_in}
 use Rattle.k_entry.specs.declared.item.Item.{Item}
-use Rattle.k_entry.specs.Entries.{EntryValue, HasMore, home_of}
+use Rattle.k_entry.specs.Entries.{HasMore, home_of}
 use Rattle.k_entry.specs.Slots.{at, row_at, bucket, buckets, walk_of, entered, Parts, order, used, shown, AreKept, HaveSizes, IsListed, GivesSlot}
-use Rattle.k_entry.proofs.Members.{in_below}
+use Rattle.k_lists.proofs.Apart.{apart_in}
 use Rattle.k_entry.proofs.With.{IsWith, with_front, with_map, with_total, with_length}
 use Rattle.k_entry.proofs.Joined.{joined, joined_same, joined_with, map_same}
 use Rattle.k_entry.proofs.Counts.{name_is, bit, hits, hits_are, no_hits, more_new}
-use Rattle.k_entry.proofs.Items.{order_below, used_is, used_of}
+use Rattle.k_entry.proofs.Items.{order_below, used_is}
 use Rattle.k_entry.proofs.Changes.{same_or_not, IsPut, put_here, put_there, put_old, put_new, put_cases, put_size}
 use Rattle.k_entry.proofs.Entered.{IsEntered, entered_of}
 
@@ -163,7 +163,7 @@ kept_more p v t i slots chains segments walks k m =
     }
   where
     on_walk : (s a : ℕ) → is_in (members p.walks a) s ≡ true → s < length p.homes
-    on_walk s a e = omega (arith, in_below p.walks a s k.walks_apart e, k.sizes.walks_room)
+    on_walk s a e = omega (arith, apart_in p.walks a s k.walks_apart e, k.sizes.walks_room)
 
     by_test : (n : Name) (b : Bool) → name_eq t n ≡ b → count_by (λ (item : Counted). name_eq item.object n) (shown (moved p slots chains segments walks)).items ≤ 1
     by_test n true is =

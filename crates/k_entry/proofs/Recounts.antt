@@ -1,14 +1,13 @@
 -- A table where one item has another count.
-use Rattle.std.proofs.Common.{◌≡◌, ◌≢◌, ◌==◌, ℕ, zero, suc, ◌+◌, ◌-◌, ◌<◌, ◌≤◌, Bool, count_by, true, false, refl, sym, ap, ap₂, subst, ◌∙◌, List, [], ◌∷◌, ◌++◌, length, map, set, get_or, length-set, get_or-set_same, get_or-set_other, arith}
+use Rattle.std.proofs.Common.{◌≡◌, ◌≢◌, ℕ, ◌+◌, ◌<◌, true, refl, sym, ap, ap₂, subst, ◌∙◌, List, [], ◌∷◌, ◌++◌, length, map, set, get_or, length-set, get_or-set_same, get_or-set_other, arith}
 use Rattle.std.proofs.lemmas.List.{map-append}
 use Rattle.k_types.specs.Totals.{total}
 use Rattle.k_types.specs.declared.names.Name.{Name}
-use Rattle.k_types.specs.Names.{name_eq}
-use Rattle.k_types.specs.Agree.{Counted, counted}
+use Rattle.k_types.specs.Agree.{Counted}
 use Rattle.k_lists.specs.Lists.{members, is_in}
 use Rattle.k_entry.specs.declared.item.Item.{Item}
-use Rattle.k_entry.specs.Entries.{EntryValue, HasMore, HasLess}
-use Rattle.k_entry.specs.Slots.{at, row_of, row_at, blank, bucket, Parts, used, shown, AreKept, HaveSizes, IsListed}
+use Rattle.k_entry.specs.Entries.{HasMore, HasLess}
+use Rattle.k_entry.specs.Slots.{at, row_of, row_at, blank, bucket, Parts, used, shown, AreKept}
 use Rattle.k_entry.proofs.With.{IsWith, with_map}
 use Rattle.k_entry.proofs.Joined.{map_same, off_members}
 use Rattle.k_entry.proofs.Counts.{hits, hits_are, more_there, less_there}

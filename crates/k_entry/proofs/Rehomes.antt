@@ -1,18 +1,17 @@
 -- A table where a segment has another home.
-use Rattle.std.proofs.Common.{◌≡◌, ◌≢◌, ◌==◌, ℕ, zero, suc, ◌+◌, ◌<◌, ◌≤◌, Bool, count_by, true, false, refl, sym, ap, ap₂, subst, ◌∙◌, List, [], ◌∷◌, ◌++◌, append_assoc, length, map, set, get_or, length-set, get_or-set_same, get_or-set_other, arith}
+use Rattle.std.proofs.Common.{◌≡◌, ◌≢◌, ℕ, ◌<◌, ◌≤◌, true, false, refl, sym, ap, ap₂, subst, ◌∙◌, List, [], ◌∷◌, ◌++◌, append_assoc, length, set, length-set, get_or-set_same, get_or-set_other, arith}
 use Rattle.std.specs.List.{concat}
 use Rattle.std.specs.List.Sorted.{IsPermutation}
 use Rattle.std.proofs.lemmas.List.Sorted.{IsPermutation-refl, IsPermutation-sym, IsPermutation-trans, IsPermutation-append_comm, IsPermutation-append_left, IsPermutation-map, sum_by-IsPermutation, length_permutation}
 use Rattle.k_types.specs.Totals.{total}
-use Rattle.k_types.specs.declared.names.Name.{Name}
 use Rattle.k_types.specs.declared.names.Heap.{Heap}
 use Rattle.k_types.specs.declared.names.Heap.TheVariants.{Kernel}
-use Rattle.k_types.specs.Names.{name_eq}
-use Rattle.k_types.specs.Agree.{Counted}
 use Rattle.k_lists.specs.Lists.{ListsValue, AreApart, members, is_in}
 use Rattle.k_entry.specs.Entries.{home_of}
-use Rattle.k_entry.specs.Slots.{at, row_at, walk_of, left, changed, Parts, order, used, shown, AreKept, IsListed}
-use Rattle.k_entry.proofs.Members.{in_below, in_one, in_within, cons_here}
+use Rattle.k_entry.specs.Slots.{row_at, walk_of, left, changed, Parts, order, used, shown, AreKept}
+use Rattle.k_lists.proofs.Apart.{apart_one}
+use Rattle.k_lists.proofs.Members.{in_head}
+use Rattle.k_entry.proofs.Members.{in_within}
 use Rattle.k_entry.proofs.With.{IsWith}
 use Rattle.k_entry.proofs.Joined.{joined, joined_append}
 use Rattle.k_entry.proofs.Counts.{hits, hits_are, total_is}
@@ -70,7 +69,7 @@ rehomed_full p v walks s to k within some there out put apart =
       others = λ a x e ne. put_old v walks into s a x put (out_other p.walks v from s a x out e ne);
       only = λ a e. put_cases v walks into s a s ((a ≡ into) × (0 < length (members p.segments s))) put e
           (λ in_v.
-          let same : a ≡ from = in_one p.walks a from s k.walks_apart (out_old p.walks v from s a s out in_v) there in
+          let same : a ≡ from = apart_one p.walks a from s k.walks_apart (out_old p.walks v from s a s out in_v) there in
           absurd (out_gone p.walks v from s out (subst (λ l. is_in (members v l) s ≡ true) same in_v)))
           (λ list same. (list, some));
       permuted =
@@ -138,7 +137,7 @@ rehomed_by p walks s from into to k within from_is into_is into_in moved apart =
     by_list : (xs : List ℕ) → members p.segments s ≡ xs → AreRehomed p walks s to
     by_list [] e = subst (λ (w : ListsValue). AreRehomed p w s to) (sym (moved ∙ ap (λ xs. changed p.walks from into s xs) e)) (rehomed_empty p s to k within e)
     by_list (x ∷ xs) e =
-        let there : is_in (members p.segments s) x ≡ true = ap (λ ys. is_in ys x) e ∙ cons_here x xs in
+        let there : is_in (members p.segments s) x ≡ true = ap (λ ys. is_in ys x) e ∙ in_head x xs in
         let on = k.walked s x within there in
         let v : ListsValue = left p.walks from s [] in
         let is : walks ≡ changed p.walks from into s (x ∷ xs) = moved ∙ ap (λ ys. changed p.walks from into s ys) e in

@@ -1,13 +1,14 @@
 -- How far a walk along a list has come.
-use Rattle.std.proofs.Common.{◌≡◌, ◌≢◌, ◌==◌, ◌||◌, ℕ, ◌<◌, Bool, true, false, refl, sym, ap, subst, ◌∙◌, cond, List, [], ◌∷◌, ◌++◌, ◌+◌, length, filter, slice_get, Option, Some, None, IfSome, eqb-true, append-nil, arith}
+use Rattle.std.proofs.Common.{◌≡◌, ◌==◌, ◌||◌, ℕ, ◌<◌, Bool, true, false, refl, sym, ap, subst, ◌∙◌, cond, List, [], ◌∷◌, ◌++◌, ◌+◌, length, slice_get, Option, Some, None, IfSome, eqb-true, append-nil, arith}
 use Rattle.k_types.specs.declared.names.Name.{Name}
 use Rattle.k_types.specs.declared.names.Heap.{Heap}
 use Rattle.k_types.specs.Names.{name_eq, heap_eq}
-use Rattle.k_lists.specs.Lists.{ListsValue, AreApart, members, is_in}
+use Rattle.k_lists.specs.Lists.{is_in}
 use Rattle.k_entry.specs.declared.item.Item.{Item}
 use Rattle.k_entry.specs.Entries.{home_of}
 use Rattle.k_entry.specs.Slots.{at, onward, homed}
-use Rattle.k_entry.proofs.Members.{Once, once_of, IsOnWay, IsStep, step, way_left, way_at, way_end, way_in, is_in_append, place_of}
+use Rattle.k_lists.proofs.Members.{place_of}
+use Rattle.k_entry.proofs.Members.{Once, IsOnWay, IsStep, step, way_at, way_end, way_in, is_in_append}
 
 -- no slot before the next one is the object's
 pub record HasPassed (slots : List Item) (t : Name) (xs : List ℕ) (next : Option ℕ) : Type 0 where

@@ -1,12 +1,13 @@
 -- A list with one element more, somewhere.
-use Rattle.std.proofs.Common.{◌≡◌, ◌≢◌, ◌==◌, ◌||◌, ℕ, zero, suc, ◌+◌, ◌<◌, ◌≤◌, Bool, true, false, refl, sym, ap, ap₂, subst, ◌∙◌, List, [], ◌∷◌, ◌++◌, append_assoc, length, map, slice_get, set, get_or, Some, eqb-true, eq-eqb, arith, length-append}
+use Rattle.std.proofs.Common.{◌≡◌, ◌≢◌, ◌||◌, ℕ, zero, suc, ◌+◌, ◌<◌, Bool, true, false, refl, sym, ap, subst, ◌∙◌, List, [], ◌∷◌, ◌++◌, append_assoc, length, map, set, get_or, arith, length-append}
 use Rattle.std.proofs.lemmas.List.{map-append}
 use Rattle.std.specs.List.{concat}
 use Rattle.std.specs.List.Sorted.{IsPermutation}
-use Rattle.std.proofs.lemmas.List.Sorted.{IsPermutation-middle, IsPermutation-sym}
+use Rattle.std.proofs.lemmas.List.Sorted.{IsPermutation-middle}
 use Rattle.k_types.specs.Totals.{total}
 use Rattle.k_lists.specs.Lists.{is_in, without}
-use Rattle.k_entry.proofs.Members.{Once, split, once_after, without_split, is_in_append, in_cons, cons_in, cons_here, or_left, or_right}
+use Rattle.k_lists.proofs.Members.{in_head}
+use Rattle.k_entry.proofs.Members.{Once, split, once_after, without_split, is_in_append, in_cons, cons_in, or_right}
 
 pub record IsWith {X : Type 0} (x : X) (xs ys : List X) : Type 0 where
   pub before : List X
@@ -70,7 +71,7 @@ with_in x i xs ys w e =
     by_test false t = cons_in x i w.after t
 
 pub with_here : (x : ℕ) (xs ys : List ℕ) → IsWith x xs ys → is_in ys x ≡ true
-with_here x xs ys w = ap (λ zs. is_in zs x) w.more ∙ is_in_append w.before (x ∷ w.after) x ∙ or_right (is_in w.before x) (is_in (x ∷ w.after) x) (cons_here x w.after)
+with_here x xs ys w = ap (λ zs. is_in zs x) w.more ∙ is_in_append w.before (x ∷ w.after) x ∙ or_right (is_in w.before x) (is_in (x ∷ w.after) x) (in_head x w.after)
 
 pub with_other : (x i : ℕ) (xs ys : List ℕ) → IsWith x xs ys → is_in ys i ≡ true → (x ≢ i) → is_in xs i ≡ true
 with_other x i xs ys w e ne =

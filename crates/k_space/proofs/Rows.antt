@@ -13,7 +13,7 @@ use Rattle.k_space.specs.declared.segment.Cell.{Cell}
 use Rattle.k_space.specs.Segments.{White, Gray, Black, Row, SegmentValue, LiesAt, row_at, with_row, new_row, placed, some_gray, unmarked_row, is_marked}
 use Rattle.k_space.specs.Sweeping.{IsUnmarkedAt}
 use Rattle.k_space.specs.Places.{row_of, row_in, color_of, IsSound, IsPlaced, IsKept, IsGrayList, is_gray_place, white_place, is_white_place}
-use Rattle.k_space.proofs.GrayLists.{At_inside, list_pushed, count_pushed, list_kept, count-set, head_gray}
+use Rattle.k_space.proofs.GrayLists.{At_inside, list_pushed, count_pushed, list_kept, count-set}
 
 pub map_len : {A B : Type 0} (f : A → B) (xs : List A) → length (map f xs) ≡ length xs
 map_len f [] = refl

@@ -1,9 +1,8 @@
-use Rattle.std.proofs.Common.{◌≡◌, ◌<◌, ℕ, ◌+◌, ◌∷◌, List, Option, Some, None, true, length, slice_get, refl, sym, ap, subst, ◌∙◌, arith}
-use Rattle.k_types.specs.Names.{name_eq}
-use Rattle.k_lists.specs.Lists.{members, is_in}
-use Rattle.k_entry.specs.Slots.{at, onward}
-use Rattle.k_entry.proofs.Members.{once_of, step, in_below}
-use Rattle.k_entry.proofs.Ways.{HasPassed, passed_none, passed_there, passed_more, passed_all, way_shorter}
+use Rattle.std.proofs.Common.{ℕ, Option, sym, subst, ◌∙◌}
+use Rattle.k_lists.specs.Lists.{members}
+use Rattle.k_lists.proofs.Apart.{apart_in}
+use Rattle.k_entry.proofs.Members.{once_of, step}
+use Rattle.k_entry.proofs.Ways.{HasPassed, passed_there, passed_more, passed_all, way_shorter}
 use Rattle.k_entry.proofs.item.find.Goals as goal
 
 pub bounds-slots-i : goal.bounds-slots-i
@@ -14,7 +13,7 @@ returns-then-is_of-clause-there c = passed_there c.args.slots.now c.args.target 
 
 pub next-next-requires : goal.next-next-requires
 next-next-requires c =
-    in_below c.args.chains.now c.args.chain c.in-Some.i c.first-next.ensures.apart
+    apart_in c.args.chains.now c.args.chain c.in-Some.i c.first-next.ensures.apart
     (passed_there c.args.slots.now c.args.target (members c.args.chains.now c.args.chain) c.in-Some.i (subst (λ (o : Option ℕ). HasPassed c.args.slots.now c.args.target (members c.args.chains.now c.args.chain) o) c.in-Some.is c.loop-next.invariant))
 
 pub loop-next-smaller : goal.loop-next-smaller

@@ -1,7 +1,6 @@
-use Rattle.std.proofs.Common.{◌≡◌, ℕ, List, false, length}
-use Rattle.k_types.specs.Names.{name_eq}
-use Rattle.k_lists.specs.Lists.{members, is_in}
-use Rattle.k_entry.specs.Slots.{at, onward}
+use Rattle.std.proofs.Common.{length}
+use Rattle.k_lists.specs.Lists.{members}
+use Rattle.k_entry.specs.Slots.{onward}
 use Rattle.k_entry.proofs.Ways.{HasPassed}
 use Rattle.k_entry.proofs.item.find.Given as goal
 

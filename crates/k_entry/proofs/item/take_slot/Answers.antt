@@ -1,8 +1,7 @@
-use Rattle.std.proofs.Common.{◌≡◌, ◌<◌, ℕ, List, [], ◌∷◌, ◌++◌, length, set, refl, sym, ap, subst, ◌∙◌, arith}
-use Rattle.k_lists.specs.Lists.{ListsValue, members, is_in}
+use Rattle.std.proofs.Common.{◌≡◌, ℕ, List, length, sym, ap, subst, arith}
+use Rattle.k_lists.specs.Lists.{members}
 use Rattle.k_entry.specs.declared.item.Item.{Item}
 use Rattle.k_entry.specs.Slots.{GivesSlot}
-use Rattle.k_entry.proofs.Changes.{IsOut}
 use Rattle.k_entry.proofs.Given.{given_again, given_new, first_in, first_none}
 use Rattle.k_entry.proofs.item.take_slot.Goals as goal
 

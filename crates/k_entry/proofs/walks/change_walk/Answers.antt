@@ -1,6 +1,7 @@
-use Rattle.std.proofs.Common.{◌≡◌, ◌<◌, ℕ, length, sym, ap, ◌∙◌, arith}
-use Rattle.k_lists.specs.Lists.{ListsValue, members, is_in}
-use Rattle.k_entry.proofs.Members.{in_below, in_within}
+use Rattle.std.proofs.Common.{sym, ap, ◌∙◌, arith}
+use Rattle.k_lists.specs.Lists.{ListsValue, members}
+use Rattle.k_lists.proofs.Apart.{apart_in}
+use Rattle.k_entry.proofs.Members.{in_within}
 use Rattle.k_entry.proofs.Changes.{out_free}
 use Rattle.k_entry.proofs.Given.{some_first}
 use Rattle.k_entry.proofs.walks.change_walk.Goals as goal
@@ -8,7 +9,7 @@ use Rattle.k_entry.proofs.walks.change_walk.Goals as goal
 pub push_front-requires-clause-room : goal.push_front-requires-clause-room
 push_front-requires-clause-room c =
     let on = c.requires.on (some_first (members c.args.segments.now c.args.seg.0) c.first.result c.first.ensures.value (sym c.is_some.ensures ∙ c.if-is_some.true)) in
-    omega (arith, in_below c.args.walks.now c.args.from c.args.seg.0 c.requires.apart on, ap (λ (v : ListsValue). v.room) c.remove.ensures.removed)
+    omega (arith, apart_in c.args.walks.now c.args.from c.args.seg.0 c.requires.apart on, ap (λ (v : ListsValue). v.room) c.remove.ensures.removed)
 
 pub push_front-requires-clause-free : goal.push_front-requires-clause-free
 push_front-requires-clause-free c =

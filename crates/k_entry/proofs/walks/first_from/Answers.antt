@@ -1,7 +1,8 @@
-use Rattle.std.proofs.Common.{◌≡◌, ◌<◌, ℕ, ◌+◌, ◌∷◌, List, Option, Some, None, true, length, slice_get, refl, sym, ap, subst, ◌∙◌, arith}
-use Rattle.k_lists.specs.Lists.{members, is_in}
-use Rattle.k_entry.specs.Slots.{onward, walk_of, first_slot}
-use Rattle.k_entry.proofs.Members.{once_of, step, in_below}
+use Rattle.std.proofs.Common.{ℕ, List, Option, length, sym, ap, subst, ◌∙◌, arith}
+use Rattle.k_lists.specs.Lists.{members}
+use Rattle.k_entry.specs.Slots.{walk_of, first_slot}
+use Rattle.k_lists.proofs.Apart.{apart_in}
+use Rattle.k_entry.proofs.Members.{once_of, step}
 use Rattle.k_entry.proofs.Ways.{LooksOn, look_from, looked_in, looked_here, looked_more, way_shorter, own_step}
 use Rattle.k_entry.proofs.walks.first_from.Goals as goal
 
@@ -12,19 +13,19 @@ pub bounds-homes-seg : goal.bounds-homes-seg
 bounds-homes-seg c =
     let walk = walk_of (length c.args.homes.now) c.args.heap in
     let l = subst (λ (o : Option ℕ). LooksOn c.args.homes.now c.args.heap (members c.args.walks.now walk) c.args.from o) c.in-Some.is c.loop-next.invariant in
-    omega (arith, c.requires.homes, in_below c.args.walks.now walk c.in-Some.seg c.requires.apart (looked_in c.args.homes.now c.args.heap (members c.args.walks.now walk) c.args.from c.in-Some.seg l))
+    omega (arith, c.requires.homes, apart_in c.args.walks.now walk c.in-Some.seg c.requires.apart (looked_in c.args.homes.now c.args.heap (members c.args.walks.now walk) c.args.from c.in-Some.seg l))
 
 pub first-requires : goal.first-requires
 first-requires c =
     let walk = walk_of (length c.args.homes.now) c.args.heap in
     let l = subst (λ (o : Option ℕ). LooksOn c.args.homes.now c.args.heap (members c.args.walks.now walk) c.args.from o) c.in-Some.is c.loop-next.invariant in
-    omega (arith, c.requires.homes, c.requires.lists, in_below c.args.walks.now walk c.in-Some.seg c.requires.apart (looked_in c.args.homes.now c.args.heap (members c.args.walks.now walk) c.args.from c.in-Some.seg l))
+    omega (arith, c.requires.homes, c.requires.lists, apart_in c.args.walks.now walk c.in-Some.seg c.requires.apart (looked_in c.args.homes.now c.args.heap (members c.args.walks.now walk) c.args.from c.in-Some.seg l))
 
 pub next-next-requires : goal.next-next-requires
 next-next-requires c =
     let walk = walk_of (length c.args.homes.now) c.args.heap in
     let l = subst (λ (o : Option ℕ). LooksOn c.args.homes.now c.args.heap (members c.args.walks.now walk) c.args.from o) c.in-Some.is c.loop-next.invariant in
-    in_below c.args.walks.now walk c.in-Some.seg c.requires.apart (looked_in c.args.homes.now c.args.heap (members c.args.walks.now walk) c.args.from c.in-Some.seg l)
+    apart_in c.args.walks.now walk c.in-Some.seg c.requires.apart (looked_in c.args.homes.now c.args.heap (members c.args.walks.now walk) c.args.from c.in-Some.seg l)
 
 pub returns-then-is_same : goal.returns-then-is_same
 returns-then-is_same c =

@@ -1,8 +1,8 @@
-use Rattle.std.proofs.Common.{◌≡◌, List, refl, sym, ap, subst, ◌∙◌}
+use Rattle.std.proofs.Common.{sym, ap, subst, ◌∙◌}
 use Rattle.k_types.specs.Agree.{counted}
 use Rattle.k_entry.specs.declared.item.Item.{Item}
 use Rattle.k_entry.specs.Entries.{EntryValue, AreEntries}
-use Rattle.k_entry.specs.Slots.{Parts, shown, at}
+use Rattle.k_entry.specs.Slots.{Parts, shown}
 use Rattle.k_entry.proofs.Counts.{no_hits}
 use Rattle.k_entry.proofs.Items.{entries_of, found_by, none_by, read_at}
 use Rattle.k_entry.proofs.table.EntryTable.count.Goals as goal

@@ -1,11 +1,8 @@
-use Rattle.std.proofs.Common.{◌≡◌, ◌≢◌, ◌+◌, ◌-◌, ◌<◌, ◌≤◌, ℕ, List, [], ◌∷◌, ◌++◌, map, length, set, refl, sym, ap, ap₂, subst, ◌∙◌, arith}
-use Rattle.k_types.specs.declared.names.Name.{Name}
-use Rattle.k_types.specs.declared.names.Heap.{Heap}
-use Rattle.k_types.specs.Agree.{Counted, counted}
-use Rattle.k_lists.specs.Lists.{ListsValue, members}
+use Rattle.std.proofs.Common.{◌≡◌, ◌-◌, length, set, sym, ap, subst, ◌∙◌, arith}
+use Rattle.k_types.specs.Agree.{counted}
 use Rattle.k_entry.specs.declared.item.Item.{Item}
-use Rattle.k_entry.specs.Entries.{EntryValue, AreEntries, HasLess}
-use Rattle.k_entry.specs.Slots.{Parts, shown, at, AreKept}
+use Rattle.k_entry.specs.Entries.{EntryValue, HasLess}
+use Rattle.k_entry.specs.Slots.{Parts, shown, at}
 use Rattle.k_entry.proofs.Counts.{no_hits}
 use Rattle.k_entry.proofs.Items.{found_by, none_by, read_at, walk_read}
 use Rattle.k_entry.proofs.Recounts.{recount_by, kept_recount, less_recount}

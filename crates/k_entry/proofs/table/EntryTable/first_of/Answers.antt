@@ -1,9 +1,9 @@
-use Rattle.std.proofs.Common.{◌≡◌, ◌<◌, ℕ, List, Option, Some, None, IfSome, length, option_map, slice_get, true, refl, sym, ap, ap₂, subst, ◌∙◌, arith}
+use Rattle.std.proofs.Common.{◌≡◌, List, Some, None, length, option_map, slice_get, sym, ap, subst, ◌∙◌, arith}
 use Rattle.k_types.specs.declared.names.Heap.{Heap}
-use Rattle.k_lists.specs.Lists.{members, is_in}
+use Rattle.k_lists.specs.Lists.{members}
 use Rattle.k_entry.specs.declared.item.Item.{Item}
 use Rattle.k_entry.specs.Entries.{EntryValue, first_object, items_of}
-use Rattle.k_entry.specs.Slots.{Parts, shown, at, walk_of, homed, onward, first_slot}
+use Rattle.k_entry.specs.Slots.{Parts, at, walk_of}
 use Rattle.k_entry.proofs.HomeWalks.{first_may, first_told, first_of_is, answer_below, object_at, segments_of}
 use Rattle.k_entry.proofs.table.EntryTable.first_of.Goals as goal
 

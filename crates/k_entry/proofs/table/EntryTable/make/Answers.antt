@@ -1,10 +1,6 @@
-use Rattle.std.proofs.Common.{rules, ◌≡◌, ◌<◌, ◌≤◌, ◌+◌, ◌^◌, ℕ, List, [], length, map, replicate, sym, ap, ap₂, subst, ◌∙◌, arith}
+use Rattle.std.proofs.Common.{rules, ◌≡◌, ◌+◌, List, length, sym, ap, ap₂, arith}
 use Rattle.k_types.specs.declared.names.Heap.{Heap}
 use Rattle.k_types.specs.Agree.{Counted}
-use Rattle.k_lists.specs.Lists.{ListsValue}
-use Rattle.k_entry.specs.declared.item.Item.{Item}
-use Rattle.k_entry.specs.Entries.{EntryValue}
-use Rattle.k_entry.specs.Slots.{Parts, AreKept, buckets}
 use Rattle.k_entry.proofs.Items.{kept_made, shows_made}
 use Rattle.k_entry.proofs.table.EntryTable.make.Goals as goal
 

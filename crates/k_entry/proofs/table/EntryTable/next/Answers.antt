@@ -1,11 +1,11 @@
-use Rattle.std.proofs.Common.{◌≡◌, ◌<◌, ◌+◌, ℕ, List, Option, Some, None, IfSome, length, option_map, slice_get, true, refl, sym, ap, ap₂, subst, ◌∙◌, arith}
+use Rattle.std.proofs.Common.{◌≡◌, ◌+◌, List, Some, None, IfSome, length, option_map, true, sym, ap, ap₂, subst, ◌∙◌, arith}
 use Rattle.k_types.specs.declared.names.Heap.{Heap}
 use Rattle.k_types.specs.Agree.{counted}
 use Rattle.k_lists.specs.Lists.{members, is_in}
 use Rattle.k_entry.specs.declared.item.Item.{Item}
 use Rattle.k_entry.specs.Entries.{EntryValue, object_after, items_of, home_of}
-use Rattle.k_entry.specs.Slots.{Parts, shown, at, walk_of, homed, onward, first_slot}
-use Rattle.k_entry.proofs.Members.{place_of, is_in_at}
+use Rattle.k_entry.specs.Slots.{Parts, shown, at, walk_of, homed, onward}
+use Rattle.k_lists.proofs.Members.{place_of, in_at}
 use Rattle.k_entry.proofs.Counts.{no_hits}
 use Rattle.k_entry.proofs.Items.{found_by, none_by, read_home}
 use Rattle.k_entry.proofs.HomeWalks.{next_may, next_told, next_slot, next_segment, answer_below, object_at}
@@ -23,7 +23,7 @@ link_at-requires c =
     let f = found_by p c.args.target c.deref.result.now c.chain_of.result c.in-Some.i c.self.invariant.kept c.deref.ensures.value c.chain_of.ensures.value c.in-Some.ensures.there c.in-Some.ensures.target in
     let xs = members c.self.inside.segments c.args.target.seg.0 in
     let place = place_of xs c.in-Some.i f.there in
-    let there : is_in xs c.in-Some-next.j ≡ true = is_in_at xs (place.0 + 1) c.in-Some-next.j (sym (c.in-Some-next.ensures.value c.args.target.seg.0 place.0 place.1)) in
+    let there : is_in xs c.in-Some-next.j ≡ true = in_at xs (place.0 + 1) c.in-Some-next.j (sym (c.in-Some-next.ensures.value c.args.target.seg.0 place.0 place.1)) in
     omega (arith, c.self.invariant.kept.below c.args.target.seg.0 c.in-Some-next.j there, ap (λ (ys : List Item). length ys) c.deref-in-Some-next.ensures.value)
 
 pub returns-in-Some-next : goal.returns-in-Some-next

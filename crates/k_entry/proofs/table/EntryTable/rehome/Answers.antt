@@ -1,6 +1,5 @@
-use Rattle.std.proofs.Common.{◌≡◌, ◌<◌, ℕ, true, List, length, sym, ap, subst, ◌∙◌, arith}
+use Rattle.std.proofs.Common.{◌≡◌, ◌<◌, true, length, sym, ap, subst, ◌∙◌, arith}
 use Rattle.std.specs.List.Sorted.{IsPermutation}
-use Rattle.k_types.specs.Agree.{Counted}
 use Rattle.k_lists.specs.Lists.{members, is_in}
 use Rattle.k_entry.specs.Entries.{EntryValue}
 use Rattle.k_entry.specs.Slots.{Parts, shown, walk_of}

@@ -1,13 +1,13 @@
-use Rattle.std.proofs.Common.{◌≡◌, ◌+◌, ◌<◌, ◌≤◌, ℕ, List, [], ◌∷◌, ◌++◌, map, length, set, refl, sym, ap, ap₂, subst, ◌∙◌, arith}
+use Rattle.std.proofs.Common.{◌≡◌, ◌+◌, ◌<◌, ℕ, List, length, set, sym, ap, ap₂, subst, ◌∙◌, arith}
 use Rattle.k_types.specs.declared.names.Name.{Name}
 use Rattle.k_types.specs.declared.names.Heap.{Heap}
 use Rattle.k_types.specs.Names.{name_of}
 use Rattle.std.proofs.lemmas.List.{length-map}
 use Rattle.k_types.specs.Totals.{total}
 use Rattle.k_lists.specs.Lists.{ListsValue, members}
-use Rattle.k_types.specs.Agree.{Counted, counted}
+use Rattle.k_types.specs.Agree.{counted}
 use Rattle.k_entry.specs.declared.item.Item.{Item}
-use Rattle.k_entry.specs.Entries.{EntryValue, AreEntries, HasMore}
+use Rattle.k_entry.specs.Entries.{EntryValue, HasMore}
 use Rattle.k_entry.specs.Slots.{Parts, shown, used, row_at, AreKept, GivesSlot}
 use Rattle.k_entry.proofs.Counts.{hits, no_hits}
 use Rattle.k_entry.proofs.Items.{found_by, none_by, read_at, walk_read}

@@ -1,7 +1,6 @@
-use Rattle.std.proofs.Common.{◌≡◌, ℕ, ◌<◌, Option, Some, refl, sym, ap, subst, ◌∙◌, get_or, count_by}
+use Rattle.std.proofs.Common.{◌≡◌, ℕ, Option, Some, refl, sym, ap, subst, ◌∙◌, get_or, count_by}
 use Rattle.k_types.specs.declared.names.Serial.{Serial}
 use Rattle.k_space.specs.declared.segment.Place.TheVariants.{Empty, At}
-use Rattle.k_space.specs.declared.segment.Mark.{Mark}
 use Rattle.k_space.specs.declared.segment.Mark.TheVariants.{White as MarkWhite, Gray as MarkGray, Black as MarkBlack}
 use Rattle.k_space.specs.Segments.{SegmentValue, row_at, some_gray}
 use Rattle.k_space.specs.Places.{IsGrayList, is_gray_place}
