@@ -1,0 +1,73 @@
+//! Exit items, in chains linked by index.
+
+use crate::names::{Link, Name, chain_of};
+
+struct Item {
+    target: Name,
+    marked: bool,
+    // One more than the place of the next item; 0 at the end.
+    next: u32,
+}
+
+pub struct ExitTable {
+    items: Vec<Item>,
+    heads: Vec<u32>,
+}
+
+impl ExitTable {
+    pub fn make(room: u32) -> ExitTable {
+        ExitTable {
+            items: Vec::with_capacity(room as usize),
+            heads: vec![0; room as usize],
+        }
+    }
+
+    pub fn len(&self) -> u32 {
+        self.items.len() as u32
+    }
+
+    fn find(&self, target: Name) -> Option<usize> {
+        if self.heads.is_empty() {
+            return None;
+        }
+        let mut next = self.heads[chain_of(self.heads.len(), target)];
+        while next != 0 {
+            let i = (next - 1) as usize;
+            if self.items[i].target == target {
+                return Some(i);
+            }
+            next = self.items[i].next;
+        }
+        None
+    }
+
+    pub fn has(&self, target: Name) -> bool {
+        self.find(target).is_some()
+    }
+
+    pub fn add(&mut self, target: Link) -> bool {
+        let name = target.name();
+        if self.has(name) {
+            return false;
+        }
+        let chain = chain_of(self.heads.len(), name);
+        self.items.push(Item {
+            target: name,
+            marked: false,
+            next: self.heads[chain],
+        });
+        self.heads[chain] = self.items.len() as u32;
+        true
+    }
+
+    pub fn mark(&mut self, target: Name) {
+        let i = self.find(target).unwrap();
+        self.items[i].marked = true;
+    }
+
+    pub fn unmark_all(&mut self) {
+        for item in &mut self.items {
+            item.marked = false;
+        }
+    }
+}

@@ -1,0 +1,54 @@
+-- How much a sweep can free.
+use Rattle.std.proofs.Common.{◌≡◌, ℕ, ◌+◌, ◌<◌, ◌≤◌, Bool, true, false, cond, ap, List, [], ◌∷◌, length, sum_by, Option, Some, None, arith}
+use Rattle.std.proofs.lemmas.List.Sums.{sum_by-cons}
+use Rattle.k_types.specs.Totals.{total}
+use Rattle.k_types.specs.Owners.{object_bytes}
+use Rattle.k_types.specs.Types.{object_size}
+use Rattle.k_space.specs.Segments.{SegmentValue, Row, objects_from, segment_bytes, is_marked, made}
+use Rattle.k_space.specs.Areas.{AreaValue, rows_total, segment_at}
+use Rattle.k_mark.specs.Sweeping.{dead_row, dead_bytes_of, dead_objects, dead_bytes}
+use Rattle.k_measure.specs.Inside.{IsOne}
+use Rattle.k_measure.proofs.Inside.{one_found}
+
+dead_once : (o : Option Row) → dead_row o ≤ 1
+dead_once None = omega arith
+dead_once (Some row) = by_mark (is_marked row.color)
+  where
+    by_mark : (b : Bool) → cond b 0 1 ≤ 1
+    by_mark true = omega arith
+    by_mark false = omega arith
+
+dead_rows : (rows : List (Option Row)) → sum_by dead_row rows ≤ length rows
+dead_rows [] = omega arith
+dead_rows (o ∷ rows) = omega (arith, sum_by-cons dead_row o rows, dead_once o, dead_rows rows)
+
+bytes_within : (row : Row) → dead_bytes_of (Some row) ≤ object_size (length row.fields)
+bytes_within row = by_mark (is_marked row.color)
+  where
+    by_mark : (b : Bool) → cond b 0 (object_size (length row.fields)) ≤ object_size (length row.fields)
+    by_mark true = omega arith
+    by_mark false = omega arith
+
+dead_sum : (number serial : ℕ) (rows : List (Option Row)) → sum_by dead_bytes_of rows ≤ total object_bytes (objects_from number serial rows)
+dead_sum number serial [] = omega arith
+dead_sum number serial (None ∷ rows) = omega (arith, sum_by-cons dead_bytes_of None rows, dead_sum number (serial + 1) rows)
+dead_sum number serial (Some row ∷ rows) = omega (arith, sum_by-cons dead_bytes_of (Some row) rows, bytes_within row, dead_sum number (serial + 1) rows)
+
+-- a sum over the one segment of an area
+one_total : (g : Option Row → ℕ) (a : AreaValue) (one : IsOne a) → rows_total g a ≡ sum_by g one.segment.rows
+one_total g a one =
+    let f : SegmentValue → ℕ = λ s. sum_by g s.rows in
+    let cons = sum_by-cons f one.segment [] in
+    let whole : rows_total g a ≡ sum_by f (one.segment ∷ []) = ap (λ (xs : List SegmentValue). sum_by f xs) one.only in
+    omega (arith, whole, cons)
+
+-- a sweep of an area of one segment frees no more than it has
+pub objects_few : (a : AreaValue) (one : IsOne a) (number : ℕ) (t : SegmentValue) → segment_at a.segments number ≡ Some t → made t < 20000000 → dead_objects a < 4294967296
+objects_few a one number t at few =
+    let same : length t.rows ≡ length one.segment.rows = ap (λ (s : SegmentValue). length s.rows) (one_found a one number t at) in
+    omega (arith, same, few, one_total dead_row a one, dead_rows one.segment.rows)
+
+pub bytes_few : (a : AreaValue) (one : IsOne a) (number : ℕ) (t : SegmentValue) → segment_at a.segments number ≡ Some t → segment_bytes t < 18446744073709551616 → dead_bytes a < 18446744073709551616
+bytes_few a one number t at few =
+    let same : segment_bytes t ≡ segment_bytes one.segment = ap segment_bytes (one_found a one number t at) in
+    omega (arith, same, few, one_total dead_bytes_of a one, dead_sum one.segment.number 0 one.segment.rows)

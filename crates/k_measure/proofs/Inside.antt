@@ -1,0 +1,301 @@
+-- That references stay inside one segment, through all that a measurement does to it.
+use Rattle.std.proofs.Common.{◌≡◌, ◌&&◌, ◌||◌, ◌⊎◌, not, ℕ, zero, suc, Bool, true, false, cond, refl, sym, ap, ap₂, subst, ◌∙◌, inl, inr, List, [], ◌∷◌, ◌++◌, map, set, get_or, slice_get, slice_set, Option, Some, None, is_some, option_map, IfSome}
+use Rattle.std.proofs.lemmas.Bool.{false≢true, or_cases}
+use Rattle.std.proofs.Math.ListN.{get_or-map}
+use Rattle.k_types.specs.declared.names.Name.{Name}
+use Rattle.k_types.specs.declared.names.Link.{Link}
+use Rattle.k_types.specs.declared.names.TypeId.{TypeId}
+use Rattle.k_types.specs.declared.names.Field.{Field}
+use Rattle.k_types.specs.declared.names.Field.TheVariants.{Ref, Int}
+use Rattle.k_types.specs.Names.{name_eq, name_of}
+use Rattle.k_types.specs.State.{Content, Refers, Holds, content_leads_to, field_kind, fresh}
+use Rattle.k_types.specs.Types.{type_row}
+use Rattle.k_space.specs.Objects.{BodyValue, HasRef, new_body}
+use Rattle.k_space.specs.Segments.{SegmentValue, Row, LiesAt, Color, White, Gray, Black, row_at, with_row, placed, new_row, unmarked_row, unmarked_segment, is_black, is_marked, some_black, gray_or_black}
+use Rattle.k_space.specs.Areas.{AreaValue, HasDistinct, place_of, segment_at, row_in_segment, row_of_name, fields_at, is_foreign, black_at, grayed, grayed_row, unmarked}
+use Rattle.k_exit.specs.Exits.{ExitRow, has_target, target_marked, unmarked_row as unmarked_exit}
+use Rattle.k_mark.specs.Marking.{fields_lead_to, refers_at}
+use Rattle.k_mark.specs.Sweeping.{survivor, swept, swept_segment}
+use Rattle.k_space.proofs.AreaRows.{found, same_unmarked}
+use Rattle.k_space.proofs.Numbers.{distinct_from, found_at}
+use Rattle.k_space.proofs.NameTests.{name_eq-true}
+use Rattle.k_mark.proofs.Looks.{test_after}
+use Rattle.k_mark.proofs.Marked.{refers_fields}
+use Rattle.k_measure.specs.Inside.{LeadNowhere, LeadInto, AreNew, KeepsInside, IsOne, HasNoBlack}
+
+-- what stands in a list with one more element stood there, or is that element
+at_pushed : (rows : List (Option Row)) (new row : Row) (i : ℕ) → get_or (rows ++ Some new ∷ []) i None ≡ Some row → (get_or rows i None ≡ Some row) ⊎ (new ≡ row)
+at_pushed [] new row zero e = inr (cc)
+at_pushed [] new row (suc i) e = absurd (cc)
+at_pushed (r ∷ rows) new row zero e = inl e
+at_pushed (r ∷ rows) new row (suc i) e = at_pushed rows new row i e
+
+-- what stands in a list with another element in one place stood there, or is that element
+at_set : (rows : List (Option Row)) (new row : Row) (i j : ℕ) → get_or (set rows i (Some new)) j None ≡ Some row → (get_or rows j None ≡ Some row) ⊎ (new ≡ row)
+at_set [] new row i j e = inl e
+at_set (r ∷ rows) new row zero zero e = inr (cc)
+at_set (r ∷ rows) new row zero (suc j) e = inl e
+at_set (r ∷ rows) new row (suc i) zero e = inl e
+at_set (r ∷ rows) new row (suc i) (suc j) e = at_set rows new row i j e
+
+field_set : (fields : List Content) (new content : Content) (i j : ℕ) → slice_get (set fields i new) j ≡ Some content → (slice_get fields j ≡ Some content) ⊎ (new ≡ content)
+field_set [] new content i j e = inl e
+field_set (c ∷ fields) new content zero zero e = inr (cc)
+field_set (c ∷ fields) new content zero (suc j) e = inl e
+field_set (c ∷ fields) new content (suc i) zero e = inl e
+field_set (c ∷ fields) new content (suc i) (suc j) e = field_set fields new content i j e
+
+-- a segment that has no object
+pub empty_inside : (s : SegmentValue) → s.rows ≡ None ∷ [] → KeepsInside s
+empty_inside s empty serial row at = absurd (none serial (ap (λ (rows : List (Option Row)). get_or rows serial None) (sym empty) ∙ at))
+  where
+    none : (i : ℕ) → get_or (None ∷ []) i None ≡ Some row → ⊥
+    none zero e = cc
+    none (suc i) e = cc
+
+-- new bodies refer to nothing
+kinds_nowhere : (kinds : List Field) → LeadNowhere (map fresh kinds)
+kinds_nowhere [] field n e = absurd (cc)
+kinds_nowhere (Ref ∷ kinds) zero n e = absurd (cc)
+kinds_nowhere (Int ∷ kinds) zero n e = absurd (cc)
+kinds_nowhere (kind ∷ kinds) (suc field) n e = kinds_nowhere kinds field n e
+
+pub body_nowhere : (types : List (List Field)) (ty : TypeId) → LeadNowhere (new_body types ty).fields
+body_nowhere types ty = kinds_nowhere (type_row types ty)
+
+body_pushed : (bodies : List BodyValue) (new b : BodyValue) (i : ℕ) → slice_get (bodies ++ new ∷ []) i ≡ Some b → (slice_get bodies i ≡ Some b) ⊎ (new ≡ b)
+body_pushed [] new b zero e = inr (cc)
+body_pushed [] new b (suc i) e = absurd (cc)
+body_pushed (x ∷ bodies) new b zero e = inl e
+body_pushed (x ∷ bodies) new b (suc i) e = body_pushed bodies new b i e
+
+pub new_pushed : (bodies : List BodyValue) (new : BodyValue) → LeadNowhere new.fields → AreNew bodies → AreNew (bodies ++ new ∷ [])
+new_pushed bodies new nowhere are i b at field n e =
+    elim (body_pushed bodies new b i at) [
+      | inl old ↦ are i b old field n e
+      | inr same ↦ nowhere field n (ap (λ (x : BodyValue). slice_get x.fields field) same ∙ e)
+    ]
+
+pub placed_inside : (s : SegmentValue) (slot : ℕ) (body : BodyValue) → LeadNowhere body.fields → KeepsInside s → KeepsInside (placed s slot body)
+placed_inside s slot body nowhere inside serial row at field n e =
+    elim (at_pushed s.rows (new_row slot body) row serial at) [
+      | inl old ↦ inside serial row old field n e
+      | inr new ↦ absurd (nowhere field n (ap (λ (r : Row). slice_get r.fields field) new ∙ e))
+    ]
+
+pub written_inside : (s : SegmentValue) (serial : ℕ) (row : Row) (field : ℕ) (target : Option Name) → row_at s serial ≡ Some row → ((n : Name) → target ≡ Some n → n.seg.0 ≡ s.number) → KeepsInside s →
+    KeepsInside (with_row s serial (Some (record row { fields = slice_set row.fields field (Refers target) })))
+written_inside s serial row field target at leads inside j now there k n e =
+    elim (at_set s.rows (record row { fields = slice_set row.fields field (Refers target) }) now serial j there) [
+      | inl old ↦ inside j now old k n e
+      | inr new ↦
+          elim (field_set row.fields (Refers target) (Refers (Some n)) field k (ap (λ (r : Row). slice_get r.fields k) new ∙ e)) [
+            | inl old ↦ inside serial row at k n old
+            | inr same ↦ leads n (same_target same)
+          ]
+    ]
+  where
+    same_target : Refers target ≡ Refers (Some n) → target ≡ Some n
+    same_target same = cc
+
+-- where a search by serial finds a slot, the object lies there
+pub found_lies : (s : SegmentValue) (serial slot : ℕ) → Some slot ≡ option_map (λ (row : Row). row.slot) (row_at s serial) → (row : Row) × LiesAt s slot serial row
+found_lies s serial slot e = by_row (row_at s serial) refl e
+  where
+    by_row : (o : Option Row) → row_at s serial ≡ o → Some slot ≡ option_map (λ (row : Row). row.slot) o → (row : Row) × LiesAt s slot serial row
+    by_row None is e = absurd (cc)
+    by_row (Some row) is e = (row, record { there = is; slot_is = cc })
+
+-- a field of that kind holds a reference
+pub ref_there : (fields : List Content) (field : ℕ) → Some Ref ≡ option_map field_kind (slice_get fields field) → HasRef fields field
+ref_there fields field e = by_content (slice_get fields field) refl e
+  where
+    by_content : (o : Option Content) → slice_get fields field ≡ o → Some Ref ≡ option_map field_kind o → HasRef fields field
+    by_content None is e = absurd (cc)
+    by_content (Some (Refers target)) is e = record { target = target; is = is }
+    by_content (Some (Holds number)) is e = absurd (cc)
+
+-- the name for which a reference stands lies in its segment
+pub target_into : (target : Option Link) (number : ℕ) → IfSome target (λ link. link.seg.0 ≡ number) → (n : Name) → option_map name_of target ≡ Some n → n.seg.0 ≡ number
+target_into None number into n e = absurd (cc)
+target_into (Some link) number into n e = ap seg_or (sym e) ∙ into
+  where
+    seg_or : Option Name → ℕ
+    seg_or None = 0
+    seg_or (Some m) = m.seg.0
+
+-- what fields lead to is what one of them refers to
+pub lead_inside : (number : ℕ) (fields : List Content) → LeadInto number fields → (n : Name) → fields_lead_to fields n ≡ true → n.seg.0 ≡ number
+lead_inside number [] into n e = absurd (false≢true e)
+lead_inside number (c ∷ fields) into n e =
+    elim (or_cases (content_leads_to n c) (fields_lead_to fields n) e) [
+      | inl here ↦ first c (into zero) here
+      | inr later ↦ lead_inside number fields (λ field m at. into (suc field) m at) n later
+    ]
+  where
+    first : (x : Content) → ((m : Name) → ◌≡◌ {A = Option Content} (Some x) (Some (Refers (Some m))) → m.seg.0 ≡ number) → content_leads_to n x ≡ true → n.seg.0 ≡ number
+    first (Refers None) leads here = absurd (false≢true here)
+    first (Refers (Some m)) leads here = ap (λ (k : Name). k.seg.0) (sym (name_eq-true m n here)) ∙ leads m refl
+    first (Holds number) leads here = absurd (false≢true here)
+
+-- a list of one has no other
+single : (s t : SegmentValue) (i : ℕ) → slice_get (s ∷ []) i ≡ Some t → t ≡ s
+single s t zero e = cc
+single s t (suc i) e = absurd (cc)
+
+pub single_distinct : (s : SegmentValue) → HasDistinct (s ∷ [])
+single_distinct s = distinct_from (s ∷ []) same
+  where
+    same : (i j : ℕ) (x y : SegmentValue) → slice_get (s ∷ []) i ≡ Some x → slice_get (s ∷ []) j ≡ Some y → x.number ≡ y.number → i ≡ j
+    same zero zero x y a b n = refl
+    same zero (suc j) x y a b n = absurd (cc)
+    same (suc i) j x y a b n = absurd (cc)
+
+pub one_distinct : (a : AreaValue) → IsOne a → HasDistinct a.segments
+one_distinct a one = subst (λ (xs : List SegmentValue). HasDistinct xs) (sym one.only) (single_distinct one.segment)
+
+-- a segment that an area of one segment finds is that one
+pub one_found : (a : AreaValue) (one : IsOne a) (number : ℕ) (t : SegmentValue) → segment_at a.segments number ≡ Some t → t ≡ one.segment
+one_found a one number t e =
+    single one.segment t (place_of a.segments number) (ap (λ (xs : List SegmentValue). slice_get xs (place_of a.segments number)) (sym one.only) ∙ e)
+
+same_fields : (x y : List Content) → ◌≡◌ {A = Option (List Content)} (Some x) (Some y) → x ≡ y
+same_fields x y e = cc
+
+-- what the object holds, if there is one
+abbrev fields_or_none : Option Row → List Content
+fields_or_none None = []
+fields_or_none (Some row) = row.fields
+
+-- the fields of an object of the area lead into its segment
+fields_inside : (a : AreaValue) (one : IsOne a) (m : Name) (fields : List Content) → fields_at a m ≡ Some fields → LeadInto one.segment.number fields
+fields_inside a one m fields e = by_row (row_of_name a.segments m) refl e
+  where
+    by_row : (o : Option Row) → row_of_name a.segments m ≡ o → option_map (λ (r : Row). r.fields) o ≡ Some fields → LeadInto one.segment.number fields
+    by_row None is e = absurd (cc)
+    by_row (Some row) is e =
+        let f = found a m row is in
+        let at : row_at one.segment m.serial.0 ≡ Some row = ap (λ (s : SegmentValue). row_at s m.serial.0) (sym (one_found a one m.seg.0 f.space f.at)) ∙ f.there in
+        subst (λ (fs : List Content). LeadInto one.segment.number fs) (same_fields row.fields fields e) (one.inside m.serial.0 row at)
+
+-- no object of the area refers to one outside it
+pub one_inside : (a : AreaValue) → IsOne a → (m n : Name) → refers_at a m n ≡ true → is_foreign a n ≡ false
+one_inside a one m n e =
+    let r = refers_fields a m n e in
+    let number : n.seg.0 ≡ one.segment.number = lead_inside one.segment.number r.0 (fields_inside a one m r.0 r.1) n r.2 in
+    let here : segment_at a.segments n.seg.0 ≡ Some one.segment =
+    ap (λ (xs : List SegmentValue). segment_at xs n.seg.0) one.only ∙ ap (segment_at (one.segment ∷ [])) number ∙ found_at (one.segment ∷ []) (single_distinct one.segment) zero one.segment refl in
+    ap (λ (o : Option SegmentValue). not (is_some o)) here
+
+pub exits_there : (a : AreaValue) (exits : List ExitRow) → IsOne a → (m n : Name) → refers_at a m n ≡ true → is_foreign a n ≡ true → has_target exits n ≡ true
+exits_there a exits one m n refers far = absurd (false≢true (sym (one_inside a one m n refers) ∙ far))
+
+-- the same objects, with any marks
+unmarked_fields : (s t : SegmentValue) (serial : ℕ) (row : Row) → map unmarked_row t.rows ≡ map unmarked_row s.rows → row_at t serial ≡ Some row → (was : Row) × (row_at s serial ≡ Some was) × (was.fields ≡ row.fields)
+unmarked_fields s t serial row same at =
+    by_row (row_at s serial) refl (sym (get_or-map unmarked_row s.rows serial None) ∙ ap (λ (rows : List (Option Row)). get_or rows serial None) (sym same) ∙ get_or-map unmarked_row t.rows serial None ∙ ap unmarked_row at)
+  where
+    by_row : (o : Option Row) → row_at s serial ≡ o → unmarked_row o ≡ Some (record row { color = White }) → (was : Row) × (row_at s serial ≡ Some was) × (was.fields ≡ row.fields)
+    by_row None is e = absurd (cc)
+    by_row (Some was) is e = (was, is, ap fields_or_none e)
+
+unmarked_inside : (s t : SegmentValue) → unmarked_segment t ≡ unmarked_segment s → KeepsInside s → KeepsInside t
+unmarked_inside s t same inside serial row at field n e =
+    let was = unmarked_fields s t serial row (ap (λ (x : SegmentValue). x.rows) same) at in
+    inside serial was.0 was.1 field n (ap (λ (fs : List Content). slice_get fs field) was.2 ∙ e) ∙ ap (λ (x : SegmentValue). x.number) (sym same)
+
+-- the one element of a list whose image is a list of one
+single_of : (f : SegmentValue → SegmentValue) (xs : List SegmentValue) (y : SegmentValue) → map f xs ≡ y ∷ [] → (x : SegmentValue) × (xs ≡ x ∷ []) × (f x ≡ y)
+single_of f [] y e = absurd (cc)
+single_of f (x ∷ []) y e = (x, refl, cc)
+single_of f (x ∷ z ∷ xs) y e = absurd (cc)
+
+pub one_same : (a b : AreaValue) → unmarked b ≡ unmarked a → IsOne a → IsOne b
+one_same a b same one =
+    let only : map unmarked_segment b.segments ≡ unmarked_segment one.segment ∷ [] =
+    ap (λ (x : AreaValue). x.segments) same ∙ ap (λ (xs : List SegmentValue). map unmarked_segment xs) one.only in
+    let s = single_of unmarked_segment b.segments (unmarked_segment one.segment) only in
+    record { segment = s.0; only = s.1; inside = unmarked_inside one.segment s.0 s.2 one.inside }
+
+unmarked_twice : (rows : List (Option Row)) → map unmarked_row (map unmarked_row rows) ≡ map unmarked_row rows
+unmarked_twice [] = refl
+unmarked_twice (None ∷ rows) = ap (λ rs. None ∷ rs) (unmarked_twice rows)
+unmarked_twice (Some row ∷ rows) = ap (λ rs. Some (record row { color = White }) ∷ rs) (unmarked_twice rows)
+
+segments_twice : (xs : List SegmentValue) → map unmarked_segment (map unmarked_segment xs) ≡ map unmarked_segment xs
+segments_twice [] = refl
+segments_twice (x ∷ xs) = ap₂ (λ rows ys. record x { rows = rows } ∷ ys) (unmarked_twice x.rows) (segments_twice xs)
+
+pub one_unmarked : (a : AreaValue) → IsOne a → IsOne (unmarked a)
+one_unmarked a one = one_same a (unmarked a) (ap (λ xs. record a { segments = xs }) (segments_twice a.segments)) one
+
+grayed_by : (a : AreaValue) (n : Name) (o : Option Row) → row_of_name a.segments n ≡ o → unmarked (grayed_row a n o) ≡ unmarked a
+grayed_by a n None e = refl
+grayed_by a n (Some row) e = same_unmarked a n row (gray_or_black row.color) e
+
+pub one_grayed : (a : AreaValue) (n : Name) → IsOne a → IsOne (grayed a n)
+one_grayed a n one = one_same a (grayed a n) (grayed_by a n (row_of_name a.segments n) refl) one
+
+-- no object is black
+black_of : (o : Option Row) → some_black (unmarked_row o) ≡ false
+black_of None = refl
+black_of (Some row) = refl
+
+gray_not_black : (c : Color) → is_black (gray_or_black c) ≡ is_black c
+gray_not_black White = refl
+gray_not_black Gray = refl
+gray_not_black Black = refl
+
+black_by : (a : AreaValue) (n : Name) (o : Option Row) → row_of_name a.segments n ≡ o → (m : Name) → black_at (grayed_row a n o) m ≡ black_at a m
+black_by a n None e m = refl
+black_by a n (Some row) e m =
+    elim (test_after some_black a n row (gray_or_black row.color) e m) [
+      | inl t ↦ t.1 ∙ gray_not_black row.color ∙ sym t.2
+      | inr t ↦ t.1
+    ]
+
+pub clean_grayed : (a : AreaValue) (n : Name) → HasNoBlack a → HasNoBlack (grayed a n)
+clean_grayed a n clean m = black_by a n (row_of_name a.segments n) refl m ∙ clean m
+
+found_unmarked : (xs : List SegmentValue) (i serial : ℕ) → some_black (row_in_segment (slice_get (map unmarked_segment xs) i) serial) ≡ false
+found_unmarked [] i serial = refl
+found_unmarked (x ∷ xs) zero serial = ap some_black (get_or-map unmarked_row x.rows serial None) ∙ black_of (row_at x serial)
+found_unmarked (x ∷ xs) (suc i) serial = found_unmarked xs i serial
+
+pub clean_unmarked : (a : AreaValue) → HasNoBlack (unmarked a)
+clean_unmarked a n = found_unmarked a.segments (place_of (map unmarked_segment a.segments) n.seg.0) n.serial.0
+
+-- no exit item is marked
+pub exits_unmarked : (items : List ExitRow) (t : Name) → target_marked (map unmarked_exit items) t ≡ false
+exits_unmarked [] t = refl
+exits_unmarked (e ∷ items) t = or_false (and_false (name_eq e.target t)) (exits_unmarked items t)
+  where
+    and_false : (b : Bool) → (b && false) ≡ false
+    and_false true = refl
+    and_false false = refl
+
+    or_false : {x y : Bool} → x ≡ false → y ≡ false → (x || y) ≡ false
+    or_false e f = ap₂ (λ a b. a || b) e f
+
+-- what survives a sweep
+survivor_row : (o : Option Row) (row : Row) → survivor o ≡ Some row → o ≡ Some row
+survivor_row None row e = absurd (cc)
+survivor_row (Some was) row e = by_color was.color refl
+  where
+    by_color : (c : Color) → was.color ≡ c → Some was ≡ Some row
+    by_color White is = absurd (none (ap (λ b. cond b (Some was) None) (ap is_marked is)) e)
+      where
+        none : survivor (Some was) ≡ None → survivor (Some was) ≡ Some row → ⊥
+        none a b = cc
+    by_color Gray is = sym (ap (λ b. cond b (Some was) None) (ap is_marked is)) ∙ e
+    by_color Black is = sym (ap (λ b. cond b (Some was) None) (ap is_marked is)) ∙ e
+
+swept_inside : (s : SegmentValue) → KeepsInside s → KeepsInside (swept_segment s)
+swept_inside s inside serial row at = inside serial row (survivor_row (row_at s serial) row (sym (get_or-map survivor s.rows serial None) ∙ at))
+
+pub one_swept : (a : AreaValue) → IsOne a → IsOne (swept a)
+one_swept a one = record {
+  segment = swept_segment one.segment;
+  only = ap (λ (xs : List SegmentValue). map swept_segment xs) one.only;
+  inside = swept_inside one.segment one.inside;
+}

@@ -1,0 +1,105 @@
+//! Measures the running tables: does one measurement of a given size, and prints what came of it.
+//!
+//! The words are the name of a measurement and a size, such as `mark 1000000`. Those of the heap are `make`, `place`, `link`,
+//! `mark`, `sweep`, `mark_half` and `sweep_half`; each does those before it, too. `add` and `has` are those of the exit items,
+//! `up` and `down` those of the entry items. With a third word `timed` the processor time of each phase, in nanoseconds, goes
+//! to standard error. The line on standard output depends on no time, so it is compared with that of the twin in `bench/`. The
+//! exit status is 0, or 2 where the words are no measurement, or 1 where memory, the words or the output fail.
+#![tactic(auto)]
+
+ghost use Rattle.std.specs.Prelude.{◌≤◌};
+
+mod entries;
+mod exits;
+mod heap;
+mod names;
+mod watch;
+
+use crate::heap::Stage;
+use crate::watch::Watch;
+use k_io::NoMemory;
+use std::env;
+use std::process::ExitCode;
+
+/// The largest size.
+const MOST: u32 = 10_000_000;
+
+/// The size that the word spells; 0 where it spells none.
+fn size_of(word: &str) -> u32
+    ensures { result ≤ 10000000 }
+{
+    match word.parse::<u32>() {
+        Ok(size) => size.min(MOST),
+        Err(_) => 0,
+    }
+}
+
+/// The stage of the heap of that name.
+fn stage_of(word: &str) -> Option<Stage> {
+    match word {
+        "make" => Some(Stage::Make),
+        "place" => Some(Stage::Place),
+        "link" => Some(Stage::Link),
+        "mark" => Some(Stage::Mark),
+        "sweep" => Some(Stage::Sweep),
+        "mark_half" => Some(Stage::MarkHalf),
+        "sweep_half" => Some(Stage::SweepHalf),
+        _ => None,
+    }
+}
+
+/// Does the measurement of that name, and gives its line; nothing where no measurement has the name.
+fn measured(
+    rt: &HostRuntime,
+    word: &str,
+    size: u32,
+    watch: &mut Watch,
+) -> Result<Option<String>, NoMemory>
+    requires { size ≤ 10000000 }
+{
+    let alloc = rt.alloc();
+    if let Some(last) = stage_of(word) {
+        let found = heap::run(rt, watch, size, last)?;
+        return Ok(Some(format!(in alloc;
+            "{word} {size}: {} objects of {} bytes, {} freed of {} bytes",
+            found.objects, found.bytes, found.freed, found.freed_bytes
+        )?));
+    }
+    if word == "add" || word == "has" {
+        let found = exits::run(rt, watch, size, word == "has")?;
+        return Ok(Some(format!(in alloc;
+            "{word} {size}: {} targets, {} new, {} there",
+            found.targets, found.new, found.there
+        )?));
+    }
+    if word == "up" || word == "down" {
+        let total = entries::run(rt, watch, size, word == "down")?;
+        return Ok(Some(format!(in alloc; "{word} {size}: the counts are {total} in all")?));
+    }
+    Ok(None)
+}
+
+/// The words after the program's name.
+fn words(rt: &HostRuntime) -> Result<Vec<String>, NoMemory> {
+    match env::args(rt) {
+        Ok(args) => Ok(args.skip(1).collect(rt.alloc())?),
+        Err(_) => Err(NoMemory),
+    }
+}
+
+fn main(rt: HostRuntime) -> ExitCode {
+    let Ok(words) = words(&rt) else {
+        return ExitCode::from(1);
+    };
+    let (word, size, is_timed) = match words.as_slice() {
+        [word, size] => (word, size, false),
+        [word, size, _] => (word, size, true),
+        _ => return ExitCode::from(2),
+    };
+    let mut watch = Watch::start(&rt, is_timed);
+    match measured(&rt, word.as_str(), size_of(size.as_str()), &mut watch) {
+        Ok(Some(line)) => ExitCode::from(println!(rt; "{line}").is_err() as u8),
+        Ok(None) => ExitCode::from(2),
+        Err(_) => ExitCode::from(1),
+    }
+}
