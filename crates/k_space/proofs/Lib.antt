@@ -1,6 +1,8 @@
 pub mod NameTests
 pub mod GrayLists
 pub mod Rows
+pub mod Pushed
+pub mod Freed
 pub mod AreaRows
 pub mod Segs
 pub mod Bytes

@@ -4,7 +4,8 @@ use Rattle.k_space.specs.declared.segment.Place.TheVariants.{Empty, At}
 use Rattle.k_space.specs.declared.segment.Mark.TheVariants.{White as MarkWhite}
 use Rattle.k_space.specs.Segments.{Row, with_row}
 use Rattle.k_space.proofs.GrayLists.{At_inside}
-use Rattle.k_space.proofs.Rows.{lies_in, place_there, white_place_is, freed, freed_rows, freed_view}
+use Rattle.k_space.proofs.Freed.{place_there, white_place_is, freed, freed_rows, freed_view}
+use Rattle.k_space.proofs.Rows.{lies_in}
 use Rattle.k_space.proofs.Bytes.{size_there, bytes_freed, below_freed}
 use Rattle.k_space.proofs.segment.Segment.free.Goals as goal
 

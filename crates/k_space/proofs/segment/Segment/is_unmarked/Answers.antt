@@ -2,7 +2,8 @@ use Rattle.std.proofs.Common.{◌≡◌, sym, ap, ◌∙◌, get_or, arith}
 use Rattle.k_space.specs.declared.segment.Place.TheVariants.{Empty}
 use Rattle.k_space.specs.Places.{is_white_place}
 use Rattle.k_space.proofs.GrayLists.{At_inside}
-use Rattle.k_space.proofs.Rows.{unmarked_there, marked_there, none_there, any_default}
+use Rattle.k_space.proofs.Freed.{unmarked_there, marked_there, none_there}
+use Rattle.k_space.proofs.Rows.{any_default}
 use Rattle.k_space.proofs.segment.Segment.is_unmarked.Goals as goal
 
 pub returns-in_default-clause-no : goal.returns-in_default-clause-no

@@ -3,7 +3,7 @@ use Rattle.k_space.specs.Segments.{SegmentValue}
 use Rattle.k_space.specs.Places.{row_of, AreBytes, AreBelow}
 use Rattle.k_types.specs.Types.{object_size}
 use Rattle.k_space.specs.declared.segment.Place.{Place}
-use Rattle.k_space.proofs.Rows.{pushed, pushed_view, rows_kept}
+use Rattle.k_space.proofs.Pushed.{pushed, pushed_view, rows_kept}
 use Rattle.k_space.proofs.Bytes.{bytes_pushed, below_pushed}
 use Rattle.k_space.proofs.segment.Segment.place.Goals as goal
 use Rattle.std.proofs.lemmas.List.{length-map}
