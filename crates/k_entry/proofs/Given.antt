@@ -51,10 +51,6 @@ pub first_none : (xs : List ℕ) → None ≡ slice_get xs 0 → xs ≡ []
 first_none [] e = refl
 first_none (x ∷ xs) e = absurd (cc)
 
-pub first_some : (xs : List ℕ) (i : ℕ) → Some i ≡ slice_get xs 0 → 0 < length xs
-first_some [] i e = absurd (cc)
-first_some (x ∷ xs) i e = omega arith
-
 pub some_first : (xs : List ℕ) (o : Option ℕ) → o ≡ slice_get xs 0 → is_some o ≡ true → 0 < length xs
 some_first [] o e is = absurd (let bad : false ≡ true = sym (ap (λ (m : Option ℕ). is_some m) e) ∙ is in cc)
 some_first (x ∷ xs) o e is = omega arith

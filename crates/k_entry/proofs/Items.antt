@@ -84,9 +84,6 @@ none_hit p t k none = none_at p.slots (used p) t (λ j e.
     let chained : is_in (members p.chains (bucket p.room t)) j ≡ true = subst (λ (n : Name). is_in (members p.chains (bucket p.room n)) j ≡ true) (name_is (at p.slots j).target t is) (k.chained (at p.slots j).target.seg.0 j u.homed u.there) in
     let bad : true ≡ false = sym is ∙ none j chained in absurd (cc)))
 
-pub none_counted : (p : Parts) (t : Name) → AreKept p → ((i : ℕ) → is_in (members p.chains (bucket p.room t)) i ≡ true → name_eq (at p.slots i).target t ≡ false) → counted (shown p).items t ≡ 0
-none_counted p t k none = no_hits (shown p).items t (none_hit p t k none)
-
 -- the slot of an object that was found
 pub record IsFound (p : Parts) (t : Name) (i : ℕ) : Type 0 where
   pub target : (at p.slots i).target ≡ t

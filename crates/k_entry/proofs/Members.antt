@@ -212,14 +212,6 @@ members_there v list other xs ne = by_place v.lists list other ne
     by_place (l ∷ ls) (suc k) zero n = refl
     by_place (l ∷ ls) (suc k) (suc j) n = by_place ls k j (λ e. n (ap suc e))
 
-pub members_past : (v : ListsValue) (list : ℕ) → length v.lists ≤ list → members v list ≡ []
-members_past v list past = by_place v.lists list past
-  where
-    by_place : (ls : List (List ℕ)) (k : ℕ) → length ls ≤ k → get_or ls k [] ≡ []
-    by_place [] k w = refl
-    by_place (l ∷ ls) zero w = absurd (omega arith)
-    by_place (l ∷ ls) (suc k) w = by_place ls k (omega arith)
-
 pub in_within : (v : ListsValue) (list i : ℕ) → is_in (members v list) i ≡ true → list < length v.lists
 in_within v list i e = by_place v.lists list e
   where

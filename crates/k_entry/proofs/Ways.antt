@@ -16,9 +16,6 @@ pub record HasPassed (slots : List Item) (t : Name) (xs : List ℕ) (next : Opti
   pub on : IsOnWay xs before next
   pub none : (i : ℕ) → is_in before i ≡ true → name_eq (at slots i).target t ≡ false
 
-pub passed_none : (slots : List Item) (t : Name) (xs : List ℕ) → HasPassed slots t xs (slice_get xs 0)
-passed_none slots t xs = record { before = []; on = record { rest = xs; whole = refl; first = refl }; none = λ i e. absurd (cc) }
-
 pub passed_there : (slots : List Item) (t : Name) (xs : List ℕ) (i : ℕ) → HasPassed slots t xs (Some i) → is_in xs i ≡ true
 passed_there slots t xs i p = way_in xs p.before i p.on
 

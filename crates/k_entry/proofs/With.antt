@@ -58,29 +58,6 @@ with_length x xs ys w =
     let less : length xs ≡ length w.before + length w.after = ap (λ zs. length zs) w.less ∙ length-append w.before w.after in
     omega (arith, more, less)
 
-pub with_permuted : {X : Type 0} (x : X) (xs ys : List X) → IsWith x xs ys → IsPermutation ys (x ∷ xs)
-with_permuted x xs ys w = subst (λ zs. IsPermutation zs (x ∷ xs)) (sym w.more) (subst (λ zs. IsPermutation (w.before ++ x ∷ w.after) (x ∷ zs)) (sym w.less) (IsPermutation-middle w.before x w.after))
-
--- members
-pub with_in : (x i : ℕ) (xs ys : List ℕ) → IsWith x xs ys → is_in xs i ≡ true → is_in ys i ≡ true
-with_in x i xs ys w e =
-    ap (λ zs. is_in zs i) w.more ∙ is_in_append w.before (x ∷ w.after) i ∙ by_test (is_in w.before i) (sym (ap (λ zs. is_in zs i) w.less ∙ is_in_append w.before w.after i) ∙ e)
-  where
-    by_test : (b : Bool) → (b || is_in w.after i) ≡ true → (b || is_in (x ∷ w.after) i) ≡ true
-    by_test true t = refl
-    by_test false t = cons_in x i w.after t
-
-pub with_here : (x : ℕ) (xs ys : List ℕ) → IsWith x xs ys → is_in ys x ≡ true
-with_here x xs ys w = ap (λ zs. is_in zs x) w.more ∙ is_in_append w.before (x ∷ w.after) x ∙ or_right (is_in w.before x) (is_in (x ∷ w.after) x) (in_head x w.after)
-
-pub with_other : (x i : ℕ) (xs ys : List ℕ) → IsWith x xs ys → is_in ys i ≡ true → (x ≢ i) → is_in xs i ≡ true
-with_other x i xs ys w e ne =
-    ap (λ zs. is_in zs i) w.less ∙ is_in_append w.before w.after i ∙ by_test (is_in w.before i) (sym (ap (λ zs. is_in zs i) w.more ∙ is_in_append w.before (x ∷ w.after) i) ∙ e)
-  where
-    by_test : (b : Bool) → (b || is_in (x ∷ w.after) i) ≡ true → (b || is_in w.after i) ≡ true
-    by_test true t = refl
-    by_test false t = in_cons x i w.after t ne
-
 pub with_without : (x : ℕ) (xs : List ℕ) → Once xs → is_in xs x ≡ true → IsWith x (without x xs) xs
 with_without x xs once e =
     let s = split xs x e in

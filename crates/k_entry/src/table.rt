@@ -12,7 +12,8 @@ use k_types::{Heap, Link, Name, Seg};
 use std::alloc::Global;
 use std::marker::Model;
 
-/// Objects with counts above 0, and the home heap of each segment.
+/// Objects with counts above 0, and the home heap of each segment. Source: KaffeOS paper, on entry items,
+/// whose counts say how many heaps refer to an object from outside; the lists are own.
 #[derive(Drop)]
 pub struct EntryTable {
     slots: Vec<Item>,
@@ -43,7 +44,8 @@ impl Model for EntryTable {
 }
 
 impl EntryTable {
-    /// A table with no item and room for so many; home number i is that of segment i.
+    /// A table with no item and room for so many; home number i is that of segment i. There is no memory
+    /// for 2^32 - 1 segments or more, since lists number segments by 32 bits. Source: own.
     pub fn make(alloc: Global, homes: &[Heap], room: u32) -> Result<EntryTable, NoMemory>
         ensures { IfOk result (λ t. t ≡ record { items = []; homes = homes.now; room = room }) }
     {
@@ -65,7 +67,7 @@ impl EntryTable {
         })
     }
 
-    /// How often the object is counted; 0 where it isn't there.
+    /// How often the object is counted; 0 where it isn't there. It passes one hash chain at most. Source: own.
     pub fn count(&self, target: Name) -> u32
         ensures count { result ≡ counted self.now.items target }
         ensures entries { AreEntries self.now }
@@ -81,7 +83,7 @@ impl EntryTable {
         }
     }
 
-    /// Counts the object once more.
+    /// Counts the object once more. It passes one hash chain at most. Source: own.
     pub fn up(&mut self, target: Link)
         requires home { target.seg.0 < length self.old.homes }
         requires room { counted self.old.items (name_of target) ≡ 0 → length self.old.items < self.old.room }
@@ -108,7 +110,8 @@ impl EntryTable {
         }
     }
 
-    /// Counts the object once less, and removes its item at zero.
+    /// Counts the object once less, and removes its item at zero. It passes one hash chain at most.
+    /// Source: own.
     pub fn down(&mut self, target: Name)
         requires { 0 < counted self.old.items target }
         ensures { HasLess self.old self.new target }
@@ -128,7 +131,8 @@ impl EntryTable {
         }
     }
 
-    /// The first object on the walk of that home.
+    /// The first object on the walk of that home; its slot, a hint, is 0. It passes by no segment without an
+    /// item. Source: own.
     pub fn first_of(&self, heap: Heap) -> Option<Link>
         ensures { option_map name_of result ≡ first_object (items_of self.now heap) }
     {
@@ -139,7 +143,8 @@ impl EntryTable {
         }
     }
 
-    /// The object after that one on the walk of its home.
+    /// The object after that one on the walk of its home; its slot, a hint, is 0. It finds that one by its
+    /// hash chain, and passes by no segment without an item. Source: own.
     pub fn next(&self, target: Name) -> Option<Link>
         requires { 0 < counted self.now.items target }
         ensures { option_map name_of result ≡ object_after (items_of self.now (home_of self.now.homes target.seg.0)) target }
@@ -163,7 +168,8 @@ impl EntryTable {
         }
     }
 
-    /// Changes the home of a segment, and with it the walks on which its objects are.
+    /// Changes the home of a segment, and with it the walks on which its objects are. It takes constant time,
+    /// however many they are. Source: own.
     pub fn rehome(&mut self, seg: Seg, to: Heap)
         requires { seg.0 < length self.old.homes }
         ensures homes { self.new.homes ≡ slice_set self.old.homes seg.0 to }
@@ -176,7 +182,7 @@ impl EntryTable {
         self.homes[seg.0 as usize] = to;
     }
 
-    /// The home of a segment.
+    /// The home of a segment. Source: own.
     pub fn home(&self, seg: Seg) -> Heap
         requires { seg.0 < length self.now.homes }
         ensures { result ≡ home_of self.now.homes seg.0 }

@@ -13,7 +13,7 @@ struct Links {
     next: u32,
 }
 
-/// So many lists of the numbers below a room, no number in two of them.
+/// So many lists of the numbers below a room, no number in two of them. Source: own.
 #[derive(Drop)]
 pub struct Lists {
     links: Vec<Links>,
