@@ -18,7 +18,7 @@ use Rattle.k_lists.proofs.Members.{in_head}
 use Rattle.k_entry.proofs.Members.{cons_in, once_of, any_default}
 use Rattle.k_entry.proofs.With.{with_map}
 use Rattle.k_entry.proofs.Joined.{Single, joined, in_concat, concat_in, in_joined, joined_in, single_concat}
-use Rattle.k_entry.proofs.Counts.{name_is, hits, hits_are, no_hits, none_at, single_slot, counted_with}
+use Rattle.k_entry.proofs.Counts.{name_is, hits, hits_are, none_at, single_slot, counted_with}
 
 pub name_same : (t : Name) → name_eq t t ≡ true
 name_same t = ap₂ (λ a b. a && b) (eq-eqb t.seg.0 t.seg.0 refl) (eq-eqb t.serial.0 t.serial.0 refl)

@@ -1,13 +1,10 @@
 -- A list with one element more, somewhere.
-use Rattle.std.proofs.Common.{◌≡◌, ◌≢◌, ◌||◌, ℕ, zero, suc, ◌+◌, ◌<◌, Bool, true, false, refl, sym, ap, subst, ◌∙◌, List, [], ◌∷◌, ◌++◌, append_assoc, length, map, set, get_or, arith, length-append}
+use Rattle.std.proofs.Common.{◌≡◌, ℕ, zero, suc, ◌+◌, ◌<◌, true, refl, sym, ap, subst, ◌∙◌, List, [], ◌∷◌, ◌++◌, append_assoc, length, map, set, get_or, arith, length-append}
 use Rattle.std.proofs.lemmas.List.{map-append}
 use Rattle.std.specs.List.{concat}
-use Rattle.std.specs.List.Sorted.{IsPermutation}
-use Rattle.std.proofs.lemmas.List.Sorted.{IsPermutation-middle}
 use Rattle.k_types.specs.Totals.{total}
 use Rattle.k_lists.specs.Lists.{is_in, without}
-use Rattle.k_lists.proofs.Members.{in_head}
-use Rattle.k_entry.proofs.Members.{Once, split, once_after, without_split, is_in_append, in_cons, cons_in, or_right}
+use Rattle.k_entry.proofs.Members.{Once, split, once_after, without_split}
 
 pub record IsWith {X : Type 0} (x : X) (xs ys : List X) : Type 0 where
   pub before : List X

@@ -1,19 +1,18 @@
 -- What the rows of a segment are after an object is freed.
-use Rattle.std.proofs.Common.{◌≡◌, ◌≢◌, ℕ, zero, suc, ◌+◌, ◌<◌, ◌≤◌, ◌⊎◌, Bool, true, false, cond, refl, sym, ap, ap₂, subst, ◌∙◌, inl, inr, List, [], ◌∷◌, ◌++◌, length, map, take, get_or, set, Option, Some, None, is_some, count_by, arith}
-use Rattle.std.proofs.Math.ListN.{get_or-map}
+use Rattle.std.proofs.Common.{◌≡◌, ◌≢◌, ℕ, zero, suc, ◌+◌, ◌<◌, true, false, refl, sym, ap, subst, ◌∙◌, inl, inr, List, [], ◌∷◌, length, map, get_or, set, Option, Some, None, is_some, count_by, arith}
 use Rattle.std.proofs.lemmas.Bool.{cases_eq}
 use Rattle.std.proofs.lemmas.List.Sums.{sum_by-cons}
-use Rattle.std.proofs.lemmas.List.{get_or-set_same, get_or-set_other, get_or_append_left, get_or_push, length-set, map-set, set-get_or, map-append, length-append}
-use Rattle.slab.specs.Slab.{Slab, get, slab_len, with_value, Updates}
+use Rattle.std.proofs.lemmas.List.{get_or-set_same, get_or-set_other, length-set, map-set}
+use Rattle.slab.specs.Slab.{Slab, get, slab_len, Updates}
 use Rattle.k_space.specs.declared.segment.Place.{Place}
 use Rattle.k_space.specs.declared.segment.Place.TheVariants.{Empty, At}
 use Rattle.k_space.specs.declared.segment.Mark.{Mark}
 use Rattle.k_space.specs.declared.segment.Mark.TheVariants.{White as MarkWhite, Gray as MarkGray, Black as MarkBlack}
 use Rattle.k_space.specs.declared.segment.Cell.{Cell}
-use Rattle.k_space.specs.Segments.{White, Gray, Black, Row, SegmentValue, LiesAt, row_at, with_row, new_row, placed, some_gray, unmarked_row, is_marked}
+use Rattle.k_space.specs.Segments.{White, Row, SegmentValue, LiesAt, row_at, with_row, is_marked}
 use Rattle.k_space.specs.Sweeping.{IsUnmarkedAt}
-use Rattle.k_space.specs.Places.{row_of, row_in, color_of, IsSound, IsPlaced, IsKept, IsGrayList, is_gray_place, white_place, is_white_place}
-use Rattle.k_space.proofs.GrayLists.{At_inside, list_pushed, count_pushed, list_kept, count-set}
+use Rattle.k_space.specs.Places.{row_of, row_in, color_of, IsSound, IsPlaced, IsKept, IsGrayList, is_gray_place, is_white_place}
+use Rattle.k_space.proofs.GrayLists.{At_inside, list_kept, count-set}
 use Rattle.k_space.proofs.Rows.{map_len, set_agree, row_at_view, same_At, lies_in, row_there, bit, same_cell}
 
 -- the object of one slot is gone

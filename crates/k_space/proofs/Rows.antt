@@ -1,19 +1,18 @@
 -- What the rows of a segment are after a change.
-use Rattle.std.proofs.Common.{◌≡◌, ◌≢◌, ℕ, zero, suc, ◌+◌, ◌<◌, ◌≤◌, ◌⊎◌, Bool, true, false, cond, refl, sym, ap, ap₂, subst, ◌∙◌, inl, inr, List, [], ◌∷◌, ◌++◌, length, map, take, get_or, set, Option, Some, None, is_some, count_by, arith}
+use Rattle.std.proofs.Common.{◌≡◌, ◌≢◌, ℕ, zero, suc, ◌<◌, Bool, true, false, cond, refl, sym, ap, ap₂, subst, ◌∙◌, inl, inr, List, [], ◌∷◌, ◌++◌, length, map, take, get_or, set, Option, Some, None, is_some, count_by, arith}
 use Rattle.std.proofs.Math.ListN.{get_or-map}
 use Rattle.std.proofs.lemmas.Bool.{cases_eq}
 use Rattle.std.proofs.lemmas.List.Sums.{sum_by-cons}
-use Rattle.std.proofs.lemmas.List.{get_or-set_same, get_or-set_other, get_or_append_left, get_or_push, length-set, map-set, set-get_or, map-append, length-append}
-use Rattle.slab.specs.Slab.{Slab, get, slab_len, with_value, Updates}
+use Rattle.std.proofs.lemmas.List.{get_or-set_same, get_or-set_other, length-set, map-set, set-get_or}
+use Rattle.slab.specs.Slab.{Slab, get, with_value}
 use Rattle.k_space.specs.declared.segment.Place.{Place}
 use Rattle.k_space.specs.declared.segment.Place.TheVariants.{Empty, At}
 use Rattle.k_space.specs.declared.segment.Mark.{Mark}
 use Rattle.k_space.specs.declared.segment.Mark.TheVariants.{White as MarkWhite, Gray as MarkGray, Black as MarkBlack}
 use Rattle.k_space.specs.declared.segment.Cell.{Cell}
-use Rattle.k_space.specs.Segments.{White, Gray, Black, Row, SegmentValue, LiesAt, row_at, with_row, new_row, placed, some_gray, unmarked_row, is_marked}
-use Rattle.k_space.specs.Sweeping.{IsUnmarkedAt}
-use Rattle.k_space.specs.Places.{row_of, row_in, color_of, IsSound, IsPlaced, IsKept, IsGrayList, is_gray_place, white_place, is_white_place}
-use Rattle.k_space.proofs.GrayLists.{At_inside, list_pushed, count_pushed, list_kept, count-set}
+use Rattle.k_space.specs.Segments.{Gray, Black, Row, SegmentValue, LiesAt, row_at, with_row, some_gray, unmarked_row}
+use Rattle.k_space.specs.Places.{row_of, row_in, color_of, IsSound, IsPlaced, IsKept, IsGrayList, is_gray_place, white_place}
+use Rattle.k_space.proofs.GrayLists.{At_inside}
 
 pub map_len : {A B : Type 0} (f : A → B) (xs : List A) → length (map f xs) ≡ length xs
 map_len f [] = refl
