@@ -1,6 +1,6 @@
 //! Counted objects: slots in hash chains and in double lists by segment, and the segments that have an item in double lists by home.
 
-use crate::names::{Link, Name, chain_of};
+use crate::names::{Link, Name, chain_of, filled};
 
 #[derive(Clone, Copy)]
 struct Links {
@@ -17,8 +17,8 @@ struct Lists {
 impl Lists {
     fn make(lists: usize, room: u32) -> Lists {
         Lists {
-            links: vec![Links { prev: 0, next: 0 }; room as usize],
-            heads: vec![0; lists],
+            links: filled(Links { prev: 0, next: 0 }, room as usize),
+            heads: filled(0, lists),
         }
     }
 
@@ -130,7 +130,8 @@ impl EntryTable {
         self.chains.push_front(chain, i);
         let seg = name.seg.0;
         if self.segments.first(seg as usize).is_none() {
-            self.walks.push_front(self.homes[seg as usize] as usize, seg);
+            self.walks
+                .push_front(self.homes[seg as usize] as usize, seg);
         }
         self.segments.push_front(seg as usize, i);
     }

@@ -1,6 +1,6 @@
 //! Exit items, in chains linked by index.
 
-use crate::names::{Link, Name, chain_of};
+use crate::names::{Link, Name, chain_of, filled};
 
 struct Item {
     target: Name,
@@ -18,7 +18,7 @@ impl ExitTable {
     pub fn make(room: u32) -> ExitTable {
         ExitTable {
             items: Vec::with_capacity(room as usize),
-            heads: vec![0; room as usize],
+            heads: filled(0, room as usize),
         }
     }
 

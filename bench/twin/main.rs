@@ -251,7 +251,10 @@ fn entries(watch: &mut Watch, size: u32, downs: bool) -> String {
         }
         watch.lap("down");
     }
-    let total: u64 = targets.iter().map(|target| table.count(*target) as u64).sum();
+    let total: u64 = targets
+        .iter()
+        .map(|target| table.count(*target) as u64)
+        .sum();
     format!(
         "{} {size}: the counts are {total} in all",
         if downs { "down" } else { "up" }
