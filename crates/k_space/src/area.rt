@@ -11,15 +11,21 @@ use k_types::{Name, Seg};
 use std::alloc::Global;
 use std::marker::Model;
 
+/// Where things may stand. No contract speaks of it, and each hint is tested where it is used.
+#[derive(Drop)]
+struct Hints {
+    // Where the segment of each number below the room may stand.
+    segments: Vec<usize>,
+    // Where a gray object was found last.
+    gray: usize,
+}
+
 /// The segments of one heap. Their numbers are different, which each call but `make` needs. Source: own.
 #[derive(Drop)]
 pub struct Area {
     segments: Vec<Segment>,
     room: u32,
-    // Where the segment of each number below the room may stand. A hint is tested where it is used.
-    hints: Vec<usize>,
-    // Where a gray object was found last.
-    gray_at: usize,
+    hints: Hints,
 }
 
 impl Model for Area {
@@ -86,8 +92,10 @@ impl Area {
         Ok(Area {
             segments: Vec::with_capacity(alloc, room as usize)?,
             room,
-            hints: vec![in alloc; 0usize; room as usize]?,
-            gray_at: 0,
+            hints: Hints {
+                segments: vec![in alloc; 0usize; room as usize]?,
+                gray: 0,
+            },
         })
     }
 
@@ -125,7 +133,7 @@ impl Area {
         requires { HasDistinct self.now.segments }
         ensures { option_copied result ≡ segment_at self.now.segments seg.0 }
     {
-        let at = place(&self.segments, &self.hints, seg);
+        let at = place(&self.segments, &self.hints.segments, seg);
         self.segments.get(at)
     }
 
@@ -135,7 +143,7 @@ impl Area {
         ensures* writes_back { sem 𝓛 (lends_segment self.entry seg.0 result) }
         ensures value { option_copied_mut result ≡ segment_at self.old.segments seg.0 }
     {
-        let at = place(&self.segments, &self.hints, seg);
+        let at = place(&self.segments, &self.hints.segments, seg);
         self.segments.get_mut(at)
     }
 
@@ -151,7 +159,7 @@ impl Area {
         ensures fewer { OnSome result (length self.new.segments + 1 ≡ length self.old.segments) }
         ensures kept { IfNone result (self.new ≡ self.old) }
     {
-        let at = place(&self.segments, &self.hints, seg);
+        let at = place(&self.segments, &self.hints.segments, seg);
         if at < self.segments.len() {
             let last = self.segments.len() - 1;
             let moved = self.segments[last].number();
@@ -181,13 +189,13 @@ impl Area {
         ensures none { IfNone result ((n : Name) → IsFalse (gray_at self.old n)) }
         ensures kept { IfNone result (self.new ≡ self.old) }
     {
-        if let Some(name) = self.take_gray_at(self.gray_at) {
+        if let Some(name) = self.take_gray_at(self.hints.gray) {
             return Some(name);
         }
         let len = self.segments.len();
         for i in 0..len {
             if let Some(name) = self.take_gray_at(i) {
-                self.gray_at = i;
+                self.hints.gray = i;
                 return Some(name);
             }
         }
@@ -221,7 +229,7 @@ impl Area {
     fn hint(&mut self, seg: Seg, at: usize)
         ensures { self.new ≡ self.old }
     {
-        if let Some(hint) = self.hints.get_mut(seg.0 as usize) {
+        if let Some(hint) = self.hints.segments.get_mut(seg.0 as usize) {
             *hint = at;
         }
     }

@@ -6,4 +6,3 @@ pub mod Machine
 pub mod Reports
 pub mod InOrder
 pub mod NameOrder
-pub mod Setups
