@@ -6,3 +6,4 @@ pub mod Machine
 pub mod Reports
 pub mod InOrder
 pub mod NameOrder
+pub mod Setups

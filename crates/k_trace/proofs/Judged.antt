@@ -6,7 +6,8 @@ use Rattle.k_words.proofs.Proper.{IsProper, AllProper, joins, proper_words, prop
 use Rattle.k_trace.specs.Demands.{demands}
 use Rattle.k_trace.specs.Judgement.{SoFar, BadLine, judged_line, judged_lines, then_lines}
 use Rattle.k_trace.proofs.Again.{step_again}
-use Rattle.k_trace.proofs.Keeps.{Holds, step_keeps}
+use Rattle.k_trace.proofs.Kept.{Holds}
+use Rattle.k_trace.proofs.Keeps.{step_keeps}
 use Rattle.k_trace.proofs.Steps.{Step, Run}
 use Rattle.k_trace.proofs.Tidy.{tidy, orderly, step_proper}
 

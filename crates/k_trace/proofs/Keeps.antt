@@ -1,4 +1,4 @@
--- What the lines so far keep, and that each step keeps it.
+-- Each step keeps what the lines so far keep.
 use Rattle.std.proofs.Common.{◌≡◌, ◌≢◌, ◌∙◌, ◌⊎◌, ℕ, zero, suc, ◌+◌, ◌*◌, ◌^◌, ◌<◌, ◌≤◌, Bool, true, false, cond, not, ◌&&◌, ◌||◌, eqb, ltb, List, [], ◌∷◌, ◌++◌, length, map, drop, get_or, set, Option, Some, None, refl, sym, ap, subst, arith, inl, inr, append_assoc}
 use Rattle.std.proofs.lemmas.Bool.{cases_lt, lt-ltb, ltb-true}
 use Rattle.std.proofs.lemmas.List.{get_or_append_left, length-append, append-nil, map-append, length-map}
@@ -29,78 +29,7 @@ use Rattle.k_trace.proofs.Pushed.{length_push, AreNames_push, AreNames_nil, AreN
 use Rattle.k_trace.proofs.OpLists.{lines_push}
 use Rattle.k_trace.proofs.OpRules.{none_each, no_operations, operation_kept, op_added}
 use Rattle.k_trace.proofs.Reserved.{AllFit, fit_none, fit_root, fit_limit}
-
-pub record IsKernel (ceiling dir_fields : ℕ) : Type 0 where
-  pub small : ceiling < 2 ^ 40
-  pub few : dir_fields ≤ 16
-  pub room : object_size dir_fields ≤ ceiling
-
-pub record AreTypes (names : List Text) (types : List (List Field)) : Type 0 where
-  pub few : length types ≤ 256
-  pub few_fields : HaveFewFields types
-  pub are_names : AreNames names
-  pub named : length names ≡ length types
-
-pub record AreRows (names : List Text) (rows : List LimitRow) : Type 0 where
-  pub few : length rows ≤ 128
-  pub tree : IsTree rows
-  pub root : (row_of rows 0).hard ≡ true
-  pub rooted : (m : ℕ) → m < length rows → (row_of rows m).parent ≡ None → m ≡ 0
-  pub fits : AllFit rows
-  pub small : (m : ℕ) → m < length rows → max_of rows m < 2 ^ 40
-  pub are_names : AreNames names
-  pub named : length names ≡ length rows
-
-abbrev pub limit_at : List LimitId → ℕ → ℕ
-limit_at procs p = (get_or procs p (record { 0 = 0 })).0
-
-pub record AreHeaps (procs : List Text) (limits : List LimitId) (shared : List Text) (shared_heaps rows : ℕ) : Type 0 where
-  pub few_procs : length limits ≤ 64
-  pub few_shared : shared_heaps ≤ 64
-  pub limited : (p : ℕ) → p < length limits → limit_at limits p < rows
-  pub are_names : AreNames (procs ++ shared)
-  pub procs_named : length procs ≡ length limits
-  pub shared_named : length shared ≡ shared_heaps
-
--- all rules but that there is a limit and a process
-pub record IsBegun (t : NamedTrace) : Type 0 where
-  pub version : t.trace.version ≡ 1
-  pub kernel : IsKernel t.trace.ceiling t.trace.dir_fields
-  pub types : AreTypes t.names.types t.trace.types
-  pub limits : AreRows t.names.limits t.trace.limits
-  pub heaps : AreHeaps t.names.procs t.trace.procs t.names.shared t.trace.shared_heaps (length t.trace.limits)
-  pub operations : AreOperations t.trace
-
-pub record NoLimits (t : NamedTrace) : Type 0 where
-  pub names : t.names.limits ≡ []
-  pub rows : t.trace.limits ≡ []
-
-pub record NoProcs (t : NamedTrace) : Type 0 where
-  pub names : t.names.procs ≡ []
-  pub limits : t.trace.procs ≡ []
-
-pub record NoShared (t : NamedTrace) : Type 0 where
-  pub names : t.names.shared ≡ []
-  pub none : t.trace.shared_heaps ≡ 0
-
-pub record NoOperations (t : NamedTrace) : Type 0 where
-  pub each : t.trace.operations ≡ none_each t.trace.procs
-  pub order : t.trace.order ≡ []
-
--- what was said keeps the rules, and is spelled by these lines
-pub record IsSaid (t : NamedTrace) (wss : List (List Text)) : Type 0 where
-  pub begun : IsBegun t
-  pub lines : words t ≡ wss
-
--- what holds where the next line stands
-abbrev pub Holds : Place → NamedTrace → List (List Text) → Type 0
-Holds Version t wss = (t ≡ blank) × (wss ≡ [])
-Holds Kernel t wss = (t ≡ blank) × (wss ≡ version_words ∷ [])
-Holds Types t wss = IsSaid t wss × NoLimits t × NoProcs t × NoShared t × NoOperations t
-Holds Limits t wss = IsSaid t wss × (0 < length t.trace.limits) × NoProcs t × NoShared t × NoOperations t
-Holds Procs t wss = IsSaid t wss × (0 < length t.trace.limits) × (0 < length t.trace.procs) × NoShared t × NoOperations t
-Holds Shared t wss = IsSaid t wss × (0 < length t.trace.limits) × (0 < length t.trace.procs) × NoOperations t
-Holds Operations t wss = IsSaid t wss × (0 < length t.trace.limits) × (0 < length t.trace.procs)
+use Rattle.k_trace.proofs.Kept.{IsKernel, AreTypes, AreRows, limit_at, AreHeaps, IsBegun, NoLimits, NoProcs, NoShared, NoOperations, IsSaid, Holds}
 
 -- lines of words, as the header has them
 abbrev lined : List (List Text) → List (List Text) → List (List Text) → List (List Text) → List (List Text) → List (List Text)
@@ -161,10 +90,10 @@ each_row P rows row old last m lt = elim (cases_lt m (length rows)) [
       subst (P m) (sym (row_last rows row m e)) (subst (λ (k : ℕ). P k row) (sym e) last)
 ]
 
-root_push : (rows : List LimitRow) (row : LimitRow) → (row_of rows 0).hard ≡ true → (0 < length rows) ⊎ (row.hard ≡ true) → 0 < length rows ⊎ (rows ≡ []) → (row_of (rows ++ row ∷ []) 0).hard ≡ true
-root_push rows row old (inl lt) some = rw (row_before rows row 0 lt) old
-root_push rows row old (inr hard) (inl lt) = rw (row_before rows row 0 lt) old
-root_push rows row old (inr hard) (inr none) = rw none hard
+root_push : (rows : List LimitRow) (added : LimitRow) → (row_of rows 0).hard ≡ true → (0 < length rows) ⊎ (added.hard ≡ true) → 0 < length rows ⊎ (rows ≡ []) → (row_of (rows ++ added ∷ []) 0).hard ≡ true
+root_push rows added old (inl lt) some = rw (row_before rows added 0 lt) old
+root_push rows added old (inr hard) (inl lt) = rw (row_before rows added 0 lt) old
+root_push rows added old (inr hard) (inr none) = rw none hard
 
 pub tree_push : (rows : List LimitRow) (row : LimitRow) → IsTree rows → ((parent : LimitId) → row.parent ≡ Some parent → parent.0 < length rows) → IsTree (rows ++ row ∷ [])
 tree_push rows row old known m parent lt is = each_row (λ k r. (p : LimitId) → r.parent ≡ Some p → p.0 < k) rows row (λ k below p. old k p below) known m lt parent is
@@ -365,22 +294,22 @@ limit_said : (t : NamedTrace) (name : Text) (parent : ℕ) (hard : Bool) (max : 
     → Holds Limits (with_limit t name (limit_row parent hard max)) (wss ++ limit_words t.names name (limit_row parent hard max) ∷ [])
 limit_said t name parent hard max wss h good fresh small known room fit =
     let begun = h.0.begun in
-    let row = limit_row parent hard max in
+    let added = limit_row parent hard max in
     let within : parent < length t.trace.limits = omega (arith, begun.limits.named, known) in (
       record {
         begun = record {
           version = begun.version;
           kernel = begun.kernel;
           types = begun.types;
-          limits = limits_push t.names.limits t.trace.limits name row begun.limits good fresh room small (parent_is parent (length t.trace.limits) within) (λ is. absurd cc)
-              (rw (row_before t.trace.limits row 0 h.1) begun.limits.root) (fit_limit t.trace.limits parent hard max (tree_push t.trace.limits row begun.limits.tree (parent_is parent (length t.trace.limits) within)) within begun.limits.fits fit);
-          heaps = wider t (length (t.trace.limits ++ row ∷ [])) begun.heaps (omega (arith, length_push t.trace.limits row));
-          operations = nothing_operated (with_limit t name row) h.4.each h.4.order;
+          limits = limits_push t.names.limits t.trace.limits name added begun.limits good fresh room small (parent_is parent (length t.trace.limits) within) (λ is. absurd cc)
+              (rw (row_before t.trace.limits added 0 h.1) begun.limits.root) (fit_limit t.trace.limits parent hard max (tree_push t.trace.limits added begun.limits.tree (parent_is parent (length t.trace.limits) within)) within begun.limits.fits fit);
+          heaps = wider t (length (t.trace.limits ++ added ∷ [])) begun.heaps (omega (arith, length_push t.trace.limits added));
+          operations = nothing_operated (with_limit t name added) h.4.each h.4.order;
         };
-        lines = rw (← h.0.lines, h.2.names, h.2.limits, h.3.names, h.4.order, limit_lines t name row begun.limits (parent_is parent (length t.names.limits) known))
-            (behind_limits (front_of t) (declarations (limit_words t.names) t.names.limits t.trace.limits) (limit_words t.names name row));
+        lines = rw (← h.0.lines, h.2.names, h.2.limits, h.3.names, h.4.order, limit_lines t name added begun.limits (parent_is parent (length t.names.limits) known))
+            (behind_limits (front_of t) (declarations (limit_words t.names) t.names.limits t.trace.limits) (limit_words t.names name added));
       },
-      omega (arith, length_push t.trace.limits row),
+      omega (arith, length_push t.trace.limits added),
       record { names = h.2.names; limits = h.2.limits },
       record { names = h.3.names; none = h.3.none },
       record { each = h.4.each; order = h.4.order },

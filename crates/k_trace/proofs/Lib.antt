@@ -11,6 +11,7 @@ pub mod Pushed
 pub mod OpLists
 pub mod OpRules
 pub mod Reserved
+pub mod Kept
 pub mod Keeps
 pub mod Sound
 pub mod Tidy

@@ -16,7 +16,8 @@ use Rattle.k_trace.specs.Judgement.{SoFar, Judged, BadLine, start, line_in, judg
 use Rattle.k_trace.proofs.Readers.{demands_ok, ok_is}
 use Rattle.k_trace.proofs.OpForms.{AreNamed}
 use Rattle.k_trace.proofs.Found.{step_found}
-use Rattle.k_trace.proofs.Keeps.{Holds, IsSaid, IsLate, late, step_keeps}
+use Rattle.k_trace.proofs.Kept.{Holds, IsSaid}
+use Rattle.k_trace.proofs.Keeps.{IsLate, late, step_keeps}
 
 blank_named : (t : NamedTrace) → t ≡ blank → AreNamed t
 blank_named t e = rw e (record { types = refl; shared = refl })

@@ -29,7 +29,7 @@ use Rattle.k_trace.proofs.OpAgain.{AreDistinct}
 use Rattle.k_trace.proofs.Found.{hardness, limit_words_are}
 use Rattle.k_trace.proofs.Again.{IsOrderly}
 use Rattle.k_trace.proofs.Pushed.{AreNames_nil, AreNames_front}
-use Rattle.k_trace.proofs.Keeps.{Holds, IsSaid}
+use Rattle.k_trace.proofs.Kept.{Holds, IsSaid}
 use Rattle.k_trace.proofs.Steps.{version_words, kernel_words, limit_row, VersionStep, KernelStep, TypeStep, RootStep, LimitStep, ProcStep, SharedStep, OperationStep, Step, OfVersion, OfKernel, OfType, OfRoot, OfLimit, OfProc, OfShared, OfOperation}
 
 -- the names are names, each distinct from those that it must differ from

@@ -18,7 +18,7 @@ use Rattle.k_trace.specs.Spelling.{declarations, type_words, limit_words, proc_w
 use Rattle.k_trace.specs.Grown.{blank, with_kernel, with_limit}
 use Rattle.k_trace.specs.Judgement.{SoFar, BadLine, start, judged_lines, has_process, at_end, judgement}
 use Rattle.k_trace.proofs.OpRules.{none_each, none_at}
-use Rattle.k_trace.proofs.Keeps.{limit_at}
+use Rattle.k_trace.proofs.Kept.{limit_at}
 use Rattle.k_trace.proofs.Pushed.{AreNames_front}
 use Rattle.k_trace.proofs.Steps.{at_place, version_words, kernel_words, root_row, Step, OfVersion, OfKernel, OfRoot, Run}
 use Rattle.k_trace.proofs.Runs.{run_to, run_then, good_at, fresh_at, AllSmall, types_run, with_types, with_limits, limits_more, AreLater}

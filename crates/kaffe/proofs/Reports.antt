@@ -1,5 +1,5 @@
 -- What is written of a run of a trace.
-use Rattle.std.proofs.Common.{◌≡◌, ◌∙◌, List, refl, ap}
+use Rattle.std.proofs.Common.{◌≡◌, ◌∙◌, List, [], ap}
 use Rattle.k_types.specs.declared.event.Event.{Event}
 use Rattle.k_types.specs.FileOrder.{file_order}
 use Rattle.k_types.specs.Steps.{state_after}
@@ -10,12 +10,8 @@ use Rattle.k_plain.specs.Runs.{Run, IsFiled}
 use Rattle.k_trace.specs.Named.{DeclaredNames, NamedTrace}
 use Rattle.k_trace.specs.Rules.{IsTrace}
 use Rattle.k_text.specs.Named.{AreNamed}
-use Rattle.k_text.specs.Report.{text_over, report_text, report_lines, graph_lines, roots_lines, exits_lines, shares_of_process, shares_lines, faults_lines, charges_lines, kernel_line, limit_line, process_line, shared_line}
-
--- A report reads nothing of a trace but its setup.
-same_setup : (names : DeclaredNames) (trace : Trace) (history : List Event) (st : State) → text_over names (setup_of trace) history st ≡ text_over names trace history st
-unfolding report_lines graph_lines roots_lines exits_lines shares_of_process shares_lines faults_lines charges_lines kernel_line limit_line process_line shared_line
-same_setup names trace history st = refl
+use Rattle.k_text.specs.Report.{text_over, report_text}
+use Rattle.k_text.proofs.Setups.{setup_alone}
 
 -- What is written of a run in the order of the file is the report of that order.
 pub report_of_run : (names : DeclaredNames) (trace : Trace) (run : Run) → IsFiled trace run → text_over names run.machine.setup run.events run.machine.state ≡ report_text names trace (file_order trace)
@@ -23,7 +19,7 @@ report_of_run names trace run filed =
     ap (λ (setup : Trace). text_over names setup run.events run.machine.state) filed.setup
     ∙ ap (λ (history : List Event). text_over names (setup_of trace) history run.machine.state) filed.events
     ∙ ap (λ (st : State). text_over names (setup_of trace) (file_order trace) st) filed.state
-    ∙ same_setup names trace (file_order trace) (state_after trace (file_order trace))
+    ∙ setup_alone names trace [] [] (file_order trace) (state_after trace (file_order trace))
 
 -- What a trace declares has its names in a run of it.
 pub named_in_run : (t : NamedTrace) (setup : Trace) → IsTrace t → setup ≡ setup_of t.trace → AreNamed t.names setup

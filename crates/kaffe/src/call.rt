@@ -18,7 +18,9 @@ use std::alloc::Global;
 /// is written. So the source is not read where the words are no command, and nothing is written
 /// before the run has ended.
 ///
-/// `rt` and `gate` are what a run on threads needs; the one-thread run does not use them.
+/// `rt` and `gate` are what a run on threads needs; the one-thread run does not use them. It takes
+/// memory for the bytes of the trace, for the trace, and for the journal and the machine's state, each
+/// in proportion to the trace; docs/PERFORMANCE.md has what it costs in time. Source: own.
 pub fn kaffe<S: Source, K: Sink, G: Gate, R: Sync>(
     _rt: &R,
     alloc: Global,

@@ -1,7 +1,7 @@
 ghost use Rattle.std.specs.Prelude.{◌↔◌, IsTrue, map, string_bytes};
 ghost use Rattle.kaffe.specs.Commands.{IsRun};
 
-/// Whether the words are the command `run`.
+/// Whether the words, those after the program's name, are the command `run`. Source: own.
 pub fn is_run(words: &[String]) -> bool
     ensures { IsTrue result ↔ IsRun (map string_bytes words.now) }
 {

@@ -16,10 +16,11 @@ use k_text::report;
 use k_trace::{Trace, TraceError, read_trace};
 use std::alloc::Global;
 
-/// The most bytes of a trace.
+/// The most bytes of a trace. Source: own.
 const TRACE_LIMIT: usize = 16_777_216;
 
-/// The command `run`: reads a trace from the source, runs it, and writes its report.
+/// The command `run`: reads a trace from the source, runs it, and writes its report. It reads one byte
+/// past the most bytes of a trace at most. Source: own.
 pub fn run<S: Source, K: Sink>(alloc: Global, src: &mut S, out: &mut K) -> Status
     ensures answered { IsAnswered (Tells (codes "run" ∷ []) (S.left src.old) (S.left src.new) (S.faults src.old) (S.faults src.new))
         (K.Holds out.old) (K.Holds out.new) (K.faults out.old) (K.faults out.new) result }

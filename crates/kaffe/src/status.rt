@@ -4,7 +4,7 @@ ghost use Rattle.kaffe.specs.Numbers.{number_of};
 
 use std::process::ExitCode;
 
-/// How a call ended. As a number from 0 to 6 it is the program's exit status.
+/// How a call ended. As a number from 0 to 6, in this order, it is the program's exit status. Source: own.
 #[derive(Clone, Copy, Debug, PartialEq, Eq)]
 pub enum Status {
     /// The command was done, and its text was written.
@@ -23,7 +23,7 @@ pub enum Status {
     Refused,
 }
 
-/// The exit status of the program.
+/// The exit status of the program. Source: own.
 pub fn exit_code(status: Status) -> ExitCode
     ensures { exit_status result ≡ number_of status }
 {

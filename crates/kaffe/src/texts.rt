@@ -7,7 +7,7 @@ use crate::status::Status;
 use k_io::{Sink, WriteFailed, write_all};
 use k_text::LineBuffer;
 
-/// The status of a call whose text is written: the given one, unless the sink failed.
+/// The status of a call whose text is written: the given one, unless the sink failed. Source: own.
 pub fn after_writing(status: Status, written: Result<(), WriteFailed>) -> Status
     ensures { result ≡ status_after status written }
 {
@@ -17,7 +17,7 @@ pub fn after_writing(status: Status, written: Result<(), WriteFailed>) -> Status
     }
 }
 
-/// Writes the usage line.
+/// Writes the usage line, as one piece. Source: own.
 pub fn write_usage<K: Sink>(out: &mut K) -> Status
     ensures { IsWritten (K.Holds out.old) (K.Holds out.new) (K.faults out.old) (K.faults out.new) Status.Usage usage_text result }
 {
@@ -25,7 +25,8 @@ pub fn write_usage<K: Sink>(out: &mut K) -> Status
     after_writing(Status::Usage, written)
 }
 
-/// Writes the line of a bad trace.
+/// Writes the line of a bad trace, as one piece. Lines are counted from 1, and line 0 stands for the
+/// whole input. Source: own.
 pub fn write_bad_trace<K: Sink>(out: &mut K, line: u32, reason: u32) -> Status
     ensures { IsWritten (K.Holds out.old) (K.Holds out.new) (K.faults out.old) (K.faults out.new) Status.BadTrace (bad_trace_text line reason) result }
 {
