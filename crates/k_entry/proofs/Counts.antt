@@ -6,7 +6,7 @@ use Rattle.std.proofs.lemmas.List.{map-append}
 use Rattle.k_types.specs.Totals.{total}
 use Rattle.k_types.specs.declared.names.Name.{Name}
 use Rattle.k_types.specs.Names.{name_eq}
-use Rattle.k_types.specs.Agree.{Counted, counted}
+use Rattle.k_types.specs.Counted.{Counted, counted}
 use Rattle.k_lists.specs.Lists.{is_in}
 use Rattle.k_entry.specs.declared.item.Item.{Item}
 use Rattle.k_entry.specs.Entries.{EntryValue, HasMore, HasLess}

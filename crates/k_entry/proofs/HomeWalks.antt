@@ -8,7 +8,7 @@ use Rattle.k_types.specs.declared.names.Name.{Name}
 use Rattle.k_types.specs.declared.names.Heap.{Heap}
 use Rattle.k_types.specs.declared.names.Heap.TheVariants.{Kernel, User, Shared}
 use Rattle.k_types.specs.Names.{name_eq, heap_eq}
-use Rattle.k_types.specs.Agree.{Counted}
+use Rattle.k_types.specs.Counted.{Counted}
 use Rattle.k_lists.specs.Lists.{members, is_in}
 use Rattle.k_entry.specs.declared.item.Item.{Item}
 use Rattle.k_entry.specs.Entries.{first_object, object_after, items_of, is_at_home, home_of}

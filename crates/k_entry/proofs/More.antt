@@ -6,7 +6,7 @@ use Rattle.std.specs.List.{concat}
 use Rattle.k_types.specs.Totals.{total}
 use Rattle.k_types.specs.declared.names.Name.{Name}
 use Rattle.k_types.specs.Names.{name_eq}
-use Rattle.k_types.specs.Agree.{Counted}
+use Rattle.k_types.specs.Counted.{Counted}
 use Rattle.k_lists.specs.Lists.{ListsValue, AreApart, members, is_in}
 use Rattle.k_entry.specs.declared.item.Item.{Item}
 use Rattle.k_entry.specs.Entries.{HasMore, home_of}

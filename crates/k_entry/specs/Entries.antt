@@ -4,7 +4,7 @@ use Rattle.k_types.specs.declared.names.Name.{Name}
 use Rattle.k_types.specs.declared.names.Heap.{Heap}
 use Rattle.k_types.specs.declared.names.Heap.TheVariants.{Kernel}
 use Rattle.k_types.specs.Names.{name_eq, heap_eq}
-use Rattle.k_types.specs.Agree.{Counted, counted}
+use Rattle.k_types.specs.Counted.{Counted, counted}
 
 -- the items in the order of the walks, the home heap of each segment, and how many items there can be
 pub record EntryValue : Type 0 where

@@ -5,7 +5,7 @@ use Rattle.k_types.specs.declared.names.Name.{Name}
 use Rattle.k_types.specs.declared.names.Heap.{Heap}
 use Rattle.k_types.specs.declared.names.Heap.TheVariants.{Kernel, User, Shared}
 use Rattle.k_types.specs.Names.{name_eq, heap_eq}
-use Rattle.k_types.specs.Agree.{Counted}
+use Rattle.k_types.specs.Counted.{Counted}
 use Rattle.k_lists.specs.Lists.{ListsValue, AreApart, IsFree, members, is_in, without}
 use Rattle.k_hash.specs.Hash.{bucket as chain}
 use Rattle.k_entry.specs.declared.item.Item.{Item}

@@ -1,7 +1,7 @@
 ghost use Rattle.std.specs.Prelude.{◌≡◌, ◌+◌, ◌-◌, ◌<◌, ◌≤◌, ◌^◌, [], ℕ, Some, None, IfOk, IfSome, IfNone, length, option_map, slice_set};
 ghost use Rattle.std.specs.List.Sorted.{IsPermutation};
 ghost use Rattle.k_types.specs.Names.{name_of};
-ghost use Rattle.k_types.specs.Agree.{counted};
+ghost use Rattle.k_types.specs.Counted.{counted};
 ghost use Rattle.k_entry.specs.Entries.{AreEntries, HasMore, HasLess, first_object, object_after, items_of, home_of};
 
 use crate::item::{Item, chain_count, chain_of, find, link_at, take_slot};

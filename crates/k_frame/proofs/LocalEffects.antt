@@ -14,8 +14,9 @@ use Rattle.k_types.specs.Updates.{count_done, set_register, write}
 use Rattle.k_types.specs.Replies.{fault_where, first_fault, faults, access_faults, at_base, field_at, field_count, is_ref, reference_from, passes_barrier, is_frozen_heap, store_faults}
 use Rattle.k_types.specs.Effects.{effect, after_operation, after_store, after_put, with_exit_of_store}
 use Rattle.k_types.specs.Cells.{part}
-use Rattle.k_types.specs.PartUpdates.{with_register, with_done, with_written, held_in}
-use Rattle.k_types.specs.Local.{is_local, is_own, is_local_store, Alike}
+use Rattle.k_frame.specs.PartUpdates.{with_register, with_done, with_written, held_in}
+use Rattle.k_types.specs.Local.{is_local, is_own, is_local_store}
+use Rattle.k_frame.specs.Alike.{Alike}
 use Rattle.k_frame.proofs.NameTests.{heap_eq_refl}
 use Rattle.k_frame.proofs.Objects.{kept-written}
 use Rattle.k_frame.proofs.OwnerOf.{owner_user}

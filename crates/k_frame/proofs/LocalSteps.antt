@@ -13,7 +13,8 @@ use Rattle.k_types.specs.State.{State, Holds, register, object_at, fields_of}
 use Rattle.k_types.specs.Owners.{owner_of, objects_of, user}
 use Rattle.k_types.specs.Replies.{fault_where, first_fault, faults, access_faults, at_base, answer, reply_to, refused_or, field_at, field_count, is_ref, reference_from, reference, passes_barrier, is_frozen_heap, load_faults, store_faults, number_faults, number_from, number_in}
 use Rattle.k_types.specs.Cells.{ProcessPart, part}
-use Rattle.k_types.specs.Local.{is_local, is_own, is_local_load, is_local_store, Alike}
+use Rattle.k_types.specs.Local.{is_local, is_own, is_local_load, is_local_store}
+use Rattle.k_frame.specs.Alike.{Alike}
 use Rattle.k_frame.proofs.NameTests.{heap_eq-same}
 use Rattle.k_frame.proofs.Objects.{object_at-kept}
 use Rattle.k_frame.proofs.OwnerOf.{owner_user}

@@ -22,11 +22,12 @@ use Rattle.k_frame.specs.Tails.{TailFollows}
 use Rattle.k_frame.proofs.Sizes.{history_sized}
 use Rattle.k_types.specs.Cells.{ProcessPart, part, Cell, cells_touched, touches, other_cells, access_cell, base_cell, book_part}
 use Rattle.k_types.specs.Steps.{IsPossible, IsRun, run, IsLegalHistory, state_after, waits_for_orphans, touch_count_from}
-use Rattle.k_types.specs.Local.{is_local, AreLocal, Alike, is_local_load, is_local_store, is_own}
+use Rattle.k_types.specs.Local.{is_local, AreLocal, is_local_load, is_local_store, is_own}
+use Rattle.k_frame.specs.Alike.{Alike}
 use Rattle.k_frame.proofs.LocalSteps.{reply_same, faults_same, same_register, same_object}
 use Rattle.k_frame.proofs.OwnerOf.{owner_user}
 use Rattle.k_frame.proofs.LocalEffects.{effect_same, part_done}
-use Rattle.k_types.specs.PartUpdates.{with_done}
+use Rattle.k_frame.specs.PartUpdates.{with_done}
 use Rattle.k_frame.proofs.LocalBook.{KeepsBook, effect_keeps_book}
 use Rattle.k_frame.proofs.Untouched.{part_kept}
 use Rattle.k_frame.proofs.Histories.{run_append, legal_rest, legal_append}

@@ -1,1 +1,3 @@
+pub mod PartUpdates
+pub mod Alike
 pub mod Tails

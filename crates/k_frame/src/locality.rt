@@ -2,7 +2,8 @@ ghost use Rattle.std.specs.Prelude.{IsFalse, IsTrue, List, ◌++◌, ◌<◌, �
 ghost use Rattle.k_frame.specs.Tails.{TailFollows};
 ghost use Rattle.k_types.specs.Cells.{book_part, part, touches, Cell};
 ghost use Rattle.k_types.specs.Effects.{after_operation};
-ghost use Rattle.k_types.specs.Local.{Alike, AreLocal, is_local};
+ghost use Rattle.k_types.specs.Local.{AreLocal, is_local};
+ghost use Rattle.k_frame.specs.Alike.{Alike};
 ghost use Rattle.k_types.specs.Names.{among, heap_eq};
 ghost use Rattle.k_types.specs.Owners.{user};
 ghost use Rattle.k_types.specs.Replies.{reply_to};

@@ -9,6 +9,7 @@ pub mod PartsTell
 pub mod Raised
 pub mod Refusing
 pub mod Safe
+pub mod Shapes
 pub mod Shielded
 pub mod SoundAbsorbed
 pub mod SoundCollected

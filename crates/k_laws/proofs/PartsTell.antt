@@ -187,13 +187,11 @@ module _ (trace : Trace) (st su : State) (sound : IsSound trace st) (sound' : Is
 
   low : (n : Name) → IsTrue (has st.objects n) → n.seg.0 < segment_count trace
   low n there =
-      let number = sound.names.numbered n there in
-      subst (λ k. n.seg.0 < k) sound.shape.sized.made (get_or_above st.made n.seg.0 (omega arith))
+      (sound.shape.placed n there).1
 
   low' : (n : Name) → IsTrue (has su.objects n) → n.seg.0 < segment_count trace
   low' n there =
-      let number = sound'.names.numbered n there in
-      subst (λ k. n.seg.0 < k) sound'.shape.sized.made (get_or_above su.made n.seg.0 (omega arith))
+      (sound'.shape.placed n there).1
 
   each_same : (h : Heap) → objects_of (owner_of trace st) h st.objects ≡ objects_of (owner_of trace st) h su.objects
   each_same h = go (objects_of (owner_of trace st) h st.objects) (objects_of (owner_of trace st) h su.objects) refl refl

@@ -19,6 +19,7 @@ use Rattle.k_types.specs.Totals.{total}
 use Rattle.k_types.specs.Owners.{is_absorbed, owner_of_segment, owner_of_process, owner_of_shared, charge_of, objects_of}
 use Rattle.k_types.specs.Updates.{set_phase, keep_exits}
 use Rattle.k_types.specs.Effects.{after_absorbed, stays_after_absorb, lies_in}
+use Rattle.k_laws.proofs.Shapes.{declared-phase}
 use Rattle.k_laws.specs.Changes.{MayAbsorb}
 use Rattle.k_types.specs.Steps.{has_sharer}
 use Rattle.k_laws.proofs.Merge.{merged, AreMerged, guarded_merged, exits_merged}
@@ -171,6 +172,9 @@ module _ (trace : Trace) (st : State) (s : ℕ) (sound : IsSound trace st) (may 
       distinct_exits = distinct_exits-kept (stays_after_absorb trace st s) st.exits sound.shape.distinct_exits;
       distinct_shares = sound.shape.distinct_shares;
       distinct_scans = sound.shape.distinct_scans;
+      placed = sound.shape.placed;
+      typed = sound.shape.typed;
+      declared = declared-phase trace st.ended st.phases s Absorbed (λ q e. absurd (cc e)) sound.shape.declared;
       known = record {
         referring = λ h n e. sound.shape.known.referring h n (exit_parts h n e).0;
         sharers = sound.shape.known.sharers;

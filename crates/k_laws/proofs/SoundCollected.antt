@@ -23,6 +23,7 @@ use Rattle.k_types.specs.Effects.{after_ended, survives, exit_stays, share_stays
 use Rattle.k_types.specs.Reach.{reach_in}
 use Rattle.k_types.specs.Replies.{is_populating}
 use Rattle.k_types.specs.Steps.{has_sharer}
+use Rattle.k_laws.proofs.Shapes.{typed-kept}
 use Rattle.k_frame.proofs.Kept.{distinct_scans-closed, has_exit-kept, has_share-kept, any-fewer, distinct_exits-kept, distinct_shares-kept, scan_closed, sum-fewer, filter_swap}
 use Rattle.k_laws.proofs.Uses.{use_by_less, charge_less}
 use Rattle.k_frame.proofs.Objects.{has-kept, refers_in-kept, referred}
@@ -198,6 +199,9 @@ module _ (trace : Trace) (st : State) (sound : IsSound trace st) (h : Heap) (roo
       distinct_exits = distinct_exits-kept (exit_stays trace st h) st.exits sound.shape.distinct_exits;
       distinct_shares = distinct_shares-kept (share_stays trace st h) st.shares sound.shape.distinct_shares;
       distinct_scans = distinct_scans-closed h st.scans sound.shape.distinct_scans;
+      placed = λ n there. sound.shape.placed n (back n there);
+      typed = typed-kept trace stays st.objects sound.shape.typed;
+      declared = sound.shape.declared;
       known = record {
         referring = λ g n e. sound.shape.known.referring g n (exit_back g n e);
         sharers = λ p s t. sound.shape.known.sharers p s (any-fewer _ (share_stays trace st h) st.shares t);

@@ -9,16 +9,17 @@ use Rattle.k_types.specs.declared.names.TypeId.{TypeId}
 use Rattle.k_types.specs.declared.names.Field.{Field}
 use Rattle.k_types.specs.declared.names.Field.TheVariants.{Ref, Int}
 use Rattle.k_types.specs.Names.{name_eq, name_lt, directory}
-use Rattle.k_types.specs.Trace.{Trace, segment_count}
+use Rattle.k_types.specs.Trace.{Trace, segment_count, kinds_of}
 use Rattle.k_types.specs.State.{State, Object, has, refers_in, content_leads_to, scan_of, fresh}
 use Rattle.k_types.specs.Owners.{owner_of, shared, phase_of}
 use Rattle.k_types.specs.Limits.{limits_in, use_of, max_of}
 use Rattle.k_types.specs.Reach.{is_entered, is_held}
 use Rattle.k_types.specs.Updates.{create, with_object, next_name}
-use Rattle.k_types.specs.Sound.{IsSound, IsOrdered, IsOrderedFrom}
+use Rattle.k_types.specs.Sound.{IsSound, IsTyped, IsOrdered, IsOrderedFrom}
 use Rattle.k_frame.proofs.NameTests.{name_eq_refl, name_eq-true, name_lt_total}
 use Rattle.k_frame.proofs.Objects.{has-placed, refers_in-placed}
 use Rattle.k_frame.proofs.Lists.{get_or-set_cases}
+use Rattle.k_laws.proofs.Shapes.{kinds_fresh, typed-placed}
 
 ordered-placed_from : (o : Object) (m : Name) (xs : List Object) → IsTrue (name_lt m o.name) → has xs o.name ≡ false → IsOrderedFrom m xs → IsOrderedFrom m (with_object o xs)
 ordered-placed_from o m [] first new t = (first, tt)
@@ -45,11 +46,13 @@ fresh_refers (Ref ∷ kinds) y = fresh_refers kinds y
 fresh_refers (Int ∷ kinds) y = fresh_refers kinds y
 
 -- an object may be made in the segment
-pub record MayCreate (trace : Trace) (st : State) (seg : ℕ) (ty : TypeId) (kinds : List Field) : Type 0 where
+pub record MayCreate (trace : Trace) (st : State) (seg : ℕ) (ty : TypeId) (fields : List Field) : Type 0 where
   pub known : seg < segment_count trace
+  pub declared : ty.0 < length trace.types
+  pub kinds : fields ≡ kinds_of trace ty
   pub idle : scan_of st.scans (owner_of trace st seg) ≡ None
   pub stands : (s : ℕ) → phase_of st.phases s ≡ Unmade → owner_of trace st seg ≢ shared s
-  pub fits : (m : ℕ) → m < length trace.limits → use_of trace (create seg ty kinds st) m ≤ max_of (limits_in trace st) m
+  pub fits : (m : ℕ) → m < length trace.limits → use_of trace (create seg ty fields st) m ≤ max_of (limits_in trace st) m
 
 -- the object that is made
 abbrev pub made_object : State → ℕ → TypeId → List Field → Object
@@ -57,7 +60,7 @@ made_object st seg ty kinds = record { name = next_name seg st; ty = Some ty; fi
 
 module _ (trace : Trace) (st : State) (seg : ℕ) (ty : TypeId) (kinds : List Field) (sound : IsSound trace st) (may : MayCreate trace st seg ty kinds) where
   is_new : has st.objects (next_name seg st) ≡ false
-  is_new = false_from_ne_true _ (λ there. let low = (sound.names.numbered (next_name seg st) there).1 in absurd (omega arith))
+  is_new = false_from_ne_true _ (λ there. let low = sound.names.numbered (next_name seg st) there in absurd (omega arith))
 
   kept : (n : Name) → IsTrue (has st.objects n) → IsTrue (has (with_object (made_object st seg ty kinds) st.objects) n)
   kept n there = has-placed (made_object st seg ty kinds) st.objects n ∙ or_right _ _ there
@@ -90,6 +93,13 @@ module _ (trace : Trace) (st : State) (seg : ℕ) (ty : TypeId) (kinds : List Fi
       let inside : seg < length st.made = rw sound.shape.sized.made may.known in
       omega (arith, get_or-set_same st.made seg (slice_index_or st.made seg 0 + 1) 0 inside)
 
+  made_typed : IsTyped trace (made_object st seg ty kinds)
+  made_typed = record {
+    declared = may.declared;
+    untyped = sym (false_from_ne_true _ (λ same. false≢true (sym is_new ∙ ap (has st.objects) (name_eq-true (next_name seg st) directory same) ∙ sound.no_dangling.directory)));
+    kinds = kinds_fresh kinds ∙ may.kinds;
+  }
+
   pub create_sound : IsSound trace (create seg ty kinds st)
   unfolding create is_entered is_held
   create_sound = record {
@@ -98,13 +108,19 @@ module _ (trace : Trace) (st : State) (seg : ℕ) (ty : TypeId) (kinds : List Fi
       distinct_exits = sound.shape.distinct_exits;
       distinct_shares = sound.shape.distinct_shares;
       distinct_scans = sound.shape.distinct_scans;
+      placed = λ n there. elim (there_cases n there) [
+        | inl before ↦ sound.shape.placed n before
+        | inr new ↦ rw (← new) (omega arith, may.known)
+      ];
+      typed = typed-placed trace (made_object st seg ty kinds) st.objects is_new made_typed sound.shape.typed;
+      declared = sound.shape.declared;
       known = sound.shape.known;
     };
     names = record {
       ordered = ordered-placed (made_object st seg ty kinds) st.objects is_new sound.names.ordered;
       numbered = λ n there. elim (there_cases n there) [
-        | inl before ↦ let was = sound.names.numbered n before in (was.0, le_trans was.1 (rises n.seg.0))
-        | inr new ↦ rw (← new) (omega arith, highest)
+        | inl before ↦ le_trans (sound.names.numbered n before) (rises n.seg.0)
+        | inr new ↦ rw (← new) highest
       ];
     };
     no_dangling = record {

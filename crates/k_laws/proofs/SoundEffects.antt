@@ -1,5 +1,5 @@
 -- What an operation that isn't refused leaves of a sound state is sound.
-use Rattle.std.proofs.Common.{◌≡◌, ℕ, ◌+◌, ◌<◌, ◌&&◌, not, Bool, true, false, cond, refl, sym, ap, ◌∙◌, inl, inr, List, [], ◌∷◌, ◌++◌, Option, Some, None, is_some, length, get_or, arith, eqb-true, IsTrue, IsFalse, subst, zero, suc, nat_lt, ltb-true}
+use Rattle.std.proofs.Common.{◌≡◌, ℕ, ◌+◌, ◌<◌, ◌&&◌, not, Bool, true, false, cond, refl, sym, ap, ◌∙◌, inl, inr, List, [], ◌∷◌, ◌++◌, Option, Some, None, is_some, length, get_or, arith, eqb-true, IsTrue, IsFalse, subst, zero, suc, nat_lt, nat_le, ltb-true}
 use Rattle.std.specs.List.{list_all, list_any}
 use Rattle.std.proofs.lemmas.Bool.{cases_Bool, false≢true, and_parts, not-true, not-false, or_left, or_right}
 use Rattle.k_types.specs.declared.names.Name.{Name}
@@ -13,16 +13,17 @@ use Rattle.k_types.specs.declared.names.Phase.{Phase}
 use Rattle.k_types.specs.declared.names.Phase.TheVariants.{Unmade, Populating, Frozen, Absorbed}
 use Rattle.k_types.specs.declared.op.Op.{Op}
 use Rattle.k_types.specs.declared.op.Op.TheVariants.{New, KNew, SNew, Store, Load, Move, Clear, Dir, Put, Get, Collect, KCollect, Share, Freeze, Attach, Exit}
-use Rattle.k_types.specs.declared.event.Fault.TheVariants.{Foreign, Segv, NotPopulating, NotFrozen, Taken}
+use Rattle.k_types.specs.declared.event.Fault.TheVariants.{Foreign, NoField, WrongKind, Segv, NotPopulating, NotFrozen, Taken}
+use Rattle.k_types.specs.declared.names.Field.TheVariants.{Int}
 use Rattle.k_types.specs.TraceRules.{AreLimits}
 use Rattle.k_types.specs.Trace.{Trace, process_count, size_of_type, limit_of}
 use Rattle.k_types.specs.Names.{heap_eq, among, leads_to, directory}
-use Rattle.k_types.specs.State.{State, Content, Refers, Holds, Object, has, has_share, scan_of, is_scanned, register, in_registers, refers, refers_in, object_at, fields_of, content_leads_to}
+use Rattle.k_types.specs.State.{State, Content, Refers, Holds, Object, has, has_share, scan_of, is_scanned, register, in_registers, refers, refers_in, object_at, fields_of, field_kind, content_leads_to}
 use Rattle.k_types.specs.Owners.{owner_of, user, shared, bytes_of, charge_by, phase_of, is_absorbed}
 use Rattle.k_types.specs.Limits.{full_limit}
 use Rattle.k_types.specs.Reach.{is_entered, is_held, roots_of}
 use Rattle.k_types.specs.Updates.{open_scan, set_register, add_share, set_phase}
-use Rattle.k_types.specs.Replies.{first_fault, faults, size_fault, limit_fault, fault_where, at_base, store_faults, load_faults, access_faults, is_foreign, is_populating, is_unmade, is_frozen, root_of, reference, reference_from, field_at}
+use Rattle.k_types.specs.Replies.{first_fault, faults, size_fault, limit_fault, fault_where, at_base, store_faults, load_faults, access_faults, is_foreign, is_populating, is_unmade, is_frozen, root_of, reference, reference_from, field_at, field_count, is_ref, sharer_fault, number_faults}
 use Rattle.k_types.specs.Effects.{effect, after_new, after_end_of, after_store, after_put, after_freeze}
 use Rattle.k_types.specs.Cells.{base_cell, access_cell, other_cells}
 use Rattle.k_types.specs.Steps.{in_range}
@@ -162,14 +163,27 @@ module _ (trace : Trace) (rules_hold : AreLimits trace) (st : State) (pid : Pid)
             shielded = λ y t. field_shielded x y idle (field_refers st x y i t);
           })
 
-  written_sound : (x : Option Name) (i number : ℕ) → IsSound trace (after_put x i number st)
-  unfolding after_put
-  written_sound None i number = sound
-  written_sound (Some x) i number = write_sound trace st x i (Holds number) sound (record {
-    there = λ y t. absurd (false≢true t);
-    allowed = λ y t. absurd (false≢true t);
-    listed = λ y t. absurd (false≢true t);
-  })
+  written_sound : (base : Reg) (i number : ℕ) → Acts trace st p (Put base i number) → IsSound trace (after_put (register st.registers p base.0) i number st)
+  unfolding faults after_put access_faults
+  written_sound base i number acts = go (register st.registers p base.0) acts.fine
+    where
+      int_kind : (c : Content) → IsFalse (is_ref c) → Int ≡ field_kind c
+      int_kind (Refers r) t = absurd (false≢true (sym t))
+      int_kind (Holds n) t = refl
+
+      go : (b : Option Name) → first_fault (at_base b (number_faults trace st p i)) ≡ None → IsSound trace (after_put b i number st)
+      go None e = sound
+      go (Some x) e =
+          let foreign = none_on (is_foreign (owner_of trace st x.seg.0) p) Foreign _ e in
+          let sharer = none_first (sharer_fault st (owner_of trace st x.seg.0) p) _ foreign.1 in
+          let field = none_on (nat_le (field_count st x) i) NoField _ sharer.1 in
+          let kind = none_on (is_ref (field_at st x i)) WrongKind [] field.1 in
+          write_sound trace st x i (Holds number) sound (record {
+            kind = int_kind (field_at st x i) kind.0;
+            there = λ y t. absurd (false≢true t);
+            allowed = λ y t. absurd (false≢true t);
+            listed = λ y t. absurd (false≢true t);
+          })
 
   stored_effect : (base value : Reg) (i : ℕ) → Acts trace st p (Store base i value) → IsSound trace (after_store trace (register st.registers p base.0) i (register st.registers p value.0) st)
   unfolding faults after_store
@@ -265,21 +279,22 @@ module _ (trace : Trace) (rules_hold : AreLimits trace) (st : State) (pid : Pid)
       let populates = none_on (not (is_populating (phase_of st.phases s.0) p)) (NotPopulating s) _ acts.fine in
       let phase = is_populating_by (phase_of st.phases s.0) p (not-false _ populates.0) in
       let fits = none_limit (full_limit trace st (limit_of trace p) (size_of_type trace ty)) (none_first _ [] populates.1).0 in
+      let declared = ltb-true _ _ (and_parts (nat_lt r.0 16 && nat_lt s.0 trace.shared_heaps) (nat_lt ty.0 (length trace.types)) acts.in_range).1 in
       let inside = ltb-true _ _ (and_parts (nat_lt r.0 16) (nat_lt s.0 trace.shared_heaps) (and_parts (nat_lt r.0 16 && nat_lt s.0 trace.shared_heaps) (nat_lt ty.0 (length trace.types)) acts.in_range).0).1 in
       after_new_sound trace st p r.0 (1 + process_count trace + s.0) ty sound acts.known acts.lives
-      (may_new_in_shared trace st p ty sound acts.known acts.lives rules_hold s.0 phase.0 inside phase.1 phase.2 fits)
+      (may_new_in_shared trace st p ty sound acts.known acts.lives declared rules_hold s.0 phase.0 inside phase.1 phase.2 fits)
 
   new_sound : (r : Reg) (ty : TypeId) → Acts trace st p (New r ty) → IsSound trace (after_new trace p r.0 (p + 1) ty st)
-  unfolding faults size_fault
+  unfolding faults size_fault in_range
   new_sound r ty acts =
       after_new_sound trace st p r.0 (p + 1) ty sound acts.known acts.lives
-      (may_new trace st p ty sound acts.known acts.lives rules_hold acts.idle (none_limit (full_limit trace st (limit_of trace p) (size_of_type trace ty)) (none_first _ [] acts.fine).0))
+      (may_new trace st p ty sound acts.known acts.lives (ltb-true _ _ (and_parts (nat_lt r.0 16) (nat_lt ty.0 (length trace.types)) acts.in_range).1) rules_hold acts.idle (none_limit (full_limit trace st (limit_of trace p) (size_of_type trace ty)) (none_first _ [] acts.fine).0))
 
   knew_sound : (r : Reg) (ty : TypeId) → Acts trace st p (KNew r ty) → IsSound trace (after_new trace p r.0 0 ty st)
-  unfolding other_cells
+  unfolding other_cells in_range
   knew_sound r ty acts =
       after_new_sound trace st p r.0 0 ty sound acts.known acts.lives
-      (may_new_in_kernel trace st p ty sound acts.known acts.lives (first_idle Kernel [] acts.others))
+      (may_new_in_kernel trace st p ty sound acts.known acts.lives (ltb-true _ _ (and_parts (nat_lt r.0 16) (nat_lt ty.0 (length trace.types)) acts.in_range).1) (first_idle Kernel [] acts.others))
 
   exit_sound : Acts trace st p Exit → IsSound trace (after_end_of trace p st)
   unfolding other_cells
@@ -299,7 +314,7 @@ module _ (trace : Trace) (rules_hold : AreLimits trace) (st : State) (pid : Pid)
   effect_sound (Move r from) acts = held_sound (Move r from) r.0 (register st.registers p from.0) acts (λ n e. register_holds st.registers p from.0 n e)
   effect_sound (Clear r) acts = held_sound (Clear r) r.0 None acts (λ n e. absurd (cc e))
   effect_sound (Dir r) acts = directory_sound (Dir r) r.0 acts
-  effect_sound (Put base i number) acts = written_sound (register st.registers p base.0) i number
+  effect_sound (Put base i number) acts = written_sound base i number acts
   effect_sound (Get base i) acts = sound
   effect_sound Collect acts = collect_sound acts
   effect_sound KCollect acts = kcollect_sound acts

@@ -120,6 +120,9 @@ module _ (trace : Trace) (st : State) (g : Heap) (y : Name) (sound : IsSound tra
       distinct_exits = distinct-added g y st.exits sound.shape.distinct_exits;
       distinct_shares = sound.shape.distinct_shares;
       distinct_scans = sound.shape.distinct_scans;
+      placed = sound.shape.placed;
+      typed = sound.shape.typed;
+      declared = sound.shape.declared;
       known = record {
         referring = λ h n e. elim (exit_cases g y st.exits h n e) [ inl before ↦ sound.shape.known.referring h n before | inr new ↦ rw (← new.0) may.known ];
         sharers = sound.shape.known.sharers;

@@ -294,6 +294,12 @@ module _ (trace : Trace) (st : State) (p : ℕ) (sound : IsSound trace st) (may 
       distinct_exits = distinct_turned st.exits (λ r t. t) sound.shape.distinct_exits;
       distinct_shares = distinct_shares-kept (λ e. not (e.process == p)) st.shares sound.shape.distinct_shares;
       distinct_scans = sound.shape.distinct_scans;
+      placed = sound.shape.placed;
+      typed = sound.shape.typed;
+      declared = record {
+        ended = λ q t. elim (among_cases q t) [ inl same ↦ subst (λ k. k < process_count trace) (sym same) may.known | inr before ↦ sound.shape.declared.ended q before.0 ];
+        populating = sound.shape.declared.populating;
+      };
       known = record {
         referring = λ h n e. elim (origin trace st p sound h n e).from [ inl o ↦ sound.shape.known.referring h n o.0 | inr o ↦ subst (IsHeap trace) (sym o.0) tt ];
         sharers = λ q s t. sound.shape.known.sharers q s (any-fewer _ (λ e. not (e.process == p)) st.shares t);

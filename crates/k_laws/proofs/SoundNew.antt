@@ -1,5 +1,5 @@
 -- A sound state stays sound where a process makes an object, in its heap, in the kernel's or in a shared heap.
-use Rattle.std.proofs.Common.{◌≡◌, ℕ, ◌+◌, ◌*◌, ◌<◌, ◌≤◌, true, false, cond, refl, sym, ap, ◌∙◌, List, [], ◌∷◌, filter, Some, None, arith, IsTrue, IsFalse, le_trans}
+use Rattle.std.proofs.Common.{◌≡◌, ℕ, ◌+◌, ◌*◌, ◌<◌, ◌≤◌, true, false, cond, refl, sym, ap, ◌∙◌, List, [], ◌∷◌, length, filter, Some, None, arith, IsTrue, IsFalse, le_trans}
 use Rattle.k_types.specs.declared.names.Name.{Name}
 use Rattle.k_types.specs.declared.names.Pid.{Pid}
 use Rattle.k_types.specs.declared.names.Phase.TheVariants.{Unmade, Populating}
@@ -89,11 +89,13 @@ shared_number (Shared s) = s.0
 shared_is : (s t : ℕ) → shared s ≡ shared t → s ≡ t
 shared_is s t e = ap shared_number e
 
-module _ (trace : Trace) (st : State) (p : ℕ) (ty : TypeId) (sound : IsSound trace st) (known : p < process_count trace) (lives : IsFalse (among p st.ended)) where
+module _ (trace : Trace) (st : State) (p : ℕ) (ty : TypeId) (sound : IsSound trace st) (known : p < process_count trace) (lives : IsFalse (among p st.ended)) (declared : ty.0 < length trace.types) where
   pub may_new : AreLimits trace → scan_of st.scans (user p) ≡ None → full_limit trace st (limit_of trace p) (size_of_type trace ty) ≡ None → MayCreate trace st (p + 1) ty (kinds_of trace ty)
   unfolding create
   may_new rules_hold idle fits = record {
     known = omega (arith, known);
+    declared = declared;
+    kinds = refl;
     idle = ap (scan_of st.scans) (owner_user trace st p known lives) ∙ idle;
     stands = λ s e same. absurd (cc (sym (owner_user trace st p known lives) ∙ same));
     fits = raised_fits trace rules_hold st p (size_of_type trace ty) (charge_of trace (create (p + 1) ty (kinds_of trace ty) st)) known fits sound.uses
@@ -111,6 +113,8 @@ module _ (trace : Trace) (st : State) (p : ℕ) (ty : TypeId) (sound : IsSound t
   unfolding create
   may_new_in_kernel idle = record {
     known = omega (arith, known);
+    declared = declared;
+    kinds = refl;
     idle = ap (scan_of st.scans) (owner_kernel trace st) ∙ idle;
     stands = λ s e same. absurd (cc (sym (owner_kernel trace st) ∙ same));
     fits = λ m inside. le_trans
@@ -126,6 +130,8 @@ module _ (trace : Trace) (st : State) (p : ℕ) (ty : TypeId) (sound : IsSound t
       let stands = ap is_absorbed phase in
       let own : owner_of trace st (1 + process_count trace + s) ≡ shared s = owner_shared trace st s stands in record {
         known = omega (arith, inside);
+        declared = declared;
+        kinds = refl;
         idle = ap (scan_of st.scans) own ∙ sound.scans.none_shared s;
         stands = λ t e same. absurd (other t e (shared_is s t (sym own ∙ same)));
         fits = raised_fits trace rules_hold st p (size_of_type trace ty) (charge_of trace (create (1 + process_count trace + s) ty (kinds_of trace ty) st)) known fits sound.uses

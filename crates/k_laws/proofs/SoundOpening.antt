@@ -1,17 +1,18 @@
 -- The opening state of a trace is sound.
-use Rattle.std.proofs.Common.{◌≡◌, ℕ, zero, suc, ◌<◌, ◌≤◌, ◌==◌, ◌&&◌, false, refl, inl, inr, subst, sym, ap, ◌∙◌, length, filter, replicate, None, arith, get_or, le_trans, IsTrue}
+use Rattle.std.proofs.Common.{◌≡◌, ℕ, zero, suc, ◌<◌, ◌≤◌, ◌==◌, ◌&&◌, Bool, true, false, cond, refl, inl, inr, subst, sym, ap, ◌∙◌, ◌∷◌, length, map, filter, replicate, None, Some, arith, get_or, le_trans, IsTrue}
 use Rattle.std.specs.List.{list_any}
 use Rattle.std.proofs.lemmas.Bool.{and_parts, or_cases, false≢true}
 use Rattle.k_types.specs.declared.names.Name.{Name}
+use Rattle.k_types.specs.declared.names.Field.TheVariants.{Ref}
 use Rattle.k_types.specs.declared.names.Phase.TheVariants.{Unmade}
 use Rattle.k_types.specs.Names.{name_eq, directory, leads_to}
-use Rattle.k_types.specs.Trace.{Trace, process_count, limit_of}
+use Rattle.k_types.specs.Trace.{Trace, process_count, segment_count, limit_of}
 use Rattle.k_types.specs.TraceRules.{AreLimits}
-use Rattle.k_types.specs.State.{Refers, opening, has, refers_in, content_leads_to, in_registers}
+use Rattle.k_types.specs.State.{Object, Refers, field_kind, object_at, opening, has, refers_in, content_leads_to, in_registers}
 use Rattle.k_types.specs.Owners.{owner_of, owner_of_segment, bytes_by, charge_of, phase_of}
 use Rattle.k_types.specs.Numbers.{numbers_below}
 use Rattle.k_types.specs.Limits.{limits_in, direct_by, use_by, use_of, max_of}
-use Rattle.k_types.specs.Sound.{IsSound}
+use Rattle.k_types.specs.Sound.{IsSound, IsTyped}
 use Rattle.k_frame.proofs.NameTests.{name_eq-true}
 use Rattle.k_frame.proofs.Sizes.{opening_sized}
 use Rattle.k_frame.proofs.Maxima.{own_maxima}
@@ -22,6 +23,11 @@ pub all_unmade : (n s : ℕ) → phase_of (replicate n Unmade) s ≡ Unmade
 all_unmade zero s = refl
 all_unmade (suc n) zero = refl
 all_unmade (suc n) (suc s) = all_unmade n s
+
+-- so many references are of the kind of references
+references : (n : ℕ) → map field_kind (replicate n (Refers None)) ≡ replicate n Ref
+references zero = refl
+references (suc n) = ap (λ ks. Ref ∷ ks) (references n)
 
 no_names : (n : ℕ) (m : Name) → list_any (λ r. leads_to r m) (replicate n None) ≡ false
 no_names zero m = refl
@@ -64,6 +70,17 @@ module _ (trace : Trace) (limits : AreLimits trace) where
       subst (λ rows. use_by trace rows (charge_of trace (opening trace)) m ≤ max_of rows m) (sym (own_maxima trace.limits))
       (le_trans (use_less trace.limits (direct_by trace (charge_of trace (opening trace))) (λ q. 0) direct_nothing (length trace.limits) m) (limits.fits m known))
 
+  opening_directory : Object
+  opening_directory = record { name = directory; ty = None; fields = replicate trace.dir_fields (Refers None) }
+
+  directory_typed : (n : Name) (o : Object) → object_at (opening trace).objects n ≡ Some o → IsTyped trace o
+  unfolding opening_directory
+  directory_typed n o found = go (name_eq directory n) found
+    where
+      go : (b : Bool) → cond b (Some opening_directory) None ≡ Some o → IsTyped trace o
+      go false e = absurd (cc e)
+      go true e = let same : opening_directory ≡ o = cc e in subst (IsTyped trace) same (record { declared = tt; untyped = refl; kinds = references trace.dir_fields })
+
   pub opening_sound : IsSound trace (opening trace)
   unfolding owner_of_segment
   opening_sound = record {
@@ -72,6 +89,9 @@ module _ (trace : Trace) (limits : AreLimits trace) where
       distinct_exits = tt;
       distinct_shares = tt;
       distinct_scans = tt;
+      placed = λ n there. subst (λ m. (0 < m.serial.0) × (m.seg.0 < segment_count trace)) (only_directory n there) (omega arith, omega arith);
+      typed = λ n o found. directory_typed n o found;
+      declared = record { ended = λ p e. absurd (false≢true e); populating = λ s q e. absurd (cc (all_unmade trace.shared_heaps s, e)) };
       known = record {
         referring = λ h n e. absurd (false≢true e);
         sharers = λ p s e. absurd (false≢true e);
@@ -81,7 +101,7 @@ module _ (trace : Trace) (limits : AreLimits trace) where
     };
     names = record {
       ordered = tt;
-      numbered = λ n there. subst (λ m. (0 < m.serial.0) × (m.serial.0 ≤ get_or (opening trace).made m.seg.0 0)) (only_directory n there) (omega arith, omega arith);
+      numbered = λ n there. subst (λ m. m.serial.0 ≤ get_or (opening trace).made m.seg.0 0) (only_directory n there) (omega arith);
     };
     no_dangling = record {
       directory = refl;

@@ -16,6 +16,7 @@ use Rattle.k_types.specs.Updates.{set_phase}
 use Rattle.k_types.specs.Sound.{IsSound, AreGuarded, AreExits}
 use Rattle.k_frame.proofs.Lists.{get_or-set_cases}
 use Rattle.k_frame.proofs.Sums.{bit}
+use Rattle.k_laws.proofs.Shapes.{declared-phase}
 use Rattle.k_laws.proofs.SoundShare.{owner_kept}
 use Rattle.k_laws.proofs.SoundSharing.{sharing, sharer_of, share_cases, share_kept, share_there, sharer_cases, distinct_shares-push, bytes_none}
 use Rattle.k_laws.proofs.Raised.{charge_sharing}
@@ -71,6 +72,9 @@ module _ (trace : Trace) (st : State) (pid : Pid) (s : ℕ) (sound : IsSound tra
       distinct_exits = sound.shape.distinct_exits;
       distinct_shares = distinct_shares-push p s st.shares (no_share p) sound.shape.distinct_shares;
       distinct_scans = sound.shape.distinct_scans;
+      placed = sound.shape.placed;
+      typed = sound.shape.typed;
+      declared = declared-phase trace st.ended st.phases s phase (λ r e. let same : pid ≡ r = cc e in subst (λ k. k.0 < process_count trace) same known) sound.shape.declared;
       known = record {
         referring = sound.shape.known.referring;
         sharers = λ q t e. elim (cases q t e) [ inl before ↦ sound.shape.known.sharers q t before | inr new ↦ subst (λ k. k < process_count trace) (sym new.0) known ];

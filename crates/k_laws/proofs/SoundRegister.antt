@@ -88,6 +88,9 @@ module _ (trace : Trace) (st : State) (p r : ℕ) (v : Option Name) (sound : IsS
       distinct_exits = sound.shape.distinct_exits;
       distinct_shares = sound.shape.distinct_shares;
       distinct_scans = sound.shape.distinct_scans;
+      placed = sound.shape.placed;
+      typed = sound.shape.typed;
+      declared = sound.shape.declared;
       known = sound.shape.known;
     };
     names = record {

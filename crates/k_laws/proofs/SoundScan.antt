@@ -55,6 +55,9 @@ module _ (trace : Trace) (st : State) (h : Heap) (sound : IsSound trace st) (may
       distinct_exits = sound.shape.distinct_exits;
       distinct_shares = sound.shape.distinct_shares;
       distinct_scans = (may.idle, sound.shape.distinct_scans);
+      placed = sound.shape.placed;
+      typed = sound.shape.typed;
+      declared = sound.shape.declared;
       known = record {
         referring = sound.shape.known.referring;
         sharers = sound.shape.known.sharers;

@@ -16,6 +16,7 @@ use Rattle.k_types.specs.declared.names.Phase.{Phase}
 use Rattle.k_types.specs.declared.names.Phase.TheVariants.{Frozen}
 use Rattle.k_types.specs.Owners.{is_absorbed, owner_of_segment, owner_of_process}
 use Rattle.k_types.specs.Updates.{set_phase}
+use Rattle.k_laws.proofs.Shapes.{declared-phase}
 use Rattle.k_laws.specs.Changes.{MayFreeze}
 
 owner_phase_same : (procs : ℕ) (ended : List ℕ) (phases : List Phase) (s : ℕ) (phase : Phase) → is_absorbed phase ≡ is_absorbed (phase_of phases s) → (seg : ℕ) →
@@ -58,6 +59,9 @@ module _ (trace : Trace) (st : State) (s : ℕ) (root : Name) (sound : IsSound t
       distinct_exits = sound.shape.distinct_exits;
       distinct_shares = sound.shape.distinct_shares;
       distinct_scans = sound.shape.distinct_scans;
+      placed = sound.shape.placed;
+      typed = sound.shape.typed;
+      declared = declared-phase trace st.ended st.phases s (Frozen root) (λ q e. absurd (cc e)) sound.shape.declared;
       known = sound.shape.known;
     };
     names = record {

@@ -104,6 +104,9 @@ module _ (trace : Trace) (st : State) (p s : ℕ) (sound : IsSound trace st) (ma
       distinct_exits = sound.shape.distinct_exits;
       distinct_shares = distinct_shares-push p s st.shares may.new sound.shape.distinct_shares;
       distinct_scans = sound.shape.distinct_scans;
+      placed = sound.shape.placed;
+      typed = sound.shape.typed;
+      declared = sound.shape.declared;
       known = record {
         referring = sound.shape.known.referring;
         sharers = λ q t e. elim (cases q t e) [ inl before ↦ sound.shape.known.sharers q t before | inr new ↦ subst (λ k. k < process_count trace) (sym new.0) may.known ];

@@ -36,6 +36,9 @@ count_done_sound trace st p sound = record {
     distinct_exits = sound.shape.distinct_exits;
     distinct_shares = sound.shape.distinct_shares;
     distinct_scans = sound.shape.distinct_scans;
+    placed = sound.shape.placed;
+    typed = sound.shape.typed;
+    declared = sound.shape.declared;
     known = sound.shape.known;
   };
   names = record {
@@ -59,6 +62,9 @@ close_sound trace st sound = record {
     distinct_exits = sound.shape.distinct_exits;
     distinct_shares = sound.shape.distinct_shares;
     distinct_scans = sound.shape.distinct_scans;
+    placed = sound.shape.placed;
+    typed = sound.shape.typed;
+    declared = sound.shape.declared;
     known = sound.shape.known;
   };
   names = record {

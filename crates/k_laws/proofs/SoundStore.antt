@@ -14,9 +14,10 @@ use Rattle.k_types.specs.Sound.{IsSound, IsLegalStore}
 use Rattle.k_frame.proofs.NameTests.{name_eq_refl, name_eq-true, heap_eq-true}
 use Rattle.k_laws.proofs.Shielded.{IsShielded}
 use Rattle.k_types.specs.declared.event.Fault.TheVariants.{Foreign, NoField, WrongKind, Frozen, Segv}
-use Rattle.k_types.specs.State.{register, Refers}
+use Rattle.k_types.specs.declared.names.Field.TheVariants.{Ref}
+use Rattle.k_types.specs.State.{register, Content, Refers, Holds, field_kind, fields_of, object_at}
 use Rattle.k_types.specs.Owners.{is_absorbed}
-use Rattle.k_types.specs.Replies.{first_fault, access_faults, is_foreign, sharer_fault, passes_barrier, store_faults}
+use Rattle.k_types.specs.Replies.{first_fault, access_faults, is_foreign, sharer_fault, passes_barrier, store_faults, field_at, is_ref}
 use Rattle.k_types.specs.Effects.{with_exit_of_store}
 use Rattle.k_frame.proofs.Lists.{below_any, get_or_inside}
 use Rattle.k_frame.proofs.OwnerOf.{owner_known, owner_stands, owner_lives}
@@ -51,24 +52,25 @@ register_holds registers p r n e = go (get_or registers p []) r e
     go (x ∷ row) (suc r) e = or_right (leads_to x n) _ (go row r e)
 
 -- what the test of a store passes
-pub record Passes (trace : Trace) (st : State) (p : ℕ) (x : Name) (v : Option Name) : Type 0 where
+pub record Passes (trace : Trace) (st : State) (p : ℕ) (x : Name) (i : ℕ) (v : Option Name) : Type 0 where
   pub own : IsFalse (is_foreign (owner_of trace st x.seg.0) p)
+  pub reference : IsTrue (is_ref (field_at st x i))
   pub barrier : IsTrue (passes_barrier trace st x v)
 
 pub passes : (trace : Trace) (st : State) (p : ℕ) (x : Name) (i : ℕ) (v : Option Name) →
-    first_fault (store_faults trace st p i v x) ≡ None → Passes trace st p x v
+    first_fault (store_faults trace st p i v x) ≡ None → Passes trace st p x i v
 unfolding access_faults
 passes trace st p x i v e =
     let foreign = none_on (is_foreign (owner_of trace st x.seg.0) p) Foreign _ e in
     let sharer = none_first (sharer_fault st (owner_of trace st x.seg.0) p) _ foreign.1 in
     let field = none_on _ NoField _ sharer.1 in
-    let kind = none_on _ WrongKind _ field.1 in
+    let kind = none_on (not (is_ref (field_at st x i))) WrongKind _ field.1 in
     let frozen = none_on _ Frozen _ kind.1 in
     let barrier = none_on (not (passes_barrier trace st x v)) Segv [] frozen.1 in
-    record { own = foreign.0; barrier = not-false _ barrier.0 }
+    record { own = foreign.0; reference = not-false _ kind.0; barrier = not-false _ barrier.0 }
 
 module _ (trace : Trace) (st : State) (p : ℕ) (x : Name) (i : ℕ) (v : Option Name) (sound : IsSound trace st) (lives : IsFalse (among p st.ended)) (idle : scan_of st.scans (user p) ≡ None)
-    (base : IsTrue (in_registers st.registers p x)) (held : (y : Name) → v ≡ Some y → IsTrue (in_registers st.registers p y)) (ok : Passes trace st p x v) where
+    (base : IsTrue (in_registers st.registers p x)) (held : (y : Name) → v ≡ Some y → IsTrue (in_registers st.registers p y)) (ok : Passes trace st p x i v) where
   lives_at : (q : ℕ) → owner_of trace st x.seg.0 ≡ user q → IsFalse (among q st.ended)
   lives_at q at = owner_lives (process_count trace) st.ended st.phases x.seg.0 q at
 
@@ -77,9 +79,7 @@ module _ (trace : Trace) (st : State) (p : ℕ) (x : Name) (i : ℕ) (v : Option
 
   known_at : IsHeap trace (owner_of trace st x.seg.0)
   known_at =
-      let numbers = sound.names.numbered x (sound.no_dangling.registers p x base) in
-      let inside : x.seg.0 < length st.made = get_or_above st.made x.seg.0 (omega arith) in
-      owner_known trace st x.seg.0 (rw (← sound.shape.sized.made) inside)
+      owner_known trace st x.seg.0 (sound.shape.placed x (sound.no_dangling.registers p x base)).1
 
   linked_sound : IsSound trace (with_exit_of_store trace x v st)
   unfolding with_exit_of_store passes_barrier
@@ -138,8 +138,17 @@ module _ (trace : Trace) (st : State) (p : ℕ) (x : Name) (i : ℕ) (v : Option
       (λ w. IsFalse (heap_eq (owner_of trace (with_exit_of_store trace x w st) x.seg.0) (owner_of trace (with_exit_of_store trace x w st) y.seg.0)) → IsTrue (has_exit (with_exit_of_store trace x w st).exits (owner_of trace (with_exit_of_store trace x w st) x.seg.0) y))
       (sym (leads_is v y leads)) (listed_at y) apart
 
+  -- what is of the kind of references is a reference
+  ref_kind : (c : Content) → IsTrue (is_ref c) → Ref ≡ field_kind c
+  ref_kind (Refers r) t = refl
+  ref_kind (Holds n) t = absurd (false≢true t)
+
+  linked_kind : Ref ≡ field_kind (field_at (with_exit_of_store trace x v st) x i)
+  linked_kind = ref_kind (field_at st x i) ok.reference ∙ ap (λ objects. field_kind (get_or (fields_of (object_at objects x)) i (Holds 0))) (sym (linked_objects v))
+
   pub stored_sound : IsSound trace (write x i (Refers v) (with_exit_of_store trace x v st))
   stored_sound = write_sound trace (with_exit_of_store trace x v st) x i (Refers v) linked_sound (record {
+    kind = linked_kind;
     there = λ y leads. linked_has y (sound.no_dangling.registers p y (held y (leads_is v y leads)));
     allowed = λ y leads. linked_allowed y leads;
     listed = λ y leads apart. linked_listed y leads apart;

@@ -4,14 +4,16 @@ use Rattle.std.proofs.Math.Path.{fun_ext}
 use Rattle.k_types.specs.declared.names.Name.{Name}
 use Rattle.k_types.specs.Names.{heap_eq, directory}
 use Rattle.k_types.specs.Trace.{Trace}
-use Rattle.k_types.specs.State.{State, Object, Content, has, content_leads_to, has_exit}
+use Rattle.k_types.specs.State.{State, Object, Content, has, field_kind, content_leads_to, has_exit}
 use Rattle.k_types.specs.Owners.{owner_of, bytes_of, charge_by}
 use Rattle.k_types.specs.Limits.{limits_in, use_by, use_of}
 use Rattle.k_types.specs.Reach.{is_entered, is_held}
+use Rattle.k_types.specs.Replies.{field_at}
 use Rattle.k_types.specs.Updates.{write, object_after_write}
 use Rattle.k_types.specs.Sound.{IsSound, IsLegalStore, IsOrdered, IsOrderedFrom}
 use Rattle.k_frame.proofs.Objects.{has-written, refers_in-written, written_name}
 use Rattle.k_frame.proofs.Bytes.{bytes-written}
+use Rattle.k_laws.proofs.Shapes.{typed-written}
 
 ordered-written_from : (x : Name) (i : ℕ) (c : Content) (m : Name) (xs : List Object) → IsOrderedFrom m xs → IsOrderedFrom m (map (object_after_write x i c) xs)
 ordered-written_from x i c m [] t = tt
@@ -22,12 +24,13 @@ ordered-written x i c [] t = tt
 ordered-written x i c (o ∷ xs) t = rw (written_name x i c o) (ordered-written_from x i c o.name xs t)
 
 -- what a field may be given
-pub record MayRefer (trace : Trace) (st : State) (x : Name) (c : Content) : Type 0 where
+pub record MayRefer (trace : Trace) (st : State) (x : Name) (i : ℕ) (c : Content) : Type 0 where
+  pub kind : field_kind c ≡ field_kind (field_at st x i)
   pub there : (y : Name) → IsTrue (content_leads_to y c) → IsTrue (has st.objects y)
   pub allowed : (y : Name) → IsTrue (content_leads_to y c) → IsLegalStore (owner_of trace st x.seg.0) (owner_of trace st y.seg.0)
   pub listed : (y : Name) → IsTrue (content_leads_to y c) → IsFalse (heap_eq (owner_of trace st x.seg.0) (owner_of trace st y.seg.0)) → IsTrue (has_exit st.exits (owner_of trace st x.seg.0) y)
 
-module _ (trace : Trace) (st : State) (x : Name) (i : ℕ) (c : Content) (sound : IsSound trace st) (may : MayRefer trace st x c) where
+module _ (trace : Trace) (st : State) (x : Name) (i : ℕ) (c : Content) (sound : IsSound trace st) (may : MayRefer trace st x i c) where
   kept : (n : Name) → IsTrue (has st.objects n) → IsTrue (has (map (object_after_write x i c) st.objects) n)
   kept n there = has-written x i c st.objects n ∙ there
 
@@ -46,6 +49,9 @@ module _ (trace : Trace) (st : State) (x : Name) (i : ℕ) (c : Content) (sound 
       distinct_exits = sound.shape.distinct_exits;
       distinct_shares = sound.shape.distinct_shares;
       distinct_scans = sound.shape.distinct_scans;
+      placed = λ n there. sound.shape.placed n (back n there);
+      typed = typed-written trace x i c st.objects may.kind sound.shape.typed;
+      declared = sound.shape.declared;
       known = sound.shape.known;
     };
     names = record {

@@ -2,7 +2,7 @@
 use Rattle.std.specs.Prelude.{ℕ, Bool, false, ◌==◌, Option, Some, None, if◌then◌else◌}
 use Rattle.k_types.specs.declared.names.Heap.TheVariants.{Shared}
 use Rattle.k_types.specs.declared.op.Op.{Op}
-use Rattle.k_types.specs.declared.op.Op.TheVariants.{New, SNew, Attach}
+use Rattle.k_types.specs.declared.op.Op.TheVariants.{New, KNew, SNew, Store, Load, Move, Clear, Dir, Put, Get, Collect, KCollect, Share, Freeze, Attach, Exit}
 use Rattle.k_types.specs.declared.event.Fault.{Fault}
 use Rattle.k_types.specs.declared.event.Event.{Event}
 use Rattle.k_types.specs.declared.event.Event.TheVariants.{Done}
@@ -14,9 +14,21 @@ use Rattle.k_types.specs.Replies.{faults, first_fault}
 -- the bytes that the operation adds to what its process is charged, where it isn't refused
 abbrev pub bytes_charged : Trace → State → ℕ → Op → ℕ
 bytes_charged trace st p (New r ty) = size_of_type trace ty
+bytes_charged trace st p (KNew r ty) = 0
 bytes_charged trace st p (SNew r s ty) = size_of_type trace ty
+bytes_charged trace st p (Store base i value) = 0
+bytes_charged trace st p (Load r base i) = 0
+bytes_charged trace st p (Move r from) = 0
+bytes_charged trace st p (Clear r) = 0
+bytes_charged trace st p (Dir r) = 0
+bytes_charged trace st p (Put base i number) = 0
+bytes_charged trace st p (Get base i) = 0
+bytes_charged trace st p Collect = 0
+bytes_charged trace st p KCollect = 0
+bytes_charged trace st p (Share s) = 0
+bytes_charged trace st p (Freeze s root) = 0
 bytes_charged trace st p (Attach r s) = if has_share st.shares p s.0 then 0 else bytes_of trace st (Shared s)
-bytes_charged trace st p _ = 0
+bytes_charged trace st p Exit = 0
 
 -- a refused operation adds nothing
 abbrev pub charged_unless : Option Fault → ℕ → ℕ

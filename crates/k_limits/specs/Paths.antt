@@ -5,7 +5,8 @@ use Rattle.k_types.specs.declared.names.LimitId.{LimitId}
 use Rattle.k_types.specs.declared.setup.LimitRow.{LimitRow}
 use Rattle.k_types.specs.Limits.{max_of, path_of}
 use Rattle.k_limits.specs.Limits.{ChargedLimits, use_at}
-use Rattle.k_limits.specs.Rows.{AreRows, ancestors_of}
+use Rattle.k_limits.specs.Rows.{AreRows}
+use Rattle.k_types.specs.Limits.{ancestors_of}
 
 -- the limit to which the charges at a row are applied too: its parent, where the row is soft
 abbrev pub passed_to : LimitRow → Option LimitId

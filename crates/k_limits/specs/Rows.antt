@@ -41,17 +41,3 @@ Explains rows NoMemory = Unit {0}
 abbrev pub ExplainsRow : ChargedLimits → LimitRow → MakeError → Type 0
 ExplainsRow limits row (ReserveFull at) = (at ≡ length limits.rows) × IsTrue (is_refused limits row)
 ExplainsRow limits row NoMemory = Unit {0}
-
--- the ancestors above a parent
-abbrev pub ancestors_above : (ℕ → List ℕ) → Option LimitId → List ℕ
-ancestors_above ancestors None = []
-ancestors_above ancestors (Some parent) = parent.0 ∷ ancestors parent.0
-
--- the ancestors of m, where the tree is at most so deep
-unfoldable pub ancestors_within : List LimitRow → ℕ → ℕ → List ℕ
-ancestors_within rows zero m = []
-ancestors_within rows (suc depth) m = ancestors_above (ancestors_within rows depth) (row_of rows m).parent
-
--- the parent of m, the parent's parent and so on up to the root
-abbrev pub ancestors_of : List LimitRow → ℕ → List ℕ
-ancestors_of rows m = ancestors_within rows (length rows) m

@@ -4,7 +4,7 @@ ghost use Rattle.k_types.specs.Names.{among};
 ghost use Rattle.k_types.specs.TraceRules.{IsTree};
 ghost use Rattle.k_types.specs.Limits.{max_of};
 ghost use Rattle.k_limits.specs.Paths.{InRows, is_over, passed_to, path_from, reserved_from, times_on};
-ghost use Rattle.k_limits.specs.Rows.{ancestors_of};
+ghost use Rattle.k_types.specs.Limits.{ancestors_of};
 
 use k_types::{LimitId, LimitRow};
 

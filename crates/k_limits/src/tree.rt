@@ -2,7 +2,8 @@ ghost use Rattle.std.specs.Prelude.{◌≡◌, ℕ, ◌+◌, ◌-◌, ◌^◌, �
 ghost use Rattle.k_types.specs.Names.{among};
 ghost use Rattle.k_types.specs.Limits.{max_of};
 ghost use Rattle.k_limits.specs.Limits.{use_at, full_at};
-ghost use Rattle.k_limits.specs.Rows.{AreRows, Explains, ExplainsRow, ancestors_of, first_refused, is_refused, uncharged};
+ghost use Rattle.k_limits.specs.Rows.{AreRows, Explains, ExplainsRow, first_refused, is_refused, uncharged};
+ghost use Rattle.k_types.specs.Limits.{ancestors_of};
 
 use crate::error::MakeError;
 use crate::paths::{first_full, is_below, lower, raise, reserved_from};

@@ -14,7 +14,7 @@ use Rattle.k_types.specs.Owners.{owner_of, user, shared, bytes_of, phase_of}
 use Rattle.k_types.specs.Limits.{full_limit}
 use Rattle.k_types.specs.Updates.{next_name}
 use Rattle.k_types.specs.Replies.{fault_where, sharer_fault, is_frozen_heap, is_frozen}
-use Rattle.k_types.specs.PartUpdates.{held_in}
+use Rattle.k_frame.specs.PartUpdates.{held_in}
 use Rattle.k_types.specs.Cells.{BookPart, CellPart, part, book_part, base_cell, access_cell, other_cells}
 use Rattle.k_changes.specs.CellChanges.{next_name_in}
 use Rattle.k_changes.specs.BookChanges.{owner_in, bytes_in}

@@ -1,6 +1,6 @@
 ghost use Rattle.std.specs.Prelude.{◌≡◌, ◌≤◌, ◌<◌, ◌+◌, ◌*◌, ◌⊎◌, [], length, IfOk};
 ghost use Rattle.k_types.specs.declared.names.Name.{Name as Named};
-ghost use Rattle.k_types.specs.Agree.{counted};
+ghost use Rattle.k_types.specs.Counted.{counted};
 ghost use Rattle.k_measure.specs.Counts.{AreBelow, occurs};
 
 use crate::names::{ROUNDS, link_to, scattered};

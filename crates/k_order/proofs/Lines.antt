@@ -155,6 +155,9 @@ module _ (trace : Trace) (rules : AreOperations trace) where
         let more = ap (λ b. cond b (1 + occurrences q order) (occurrences q order)) (eq-eqb q q refl) in
         omega arith
 
+    lives_now : IsFalse (among q st.ended)
+    lives_now = false_from_ne_true _ (λ t. let full = ready.over q known t in absurd (omega (arith, full, todo)))
+
     still : (d o l e : ℕ) (b : Bool) → e ≡ d + one_if b → d + cond b (1 + o) o ≡ l → e + o ≡ l
     still d o l e true now was = omega arith
     still d o l e false now was = omega arith
@@ -193,7 +196,7 @@ module _ (trace : Trace) (rules : AreOperations trace) where
           let first = calm_first st op ready.sized ready.scans in
           let now : State = run trace st (first_of st op) in
           let calm = first.0 in
-          let lives : IsFalse (among q now.ended) = ap (among q) calm.ended ∙ false_from_ne_true _ (λ t. let full = ready.over q known t in absurd (omega (arith, full, todo))) in
+          let lives : IsFalse (among q now.ended) = ap (among q) calm.ended ∙ lives_now in
           let may = may_be_done now q op known (ap (λ done. slice_get (operations_of trace q) (get_or done q 0)) calm.done ∙ got) lives calm.scans first.1 in
           let act = operation_done now q op calm.scans may (heap_begun q op) refl in
           let tail : List Event = with_end trace now (Done (record { 0 = q }) op (reply_to trace now q op)) (heap_begun q op) in
@@ -217,4 +220,6 @@ module _ (trace : Trace) (rules : AreOperations trace) where
           }
 
     pub line : (op : Op) × (next_operation trace st q ≡ Some op) × LineDone trace st order (events_of trace st q (Some op))
-    line = let at = element_at (operations_of trace q) (get_or st.done q 0) todo in (at.0, at.1, line_done at.0 at.1 at.2 at.3)
+    line =
+        let at = element_at (operations_of trace q) (get_or st.done q 0) todo in
+        (at.0, ap (λ b. cond b None (slice_get (operations_of trace q) (get_or st.done q 0))) lives_now ∙ at.1, line_done at.0 at.1 at.2 at.3)

@@ -74,9 +74,7 @@ module _ (trace : Trace) (st : State) (sound : IsSound trace st) (over : IsTrue 
   -- every object is the kernel's
   pub of_kernel : (n : Name) → IsTrue (has st.objects n) → owner_of trace st n.seg.0 ≡ Kernel
   of_kernel n there =
-      let numbers = sound.names.numbered n there in
-      let inside : n.seg.0 < length st.made = get_or_above st.made n.seg.0 (omega arith) in
-      go (owner_of trace st n.seg.0) refl (owner_known trace st n.seg.0 (rw (← sound.shape.sized.made) inside))
+      go (owner_of trace st n.seg.0) refl (owner_known trace st n.seg.0 (sound.shape.placed n there).1)
     where
       go : (h : Heap) → owner_of trace st n.seg.0 ≡ h → IsHeap trace h → owner_of trace st n.seg.0 ≡ Kernel
       go Kernel e known = e

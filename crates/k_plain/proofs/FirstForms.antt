@@ -1,5 +1,5 @@
 -- Traces of the first form have only operations that are built.
-use Rattle.std.proofs.Common.{◌≡◌, ℕ, zero, suc, ◌+◌, ◌<◌, ◌≤◌, nat_lt, Bool, true, false, refl, ap, subst, sym, ◌∙◌, List, [], ◌∷◌, map, length, get_or, slice_get, drop, Option, Some, None, arith}
+use Rattle.std.proofs.Common.{◌≡◌, ℕ, zero, suc, ◌+◌, ◌<◌, ◌≤◌, nat_lt, Bool, true, false, refl, ap, cond, subst, sym, ◌∙◌, List, [], ◌∷◌, map, length, get_or, slice_get, drop, Option, Some, None, arith}
 use Rattle.std.specs.Prelude.{IsTrue}
 use Rattle.std.specs.List.{list_all}
 use Rattle.std.proofs.lemmas.Bool.{and_from, and_parts, false≢true}
@@ -10,6 +10,7 @@ use Rattle.k_types.specs.declared.names.Pid.{Pid}
 use Rattle.k_types.specs.declared.op.Op.{Op}
 use Rattle.k_types.specs.declared.op.Op.TheVariants.{New, KNew, SNew, Store, Load, Move, Clear, Dir, Put, Get, Collect, KCollect, Share, Freeze, Attach, Exit}
 use Rattle.k_types.specs.declared.event.Event.{Event}
+use Rattle.k_types.specs.Names.{among}
 use Rattle.k_types.specs.Trace.{Trace, operations_of, process_count}
 use Rattle.k_types.specs.State.{State}
 use Rattle.k_types.specs.TraceRules.{KeepsRules}
@@ -21,6 +22,7 @@ use Rattle.k_plain.specs.Machines.{AreSetupRules, Machine, setup_of}
 use Rattle.k_plain.specs.Runs.{IsFiled, Run}
 use Rattle.k_order.proofs.FileOrders.{file_order_complete, file_order_legal}
 use Rattle.k_order.proofs.Numbered.{all_at}
+use Rattle.k_plain.proofs.Quiet.{IsQuiet}
 use Rattle.k_plain.proofs.Follows.{Follows, follows_end}
 use Rattle.k_plain.proofs.Unread.{in_range_unread}
 
@@ -91,19 +93,27 @@ order_over pids i past = at_drop_all (map (λ (pid : Pid). pid.0)) pids i past
 
 -- the next operation, as it is looked up
 pub next_is : (trace : Trace) (st : State) (q done : ℕ) (lists : List (List Op)) (found next : Option Op) → lists ≡ trace.operations →
-    done ≡ get_or st.done q 0 → found ≡ slice_get (get_or lists q []) done → found ≡ next → next_operation trace st q ≡ next
-next_is trace st q done lists found next all count look is =
-    ap (λ ls. slice_get (get_or ls q []) (get_or st.done q 0)) (sym all) ∙ ap (slice_get (get_or lists q [])) (sym count) ∙ sym look ∙ is
+    IsQuiet st → done ≡ get_or st.done q 0 → found ≡ slice_get (get_or lists q []) done → found ≡ next → next_operation trace st q ≡ next
+next_is trace st q done lists found next all quiet count look is =
+    ap (λ ended. cond (among q ended) None (slice_get (get_or trace.operations q []) (get_or st.done q 0))) quiet.ended
+    ∙ ap (λ ls. slice_get (get_or ls q []) (get_or st.done q 0)) (sym all) ∙ ap (slice_get (get_or lists q [])) (sym count) ∙ sym look ∙ is
+
+next_got : (trace : Trace) (st : State) (q : ℕ) (op : Op) → next_operation trace st q ≡ Some op → slice_get (get_or trace.operations q []) (get_or st.done q 0) ≡ Some op
+next_got trace st q op = go (among q st.ended)
+  where
+    go : (b : Bool) → cond b None (slice_get (get_or trace.operations q []) (get_or st.done q 0)) ≡ Some op → slice_get (get_or trace.operations q []) (get_or st.done q 0) ≡ Some op
+    go true e = absurd (cc e)
+    go false e = e
 
 pub next_built : (trace : Trace) (st : State) (q : ℕ) (op : Op) → IsFirstForm trace → q < process_count trace → next_operation trace st q ≡ Some op → IsTrue (is_built op)
-next_built trace st q op form known next = all_at is_built (operations_of trace q) (get_or st.done q 0) op (first_form_built trace form q known) next
+next_built trace st q op form known next = all_at is_built (operations_of trace q) (get_or st.done q 0) op (first_form_built trace form q known) (next_got trace st q op next)
 
 pub next_in_range : (trace setup : Trace) (st : State) (q : ℕ) (op : Op) → KeepsRules trace → setup ≡ setup_of trace → q < process_count trace →
     next_operation trace st q ≡ Some op → IsTrue (in_range setup op)
 next_in_range trace setup st q op rules same known next =
     ap (λ s. in_range s op) same
     ∙ sym (in_range_unread trace op)
-    ∙ all_at (in_range trace) (operations_of trace q) (get_or st.done q 0) op (rules.operations.in_range q known) next
+    ∙ all_at (in_range trace) (operations_of trace q) (get_or st.done q 0) op (rules.operations.in_range q known) (next_got trace st q op next)
 
 -- the run at the end
 pub filed_run : (trace : Trace) (m : Machine) (events : List Event) (end : Run) → KeepsRules trace → IsFirstForm trace → Follows trace m events [] →

@@ -23,7 +23,8 @@ use Rattle.k_types.specs.Totals.{total}
 use Rattle.k_types.specs.Numbers.{numbers_from}
 use Rattle.k_types.specs.Replies.{access_faults, answer, at_base, fault_where, faults, field_at, first_fault, is_ref, limit_fault, load_faults, reference, reference_from, refused_or, reply_to, sharer_fault, size_fault, store_faults}
 use Rattle.k_types.specs.Sound.{IsSound}
-use Rattle.k_text.specs.Shown.{IsKnownFault, IsKnownName, IsKnownReply, comes_after, next_name_after}
+use Rattle.k_text.specs.Shown.{comes_after, next_name_after}
+use Rattle.k_types.specs.Known.{IsKnownFault, IsKnownName, IsKnownReply}
 use Rattle.k_frame.proofs.NameTests.{name_eq_refl}
 use Rattle.k_frame.proofs.OwnerOf.{owner_known}
 use Rattle.k_plain.specs.Built.{is_built}
@@ -37,17 +38,9 @@ any_got p [] i d off on = absurd (false≢true (sym off ∙ on))
 any_got p (x ∷ xs) zero d off on = or_left (p x) (list_any p xs) on
 any_got p (x ∷ xs) (suc i) d off on = or_right (p x) (list_any p xs) (any_got p xs i d off on)
 
-positive_inside : (ns : List ℕ) (i : ℕ) → 0 < get_or ns i 0 → i < length ns
-positive_inside [] i positive = absurd (omega arith)
-positive_inside (n ∷ ns) zero positive = omega arith
-positive_inside (n ∷ ns) (suc i) positive = omega (arith, positive_inside ns i positive)
-
 -- an object lies in a segment of the trace
 pub object_known : (trace : Trace) (st : State) → IsSound trace st → (n : Name) → IsTrue (has st.objects n) → IsKnownName trace n
-object_known trace st sound n there =
-    let numbered = sound.names.numbered n there in
-    let inside = positive_inside st.made n.seg.0 (omega arith) in
-    omega (arith, sound.shape.sized.made)
+object_known trace st sound n there = (sound.shape.placed n there).1
 
 -- so does what a register refers to
 pub register_known : (trace : Trace) (st : State) → IsSound trace st → (p r : ℕ) (n : Name) → register st.registers p r ≡ Some n → IsKnownName trace n

@@ -9,7 +9,7 @@ use Rattle.k_types.specs.Sound.{IsSized}
 use Rattle.k_plain.specs.Machines.{AreSetupRules, IsPlain, IsSoundMachine}
 use Rattle.k_laws.proofs.SoundOpening.{opening_sound}
 use Rattle.std.specs.List.{AllByRecursion}
-use Rattle.k_text.specs.Shown.{IsKnownPhase}
+use Rattle.k_types.specs.Known.{IsKnownPhase}
 use Rattle.k_types.specs.declared.names.Phase.TheVariants.{Unmade}
 
 opening_is_sized : (setup : Trace) → IsSized setup (opening setup)

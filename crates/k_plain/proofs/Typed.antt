@@ -3,7 +3,7 @@ use Rattle.std.proofs.Common.{◌≡◌, refl, subst, ℕ, zero, suc, cond, Bool
 use Rattle.std.specs.List.{AllByRecursion}
 use Rattle.k_types.specs.declared.names.Name.{Name}
 use Rattle.k_types.specs.declared.names.Phase.{Phase}
-use Rattle.k_text.specs.Shown.{IsKnownPhase}
+use Rattle.k_types.specs.Known.{IsKnownPhase}
 use Rattle.k_types.specs.Names.{name_eq}
 use Rattle.k_types.specs.Trace.{Trace}
 use Rattle.k_types.specs.State.{Content, Object}

@@ -8,7 +8,7 @@ use Rattle.k_types.specs.TraceRules.{AreLimits}
 use Rattle.std.specs.List.{AllByRecursion}
 use Rattle.k_types.specs.State.{Object, State}
 use Rattle.k_types.specs.Sound.{IsSized, IsSound}
-use Rattle.k_text.specs.Shown.{IsKnownPhase}
+use Rattle.k_types.specs.Known.{IsKnownPhase}
 use Rattle.k_types.specs.Replies.{faults, first_fault, reply_to}
 use Rattle.k_types.specs.Effects.{effect_unless}
 

@@ -6,7 +6,7 @@ use Rattle.k_types.specs.Trace.{Trace}
 use Rattle.k_types.specs.Steps.{IsLegalHistory, state_after}
 use Rattle.k_types.specs.Complete.{IsComplete}
 use Rattle.k_types.specs.FileOrder.{file_order}
-use Rattle.k_text.specs.Shown.{IsKnownEvent}
+use Rattle.k_types.specs.Known.{IsKnownEvent}
 use Rattle.k_plain.specs.Machines.{IsSoundMachine, Machine, setup_of}
 
 -- A machine and events.

@@ -1,7 +1,7 @@
 ghost use Rattle.std.specs.Prelude.{◌≡◌, ◌<◌, ◌^◌, length};
 ghost use Rattle.std.specs.List.{AllByRecursion};
 ghost use Rattle.k_plain.specs.Machines.{Machine};
-ghost use Rattle.k_text.specs.Shown.{IsKnownEvent};
+ghost use Rattle.k_types.specs.Known.{IsKnownEvent};
 
 use crate::lists::PlainLists;
 use crate::state::PlainState;

@@ -1,6 +1,6 @@
 ghost use Rattle.std.specs.Prelude.{◌≡◌, ◌<◌, ◌≤◌, ◌+◌, ◌^◌, ◌-◌, nat_lt, not, option_copied, slice_index_or, length};
 ghost use Rattle.k_plain.specs.Machines.{Machine};
-ghost use Rattle.k_text.specs.Shown.{IsKnownPhase};
+ghost use Rattle.k_types.specs.Known.{IsKnownPhase};
 ghost use Rattle.k_types.specs.Names.{among};
 ghost use Rattle.k_types.specs.Owners.{owner_of, owner_of_process, owner_of_shared, phase_of};
 ghost use Rattle.k_types.specs.Replies.{is_frozen_heap};
@@ -40,7 +40,7 @@ impl Model for PlainLists {
     ghost Value = { Machine };
 
     ghost view = { λ s. record {
-      setup = trace_of 1 s.setup [] [];
+      setup = trace_of s.setup [] [];
       state = record {
         objects = s.objects.items;
         made = s.made.items;
@@ -57,7 +57,7 @@ impl Model for PlainLists {
     } };
 
     ghost invariant = { λ s. IsPlain (record {
-      setup = trace_of 1 s.setup [] [];
+      setup = trace_of s.setup [] [];
       state = record {
         objects = s.objects.items;
         made = s.made.items;

@@ -15,8 +15,8 @@ impl PlainLists {
     // The lists of the machine's opening state. `NoMemory` comes where they find no memory.
     #[tactic(auto, using(crate::proofs::Openings::opening_is_plain))]
     pub(crate) fn opening(alloc: Global, setup: &Setup) -> Result<PlainLists, NoMemory>
-        requires { AreSetupRules (trace_of 1 setup.now [] []) }
-        ensures { IfOk result (λ s. s ≡ record { setup = trace_of 1 setup.now [] []; state = opening (trace_of 1 setup.now [] []) }) }
+        requires { AreSetupRules (trace_of setup.now [] []) }
+        ensures { IfOk result (λ s. s ≡ record { setup = trace_of setup.now [] []; state = opening (trace_of setup.now [] []) }) }
     {
         let procs = setup.procs.len();
         let shared = setup.shared as usize;
@@ -38,9 +38,10 @@ impl PlainLists {
 }
 
 fn copy_of(alloc: Global, setup: &Setup) -> Result<Setup, NoMemory>
-    ensures { IfOk result (λ s. trace_of 1 s [] [] ≡ trace_of 1 setup.now [] []) }
+    ensures { IfOk result (λ s. trace_of s [] [] ≡ trace_of setup.now [] []) }
 {
     Ok(Setup {
+        version: setup.version,
         ceiling: setup.ceiling,
         dir_fields: setup.dir_fields,
         types: setup.types.copy(alloc)?,

@@ -1,7 +1,7 @@
 ghost use Rattle.std.specs.Prelude.{◌≡◌, ◌<◌, [], IfOk, IsTrue, OnErr, slice_index_or};
 ghost use Rattle.k_plain.specs.Built.{is_built};
 ghost use Rattle.k_plain.specs.Machines.{AreSetupRules, Machine};
-ghost use Rattle.k_text.specs.Shown.{IsKnownReply};
+ghost use Rattle.k_types.specs.Known.{IsKnownReply};
 ghost use Rattle.k_types.specs.Effects.{step};
 ghost use Rattle.k_types.specs.Replies.{reply_to};
 ghost use Rattle.k_types.specs.State.{opening};
@@ -36,8 +36,8 @@ impl Model for PlainState {
 impl PlainState {
     /// The machine's opening state. `NoMemory` comes where the lists find no memory. Source: own.
     pub fn opening(alloc: Global, setup: &Setup) -> Result<PlainState, NoMemory>
-        requires { AreSetupRules (trace_of 1 setup.now [] []) }
-        ensures { IfOk result (λ s. s ≡ record { setup = trace_of 1 setup.now [] []; state = opening (trace_of 1 setup.now [] []) }) }
+        requires { AreSetupRules (trace_of setup.now [] []) }
+        ensures { IfOk result (λ s. s ≡ record { setup = trace_of setup.now [] []; state = opening (trace_of setup.now [] []) }) }
     {
         Ok(PlainState {
             lists: PlainLists::opening(alloc, setup)?,

@@ -15,7 +15,7 @@ use Rattle.k_types.specs.State.{State}
 use Rattle.k_types.specs.Owners.{owner_of, owner_of_segment, owner_of_process, owner_of_shared, is_absorbed, phase_of, user, shared}
 use Rattle.k_types.specs.Steps.{in_range}
 use Rattle.k_trace.specs.Named.{DeclaredNames}
-use Rattle.k_text.specs.Shown.{IsKnownFault}
+use Rattle.k_types.specs.Known.{IsKnownFault}
 use Rattle.k_text.specs.Named.{AreNamed, IsNamedHeap, IsNamedOp, IsNamedFault}
 use Rattle.std.proofs.lemmas.Grind.{common_steps}
 use Rattle.std.proofs.lemmas.Bool.Decides.{nat_tests}

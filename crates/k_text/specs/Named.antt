@@ -5,9 +5,9 @@ use Rattle.k_types.specs.declared.names.Heap.{Heap}
 use Rattle.k_types.specs.declared.names.Heap.TheVariants.{Kernel, User, Shared}
 use Rattle.k_types.specs.declared.names.TypeId.{TypeId}
 use Rattle.k_types.specs.declared.op.Op.{Op}
-use Rattle.k_types.specs.declared.op.Op.TheVariants.{New, KNew, SNew, Share, Freeze, Attach}
+use Rattle.k_types.specs.declared.op.Op.TheVariants.{New, KNew, SNew, Store, Load, Move, Clear, Dir, Put, Get, Collect, KCollect, Share, Freeze, Attach, Exit}
 use Rattle.k_types.specs.declared.event.Fault.{Fault}
-use Rattle.k_types.specs.declared.event.Fault.TheVariants.{NotSharer, NotPopulating, NotFrozen, Taken, LimitFull}
+use Rattle.k_types.specs.declared.event.Fault.TheVariants.{Null, Foreign, NotSharer, NoField, WrongKind, Frozen, Segv, NotPopulating, NotFrozen, Taken, LimitFull, KernelFull}
 use Rattle.k_types.specs.Trace.{Trace, process_count}
 use Rattle.k_words.specs.Words.{Text, word_at}
 use Rattle.k_trace.specs.Named.{DeclaredNames, type_name, proc_name, shared_name}
@@ -30,19 +30,34 @@ abbrev pub IsNamedOp : DeclaredNames → Op → Type 0
 IsNamedOp names (New r ty) = ty.0 < length names.types
 IsNamedOp names (KNew r ty) = ty.0 < length names.types
 IsNamedOp names (SNew r s ty) = (s.0 < length names.shared) × (ty.0 < length names.types)
+IsNamedOp names (Store base i value) = Unit {0}
+IsNamedOp names (Load r base i) = Unit {0}
+IsNamedOp names (Move r from) = Unit {0}
+IsNamedOp names (Clear r) = Unit {0}
+IsNamedOp names (Dir r) = Unit {0}
+IsNamedOp names (Put base i number) = Unit {0}
+IsNamedOp names (Get base i) = Unit {0}
+IsNamedOp names Collect = Unit {0}
+IsNamedOp names KCollect = Unit {0}
 IsNamedOp names (Share s) = s.0 < length names.shared
 IsNamedOp names (Freeze s root) = s.0 < length names.shared
 IsNamedOp names (Attach r s) = s.0 < length names.shared
-IsNamedOp names _ = Unit {0}
+IsNamedOp names Exit = Unit {0}
 
 -- The shared heap or the limit of the fault has a name.
 abbrev pub IsNamedFault : DeclaredNames → Fault → Type 0
+IsNamedFault names Null = Unit {0}
+IsNamedFault names Foreign = Unit {0}
 IsNamedFault names (NotSharer s) = s.0 < length names.shared
+IsNamedFault names NoField = Unit {0}
+IsNamedFault names WrongKind = Unit {0}
+IsNamedFault names Frozen = Unit {0}
+IsNamedFault names Segv = Unit {0}
 IsNamedFault names (NotPopulating s) = s.0 < length names.shared
 IsNamedFault names (NotFrozen s) = s.0 < length names.shared
 IsNamedFault names (Taken s) = s.0 < length names.shared
 IsNamedFault names (LimitFull m) = m.0 < length names.limits
-IsNamedFault names _ = Unit {0}
+IsNamedFault names KernelFull = Unit {0}
 
 -- The names of the segments: the kernel's, those of the processes, those of the shared heaps.
 abbrev pub segment_names : DeclaredNames → List Text

@@ -1,20 +1,10 @@
--- What a view shows of its state, and that it shows only what its trace declares.
-use Rattle.std.specs.Prelude.{◌<◌, Bool, true, IsTrue, List, [], ◌∷◌, map, filter, find, length, Option, Some, None, IfSome, option_map, option_and_then, if◌then◌else◌}
+-- What a view shows of its state.
+use Rattle.std.specs.Prelude.{Bool, true, IsTrue, List, [], ◌∷◌, map, filter, find, Option, Some, None, option_map, option_and_then, if◌then◌else◌}
 use Rattle.k_types.specs.declared.names.Name.{Name}
 use Rattle.k_types.specs.declared.names.Heap.{Heap}
 use Rattle.k_types.specs.declared.names.TypeId.{TypeId}
-use Rattle.k_types.specs.declared.names.Phase.{Phase}
-use Rattle.k_types.specs.declared.names.Phase.TheVariants.{Unmade, Populating, Frozen, Absorbed}
-use Rattle.k_types.specs.declared.event.Fault.{Fault}
-use Rattle.k_types.specs.declared.event.Fault.TheVariants.{NotSharer, NotPopulating, NotFrozen, Taken, LimitFull}
-use Rattle.k_types.specs.declared.event.Reply.{Reply}
-use Rattle.k_types.specs.declared.event.Reply.TheVariants.{Done as DoneReply, Made, Loaded, Value, Refused}
-use Rattle.k_types.specs.declared.event.Event.{Event}
-use Rattle.k_types.specs.declared.event.Event.TheVariants.{Done, Ended, Absorbed as AbsorbedEvent, Closing}
 use Rattle.k_types.specs.Names.{name_eq, name_lt, heap_eq}
-use Rattle.k_types.specs.Trace.{Trace, process_count, segment_count, IsHeap}
 use Rattle.k_types.specs.State.{Object, ExitItem, object_at, fields_of}
-use Rattle.k_types.specs.Steps.{in_range}
 
 -- The object comes after that name, or there is no such name.
 abbrev pub comes_after : Option Name → Object → Bool
@@ -56,38 +46,3 @@ AreRisingFrom n (m ∷ names) = IsTrue (name_lt n m) × AreRisingFrom m names
 abbrev pub AreRising : List Name → Type 0
 AreRising [] = Unit {0}
 AreRising (n ∷ names) = AreRisingFrom n names
-
--- The name lies in a segment of the trace.
-abbrev pub IsKnownName : Trace → Name → Type 0
-IsKnownName trace n = n.seg.0 < segment_count trace
-
--- The heap or limit that the fault names is one of the trace's.
-abbrev pub IsKnownFault : Trace → Fault → Type 0
-IsKnownFault trace (NotSharer s) = s.0 < trace.shared_heaps
-IsKnownFault trace (NotPopulating s) = s.0 < trace.shared_heaps
-IsKnownFault trace (NotFrozen s) = s.0 < trace.shared_heaps
-IsKnownFault trace (Taken s) = s.0 < trace.shared_heaps
-IsKnownFault trace (LimitFull m) = m.0 < length trace.limits
-IsKnownFault trace _ = Unit {0}
-
--- What the reply names is the trace's.
-abbrev pub IsKnownReply : Trace → Reply → Type 0
-IsKnownReply trace DoneReply = Unit {0}
-IsKnownReply trace (Made n) = IsKnownName trace n
-IsKnownReply trace (Loaded r) = IfSome r (IsKnownName trace)
-IsKnownReply trace (Value number) = Unit {0}
-IsKnownReply trace (Refused fault) = IsKnownFault trace fault
-
--- What the event names is the trace's, and its registers are below 16.
-abbrev pub IsKnownEvent : Trace → Event → Type 0
-IsKnownEvent trace (Done pid op reply) = (pid.0 < process_count trace) × IsTrue (in_range trace op) × IsKnownReply trace reply
-IsKnownEvent trace (Ended h objects bytes exits shares) = IsHeap trace h
-IsKnownEvent trace (AbsorbedEvent s) = s.0 < trace.shared_heaps
-IsKnownEvent trace Closing = Unit {0}
-
--- The process or the root that the phase names is the trace's.
-abbrev pub IsKnownPhase : Trace → Phase → Type 0
-IsKnownPhase trace Unmade = Unit {0}
-IsKnownPhase trace (Populating p) = p.0 < process_count trace
-IsKnownPhase trace (Frozen root) = IsKnownName trace root
-IsKnownPhase trace Absorbed = Unit {0}

@@ -5,7 +5,7 @@ ghost use Rattle.k_words.specs.Words.{text_of};
 ghost use Rattle.k_types.specs.Numbers.{numbers_below};
 ghost use Rattle.k_types.specs.Trace.{process_count, IsHeap};
 ghost use Rattle.k_text.specs.Named.{AreNamed, name_word, heap_word};
-ghost use Rattle.k_text.specs.Shown.{IsKnownPhase};
+ghost use Rattle.k_types.specs.Known.{IsKnownPhase};
 ghost use Rattle.k_text.specs.Spaced.{spaced};
 ghost use Rattle.k_text.specs.Report.{kernel_line, limit_line, process_line, shared_line, phase_words, charges_lines};
 

@@ -3,7 +3,7 @@ ghost use Rattle.k_io.specs.Writing.{Writes};
 ghost use Rattle.std.specs.List.{join_with_byte};
 ghost use Rattle.k_words.specs.Words.{text_of};
 ghost use Rattle.k_text.specs.Named.{AreNamed, IsNamedFault};
-ghost use Rattle.k_text.specs.Shown.{IsKnownReply, IsKnownEvent};
+ghost use Rattle.k_types.specs.Known.{IsKnownReply, IsKnownEvent};
 ghost use Rattle.k_text.specs.Spaced.{spaced};
 ghost use Rattle.k_text.specs.EventLines.{fault_words, reply_words, event_words, event_lines};
 

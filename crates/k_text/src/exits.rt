@@ -7,7 +7,8 @@ ghost use Rattle.k_types.specs.Trace.{process_count, IsHeap};
 ghost use Rattle.k_text.specs.Named.{AreNamed, name_word, heap_word};
 ghost use Rattle.k_types.specs.declared.names.Heap.{Heap};
 ghost use Rattle.k_types.specs.Owners.{user, shared};
-ghost use Rattle.k_text.specs.Shown.{IsKnownName, exits_of};
+ghost use Rattle.k_text.specs.Shown.{exits_of};
+ghost use Rattle.k_types.specs.Known.{IsKnownName};
 ghost use Rattle.k_text.specs.Report.{exits_of_heap, exits_lines};
 
 use crate::heading::heading;

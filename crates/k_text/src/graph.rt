@@ -8,7 +8,8 @@ ghost use Rattle.k_text.specs.Named.{AreNamed, name_word, heap_word};
 ghost use Rattle.k_types.specs.State.{has};
 ghost use Rattle.k_types.specs.Owners.{owner_of};
 ghost use Rattle.k_types.specs.Replies.{field_at, field_count};
-ghost use Rattle.k_text.specs.Shown.{IsKnownName, shown_object};
+ghost use Rattle.k_text.specs.Shown.{shown_object};
+ghost use Rattle.k_types.specs.Known.{IsKnownName};
 ghost use Rattle.k_text.specs.Spaced.{spaced};
 ghost use Rattle.k_text.specs.Report.{field_word, object_words, graph_lines};
 

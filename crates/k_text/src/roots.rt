@@ -6,7 +6,7 @@ ghost use Rattle.k_types.specs.Numbers.{numbers_below};
 ghost use Rattle.k_types.specs.Trace.{process_count, IsHeap};
 ghost use Rattle.k_text.specs.Named.{AreNamed, name_word, heap_word};
 ghost use Rattle.k_types.specs.State.{register};
-ghost use Rattle.k_text.specs.Shown.{IsKnownName};
+ghost use Rattle.k_types.specs.Known.{IsKnownName};
 ghost use Rattle.k_text.specs.Report.{root_lines, roots_of_process, roots_lines};
 
 use crate::heading::heading;

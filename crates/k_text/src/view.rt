@@ -16,7 +16,8 @@ pub trait View {
     ghost use Rattle.k_types.specs.Limits.{use_of, max_of, limits_in};
     ghost use Rattle.k_types.specs.Replies.{field_at, field_count, reference, number_in};
     ghost use Rattle.k_types.specs.Sound.{IsOrdered};
-    ghost use Rattle.k_text.specs.Shown.{next_name_after, type_at, exits_of, IsKnownName, IsKnownEvent, IsKnownPhase};
+    ghost use Rattle.k_text.specs.Shown.{next_name_after, type_at, exits_of};
+    ghost use Rattle.k_types.specs.Known.{IsKnownName, IsKnownEvent, IsKnownPhase};
 
     // The trace whose setup is shown; its operations are not read.
     ghost trace: { Self → Trace };

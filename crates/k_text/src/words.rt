@@ -3,7 +3,7 @@ ghost use Rattle.k_types.specs.Trace.{segment_count};
 ghost use Rattle.k_words.specs.Words.{word_at};
 ghost use Rattle.k_words.specs.Numbers.{register_word};
 ghost use Rattle.k_text.specs.Named.{AreNamed, IsNamedHeap, segment_names, name_word, reference_word, heap_word, type_word};
-ghost use Rattle.k_text.specs.Shown.{IsKnownName};
+ghost use Rattle.k_types.specs.Known.{IsKnownName};
 
 use crate::line::LineBuffer;
 use crate::view::View;

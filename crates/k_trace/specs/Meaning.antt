@@ -8,5 +8,5 @@ use Rattle.k_trace.specs.Named.{NamedTrace}
 abbrev pub meaning_of : Trace → NamedTrace
 meaning_of t = record {
   names = t.names;
-  trace = trace_of 1 t.setup (map (λ ops. ops.items) t.ops.items) (map (λ pid. pid.0) t.order.items);
+  trace = trace_of t.setup (map (λ ops. ops.items) t.ops.items) (map (λ pid. pid.0) t.order.items);
 }

@@ -18,6 +18,9 @@ use k_words::{
 use std::alloc::Global;
 use std::marker::Model;
 
+/// The version that the first line of a trace names.
+const VERSION: u32 = 1;
+
 /// What the lines so far say.
 #[derive(Drop)]
 pub struct Reader {
@@ -382,6 +385,7 @@ impl Reader {
         let (ops, order) = self.operations.into_parts();
         Ok(Trace {
             setup: Setup {
+                version: VERSION,
                 ceiling: self.ceiling,
                 dir_fields: self.dir_fields,
                 types,

@@ -1,6 +1,6 @@
 use Rattle.std.proofs.Common.{◌≡◌, ◌+◌, take}
 use Rattle.k_types.specs.declared.names.Name.{Name}
-use Rattle.k_types.specs.Agree.{counted}
+use Rattle.k_types.specs.Counted.{counted}
 use Rattle.k_measure.specs.Counts.{occurs}
 use Rattle.k_measure.proofs.entries.down_all.Given as goal
 

@@ -12,7 +12,7 @@ use Rattle.std.specs.List.{AllByRecursion}
 use Rattle.std.specs.Prelude.{IsTrue}
 use Rattle.std.proofs.lemmas.List.{length-append}
 use Rattle.k_types.specs.Steps.{in_range}
-use Rattle.k_text.specs.Shown.{IsKnownEvent, IsKnownReply}
+use Rattle.k_types.specs.Known.{IsKnownEvent, IsKnownReply}
 use Rattle.k_plain.specs.Machines.{Machine, setup_of}
 use Rattle.k_plain.proofs.Typed.{all_snoc}
 use Rattle.k_plain.proofs.Quiet.{quiet_possible}
@@ -43,7 +43,7 @@ operate-requires-clause-possible c =
     let lists : List (List Op) = map (λ (list : Vec Op Global). list.items) c.deref.result.now in
     let same : lists ≡ trace.operations = ap (map (λ (list : Vec Op Global). list.items)) c.deref.ensures.value in
     let next : next_operation trace st pid.0 ≡ Some c.in-Some.op.now
-    = next_is trace st pid.0 c.done-done.result lists (option_copied c.operation_at.result) (Some c.in-Some.op.now) same c.done-done.ensures c.operation_at.ensures (ap option_copied c.in-Some.is) in
+    = next_is trace st pid.0 c.done-done.result lists (option_copied c.operation_at.result) (Some c.in-Some.op.now) same c.loop-pid.invariant.follows.quiet c.done-done.ensures c.operation_at.ensures (ap option_copied c.in-Some.is) in
     let there : pid.0 < process_count c.loop-pid.state.setup = subst (λ (s : Trace). pid.0 < process_count s) (sym c.loop-pid.invariant.follows.setup) known in
     quiet_possible c.loop-pid.state.setup st pid c.in-Some.op.now there
     (next_in_range trace c.loop-pid.state.setup st pid.0 c.in-Some.op.now c.requires.rules c.loop-pid.invariant.follows.setup known next)
@@ -64,7 +64,7 @@ operate-requires-clause-built c =
     let lists : List (List Op) = map (λ (list : Vec Op Global). list.items) c.deref.result.now in
     let same : lists ≡ trace.operations = ap (map (λ (list : Vec Op Global). list.items)) c.deref.ensures.value in
     let next : next_operation trace st pid.0 ≡ Some c.in-Some.op.now
-    = next_is trace st pid.0 c.done-done.result lists (option_copied c.operation_at.result) (Some c.in-Some.op.now) same c.done-done.ensures c.operation_at.ensures (ap option_copied c.in-Some.is) in
+    = next_is trace st pid.0 c.done-done.result lists (option_copied c.operation_at.result) (Some c.in-Some.op.now) same c.loop-pid.invariant.follows.quiet c.done-done.ensures c.operation_at.ensures (ap option_copied c.in-Some.is) in
     next_built trace st pid.0 c.in-Some.op.now c.requires.form known next
 
 pub loop-pid-preserved : goal.loop-pid-preserved
@@ -86,7 +86,7 @@ loop-pid-preserved c =
       | in-Some+in_ok-reply+in_ok-push w ↦
           let op : Op = w.in-Some.op.now in
           let next : next_operation trace st pid.0 ≡ Some op
-          = next_is trace st pid.0 c.done-done.result lists (option_copied c.operation_at.result) (Some op) same c.done-done.ensures c.operation_at.ensures (ap option_copied w.in-Some.is) in
+          = next_is trace st pid.0 c.done-done.result lists (option_copied c.operation_at.result) (Some op) same c.loop-pid.invariant.follows.quiet c.done-done.ensures c.operation_at.ensures (ap option_copied w.in-Some.is) in
           let moved : Follows trace w.operate.new.self (c.loop-pid.events.items ++ Done pid op w.in_ok-reply.reply ∷ []) (map (λ (p : Pid). p.0) (drop (i + 1) pids))
           = follows_some trace c.loop-pid.state w.operate.new.self c.loop-pid.events.items pid op w.in_ok-reply.reply (map (λ (p : Pid). p.0) (drop (i + 1) pids))
           next (next_built trace st pid.0 op c.requires.form known next) w.in_ok-reply.ensures.setup w.in_ok-reply.ensures.reply w.in_ok-reply.ensures.state here in
@@ -104,7 +104,7 @@ loop-pid-preserved c =
           }
       | in_default w ↦
           let next : next_operation trace st pid.0 ≡ None
-          = next_is trace st pid.0 c.done-done.result lists (option_copied c.operation_at.result) None same c.done-done.ensures c.operation_at.ensures (ap option_copied w.in_default.is) in
+          = next_is trace st pid.0 c.done-done.result lists (option_copied c.operation_at.result) None same c.loop-pid.invariant.follows.quiet c.done-done.ensures c.operation_at.ensures (ap option_copied w.in_default.is) in
           let stays : c.match-operation_at.events.items ≡ c.loop-pid.events.items = ap (λ (v : Vec Event Global). v.items) w.events-is in
           record {
             follows = subst (λ (m : Machine). Follows trace m c.match-operation_at.events.items (map (λ (p : Pid). p.0) (drop (i + 1) pids))) (sym w.state-is)

@@ -2,7 +2,7 @@ use Rattle.std.proofs.Common.{◌≤◌, map, drop, length}
 use Rattle.std.specs.List.{AllByRecursion}
 use Rattle.k_types.specs.declared.names.Pid.{Pid}
 use Rattle.k_trace.specs.Meaning.{meaning_of}
-use Rattle.k_text.specs.Shown.{IsKnownEvent}
+use Rattle.k_types.specs.Known.{IsKnownEvent}
 use Rattle.k_plain.specs.Machines.{setup_of}
 use Rattle.k_plain.proofs.Follows.{Follows}
 use Rattle.k_plain.proofs.running.solo.Given as goal

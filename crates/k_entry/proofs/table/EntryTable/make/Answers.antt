@@ -1,6 +1,6 @@
 use Rattle.std.proofs.Common.{rules, ◌≡◌, ◌+◌, List, length, sym, ap, ap₂, arith}
 use Rattle.k_types.specs.declared.names.Heap.{Heap}
-use Rattle.k_types.specs.Agree.{Counted}
+use Rattle.k_types.specs.Counted.{Counted}
 use Rattle.k_entry.proofs.Items.{kept_made, shows_made}
 use Rattle.k_entry.proofs.table.EntryTable.make.Goals as goal
 

@@ -1,6 +1,6 @@
 use Rattle.std.proofs.Common.{◌≡◌, ◌+◌, List, Some, None, IfSome, length, option_map, true, sym, ap, ap₂, subst, ◌∙◌, arith}
 use Rattle.k_types.specs.declared.names.Heap.{Heap}
-use Rattle.k_types.specs.Agree.{counted}
+use Rattle.k_types.specs.Counted.{counted}
 use Rattle.k_lists.specs.Lists.{members, is_in}
 use Rattle.k_entry.specs.declared.item.Item.{Item}
 use Rattle.k_entry.specs.Entries.{EntryValue, object_after, items_of, home_of}

@@ -5,7 +5,7 @@ use Rattle.k_types.specs.Names.{name_of}
 use Rattle.std.proofs.lemmas.List.{length-map}
 use Rattle.k_types.specs.Totals.{total}
 use Rattle.k_lists.specs.Lists.{ListsValue, members}
-use Rattle.k_types.specs.Agree.{counted}
+use Rattle.k_types.specs.Counted.{counted}
 use Rattle.k_entry.specs.declared.item.Item.{Item}
 use Rattle.k_entry.specs.Entries.{EntryValue, HasMore}
 use Rattle.k_entry.specs.Slots.{Parts, shown, used, row_at, AreKept, GivesSlot}

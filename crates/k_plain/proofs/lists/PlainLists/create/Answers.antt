@@ -13,10 +13,10 @@ returns-clause-ok c =
     let i = c.self.inside in
     let seg = c.args.seg.0 in
     let objects = i.objects.items in
-    let known : seg < segment_count (trace_of 1 i.setup [] []) = subst (λ (n : Machine). seg < segment_count n.setup) (sym c.self.view_is) c.requires.seg in
+    let known : seg < segment_count (trace_of i.setup [] []) = subst (λ (n : Machine). seg < segment_count n.setup) (sym c.self.view_is) c.requires.seg in
     let inside : seg < length i.made.items = omega (arith, c.self.invariant.sized.made, known) in
     let given : c.index-made.result.now ≡ get_or i.made.items seg 0 = get_or_read i.made.items seg _ inside c.index-made.ensures 0 in
-    let fields : map content c.in_ok-fields.fields.items ≡ map fresh (kinds_of (trace_of 1 i.setup [] []) c.args.ty) = c.in_ok-fields.ensures in
+    let fields : map content c.in_ok-fields.fields.items ≡ map fresh (kinds_of (trace_of i.setup [] []) c.args.ty) = c.in_ok-fields.ensures in
     let object : ℕ → List Content → Object = λ n fs. record { name = record { seg = c.args.seg; serial = record { 0 = n + 1 } }; ty = Some c.args.ty; fields = fs } in
     let o : Object = object c.index-made.result.now (map content c.in_ok-fields.fields.items) in
     let placed : c.insert.new.self.items ≡ with_object o objects
@@ -24,7 +24,7 @@ returns-clause-ok c =
     ∙ ap (λ xs. insert xs c.place_of-at.result o) (sym c.deref.ensures.value)
     ∙ sym (c.place_of-at.ensures.place o refl)
     ∙ ap (with_object o) c.deref.ensures.value in
-    let there : c.insert.new.self.items ≡ with_object (object (get_or i.made.items seg 0) (map fresh (kinds_of (trace_of 1 i.setup [] []) c.args.ty))) objects
+    let there : c.insert.new.self.items ≡ with_object (object (get_or i.made.items seg 0) (map fresh (kinds_of (trace_of i.setup [] []) c.args.ty))) objects
     = placed ∙ ap₂ (λ n fs. with_object (object n fs) objects) given fields in
     let after : List Object → ℕ → State = λ xs n. record {
       objects = xs;

@@ -10,7 +10,7 @@ use Rattle.k_plain.proofs.lists.PlainLists.object_type.Goals as goal
 
 pub returns-in-Some-clause-known : goal.returns-in-Some-clause-known
 returns-in-Some-clause-known c =
-    let setup = trace_of 1 c.self.inside.setup [] [] in
+    let setup = trace_of c.self.inside.setup [] [] in
     let objects = c.self.inside.objects.items in
     let o : Object = c.in-Some.object.now in
     let found : object_at objects c.args.name ≡ Some o

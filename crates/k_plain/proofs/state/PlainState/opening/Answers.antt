@@ -5,4 +5,4 @@ use Rattle.k_plain.proofs.Openings.{opening_is_sound}
 use Rattle.k_plain.proofs.state.PlainState.opening.Goals as goal
 
 pub invariant_of-result : goal.invariant_of-result
-invariant_of-result c = subst IsSoundMachine (sym c.in_ok-opening.ensures) (opening_is_sound (trace_of 1 c.args.setup.now [] []) c.requires)
+invariant_of-result c = subst IsSoundMachine (sym c.in_ok-opening.ensures) (opening_is_sound (trace_of c.args.setup.now [] []) c.requires)

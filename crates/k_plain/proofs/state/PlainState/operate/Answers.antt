@@ -3,7 +3,7 @@ use Rattle.std.specs.Prelude.{IfOk}
 use Rattle.k_types.specs.declared.event.Event.TheVariants.{Done}
 use Rattle.k_types.specs.Steps.{IsPossible}
 use Rattle.k_types.specs.Replies.{reply_to}
-use Rattle.k_text.specs.Shown.{IsKnownReply}
+use Rattle.k_types.specs.Known.{IsKnownReply}
 use Rattle.k_plain.specs.Machines.{IsSoundMachine, Machine}
 use Rattle.k_plain.proofs.Operated.{ok_same, operated_sound}
 use Rattle.k_plain.proofs.Known.{reply_known}

@@ -2,7 +2,7 @@ use Rattle.std.proofs.Common.{◌≡◌, subst, sym, ap, ◌∙◌}
 use Rattle.k_types.specs.Replies.{field_at, reference}
 use Rattle.k_plain.specs.Contents.{content}
 use Rattle.k_plain.specs.Runs.{IsShown, Run}
-use Rattle.k_text.specs.Shown.{IsKnownName}
+use Rattle.k_types.specs.Known.{IsKnownName}
 use Rattle.k_plain.proofs.Known.{field_known, if_known}
 use Rattle.k_plain.proofs.viewing.PlainEndView.ref_at.Goals as goal
 

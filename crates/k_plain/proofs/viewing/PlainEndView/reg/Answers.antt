@@ -1,7 +1,7 @@
 use Rattle.std.proofs.Common.{◌≡◌, subst, sym, ◌∙◌}
 use Rattle.k_types.specs.State.{register}
 use Rattle.k_plain.specs.Runs.{IsShown, Run}
-use Rattle.k_text.specs.Shown.{IsKnownName}
+use Rattle.k_types.specs.Known.{IsKnownName}
 use Rattle.k_plain.proofs.Known.{if_known, register_known}
 use Rattle.k_plain.proofs.viewing.PlainEndView.reg.Goals as goal
 
