@@ -15,7 +15,7 @@ use Rattle.k_types.specs.Complete.{IsPrefixOf}
 use Rattle.k_types.specs.Following.{FollowsOwn}
 use Rattle.k_bounds.specs.Counts.{one_if, of_operation, is_store, store_count, stores_by, operation_count, allocation_count, allocates_in, has_stored, has_allocated_in, is_operation}
 use Rattle.k_bounds.proofs.Dones.{done_count}
-use Rattle.k_frame.proofs.Sums.{sum_same, sum_both, one_counts, total_append, zeros}
+use Rattle.k_base.proofs.Sums.{sum_same, sum_both, one_counts, total_append, zeros}
 
 -- of the first elements no more is counted than of all
 pub prefix_less : {A : Type 0} (f : A → ℕ) (xs ys : List A) → IsPrefixOf xs ys → total f xs ≤ total f ys

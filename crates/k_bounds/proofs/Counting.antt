@@ -3,7 +3,7 @@ use Rattle.std.proofs.Common.{◌≡◌, ℕ, zero, suc, ◌+◌, ◌≤◌, ◌
 use Rattle.std.specs.List.{cons_option}
 use Rattle.k_types.specs.Totals.{total}
 use Rattle.k_bounds.specs.Counts.{one_if}
-use Rattle.k_frame.proofs.Sums.{total_append}
+use Rattle.k_base.proofs.Sums.{total_append}
 
 -- one more element
 pub total_push : {A : Type 0} (f : A → ℕ) (xs : List A) (x : A) → total f (xs ++ x ∷ []) ≡ total f xs + f x

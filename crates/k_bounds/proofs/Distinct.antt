@@ -14,8 +14,8 @@ use Rattle.k_types.specs.Sound.{IsSized, AreDistinctExits}
 use Rattle.k_bounds.specs.Counts.{one_if}
 use Rattle.k_bounds.specs.Distinct.{AreDistinctNames}
 use Rattle.k_bounds.proofs.Counting.{total_at_most}
-use Rattle.k_frame.proofs.NameTests.{name_eq-true, name_eq_refl, heap_eq-true}
-use Rattle.k_frame.proofs.Sums.{zeros, sum_both, sum_same}
+use Rattle.k_base.proofs.NameTests.{name_eq-true, name_eq_refl, heap_eq-true}
+use Rattle.k_base.proofs.Sums.{zeros, sum_both, sum_same}
 
 -- the sums of a table by rows and by columns
 swapped : {A B : Type 0} (f : A → B → ℕ) (xs : List A) (ys : List B) → total (λ x. total (f x) ys) xs ≡ total (λ y. total (λ x. f x y) xs) ys

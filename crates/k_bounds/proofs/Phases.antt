@@ -18,7 +18,7 @@ use Rattle.k_types.specs.Replies.{first_fault, faults, is_unmade}
 use Rattle.k_types.specs.Updates.{count_done, set_register, create, open_scan, set_phase, add_share, keep_objects, keep_exits, keep_shares, close_scan, clear_registers, end_process, turn_exits, close}
 use Rattle.k_types.specs.Effects.{effect, effect_unless, after_operation, after_store, after_put, after_freeze, after_end_of, after_ended, after_absorbed, after_closing}
 use Rattle.k_bounds.specs.Counts.{is_share_of}
-use Rattle.k_frame.proofs.Lists.{get_or-set_cases}
+use Rattle.k_base.proofs.Lists.{get_or-set_cases}
 use Rattle.k_frame.proofs.FrameSteps.{none_on}
 use Rattle.k_laws.proofs.SoundEffects.{is_unmade_so}
 use Rattle.k_frame.proofs.Rest.{store_rest, put_rest}

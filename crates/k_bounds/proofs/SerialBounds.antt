@@ -16,7 +16,7 @@ use Rattle.k_types.specs.Updates.{count_done, set_register, create, open_scan, s
 use Rattle.k_types.specs.Effects.{step, effect, effect_unless, after_new, after_operation, after_store, after_put, after_freeze, after_end_of, after_ended, after_absorbed, after_closing}
 use Rattle.k_types.specs.Steps.{run, state_after}
 use Rattle.k_bounds.specs.Counts.{one_if, allocates_in, has_allocated_in, allocation_count}
-use Rattle.k_frame.proofs.Lists.{get_or-set_cases}
+use Rattle.k_base.proofs.Lists.{get_or-set_cases}
 use Rattle.k_frame.proofs.Sizes.{zeros_at}
 use Rattle.k_frame.proofs.Rest.{store_rest, put_rest, freeze_rest}
 

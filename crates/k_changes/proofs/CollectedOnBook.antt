@@ -27,10 +27,10 @@ use Rattle.k_changes.proofs.EndsOnBook.{direct_lowered}
 use Rattle.k_changes.proofs.EntryCounts.{kept_and_gone, one_item}
 use Rattle.k_changes.proofs.SharedSums.{shares_sum, same_below}
 use Rattle.k_changes.proofs.WaysInto.{share_stays_so}
-use Rattle.k_frame.proofs.Sums.{bit, sum_same, sum_both}
+use Rattle.k_base.proofs.Sums.{bit, sum_same, sum_both}
 use Rattle.k_frame.proofs.ElsewhereOther.{filter_hidden}
 use Rattle.k_frame.proofs.Kept.{has_share-kept, distinct_shares-kept, any-fewer}
-use Rattle.k_frame.proofs.NameTests.{heap_eq-true}
+use Rattle.k_base.proofs.NameTests.{heap_eq-true}
 
 -- the bytes of a heap are those of the objects in its cell's part
 shows : (trace : Trace) (su : State) (h : Heap) → bytes_of trace su h ≡ bytes_in (part trace su h)

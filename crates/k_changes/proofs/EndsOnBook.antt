@@ -24,8 +24,8 @@ use Rattle.k_changes.proofs.OnBook.{map_changed, get_mapped}
 use Rattle.k_changes.proofs.PinsOnBook.{one_changed}
 use Rattle.k_changes.proofs.EntryCounts.{entries_left, entries_turned}
 use Rattle.k_changes.proofs.SharedSums.{shares_sum, same_below}
-use Rattle.k_frame.proofs.Sums.{bit}
-use Rattle.k_frame.proofs.NameTests.{heap_eq-true, heap_eq_refl}
+use Rattle.k_base.proofs.Sums.{bit}
+use Rattle.k_base.proofs.NameTests.{heap_eq-true, heap_eq_refl}
 use Rattle.k_laws.proofs.Merge.{merged}
 use Rattle.k_laws.proofs.Ending.{same_bytes, own_charge, other_charge, leaves_rest}
 use Rattle.k_laws.proofs.Raised.{direct_added}

@@ -8,9 +8,9 @@ use Rattle.k_types.specs.Names.{name_eq, heap_eq}
 use Rattle.k_types.specs.Totals.{total}
 use Rattle.k_types.specs.State.{ExitItem, has_exit}
 use Rattle.k_types.specs.Sound.{AreDistinctExits}
-use Rattle.k_frame.proofs.Sums.{bit}
-use Rattle.k_frame.proofs.NameTests.{heap_eq-true, name_eq-true}
-use Rattle.k_frame.proofs.Sums.{sum_both, sum_same}
+use Rattle.k_base.proofs.Sums.{bit}
+use Rattle.k_base.proofs.NameTests.{heap_eq-true, name_eq-true}
+use Rattle.k_base.proofs.Sums.{sum_both, sum_same}
 
 -- what is kept and what goes are all
 pub kept_and_gone : {A : Type 0} (f : A → ℕ) (q : A → Bool) (xs : List A) → total f (filter q xs) + total (λ x. cond (q x) 0 (f x)) xs ≡ total f xs

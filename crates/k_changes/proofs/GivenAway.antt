@@ -18,7 +18,7 @@ use Rattle.k_types.specs.Cells.{part, made_of}
 use Rattle.k_types.specs.Sound.{IsSound, IsOrdered}
 use Rattle.k_changes.specs.CellChanges.{at_its_end, when_absorbed, given_away, taking_in, either_of, with_objects}
 use Rattle.k_changes.proofs.Merged.{merged as merged_lists}
-use Rattle.k_frame.proofs.NameTests.{heap_eq-true, heap_eq_refl, heap_eq_sym}
+use Rattle.k_base.proofs.NameTests.{heap_eq-true, heap_eq_refl, heap_eq_sym}
 use Rattle.k_frame.proofs.Kept.{has_exit-kept}
 use Rattle.k_laws.specs.Changes.{MayAbsorb, MayExit}
 use Rattle.k_laws.specs.Termination.{StaysOrPasses}
@@ -26,7 +26,7 @@ use Rattle.k_laws.proofs.Merge.{merged}
 use Rattle.k_laws.proofs.Means.{exit_from, exit_comes}
 use Rattle.k_laws.proofs.SoundAbsorbed.{is_merged as absorbed_owner, shared_to}
 use Rattle.k_laws.proofs.SoundExited.{is_merged as ended_owner}
-use Rattle.k_frame.proofs.Tests.{same_test}
+use Rattle.k_base.proofs.Tests.{same_test}
 
 module _ (own own' : ℕ → Heap) (g : Heap) (apart : IsFalse (heap_eq Kernel g)) (is : (seg : ℕ) → own' seg ≡ merged g (own seg)) where
   none_left : (seg : ℕ) → heap_eq (own' seg) g ≡ false

@@ -18,8 +18,8 @@ use Rattle.k_types.specs.Cells.{book_part}
 use Rattle.k_types.specs.Sound.{IsSound}
 use Rattle.k_changes.specs.BookChanges.{with_charge, with_shared_bytes}
 use Rattle.k_changes.proofs.OnBook.{map_raised, direct_raised}
-use Rattle.k_frame.proofs.Charges.{bit_turned}
-use Rattle.k_frame.proofs.Sums.{bit}
+use Rattle.k_base.proofs.Charges.{bit_turned}
+use Rattle.k_base.proofs.Sums.{bit}
 use Rattle.k_frame.proofs.OwnerOf.{owner_user, owner_kernel, owner_shared}
 use Rattle.k_laws.proofs.SoundNew.{bytes_after}
 use Rattle.k_laws.proofs.Charged.{new_charge, knew_charge, snew_charge}

@@ -8,7 +8,7 @@ use Rattle.k_types.specs.State.{Object}
 use Rattle.k_types.specs.Updates.{with_object}
 use Rattle.k_types.specs.Sound.{IsOrdered, IsOrderedFrom}
 use Rattle.k_changes.specs.CellChanges.{with_objects}
-use Rattle.k_frame.proofs.NameTests.{name_lt_trans}
+use Rattle.k_base.proofs.NameTests.{name_lt_trans}
 
 -- the object comes before all of the list
 abbrev pub IsBefore : Object → List Object → Type 0

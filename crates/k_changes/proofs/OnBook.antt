@@ -17,10 +17,10 @@ use Rattle.k_types.specs.Updates.{count_done, write, add_exit, with_exit, open_s
 use Rattle.k_types.specs.Cells.{book_part, pins_of}
 use Rattle.k_changes.specs.BookChanges.{owner_in, with_charge, with_entry, with_phase, with_share, when_closed}
 use Rattle.k_frame.proofs.Bytes.{bytes-written}
-use Rattle.k_frame.proofs.Sums.{bit}
+use Rattle.k_base.proofs.Sums.{bit}
 use Rattle.k_laws.proofs.Raised.{direct_added, charge_sharing}
 use Rattle.k_laws.proofs.SoundShare.{owner_kept}
-use Rattle.k_frame.proofs.Sums.{total_append}
+use Rattle.k_base.proofs.Sums.{total_append}
 
 -- the book tells all owners
 pub owner_told : (trace : Trace) (st : State) → owner_in trace (book_part trace st) ≡ owner_of trace st

@@ -19,8 +19,8 @@ use Rattle.k_frame.specs.PartUpdates.{with_written}
 use Rattle.k_types.specs.Sound.{IsOrdered}
 use Rattle.k_changes.specs.CellChanges.{given, with_created, with_exit_to, with_scan, in_phase}
 use Rattle.k_changes.proofs.Merged.{kept_placed}
-use Rattle.k_frame.proofs.NameTests.{heap_eq-same, heap_eq_refl, name_eq-true}
-use Rattle.k_frame.proofs.Objects.{kept-written}
+use Rattle.k_base.proofs.NameTests.{heap_eq-same, heap_eq_refl, name_eq-true}
+use Rattle.k_base.proofs.Objects.{kept-written}
 use Rattle.k_laws.proofs.SoundShare.{owner_kept}
 
 -- a write shows in every cell: only its own has the object

@@ -13,7 +13,7 @@ use Rattle.k_types.specs.Updates.{set_register}
 use Rattle.k_types.specs.Cells.{book_part, pins, pins_of}
 use Rattle.k_types.specs.Sound.{IsSized}
 use Rattle.k_changes.specs.BookChanges.{pins_by, with_pin_moved}
-use Rattle.k_frame.proofs.Sums.{bit}
+use Rattle.k_base.proofs.Sums.{bit}
 
 -- a sum of which one number's part changes
 above_same : (f g : ℕ → ℕ) (p first n : ℕ) → p < first → ((q : ℕ) → q ≢ p → g q ≡ f q) → total g (numbers_from first n) ≡ total f (numbers_from first n)

@@ -6,8 +6,8 @@ use Rattle.k_types.specs.Totals.{total}
 use Rattle.k_types.specs.Numbers.{numbers_below, numbers_from}
 use Rattle.k_types.specs.State.{Sharing, has_share}
 use Rattle.k_types.specs.Sound.{AreDistinctShares}
-use Rattle.k_frame.proofs.Sums.{sum-filter, one_counts}
-use Rattle.k_frame.proofs.Sums.{zeros, sum_both, sum_same}
+use Rattle.k_base.proofs.Sums.{sum-filter, one_counts}
+use Rattle.k_base.proofs.Sums.{zeros, sum_both, sum_same}
 
 one_heap : (f : ℕ → ℕ) (s n : ℕ) → s < n → total (λ t. cond (s == t) (f t) 0) (numbers_below n) ≡ f s
 one_heap f s n inside =

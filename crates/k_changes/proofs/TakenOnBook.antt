@@ -23,9 +23,9 @@ use Rattle.k_changes.specs.BookChanges.{when_taken}
 use Rattle.k_changes.proofs.OnBook.{map_changed}
 use Rattle.k_changes.proofs.EntryCounts.{entries_left}
 use Rattle.k_changes.proofs.GivenAway.{nothing_owned, to_kernel}
-use Rattle.k_frame.proofs.Sums.{bit, sum_same}
+use Rattle.k_base.proofs.Sums.{bit, sum_same}
 use Rattle.k_frame.proofs.ElsewhereOther.{owned_agree}
-use Rattle.k_frame.proofs.NameTests.{heap_eq-true, heap_eq_refl, heap_eq_sym}
+use Rattle.k_base.proofs.NameTests.{heap_eq-true, heap_eq_refl, heap_eq_sym}
 use Rattle.k_laws.proofs.Merge.{merged}
 use Rattle.k_laws.proofs.SoundAbsorbed.{is_merged}
 

@@ -16,10 +16,10 @@ use Rattle.k_changes.specs.CellChanges.{given, next_name_in}
 use Rattle.k_changes.specs.BookChanges.{bytes_in}
 use Rattle.k_changes.specs.Told.{full_limit_in}
 use Rattle.k_changes.proofs.OnBook.{get_mapped}
-use Rattle.k_frame.proofs.Charges.{path_low}
-use Rattle.k_frame.proofs.Maxima.{length_in, tree_in}
-use Rattle.k_frame.proofs.NameTests.{heap_eq-same}
-use Rattle.k_frame.proofs.Objects.{object_at-kept}
+use Rattle.k_base.proofs.Charges.{path_low}
+use Rattle.k_base.proofs.Maxima.{length_in, tree_in}
+use Rattle.k_base.proofs.NameTests.{heap_eq-same}
+use Rattle.k_base.proofs.Objects.{object_at-kept}
 use Rattle.k_laws.proofs.UseShown.{use_is_shown}
 
 -- an object is found in its owner's cell

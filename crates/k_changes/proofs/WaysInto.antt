@@ -13,12 +13,12 @@ use Rattle.k_types.specs.Effects.{share_stays, exit_stays, open_roots, register_
 use Rattle.k_types.specs.Cells.{part, book_part}
 use Rattle.k_types.specs.Sound.{IsSound}
 use Rattle.k_changes.specs.BookChanges.{leads_into, content_into, has_way_into}
-use Rattle.k_frame.proofs.Lists.{any_weaker}
-use Rattle.k_frame.proofs.NameTests.{name_eq-true, name_eq_refl, heap_eq-true, heap_eq_refl, heap_eq-same}
+use Rattle.k_base.proofs.Lists.{any_weaker}
+use Rattle.k_base.proofs.NameTests.{name_eq-true, name_eq_refl, heap_eq-true, heap_eq_refl, heap_eq-same}
 use Rattle.k_laws.proofs.Means.{reach_is, reached_refers}
 use Rattle.k_laws.proofs.Surviving.{exit_into, into_exit, exits_after, leads_into as item_into}
 use Rattle.k_laws.proofs.Turned.{some_element}
-use Rattle.k_frame.proofs.Tests.{same_test}
+use Rattle.k_base.proofs.Tests.{same_test}
 
 any_same : {A : Type 0} (p q : A → Bool) → ((x : A) → p x ≡ q x) → (xs : List A) → list_any p xs ≡ list_any q xs
 any_same p q same [] = refl

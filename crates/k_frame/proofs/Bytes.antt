@@ -7,7 +7,7 @@ use Rattle.k_types.specs.Names.{heap_eq}
 use Rattle.k_types.specs.State.{Object, Content}
 use Rattle.k_types.specs.Owners.{bytes_by, object_bytes}
 use Rattle.k_types.specs.Updates.{object_after_write}
-use Rattle.k_frame.proofs.Objects.{written_name}
+use Rattle.k_base.proofs.Objects.{written_name}
 
 -- an object keeps its bytes
 object_bytes-written : (x : Name) (i : ℕ) (c : Content) (o : Object) → object_bytes (object_after_write x i c o) ≡ object_bytes o

@@ -15,7 +15,7 @@ use Rattle.k_types.specs.State.{State, Content, ExitItem, has_exit}
 use Rattle.k_types.specs.Owners.{owner_of, user}
 use Rattle.k_types.specs.Updates.{count_done, set_register, create, write, add_exit, with_exit, open_scan, add_share, close}
 use Rattle.k_types.specs.Cells.{part, process_of, Cell}
-use Rattle.k_frame.proofs.Objects.{kept-placed_other, kept-written_other}
+use Rattle.k_base.proofs.Objects.{kept-placed_other, kept-written_other}
 
 -- the exit items of a heap, in their order, tell which it has
 abbrev pub exits_of : List ExitItem → Heap → List ExitItem

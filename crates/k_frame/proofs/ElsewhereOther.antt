@@ -15,11 +15,11 @@ use Rattle.k_types.specs.Owners.{owner_of, objects_of, user, shared, phase_of, i
 use Rattle.k_types.specs.Updates.{set_phase, keep_objects, keep_exits, keep_shares, close_scan, clear_registers, end_process, turn_exits}
 use Rattle.k_types.specs.Effects.{after_ended, survives, exit_stays, after_end_of, exit_after, after_absorbed, stays_after_absorb}
 use Rattle.k_types.specs.Cells.{part, made_of, process_of, phase_shown, Cell}
-use Rattle.k_frame.proofs.NameTests.{heap_eq-true, heap_eq_sym}
+use Rattle.k_base.proofs.NameTests.{heap_eq-true, heap_eq_sym}
 use Rattle.std.proofs.Math.Path.{fun_ext}
 use Rattle.k_frame.proofs.Elsewhere.{exits_of, exits_told}
 use Rattle.k_frame.proofs.Kept.{scan_closed}
-use Rattle.k_frame.proofs.Lists.{get_or-set_cases}
+use Rattle.k_base.proofs.Lists.{get_or-set_cases}
 
 -- owners that agree on a cell give it the same objects and the same serials
 pub owned_agree : (own own' : ℕ → Heap) (c : Cell) → ((seg : ℕ) → heap_eq (own' seg) c ≡ heap_eq (own seg) c) → (xs : List Object) → objects_of own' c xs ≡ objects_of own c xs

@@ -8,8 +8,8 @@ use Rattle.k_types.specs.Trace.{row_of}
 use Rattle.k_types.specs.Numbers.{numbers_from}
 use Rattle.k_types.specs.Limits.{is_parent}
 use Rattle.k_types.specs.TraceRules.{IsTree}
-use Rattle.k_frame.proofs.Charges.{counted, on_path, path_counts, path_low, soft}
-use Rattle.k_frame.proofs.Sums.{bit}
+use Rattle.k_base.proofs.Charges.{counted, on_path, path_counts, path_low, soft}
+use Rattle.k_base.proofs.Sums.{bit}
 
 -- of numbers below n, the same total where each that passes gives the same
 pub same_below : (p : ℕ → Bool) (f g : ℕ → ℕ) (first n : ℕ) → ((c : ℕ) → c < first + n → IsTrue (p c) → f c ≡ g c) → total f (filter p (numbers_from first n)) ≡ total g (filter p (numbers_from first n))

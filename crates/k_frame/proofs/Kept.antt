@@ -8,7 +8,7 @@ use Rattle.k_types.specs.declared.names.Heap.{Heap}
 use Rattle.k_types.specs.Names.{name_eq, heap_eq}
 use Rattle.k_types.specs.State.{ExitItem, Sharing, Scan, has_exit, has_share, scan_of}
 use Rattle.k_types.specs.Sound.{AreDistinctExits, AreDistinctShares, AreDistinctScans}
-use Rattle.k_frame.proofs.NameTests.{name_eq-true, heap_eq-true}
+use Rattle.k_base.proofs.NameTests.{name_eq-true, heap_eq-true}
 
 pub exit_is : (e : ExitItem) (h : Heap) (n : Name) → (heap_eq e.heap h && name_eq e.target n) ≡ true → e ≡ record { heap = h; target = n }
 exit_is e h n t =

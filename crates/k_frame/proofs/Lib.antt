@@ -1,6 +1,3 @@
-pub mod NameTests
-pub mod Lists
-pub mod Objects
 pub mod Histories
 pub mod Kept
 pub mod OwnerOf
@@ -13,11 +10,7 @@ pub mod LocalEffects
 pub mod LocalBook
 pub mod Rest
 pub mod Sizes
-pub mod Sums
 pub mod Tails
-pub mod Tests
-pub mod Charges
 pub mod Exact
-pub mod Maxima
 pub mod Bytes
 pub mod Untouched

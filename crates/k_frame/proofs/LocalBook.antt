@@ -17,9 +17,9 @@ use Rattle.k_types.specs.Replies.{first_fault, faults, at_base, field_at, field_
 use Rattle.k_types.specs.Effects.{effect, after_store, after_put}
 use Rattle.k_types.specs.Cells.{book_part, pins_of}
 use Rattle.k_types.specs.Local.{is_local, is_own, is_local_load, is_local_store}
-use Rattle.k_frame.proofs.NameTests.{name_eq-true, heap_eq-same}
-use Rattle.k_frame.proofs.Lists.{get_or-set_cases}
-use Rattle.k_frame.proofs.Sums.{sum_same}
+use Rattle.k_base.proofs.NameTests.{name_eq-true, heap_eq-same}
+use Rattle.k_base.proofs.Lists.{get_or-set_cases}
+use Rattle.k_base.proofs.Sums.{sum_same}
 use Rattle.k_frame.proofs.Bytes.{bytes-written}
 use Rattle.k_frame.proofs.OwnerOf.{owner_user}
 use Rattle.k_frame.proofs.LocalSteps.{own_faults}

@@ -17,8 +17,8 @@ use Rattle.k_types.specs.Cells.{part}
 use Rattle.k_frame.specs.PartUpdates.{with_register, with_done, with_written, held_in}
 use Rattle.k_types.specs.Local.{is_local, is_own, is_local_store}
 use Rattle.k_frame.specs.Alike.{Alike}
-use Rattle.k_frame.proofs.NameTests.{heap_eq_refl}
-use Rattle.k_frame.proofs.Objects.{kept-written}
+use Rattle.k_base.proofs.NameTests.{heap_eq_refl}
+use Rattle.k_base.proofs.Objects.{kept-written}
 use Rattle.k_frame.proofs.OwnerOf.{owner_user}
 use Rattle.k_frame.proofs.LocalSteps.{same_register, own_st, own_su, loaded_same, own_faults, at_fault}
 

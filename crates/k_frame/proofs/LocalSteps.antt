@@ -15,8 +15,8 @@ use Rattle.k_types.specs.Replies.{fault_where, first_fault, faults, access_fault
 use Rattle.k_types.specs.Cells.{ProcessPart, part}
 use Rattle.k_types.specs.Local.{is_local, is_own, is_local_load, is_local_store}
 use Rattle.k_frame.specs.Alike.{Alike}
-use Rattle.k_frame.proofs.NameTests.{heap_eq-same}
-use Rattle.k_frame.proofs.Objects.{object_at-kept}
+use Rattle.k_base.proofs.NameTests.{heap_eq-same}
+use Rattle.k_base.proofs.Objects.{object_at-kept}
 use Rattle.k_frame.proofs.OwnerOf.{owner_user}
 
 process_parts : Option ProcessPart → ProcessPart

@@ -21,8 +21,8 @@ use Rattle.k_types.specs.Updates.{count_done, set_register, create, write, add_e
 use Rattle.k_types.specs.Effects.{step, effect, effect_unless, after_operation, after_store, after_put, with_exit_of_store, after_freeze, after_end_of, after_ended, after_absorbed, after_closing}
 use Rattle.k_types.specs.Steps.{run, state_after}
 use Rattle.k_types.specs.Sound.{IsSized}
-use Rattle.k_frame.proofs.Lists.{get_or-set_cases}
-use Rattle.k_frame.proofs.Maxima.{maxima_count}
+use Rattle.k_base.proofs.Lists.{get_or-set_cases}
+use Rattle.k_base.proofs.Maxima.{maxima_count}
 
 pub length-same : {A : Type 0} (n : ℕ) (x : A) → length (replicate n x) ≡ n
 length-same zero x = refl

@@ -26,7 +26,7 @@ use Rattle.k_types.specs.Effects.{step, effect, effect_unless, after_operation, 
 use Rattle.k_types.specs.Steps.{IsPossible}
 use Rattle.k_types.specs.Sound.{IsSound}
 use Rattle.k_laws.specs.Charges.{bytes_charged, bytes_added, charged_unless}
-use Rattle.k_frame.proofs.Sums.{bit, sum_same}
+use Rattle.k_base.proofs.Sums.{bit, sum_same}
 use Rattle.k_frame.proofs.Bytes.{bytes-written}
 use Rattle.k_frame.proofs.FrameSteps.{none_on}
 use Rattle.k_frame.proofs.OwnerOf.{owner_user, owner_kernel, owner_shared}

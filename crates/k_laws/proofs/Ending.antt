@@ -22,7 +22,7 @@ use Rattle.k_types.specs.Sound.{IsSound}
 use Rattle.k_laws.specs.Changes.{MayAbsorb}
 use Rattle.k_laws.specs.Charges.{is_done_by, bytes_added}
 use Rattle.k_laws.specs.Termination.{CreditsTheCharge, LeavesTheRest}
-use Rattle.k_frame.proofs.Sums.{bit, sum_same}
+use Rattle.k_base.proofs.Sums.{bit, sum_same}
 use Rattle.k_frame.proofs.ElsewhereOther.{among-push, owner_ended, owned_agree, filter_hidden}
 use Rattle.k_frame.proofs.Kept.{has_share-kept}
 use Rattle.k_laws.proofs.SoundAbsorbed.{bytes_fewer, merged_fewer, is_merged}

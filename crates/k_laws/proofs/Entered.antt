@@ -14,8 +14,8 @@ use Rattle.k_types.specs.Owners.{owner_of, user}
 use Rattle.k_types.specs.Reach.{is_entered, has_entry}
 use Rattle.k_types.specs.Cells.{entries, pins, pins_of}
 use Rattle.k_types.specs.Sound.{IsSound}
-use Rattle.k_frame.proofs.NameTests.{name_eq-true, name_eq_refl, heap_eq_refl}
-use Rattle.k_frame.proofs.Sums.{bit}
+use Rattle.k_base.proofs.NameTests.{name_eq-true, name_eq_refl, heap_eq_refl}
+use Rattle.k_base.proofs.Sums.{bit}
 
 either_above : (a b : ℕ) → nat_lt 0 (a + b) ≡ (nat_lt 0 a || nat_lt 0 b)
 either_above a b = grind (arith, nat_tests)

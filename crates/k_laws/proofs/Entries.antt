@@ -13,10 +13,10 @@ use Rattle.k_types.specs.Owners.{user, shared}
 use Rattle.k_types.specs.Cells.{entries}
 use Rattle.k_types.specs.Sound.{IsSound, AreDistinctExits}
 use Rattle.k_laws.specs.Meaning.{heaps_of}
-use Rattle.k_frame.proofs.NameTests.{name_eq_refl, name_eq-true, heap_eq-true, heap_eq_refl}
-use Rattle.k_frame.proofs.Charges.{bit_turned}
-use Rattle.k_frame.proofs.Sums.{bit, sum_same, sum_added, one_counts}
-use Rattle.k_frame.proofs.Sums.{total_append, zeros}
+use Rattle.k_base.proofs.NameTests.{name_eq_refl, name_eq-true, heap_eq-true, heap_eq_refl}
+use Rattle.k_base.proofs.Charges.{bit_turned}
+use Rattle.k_base.proofs.Sums.{bit, sum_same, sum_added, one_counts}
+use Rattle.k_base.proofs.Sums.{total_append, zeros}
 
 total_map : {A B : Type 0} (f : B → ℕ) (g : A → B) (xs : List A) → total f (map g xs) ≡ total (λ x. f (g x)) xs
 total_map f g [] = refl

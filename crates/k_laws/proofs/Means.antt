@@ -17,9 +17,9 @@ use Rattle.k_types.specs.Local.{is_own}
 use Rattle.k_types.specs.Sound.{IsSound}
 use Rattle.k_laws.specs.Survivors.{RefersOut}
 use Rattle.k_laws.specs.Termination.{StaysOrPasses}
-use Rattle.k_frame.proofs.NameTests.{heap_eq-true, heap_eq_refl}
+use Rattle.k_base.proofs.NameTests.{heap_eq-true, heap_eq_refl}
 use Rattle.k_laws.proofs.Closure.{set, set_closed, set_refers, length-kept}
-use Rattle.k_frame.proofs.Objects.{referrer, refers_in-kept, refers_in_has}
+use Rattle.k_base.proofs.Objects.{referrer, refers_in-kept, refers_in_has}
 use Rattle.k_frame.proofs.Kept.{has_exit-kept}
 use Rattle.k_frame.proofs.OwnerOf.{owner_user}
 use Rattle.k_laws.proofs.SoundCollected.{collected_sound}

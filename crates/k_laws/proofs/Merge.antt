@@ -7,7 +7,7 @@ use Rattle.k_types.specs.declared.names.Heap.TheVariants.{Kernel, User, Shared}
 use Rattle.k_types.specs.Names.{heap_eq}
 use Rattle.k_types.specs.State.{Object, ExitItem, has_exit}
 use Rattle.k_types.specs.Sound.{IsLegalStore}
-use Rattle.k_frame.proofs.NameTests.{heap_eq-true, heap_eq-same, heap_eq_refl}
+use Rattle.k_base.proofs.NameTests.{heap_eq-true, heap_eq-same, heap_eq_refl}
 use Rattle.std.proofs.lemmas.Bool.Decides.{nat_tests}
 use Rattle.k_types.specs.Sound.{AreGuarded, AreExits}
 

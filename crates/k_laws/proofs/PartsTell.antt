@@ -14,7 +14,7 @@ use Rattle.k_types.specs.Owners.{owner_of, objects_of, owner_of_segment, owner_o
 use Rattle.k_types.specs.Cells.{CellPart, BookPart, ProcessPart, part, book_part}
 use Rattle.k_types.specs.Sound.{IsSound, IsOrdered, IsOrderedFrom}
 use Rattle.k_laws.specs.Parts.{SameParts, SameState}
-use Rattle.k_frame.proofs.NameTests.{name_eq_refl, heap_eq-true, heap_eq_refl}
+use Rattle.k_base.proofs.NameTests.{name_eq_refl, heap_eq-true, heap_eq_refl}
 use Rattle.k_frame.proofs.OwnerOf.{owner_known}
 use Rattle.k_laws.proofs.SoundStore.{get_or_above}
 

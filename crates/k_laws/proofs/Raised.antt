@@ -11,10 +11,10 @@ use Rattle.k_types.specs.Owners.{user, shared, charge_of, charge_by}
 use Rattle.k_types.specs.Numbers.{numbers_below}
 use Rattle.k_types.specs.Limits.{limits_in, use_of, use_by, direct_by, full_limit, path_of, max_of}
 use Rattle.k_types.specs.Sound.{AreDistinctShares}
-use Rattle.k_frame.proofs.Charges.{use_added, counted_once, bit_turned}
-use Rattle.k_frame.proofs.Sums.{bit, sum_added, sum_same, sum-filter, one_counts}
-use Rattle.k_frame.proofs.Maxima.{length_in, tree_in}
-use Rattle.k_frame.proofs.Sums.{total_append}
+use Rattle.k_base.proofs.Charges.{use_added, counted_once, bit_turned}
+use Rattle.k_base.proofs.Sums.{bit, sum_added, sum_same, sum-filter, one_counts}
+use Rattle.k_base.proofs.Maxima.{length_in, tree_in}
+use Rattle.k_base.proofs.Sums.{total_append}
 
 -- nothing that the search passed meets the test
 pub not_found : (p : ℕ → Bool) (xs : List ℕ) (q : ℕ) → find p xs ≡ None → IsTrue (among q xs) → p q ≡ false

@@ -12,9 +12,9 @@ use Rattle.k_types.specs.State.{Object, Content, Holds, object_at, has, fields_o
 use Rattle.k_types.specs.Owners.{phase_of}
 use Rattle.k_types.specs.Updates.{with_object, object_after_write}
 use Rattle.k_types.specs.Sound.{IsTyped, AreTyped, AreDeclared}
-use Rattle.k_frame.proofs.NameTests.{name_eq-true}
-use Rattle.k_frame.proofs.Objects.{object_at-placed, object_at-written, object_at-kept, found_name}
-use Rattle.k_frame.proofs.Lists.{get_or-set_cases}
+use Rattle.k_base.proofs.NameTests.{name_eq-true}
+use Rattle.k_base.proofs.Objects.{object_at-placed, object_at-written, object_at-kept, found_name}
+use Rattle.k_base.proofs.Lists.{get_or-set_cases}
 
 -- the kinds of the fields stay where a field gets what is of its kind
 pub kinds_kept : (fields : List Content) (i : ℕ) (c : Content) → field_kind c ≡ field_kind (get_or fields i (Holds 0)) → map field_kind (set fields i c) ≡ map field_kind fields

@@ -14,7 +14,7 @@ use Rattle.k_types.specs.Numbers.{numbers_below}
 use Rattle.k_types.specs.Limits.{limits_in, use_of}
 use Rattle.k_types.specs.Reach.{is_root, is_entered, is_held, is_pinned, has_entry}
 use Rattle.k_types.specs.Sound.{IsSound, IsLegalStore}
-use Rattle.k_frame.proofs.NameTests.{heap_eq-true, heap_eq-same, heap_eq_refl, heap_eq-false}
+use Rattle.k_base.proofs.NameTests.{heap_eq-true, heap_eq-same, heap_eq_refl, heap_eq-false}
 use Rattle.k_types.specs.Totals.{total}
 use Rattle.k_types.specs.Owners.{is_absorbed, owner_of_segment, owner_of_process, owner_of_shared, charge_of, objects_of}
 use Rattle.k_types.specs.Updates.{set_phase, keep_exits}

@@ -13,7 +13,7 @@ use Rattle.k_types.specs.Owners.{owner_of, user, shared, bytes_by, bytes_of, obj
 use Rattle.k_types.specs.Limits.{limits_in, use_by, use_of}
 use Rattle.k_types.specs.Reach.{is_root, is_entered, is_held, is_pinned, has_entry}
 use Rattle.k_types.specs.Sound.{IsSound, IsOrdered, IsOrderedFrom}
-use Rattle.k_frame.proofs.NameTests.{heap_eq-true, heap_eq-same, name_lt_trans}
+use Rattle.k_base.proofs.NameTests.{heap_eq-true, heap_eq-same, name_lt_trans}
 use Rattle.k_types.specs.declared.names.Pid.{Pid}
 use Rattle.k_types.specs.Owners.{objects_of, owner_of_segment}
 use Rattle.k_types.specs.declared.names.Phase.TheVariants.{Populating}
@@ -26,8 +26,8 @@ use Rattle.k_types.specs.Steps.{has_sharer}
 use Rattle.k_laws.proofs.Shapes.{typed-kept}
 use Rattle.k_frame.proofs.Kept.{distinct_scans-closed, has_exit-kept, has_share-kept, any-fewer, distinct_exits-kept, distinct_shares-kept, scan_closed, sum-fewer, filter_swap}
 use Rattle.k_laws.proofs.Uses.{use_by_less, charge_less}
-use Rattle.k_frame.proofs.Objects.{has-kept, refers_in-kept, referred}
-use Rattle.k_frame.proofs.Lists.{below_any, get_or_inside}
+use Rattle.k_base.proofs.Objects.{has-kept, refers_in-kept, referred}
+use Rattle.k_base.proofs.Lists.{below_any, get_or_inside}
 use Rattle.k_laws.proofs.Safe.{root_reached, reach_closed, reach_refers, exit_enters}
 
 ordered-kept_from : (q : Name → Bool) (m k : Name) (xs : List Object) → (m ≡ k) ⊎ IsTrue (name_lt m k) → IsOrderedFrom k xs → IsOrderedFrom m (filter (λ o. q o.name) xs)

@@ -16,9 +16,9 @@ use Rattle.k_types.specs.Limits.{limits_in, use_of, max_of}
 use Rattle.k_types.specs.Reach.{is_entered, is_held}
 use Rattle.k_types.specs.Updates.{create, with_object, next_name}
 use Rattle.k_types.specs.Sound.{IsSound, IsTyped, IsOrdered, IsOrderedFrom}
-use Rattle.k_frame.proofs.NameTests.{name_eq_refl, name_eq-true, name_lt_total}
-use Rattle.k_frame.proofs.Objects.{has-placed, refers_in-placed}
-use Rattle.k_frame.proofs.Lists.{get_or-set_cases}
+use Rattle.k_base.proofs.NameTests.{name_eq_refl, name_eq-true, name_lt_total}
+use Rattle.k_base.proofs.Objects.{has-placed, refers_in-placed}
+use Rattle.k_base.proofs.Lists.{get_or-set_cases}
 use Rattle.k_laws.proofs.Shapes.{kinds_fresh, typed-placed}
 
 ordered-placed_from : (o : Object) (m : Name) (xs : List Object) → IsTrue (name_lt m o.name) → has xs o.name ≡ false → IsOrderedFrom m xs → IsOrderedFrom m (with_object o xs)

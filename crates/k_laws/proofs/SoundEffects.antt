@@ -28,7 +28,7 @@ use Rattle.k_types.specs.Effects.{effect, after_new, after_end_of, after_store, 
 use Rattle.k_types.specs.Cells.{base_cell, access_cell, other_cells}
 use Rattle.k_types.specs.Steps.{in_range}
 use Rattle.k_types.specs.Sound.{IsSound}
-use Rattle.k_frame.proofs.NameTests.{name_eq-true, heap_eq-true}
+use Rattle.k_base.proofs.NameTests.{name_eq-true, heap_eq-true}
 use Rattle.k_frame.proofs.FrameSteps.{none_first, none_on}
 use Rattle.k_frame.proofs.OwnerOf.{owner_kernel}
 use Rattle.k_laws.proofs.Raised.{raised_fits, charge_sharing}

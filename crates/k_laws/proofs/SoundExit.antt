@@ -13,7 +13,7 @@ use Rattle.k_types.specs.Owners.{owner_of, user, shared, bytes_by, phase_of}
 use Rattle.k_types.specs.Reach.{is_root, is_entered, is_held, is_pinned, has_entry}
 use Rattle.k_types.specs.Updates.{add_exit, with_exit}
 use Rattle.k_types.specs.Sound.{IsSound, IsLegalStore, AreDistinctExits}
-use Rattle.k_frame.proofs.NameTests.{name_eq_refl, name_eq-true, heap_eq-true, heap_eq_refl, name_eq_sym, heap_eq_sym}
+use Rattle.k_base.proofs.NameTests.{name_eq_refl, name_eq-true, heap_eq-true, heap_eq_refl, name_eq_sym, heap_eq_sym}
 use Rattle.k_laws.proofs.Shielded.{IsShielded}
 
 or_false : (b : Bool) → (b || false) ≡ true → b ≡ true

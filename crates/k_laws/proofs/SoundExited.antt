@@ -14,8 +14,8 @@ use Rattle.k_types.specs.Numbers.{numbers_below}
 use Rattle.k_types.specs.Limits.{limits_in, use_of}
 use Rattle.k_types.specs.Reach.{is_root, is_entered, is_held, is_pinned, has_entry}
 use Rattle.k_types.specs.Sound.{IsSound, IsLegalStore, AreDistinctExits}
-use Rattle.k_frame.proofs.NameTests.{name_eq_refl, heap_eq-true, heap_eq-same, heap_eq_refl, heap_eq_sym, heap_eq-false}
-use Rattle.k_frame.proofs.Lists.{any_weaker, get_or-set_cases}
+use Rattle.k_base.proofs.NameTests.{name_eq_refl, heap_eq-true, heap_eq-same, heap_eq_refl, heap_eq_sym, heap_eq-false}
+use Rattle.k_base.proofs.Lists.{any_weaker, get_or-set_cases}
 use Rattle.k_types.specs.State.{has_share}
 use Rattle.k_types.specs.Owners.{is_absorbed, owner_of_segment, owner_of_process, owner_of_shared, charge_of}
 use Rattle.k_types.specs.Reach.{is_shared_heap}

@@ -17,8 +17,8 @@ use Rattle.k_types.specs.Limits.{limits_in, full_limit}
 use Rattle.k_types.specs.Updates.{create, with_object, next_name}
 use Rattle.k_types.specs.Effects.{after_new}
 use Rattle.k_types.specs.Sound.{IsSound}
-use Rattle.k_frame.proofs.Sums.{bit}
-use Rattle.k_frame.proofs.NameTests.{name_eq-true}
+use Rattle.k_base.proofs.Sums.{bit}
+use Rattle.k_base.proofs.NameTests.{name_eq-true}
 use Rattle.k_frame.proofs.OwnerOf.{owner_user, owner_kernel, owner_shared}
 use Rattle.k_laws.proofs.Uses.{use_by_less, charged_less}
 use Rattle.k_laws.proofs.Raised.{raised_fits, charge_added, charge_shared_added, length-map}

@@ -13,11 +13,11 @@ use Rattle.k_types.specs.Owners.{owner_of, owner_of_segment, bytes_by, charge_of
 use Rattle.k_types.specs.Numbers.{numbers_below}
 use Rattle.k_types.specs.Limits.{limits_in, direct_by, use_by, use_of, max_of}
 use Rattle.k_types.specs.Sound.{IsSound, IsTyped}
-use Rattle.k_frame.proofs.NameTests.{name_eq-true}
+use Rattle.k_base.proofs.NameTests.{name_eq-true}
 use Rattle.k_frame.proofs.Sizes.{opening_sized}
-use Rattle.k_frame.proofs.Maxima.{own_maxima}
+use Rattle.k_base.proofs.Maxima.{own_maxima}
 use Rattle.k_laws.proofs.Uses.{use_less, total_less}
-use Rattle.k_frame.proofs.Sums.{zeros}
+use Rattle.k_base.proofs.Sums.{zeros}
 
 pub all_unmade : (n s : ℕ) → phase_of (replicate n Unmade) s ≡ Unmade
 all_unmade zero s = refl

@@ -14,8 +14,8 @@ use Rattle.k_types.specs.Limits.{limits_in, use_by, max_of}
 use Rattle.k_types.specs.Reach.{is_root, is_entered, is_held, is_pinned, has_entry}
 use Rattle.k_types.specs.Updates.{set_phase}
 use Rattle.k_types.specs.Sound.{IsSound, AreGuarded, AreExits}
-use Rattle.k_frame.proofs.Lists.{get_or-set_cases}
-use Rattle.k_frame.proofs.Sums.{bit}
+use Rattle.k_base.proofs.Lists.{get_or-set_cases}
+use Rattle.k_base.proofs.Sums.{bit}
 use Rattle.k_laws.proofs.Shapes.{declared-phase}
 use Rattle.k_laws.proofs.SoundShare.{owner_kept}
 use Rattle.k_laws.proofs.SoundSharing.{sharing, sharer_of, share_cases, share_kept, share_there, sharer_cases, distinct_shares-push, bytes_none}

@@ -13,8 +13,8 @@ use Rattle.k_types.specs.Numbers.{numbers_below}
 use Rattle.k_types.specs.Reach.{is_root, is_entered, is_held, is_pinned, has_entry}
 use Rattle.k_types.specs.Updates.{set_register}
 use Rattle.k_types.specs.Sound.{IsSound}
-use Rattle.k_frame.proofs.Lists.{any_or, get_or-set_cases}
-use Rattle.k_frame.proofs.Lists.{any-set}
+use Rattle.k_base.proofs.Lists.{any_or, get_or-set_cases}
+use Rattle.k_base.proofs.Lists.{any-set}
 use Rattle.k_laws.proofs.Shielded.{IsShielded}
 
 -- a register that leads to the object after the write did so before, or was written

@@ -9,13 +9,13 @@ use Rattle.k_types.specs.State.{State, Object, has, scan_of}
 use Rattle.k_types.specs.Owners.{owner_of, user, shared, bytes_by}
 use Rattle.k_types.specs.Reach.{is_root, is_entered, is_held}
 use Rattle.k_types.specs.Sound.{IsSound}
-use Rattle.k_frame.proofs.NameTests.{heap_eq-true, heap_eq-false, heap_eq-same}
+use Rattle.k_base.proofs.NameTests.{heap_eq-true, heap_eq-false, heap_eq-same}
 use Rattle.k_types.specs.State.{Scan}
 use Rattle.k_types.specs.Owners.{objects_of}
 use Rattle.k_types.specs.Reach.{roots_of}
 use Rattle.k_types.specs.Updates.{open_scan}
 use Rattle.k_laws.specs.Changes.{MayScan}
-use Rattle.k_frame.proofs.Objects.{has-kept}
+use Rattle.k_base.proofs.Objects.{has-kept}
 
 among-names : (n : Name) (xs : List Object) → name_among n (map (λ o. o.name) xs) ≡ has xs n
 among-names n [] = refl

@@ -11,7 +11,7 @@ use Rattle.k_types.specs.Owners.{owner_of, shared, bytes_by, charge_by, phase_of
 use Rattle.k_types.specs.Limits.{limits_in, use_by, max_of}
 use Rattle.k_types.specs.Reach.{is_root, is_entered, is_held, is_pinned, has_entry}
 use Rattle.k_types.specs.Sound.{AreGuarded, AreExits, IsSound}
-use Rattle.k_frame.proofs.Lists.{get_or-set_cases}
+use Rattle.k_base.proofs.Lists.{get_or-set_cases}
 use Rattle.k_types.specs.declared.names.Phase.{Phase}
 use Rattle.k_types.specs.declared.names.Phase.TheVariants.{Frozen}
 use Rattle.k_types.specs.Owners.{is_absorbed, owner_of_segment, owner_of_process}

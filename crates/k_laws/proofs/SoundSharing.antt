@@ -16,7 +16,7 @@ use Rattle.k_types.specs.Limits.{limits_in, use_by, max_of}
 use Rattle.k_types.specs.Reach.{is_entered, is_held}
 use Rattle.k_types.specs.Steps.{has_sharer}
 use Rattle.k_types.specs.Sound.{IsSound, AreDistinctShares}
-use Rattle.k_frame.proofs.NameTests.{name_eq_refl, heap_eq-true}
+use Rattle.k_base.proofs.NameTests.{name_eq_refl, heap_eq-true}
 
 -- who shares the heap is a sharer of it
 pub sharer_of : (shares : List Sharing) (p s : ℕ) → IsTrue (has_share shares p s) → IsTrue (has_sharer shares s)

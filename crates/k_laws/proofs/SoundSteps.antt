@@ -22,7 +22,7 @@ use Rattle.k_types.specs.Effects.{step, effect, effect_unless, after_operation, 
 use Rattle.k_types.specs.Cells.{cells_touched, other_cells}
 use Rattle.k_types.specs.Steps.{IsPossible, IsRun, IsLegalHistory, run, state_after, is_live, has_sharer}
 use Rattle.k_types.specs.Sound.{IsSound}
-use Rattle.k_frame.proofs.Objects.{some_is}
+use Rattle.k_base.proofs.Objects.{some_is}
 use Rattle.k_laws.proofs.SoundOpening.{opening_sound}
 use Rattle.k_laws.proofs.SoundEffects.{effect_sound, kernel_scan_sound, none_is}
 use Rattle.k_laws.proofs.SoundAbsorbed.{absorbed_sound}

@@ -11,7 +11,7 @@ use Rattle.k_types.specs.Owners.{owner_of, user, shared, phase_of}
 use Rattle.k_types.specs.Reach.{is_entered}
 use Rattle.k_types.specs.Updates.{write, add_exit}
 use Rattle.k_types.specs.Sound.{IsSound, IsLegalStore}
-use Rattle.k_frame.proofs.NameTests.{name_eq_refl, name_eq-true, heap_eq-true}
+use Rattle.k_base.proofs.NameTests.{name_eq_refl, name_eq-true, heap_eq-true}
 use Rattle.k_laws.proofs.Shielded.{IsShielded}
 use Rattle.k_types.specs.declared.event.Fault.TheVariants.{Foreign, NoField, WrongKind, Frozen, Segv}
 use Rattle.k_types.specs.declared.names.Field.TheVariants.{Ref}
@@ -19,7 +19,7 @@ use Rattle.k_types.specs.State.{register, Content, Refers, Holds, field_kind, fi
 use Rattle.k_types.specs.Owners.{is_absorbed}
 use Rattle.k_types.specs.Replies.{first_fault, access_faults, is_foreign, sharer_fault, passes_barrier, store_faults, field_at, is_ref}
 use Rattle.k_types.specs.Effects.{with_exit_of_store}
-use Rattle.k_frame.proofs.Lists.{below_any, get_or_inside}
+use Rattle.k_base.proofs.Lists.{below_any, get_or_inside}
 use Rattle.k_frame.proofs.OwnerOf.{owner_known, owner_stands, owner_lives}
 use Rattle.k_laws.proofs.SoundExit.{add_exit_sound, exit_there}
 use Rattle.k_laws.proofs.SoundWrite.{write_sound}

@@ -11,7 +11,7 @@ use Rattle.k_types.specs.Reach.{is_entered, is_held}
 use Rattle.k_types.specs.Replies.{field_at}
 use Rattle.k_types.specs.Updates.{write, object_after_write}
 use Rattle.k_types.specs.Sound.{IsSound, IsLegalStore, IsOrdered, IsOrderedFrom}
-use Rattle.k_frame.proofs.Objects.{has-written, refers_in-written, written_name}
+use Rattle.k_base.proofs.Objects.{has-written, refers_in-written, written_name}
 use Rattle.k_frame.proofs.Bytes.{bytes-written}
 use Rattle.k_laws.proofs.Shapes.{typed-written}
 

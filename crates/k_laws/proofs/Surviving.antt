@@ -12,8 +12,8 @@ use Rattle.k_types.specs.Updates.{keep_objects, keep_exits, keep_shares, close_s
 use Rattle.k_types.specs.Effects.{after_ended, survives, exit_stays, share_stays, register_lies_in, registers_of, lies_in}
 use Rattle.k_types.specs.Sound.{IsSound}
 use Rattle.k_laws.specs.Survivors.{KeepsTheSurvivors, HasWayInto}
-use Rattle.k_frame.proofs.NameTests.{name_eq-true, name_eq_refl, heap_eq-true, heap_eq_refl, heap_eq-same, heap_eq-false}
-use Rattle.k_frame.proofs.Objects.{has-kept, object_at-kept}
+use Rattle.k_base.proofs.NameTests.{name_eq-true, name_eq_refl, heap_eq-true, heap_eq_refl, heap_eq-same, heap_eq-false}
+use Rattle.k_base.proofs.Objects.{has-kept, object_at-kept}
 use Rattle.k_frame.proofs.Kept.{has_exit-kept, has_share-kept, scan_closed, exit_is}
 use Rattle.k_laws.proofs.Turned.{some_element}
 use Rattle.k_laws.proofs.Means.{exit_needed, exit_there_still}

@@ -10,7 +10,7 @@ use Rattle.k_types.specs.Trace.{Trace}
 use Rattle.k_types.specs.State.{State, ExitItem, has_exit}
 use Rattle.k_types.specs.Owners.{owner_of, user}
 use Rattle.k_types.specs.Sound.{IsSound}
-use Rattle.k_frame.proofs.NameTests.{name_eq_refl, name_eq-true, heap_eq-true, heap_eq_refl}
+use Rattle.k_base.proofs.NameTests.{name_eq_refl, name_eq-true, heap_eq-true, heap_eq_refl}
 use Rattle.k_types.specs.Reach.{is_shared_heap}
 use Rattle.k_types.specs.Effects.{exit_after}
 use Rattle.k_frame.proofs.Kept.{exit_is}

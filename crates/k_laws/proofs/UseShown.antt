@@ -8,7 +8,7 @@ use Rattle.k_types.specs.Owners.{charge_of}
 use Rattle.k_types.specs.Limits.{direct_by, is_parent, limits_in, max_of, use_of, use_within}
 use Rattle.k_types.specs.Cells.{book_part, use_shown}
 use Rattle.k_frame.proofs.Exact.{same_below}
-use Rattle.k_frame.proofs.Maxima.{length_in}
+use Rattle.k_base.proofs.Maxima.{length_in}
 
 get_or_map : (f : ℕ → ℕ) (first n k : ℕ) → k < n → get_or (map f (numbers_from first n)) k 0 ≡ f (first + k)
 get_or_map f first zero k inside = absurd (omega arith)

@@ -24,8 +24,8 @@ use Rattle.k_changes.specs.CellChanges.{reached_in}
 use Rattle.k_changes.specs.BookChanges.{has_way_into}
 use Rattle.k_changes.proofs.SharedSums.{shares_sum}
 use Rattle.k_changes.proofs.WaysInto.{share_stays_so}
-use Rattle.k_frame.proofs.NameTests.{heap_eq_refl, heap_eq-true}
-use Rattle.k_frame.proofs.Sums.{bit, sum_same, sum-filter, zeros}
+use Rattle.k_base.proofs.NameTests.{heap_eq_refl, heap_eq-true}
+use Rattle.k_base.proofs.Sums.{bit, sum_same, sum-filter, zeros}
 use Rattle.k_laws.proofs.Means.{reach_is}
 use Rattle.k_locality.specs.Same.{SameToEvent}
 use Rattle.k_locality.proofs.SameRead.{owners_same}

@@ -22,8 +22,8 @@ use Rattle.k_types.specs.Cells.{CellPart, part, book_part, cells_touched}
 use Rattle.k_locality.specs.Same.{SameToEvent}
 use Rattle.k_locality.proofs.SameRead.{shares_same, phases_same, ended_same, closed_same}
 use Rattle.k_locality.proofs.SameReplies.{touched_same, done_reply_same}
-use Rattle.k_frame.proofs.NameTests.{heap_eq_refl}
-use Rattle.k_frame.proofs.Tests.{same_test}
+use Rattle.k_base.proofs.NameTests.{heap_eq_refl}
+use Rattle.k_base.proofs.Tests.{same_test}
 use Rattle.k_laws.proofs.SoundSharing.{sharer_of}
 
 -- a shared heap has a sharer where some process shares it

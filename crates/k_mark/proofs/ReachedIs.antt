@@ -6,7 +6,7 @@ use Rattle.k_types.specs.declared.names.Name.{Name}
 use Rattle.k_types.specs.Names.{name_among}
 use Rattle.k_types.specs.State.{Object, has, refers, refers_in}
 use Rattle.k_types.specs.Reach.{closure, reach_among}
-use Rattle.k_frame.proofs.Objects.{referred, referrer, refers_in_has}
+use Rattle.k_base.proofs.Objects.{referred, referrer, refers_in_has}
 use Rattle.k_laws.proofs.Closure.{set, in_set, set_has, set_refers, closed_refers, start_in}
 use Rattle.k_space.specs.Areas.{AreaValue, gray_at, is_foreign}
 use Rattle.k_mark.specs.Reached.{IsReached, begins, follows}

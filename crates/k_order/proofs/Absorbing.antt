@@ -15,7 +15,7 @@ use Rattle.k_types.specs.Effects.{step, after_absorbed}
 use Rattle.k_types.specs.Steps.{IsRun, run, is_live, is_orphan, has_sharer, no_orphan, done_by}
 use Rattle.k_types.specs.Sound.{IsSized}
 use Rattle.k_types.specs.FileOrder.{absorptions}
-use Rattle.k_order.proofs.Numbered.{AreDistinctNumbers, distinct_below, passes_below, listed_below, all_below}
+use Rattle.k_base.proofs.Numbered.{AreDistinctNumbers, distinct_below, passes_below, listed_below, all_below}
 use Rattle.k_frame.proofs.Sizes.{step_sized}
 
 abbrev pub absorb : List ℕ → List Event

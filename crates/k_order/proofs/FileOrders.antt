@@ -21,7 +21,7 @@ use Rattle.k_types.specs.Complete.{IsComplete, EndsWithClosing, all_ended}
 use Rattle.k_types.specs.FileOrder.{absorptions, end_of, events_of, file_order, file_order_from, last_events, next_operation, with_end}
 use Rattle.k_frame.proofs.Histories.{run_append, legal_append, done_append}
 use Rattle.k_frame.proofs.Sizes.{opening_sized, get_or-same}
-use Rattle.k_order.proofs.Numbered.{occurrences_count, drop_all}
+use Rattle.k_base.proofs.Numbered.{occurrences_count, drop_all}
 use Rattle.k_order.proofs.Absorbing.{none_left}
 use Rattle.k_order.proofs.Operating.{scan_ends, scan_is_open}
 use Rattle.k_order.proofs.Lines.{Ready, LineDone, line, calm_after, kernel_idle}

@@ -20,15 +20,15 @@ use Rattle.k_types.specs.Complete.{IsComplete, EndsWithClosing, all_ended}
 use Rattle.k_order.specs.Reclaimed.{IsReclaimed}
 use Rattle.k_order.proofs.Reclaiming.{no_shares, no_exits, of_kernel, not_entered, bare_uses}
 use Rattle.k_bounds.proofs.SharedBounds.{unmade_exits}
-use Rattle.k_frame.proofs.NameTests.{name_eq-true, name_eq_refl, heap_eq-same}
-use Rattle.k_frame.proofs.Objects.{has-kept, refers_in-kept, referrer, refers_in_has}
+use Rattle.k_base.proofs.NameTests.{name_eq-true, name_eq_refl, heap_eq-same}
+use Rattle.k_base.proofs.Objects.{has-kept, refers_in-kept, referrer, refers_in_has}
 use Rattle.k_frame.proofs.Histories.{run_append, legal_front, legal_rest}
 use Rattle.k_laws.proofs.Closure.{set, in_set, set_has, set_refers, closed_refers, start_in}
 use Rattle.k_bounds.specs.Counts.{exit_count}
 use Rattle.k_laws.proofs.Means.{reach_is}
 use Rattle.k_laws.proofs.SoundScan.{among-roots}
 use Rattle.k_laws.proofs.SoundSteps.{legal_sound}
-use Rattle.k_frame.proofs.Tests.{same_test}
+use Rattle.k_base.proofs.Tests.{same_test}
 
 -- what is reached in a pool from the one name is what is reached among what was reached
 module _ (pool : List Object) (start : Name → Bool) (root : Name) (only : (n : Name) → IsTrue (start n) → n ≡ root) where

@@ -1,6 +1,5 @@
 pub mod Absorbing
 pub mod Lines
-pub mod Numbered
 pub mod Operating
 pub mod FileOrders
 pub mod Reclaiming

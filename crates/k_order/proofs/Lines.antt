@@ -26,7 +26,7 @@ use Rattle.k_bounds.proofs.Dones.{done_at}
 use Rattle.k_bounds.proofs.AbsorbedCounts.{done_closed}
 use Rattle.k_frame.proofs.Histories.{run_append, legal_append, done_append}
 use Rattle.k_frame.proofs.Sizes.{run_sized}
-use Rattle.k_order.proofs.Numbered.{occurrences, all_at, element_at, length_drop}
+use Rattle.k_base.proofs.Numbered.{occurrences, all_at, element_at, length_drop}
 use Rattle.k_order.proofs.Absorbing.{orphans_absorbed, none_left, none_done}
 use Rattle.k_order.proofs.Operating.{done_ended, begun_scans, no_scans, scan_ends, scan_is_open}
 

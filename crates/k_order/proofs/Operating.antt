@@ -19,7 +19,7 @@ use Rattle.k_types.specs.Effects.{effect, effect_unless, after_operation, after_
 use Rattle.k_types.specs.FileOrder.{heap_begun}
 use Rattle.k_bounds.specs.Counts.{one_if, begins_collection}
 use Rattle.k_bounds.proofs.ScanCounts.{done_scans}
-use Rattle.k_frame.proofs.NameTests.{heap_eq_refl}
+use Rattle.k_base.proofs.NameTests.{heap_eq_refl}
 use Rattle.k_frame.proofs.Rest.{store_rest, put_rest, freeze_rest}
 
 module _ (trace : Trace) where

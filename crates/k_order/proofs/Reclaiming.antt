@@ -21,11 +21,11 @@ use Rattle.k_types.specs.Complete.{all_ended}
 use Rattle.k_types.specs.Sound.{IsSound}
 use Rattle.k_bounds.specs.Counts.{one_if, exit_count}
 use Rattle.k_frame.proofs.Exact.{same_below}
-use Rattle.k_frame.proofs.NameTests.{heap_eq_refl, name_eq_refl}
+use Rattle.k_base.proofs.NameTests.{heap_eq_refl, name_eq_refl}
 use Rattle.k_frame.proofs.OwnerOf.{owner_lives, owner_stands, owner_known}
 use Rattle.k_laws.proofs.SoundStore.{get_or_above}
-use Rattle.k_order.proofs.Numbered.{all_at_below}
-use Rattle.k_frame.proofs.Sums.{zeros}
+use Rattle.k_base.proofs.Numbered.{all_at_below}
+use Rattle.k_base.proofs.Sums.{zeros}
 
 none_of_count : (exits : List ExitItem) (h : Heap) (n : Name) → exit_count exits h ≡ 0 → has_exit exits h n ≡ false
 none_of_count [] h n e = refl

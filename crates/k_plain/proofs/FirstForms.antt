@@ -21,7 +21,7 @@ use Rattle.k_plain.specs.Built.{AreBuilt, is_built}
 use Rattle.k_plain.specs.Machines.{AreSetupRules, Machine, setup_of}
 use Rattle.k_plain.specs.Runs.{IsFiled, Run}
 use Rattle.k_order.proofs.FileOrders.{file_order_complete, file_order_legal}
-use Rattle.k_order.proofs.Numbered.{all_at}
+use Rattle.k_base.proofs.Numbered.{all_at}
 use Rattle.k_plain.proofs.Quiet.{IsQuiet}
 use Rattle.k_plain.proofs.Follows.{Follows, follows_end}
 use Rattle.k_plain.proofs.Unread.{in_range_unread}

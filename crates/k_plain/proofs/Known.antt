@@ -25,7 +25,7 @@ use Rattle.k_types.specs.Replies.{access_faults, answer, at_base, fault_where, f
 use Rattle.k_types.specs.Sound.{IsSound}
 use Rattle.k_text.specs.Shown.{comes_after, next_name_after}
 use Rattle.k_types.specs.Known.{IsKnownFault, IsKnownName, IsKnownReply}
-use Rattle.k_frame.proofs.NameTests.{name_eq_refl}
+use Rattle.k_base.proofs.NameTests.{name_eq_refl}
 use Rattle.k_frame.proofs.OwnerOf.{owner_known}
 use Rattle.k_plain.specs.Built.{is_built}
 use Rattle.k_plain.proofs.Rows.{rows_in_length}

@@ -9,7 +9,7 @@ use Rattle.k_types.specs.declared.names.Name.{Name}
 use Rattle.k_types.specs.declared.names.Heap.{Heap}
 use Rattle.k_types.specs.Names.{heap_eq, name_among, name_eq, name_lt}
 use Rattle.k_types.specs.State.{ExitItem, has_exit}
-use Rattle.k_frame.proofs.NameTests.{name_eq-true, name_eq_refl, name_lt_irrefl, name_lt_total, name_lt_trans}
+use Rattle.k_base.proofs.NameTests.{name_eq-true, name_eq_refl, name_lt_irrefl, name_lt_total, name_lt_trans}
 use Rattle.k_text.specs.Shown.{AreRising, AreRisingFrom, exits_of, in_order, with_name}
 use Rattle.k_text.proofs.InOrder.{in_order_among, in_order_rises}
 use Rattle.k_plain.specs.Nearest.{IsNearest, is_after, is_nearer}

@@ -7,7 +7,7 @@ use Rattle.k_types.specs.Names.{name_eq, name_lt}
 use Rattle.k_types.specs.State.{Content, Object, has}
 use Rattle.k_types.specs.Updates.{object_after_write, with_object}
 use Rattle.k_types.specs.Sound.{IsOrdered, IsOrderedFrom}
-use Rattle.k_frame.proofs.NameTests.{name_eq-false, name_eq-true, name_lt_irrefl, name_lt_trans}
+use Rattle.k_base.proofs.NameTests.{name_eq-false, name_eq-true, name_lt_irrefl, name_lt_trans}
 
 ordered_rest : (n : Name) (xs : List Object) → IsOrderedFrom n xs → IsOrdered xs
 ordered_rest n [] ordered = tt

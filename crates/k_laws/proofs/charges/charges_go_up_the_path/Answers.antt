@@ -1,9 +1,9 @@
 use Rattle.std.proofs.Common.{◌≡◌, ℕ, ◌+◌, ◌*◌, ◌==◌, Bool, true, false, cond, sym, ap, ◌∙◌, length, arith}
 use Rattle.k_types.specs.Limits.{use_within, path_of}
 use Rattle.k_types.specs.Names.{among}
-use Rattle.k_frame.proofs.Charges.{use_added}
-use Rattle.k_frame.proofs.Sums.{bit}
-use Rattle.k_frame.proofs.Maxima.{tree_in}
+use Rattle.k_base.proofs.Charges.{use_added}
+use Rattle.k_base.proofs.Sums.{bit}
+use Rattle.k_base.proofs.Maxima.{tree_in}
 use Rattle.k_frame.proofs.Exact.{counted_exact}
 use Rattle.k_laws.proofs.charges.charges_go_up_the_path.Goals as goal
 

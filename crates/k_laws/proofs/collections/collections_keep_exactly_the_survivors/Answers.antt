@@ -1,6 +1,6 @@
 use Rattle.k_types.specs.State.{scan_of}
 use Rattle.k_types.specs.Effects.{step}
-use Rattle.k_frame.proofs.Objects.{some_is}
+use Rattle.k_base.proofs.Objects.{some_is}
 use Rattle.k_laws.proofs.Surviving.{survivors}
 use Rattle.k_laws.proofs.collections.collections_keep_exactly_the_survivors.Goals as goal
 

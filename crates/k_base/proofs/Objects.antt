@@ -6,8 +6,8 @@ use Rattle.k_types.specs.declared.names.Name.{Name}
 use Rattle.k_types.specs.Names.{name_eq, name_lt}
 use Rattle.k_types.specs.State.{Object, Content, has, object_at, refers, refers_in, content_leads_to}
 use Rattle.k_types.specs.Updates.{with_object, object_after_write}
-use Rattle.k_frame.proofs.Lists.{any-set}
-use Rattle.k_frame.proofs.NameTests.{name_eq-true, name_eq_refl, name_eq_sym}
+use Rattle.k_base.proofs.Lists.{any-set}
+use Rattle.k_base.proofs.NameTests.{name_eq-true, name_eq_refl, name_eq_sym}
 
 or_swap : (a b c : Bool) → (a || (b || c)) ≡ (b || (a || c))
 or_swap true true c = refl
