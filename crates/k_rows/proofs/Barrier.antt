@@ -1,12 +1,17 @@
--- The barrier judges stores, and nothing judges loads.
+-- The barrier judges stores, and nothing judges loads into registers.
 use Rattle.std.proofs.Common.{◌≡◌, refl, lit<}
 use Rattle.k_types.specs.Steps.{IsLegalHistory}
 use Rattle.k_types.specs.FileOrder.{file_order, file_order_from}
-use Rattle.k_rows.specs.Words.{trace_doing, left_by}
-use Rattle.k_rows.specs.Rows.{barrier, barrier_left}
+use Rattle.k_types.specs.TraceRules.{KeepsRules}
+use Rattle.k_types.specs.Complete.{IsComplete}
+use Rattle.k_rows.specs.Words.{trace_doing, usual}
+use Rattle.k_rows.specs.Lefts.{left_by}
+use Rattle.k_rows.specs.Worked.{IsWorked}
+use Rattle.k_rows.specs.Barriers.{barrier, barrier_left}
 use Rattle.k_rows.proofs.Machine.{machine}
+use Rattle.k_rows.proofs.Rules.{rules_kept, is_complete}
 
-pub legal : IsLegalHistory (trace_doing barrier) barrier
+legal : IsLegalHistory (trace_doing usual barrier) barrier
 unfolding machine
 legal = (
   record { known = lit< tt; lives = refl; in_range = refl; idle = refl; orphans = refl; replied = refl },
@@ -34,10 +39,21 @@ legal = (
   ),
 )
 
-pub filed : file_order (trace_doing barrier) ≡ barrier
+filed : file_order (trace_doing usual barrier) ≡ barrier
 unfolding machine file_order_from
 filed = refl
 
-pub left : left_by (trace_doing barrier) barrier ≡ barrier_left
+left : left_by (trace_doing usual barrier) barrier ≡ barrier_left
 unfolding machine
 left = refl
+
+rules : KeepsRules (trace_doing usual barrier)
+unfolding machine
+rules = rules_kept usual barrier refl refl refl
+
+complete : IsComplete (trace_doing usual barrier) barrier
+unfolding machine
+complete = is_complete usual barrier refl refl
+
+pub worked : IsWorked usual barrier barrier_left
+worked = record { legal = legal; filed = filed; leaves = left; rules = rules; complete = complete }

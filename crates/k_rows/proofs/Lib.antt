@@ -1,12 +1,32 @@
-pub mod Machine
-pub mod BoundaryOfAHardLimit
-pub mod Barrier
-pub mod KeptFromOutside
-pub mod StaleExitItem
-pub mod CycleWithTheKernel
-pub mod EverySharerPays
-pub mod OrphanedAndAbsorbed
-pub mod ObjectOfADeadProcess
-pub mod OrderOfFaults
-pub mod PhasesOfASharedHeap
-pub mod LastCollection
+mod Machine
+mod Rules
+mod ASoftLimitChargesUpward
+mod BoundaryOfAHardLimit
+mod AFullLimitAboveASoftOne
+mod ReservationsFillALimit
+mod TheCeiling
+mod Barrier
+mod KeptFromOutside
+mod StaleExitItem
+mod CycleWithTheKernel
+mod OrderOfFaults
+mod AHeapThatIsNotShared
+mod TwoSharedHeaps
+mod EverySharerPays
+mod ASharerThatDoesNotFit
+mod AttachedAgain
+mod OrphanedAndAbsorbed
+mod AbsorbedForGood
+mod PhasesOfASharedHeap
+mod RefusedFreezes
+mod TwoOrphansAreAbsorbed
+mod ObjectOfADeadProcess
+mod AnExitPassesAnItemOn
+mod ASerialIsNotGivenAgain
+mod LastCollection
+mod OrphansBeforeTheClosing
+mod WorkBesideACollection
+mod TwoOpenCollections
+mod ARootThatWasDroppedMeanwhile
+mod ImpossibleEvents
+mod Replies

@@ -2,11 +2,16 @@
 use Rattle.std.proofs.Common.{◌≡◌, refl, lit<}
 use Rattle.k_types.specs.Steps.{IsLegalHistory}
 use Rattle.k_types.specs.FileOrder.{file_order, file_order_from}
-use Rattle.k_rows.specs.Words.{trace_doing, left_by}
-use Rattle.k_rows.specs.Rows.{object_of_a_dead_process, object_of_a_dead_process_left}
+use Rattle.k_types.specs.TraceRules.{KeepsRules}
+use Rattle.k_types.specs.Complete.{IsComplete}
+use Rattle.k_rows.specs.Words.{trace_doing, usual}
+use Rattle.k_rows.specs.Lefts.{left_by}
+use Rattle.k_rows.specs.Worked.{IsWorked}
+use Rattle.k_rows.specs.Ends.{object_of_a_dead_process, object_of_a_dead_process_left}
 use Rattle.k_rows.proofs.Machine.{machine}
+use Rattle.k_rows.proofs.Rules.{rules_kept, is_complete}
 
-pub legal : IsLegalHistory (trace_doing object_of_a_dead_process) object_of_a_dead_process
+legal : IsLegalHistory (trace_doing usual object_of_a_dead_process) object_of_a_dead_process
 unfolding machine
 legal = (
   record { known = lit< tt; lives = refl; in_range = refl; idle = refl; orphans = refl; replied = refl },
@@ -46,10 +51,21 @@ legal = (
   ),
 )
 
-pub filed : file_order (trace_doing object_of_a_dead_process) ≡ object_of_a_dead_process
+filed : file_order (trace_doing usual object_of_a_dead_process) ≡ object_of_a_dead_process
 unfolding machine file_order_from
 filed = refl
 
-pub left : left_by (trace_doing object_of_a_dead_process) object_of_a_dead_process ≡ object_of_a_dead_process_left
+left : left_by (trace_doing usual object_of_a_dead_process) object_of_a_dead_process ≡ object_of_a_dead_process_left
 unfolding machine
 left = refl
+
+rules : KeepsRules (trace_doing usual object_of_a_dead_process)
+unfolding machine
+rules = rules_kept usual object_of_a_dead_process refl refl refl
+
+complete : IsComplete (trace_doing usual object_of_a_dead_process) object_of_a_dead_process
+unfolding machine
+complete = is_complete usual object_of_a_dead_process refl refl
+
+pub worked : IsWorked usual object_of_a_dead_process object_of_a_dead_process_left
+worked = record { legal = legal; filed = filed; leaves = left; rules = rules; complete = complete }

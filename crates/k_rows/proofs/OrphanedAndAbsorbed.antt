@@ -1,12 +1,18 @@
--- A frozen heap takes integers and no references; a sharer without a way into it gives up its share; its last sharer ends, and the kernel absorbs it.
+-- A frozen heap takes integers and no references; a sharer without a way into it gives up its share; its last sharer
+-- ends, and the kernel absorbs it.
 use Rattle.std.proofs.Common.{◌≡◌, refl, lit<}
 use Rattle.k_types.specs.Steps.{IsLegalHistory}
 use Rattle.k_types.specs.FileOrder.{file_order, file_order_from}
-use Rattle.k_rows.specs.Words.{trace_doing, left_by}
-use Rattle.k_rows.specs.Rows.{orphaned_and_absorbed, orphaned_and_absorbed_left}
+use Rattle.k_types.specs.TraceRules.{KeepsRules}
+use Rattle.k_types.specs.Complete.{IsComplete}
+use Rattle.k_rows.specs.Words.{trace_doing, usual}
+use Rattle.k_rows.specs.Lefts.{left_by}
+use Rattle.k_rows.specs.Worked.{IsWorked}
+use Rattle.k_rows.specs.Sharing.{orphaned_and_absorbed, orphaned_and_absorbed_left}
 use Rattle.k_rows.proofs.Machine.{machine}
+use Rattle.k_rows.proofs.Rules.{rules_kept, is_complete}
 
-pub legal : IsLegalHistory (trace_doing orphaned_and_absorbed) orphaned_and_absorbed
+legal : IsLegalHistory (trace_doing usual orphaned_and_absorbed) orphaned_and_absorbed
 unfolding machine
 legal = (
   record { known = lit< tt; lives = refl; in_range = refl; idle = refl; orphans = refl; replied = refl },
@@ -58,10 +64,21 @@ legal = (
   ),
 )
 
-pub filed : file_order (trace_doing orphaned_and_absorbed) ≡ orphaned_and_absorbed
+filed : file_order (trace_doing usual orphaned_and_absorbed) ≡ orphaned_and_absorbed
 unfolding machine file_order_from
 filed = refl
 
-pub left : left_by (trace_doing orphaned_and_absorbed) orphaned_and_absorbed ≡ orphaned_and_absorbed_left
+left : left_by (trace_doing usual orphaned_and_absorbed) orphaned_and_absorbed ≡ orphaned_and_absorbed_left
 unfolding machine
 left = refl
+
+rules : KeepsRules (trace_doing usual orphaned_and_absorbed)
+unfolding machine
+rules = rules_kept usual orphaned_and_absorbed refl refl refl
+
+complete : IsComplete (trace_doing usual orphaned_and_absorbed) orphaned_and_absorbed
+unfolding machine
+complete = is_complete usual orphaned_and_absorbed refl refl
+
+pub worked : IsWorked usual orphaned_and_absorbed orphaned_and_absorbed_left
+worked = record { legal = legal; filed = filed; leaves = left; rules = rules; complete = complete }

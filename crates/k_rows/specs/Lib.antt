@@ -1,2 +1,9 @@
 pub mod Words
-pub mod Rows
+pub mod Lefts
+pub mod Worked
+pub mod Limits
+pub mod Barriers
+pub mod Sharing
+pub mod Ends
+pub mod Collections
+pub mod Impossible

@@ -1,27 +1,21 @@
--- The words in which the worked histories are written, and what is looked at when they end.
-use Rattle.std.specs.Prelude.{ℕ, Bool, true, false, List, [], ◌∷◌, map, length, Option, Some, None}
+-- The words in which the worked histories are written, and the traces that they are histories of.
+use Rattle.std.specs.Prelude.{ℕ, Bool, true, false, List, [], ◌∷◌, Some, None}
 use Rattle.k_types.specs.declared.names.Reg.{Reg}
 use Rattle.k_types.specs.declared.names.TypeId.{TypeId}
 use Rattle.k_types.specs.declared.names.LimitId.{LimitId}
 use Rattle.k_types.specs.declared.names.SharedId.{SharedId}
 use Rattle.k_types.specs.declared.names.Name.{Name}
 use Rattle.k_types.specs.declared.names.Field.TheVariants.{Ref, Int}
-use Rattle.k_types.specs.declared.names.Heap.{Heap}
-use Rattle.k_types.specs.declared.names.Heap.TheVariants.{Kernel}
-use Rattle.k_types.specs.declared.names.Phase.{Phase}
 use Rattle.k_types.specs.declared.setup.LimitRow.{LimitRow}
 use Rattle.k_types.specs.declared.op.Op.{Op}
 use Rattle.k_types.specs.declared.event.Reply.{Reply}
 use Rattle.k_types.specs.declared.event.Event.{Event}
-use Rattle.k_types.specs.declared.event.Event.TheVariants.{Done}
-use Rattle.k_types.specs.Numbers.{numbers_below}
-use Rattle.k_types.specs.Owners.{owner_of, bytes_of, charge_of, phase_of, shared}
-use Rattle.k_types.specs.Limits.{use_of}
-use Rattle.k_types.specs.Trace.{Trace, segment_count}
-use Rattle.k_types.specs.State.{State, Object, Content, ExitItem, Sharing}
-use Rattle.k_types.specs.Steps.{done_by, state_after}
+use Rattle.k_types.specs.declared.event.Event.TheVariants.{Done, Ended, Absorbed, Closing}
+use Rattle.k_types.specs.Trace.{Trace}
+use Rattle.k_types.specs.Steps.{done_by}
 
--- the object of that segment and serial: segment 0 is the kernel's, 1 and 2 are those of the processes, 3 the shared heap's
+-- the object of that segment and serial: segment 0 is the kernel's, 1 and 2 are those of the processes, 3 and 4 those of the
+-- shared heaps
 abbrev pub name : ℕ → ℕ → Name
 name seg serial = record { seg = record { 0 = seg }; serial = record { 0 = serial } }
 
@@ -33,78 +27,84 @@ reg r = record { 0 = r }
 abbrev pub node : TypeId
 node = record { 0 = 0 }
 
--- the one shared heap
+-- the first shared heap
 abbrev pub s : SharedId
 s = record { 0 = 0 }
 
--- a limit below the first, or the first
-abbrev pub limit : Option LimitId → Bool → ℕ → LimitRow
-limit parent hard max = record { parent = parent; hard = hard; max = max }
+-- the second shared heap
+abbrev pub t : SharedId
+t = record { 0 = 1 }
 
 -- the process did the operation, and was answered so
 abbrev pub did : ℕ → Op → Reply → Event
 did p op reply = Done (record { 0 = p }) op reply
 
+-- what differs from one trace to the other before the operations: the limits, the limit of each of the two processes, and
+-- the number of shared heaps
+pub record Header : Type 0 where
+  pub limits : List LimitRow
+  pub first : LimitId
+  pub second : LimitId
+  pub shared_heaps : ℕ
+
+-- the first limit, of 1000 bytes
+abbrev root : LimitRow
+root = record { parent = None; hard = true; max = 1000 }
+
+-- a limit below that one
+abbrev below : ℕ → Bool → ℕ → LimitRow
+below parent hard max = record { parent = Some (record { 0 = parent }); hard = hard; max = max }
+
+-- below the root a hard limit of 120 bytes for the first process, and a soft one of so many for the second
+abbrev two_limits : ℕ → List LimitRow
+two_limits max = root ∷ below 0 true 120 ∷ below 0 false max ∷ []
+
+-- each process on a limit of its own, the second on that one
+abbrev with_limits : List LimitRow → ℕ → Header
+with_limits limits second = record { limits = limits; first = record { 0 = 1 }; second = record { 0 = second }; shared_heaps = 1 }
+
+-- the second process on a soft limit of 400 bytes
+abbrev pub usual : Header
+usual = with_limits (two_limits 400) 2
+
+-- the same with two shared heaps
+abbrev pub two_shared : Header
+two_shared = record usual { shared_heaps = 2 }
+
+-- the second process on a soft limit of 60 bytes
+abbrev pub narrow : Header
+narrow = with_limits (two_limits 60) 2
+
+-- the second process on a soft limit of 80 bytes
+abbrev pub exact : Header
+exact = with_limits (two_limits 80) 2
+
+-- the second process on a soft limit of 500 bytes, below a soft one of 40
+abbrev pub soft_path : Header
+soft_path = with_limits (root ∷ below 0 true 120 ∷ below 0 false 40 ∷ below 2 false 500 ∷ []) 3
+
+-- the second process on a soft limit of 400 bytes, all of which two hard limits reserve
+abbrev pub reserved : Header
+reserved = with_limits (root ∷ below 0 true 120 ∷ below 0 false 400 ∷ below 2 true 300 ∷ below 2 true 100 ∷ []) 2
+
 -- the process of each operation that the history does
 abbrev pub doers : List Event → List ℕ
 doers [] = []
 doers (Done pid op said ∷ events) = pid.0 ∷ doers events
-doers (_ ∷ events) = doers events
+doers (Ended h objects bytes exits shares ∷ events) = doers events
+doers (Absorbed shared ∷ events) = doers events
+doers (Closing ∷ events) = doers events
 
--- the trace whose operations the history does, in its order: a root limit of 1000 bytes, below it a hard one of 120 for the
--- first process and a soft one of 400 for the second, a ceiling of 200 bytes, and a directory of two fields
-abbrev pub trace_doing : List Event → Trace
-trace_doing history = record {
+-- the trace whose operations the history does, in its order: a ceiling of 200 bytes, and a directory of two fields
+abbrev pub trace_doing : Header → List Event → Trace
+trace_doing header history = record {
   version = 1;
   ceiling = 200;
   dir_fields = 2;
   types = (Ref ∷ Ref ∷ Int ∷ []) ∷ [];
-  limits = limit None true 1000 ∷ limit (Some (record { 0 = 0 })) true 120 ∷ limit (Some (record { 0 = 0 })) false 400 ∷ [];
-  procs = record { 0 = 1 } ∷ record { 0 = 2 } ∷ [];
-  shared_heaps = 1;
+  limits = header.limits;
+  procs = header.first ∷ header.second ∷ [];
+  shared_heaps = header.shared_heaps;
   operations = done_by 0 history ∷ done_by 1 history ∷ [];
   order = doers history;
 }
-
--- an object of that name and type with these fields
-abbrev pub object : Name → Option TypeId → List Content → Object
-object n ty fields = record { name = n; ty = ty; fields = fields }
-
--- an exit item of the heap
-abbrev pub item : Heap → Name → ExitItem
-item h n = record { heap = h; target = n }
-
--- a share of the process
-abbrev pub sharing : ℕ → ℕ → Sharing
-sharing p heap = record { process = p; heap = heap }
-
--- what is looked at: the objects, the owner of each segment, the shared heap's phase, the kernel's bytes, the use of each limit,
--- the charge of each process, the shared heap's bytes, the exit items and the shares
-pub record Left : Type 0 where
-  pub graph : List Object
-  pub owners : List Heap
-  pub phase : Phase
-  pub kernel : ℕ
-  pub uses : List ℕ
-  pub charges : List ℕ
-  pub shared_bytes : ℕ
-  pub exits : List ExitItem
-  pub shares : List Sharing
-
--- the same of a state
-abbrev pub left_in : Trace → State → Left
-left_in trace st = record {
-  graph = st.objects;
-  owners = map (owner_of trace st) (numbers_below (segment_count trace));
-  phase = phase_of st.phases 0;
-  kernel = bytes_of trace st Kernel;
-  uses = map (use_of trace st) (numbers_below (length trace.limits));
-  charges = map (charge_of trace st) (numbers_below (length trace.procs));
-  shared_bytes = bytes_of trace st (shared 0);
-  exits = st.exits;
-  shares = st.shares;
-}
-
--- the same after a history
-abbrev pub left_by : Trace → List Event → Left
-left_by trace history = left_in trace (state_after trace history)

@@ -1,0 +1,50 @@
+-- An object that is made after another was freed has a serial of its own.
+use Rattle.std.proofs.Common.{◌≡◌, refl, lit<}
+use Rattle.k_types.specs.Steps.{IsLegalHistory}
+use Rattle.k_types.specs.FileOrder.{file_order, file_order_from}
+use Rattle.k_types.specs.TraceRules.{KeepsRules}
+use Rattle.k_types.specs.Complete.{IsComplete}
+use Rattle.k_rows.specs.Words.{trace_doing, usual}
+use Rattle.k_rows.specs.Lefts.{left_by}
+use Rattle.k_rows.specs.Worked.{IsWorked}
+use Rattle.k_rows.specs.Ends.{a_serial_is_not_given_again, a_serial_is_not_given_again_left}
+use Rattle.k_rows.proofs.Machine.{machine}
+use Rattle.k_rows.proofs.Rules.{rules_kept, is_complete}
+
+legal : IsLegalHistory (trace_doing usual a_serial_is_not_given_again) a_serial_is_not_given_again
+unfolding machine
+legal = (
+  record { known = lit< tt; lives = refl; in_range = refl; idle = refl; orphans = refl; replied = refl },
+  (
+    record { known = lit< tt; lives = refl; in_range = refl; idle = refl; orphans = refl; replied = refl },
+    (
+      record { known = lit< tt; lives = refl; in_range = refl; idle = refl; orphans = refl; replied = refl },
+      (
+        record { scanned = refl; objects_gone = refl; bytes_gone = refl; exits_gone = refl; shares_gone = refl },
+        (
+          record { known = lit< tt; lives = refl; in_range = refl; idle = refl; orphans = refl; replied = refl },
+          tt,
+        ),
+      ),
+    ),
+  ),
+)
+
+filed : file_order (trace_doing usual a_serial_is_not_given_again) ≡ a_serial_is_not_given_again
+unfolding machine file_order_from
+filed = refl
+
+left : left_by (trace_doing usual a_serial_is_not_given_again) a_serial_is_not_given_again ≡ a_serial_is_not_given_again_left
+unfolding machine
+left = refl
+
+rules : KeepsRules (trace_doing usual a_serial_is_not_given_again)
+unfolding machine
+rules = rules_kept usual a_serial_is_not_given_again refl refl refl
+
+complete : IsComplete (trace_doing usual a_serial_is_not_given_again) a_serial_is_not_given_again
+unfolding machine
+complete = is_complete usual a_serial_is_not_given_again refl refl
+
+pub worked : IsWorked usual a_serial_is_not_given_again a_serial_is_not_given_again_left
+worked = record { legal = legal; filed = filed; leaves = left; rules = rules; complete = complete }

@@ -1,0 +1,89 @@
+-- An absorbed heap can neither be attached nor taken again.
+use Rattle.std.proofs.Common.{◌≡◌, refl, lit<}
+use Rattle.k_types.specs.Steps.{IsLegalHistory}
+use Rattle.k_types.specs.FileOrder.{file_order, file_order_from}
+use Rattle.k_types.specs.TraceRules.{KeepsRules}
+use Rattle.k_types.specs.Complete.{IsComplete}
+use Rattle.k_rows.specs.Words.{trace_doing, usual}
+use Rattle.k_rows.specs.Lefts.{left_by}
+use Rattle.k_rows.specs.Worked.{IsWorked}
+use Rattle.k_rows.specs.Sharing.{absorbed_for_good, absorbed_for_good_left}
+use Rattle.k_rows.proofs.Machine.{machine}
+use Rattle.k_rows.proofs.Rules.{rules_kept, is_complete}
+
+legal : IsLegalHistory (trace_doing usual absorbed_for_good) absorbed_for_good
+unfolding machine
+legal = (
+  record { known = lit< tt; lives = refl; in_range = refl; idle = refl; orphans = refl; replied = refl },
+  (
+    record { known = lit< tt; lives = refl; in_range = refl; idle = refl; orphans = refl; replied = refl },
+    (
+      record { known = lit< tt; lives = refl; in_range = refl; idle = refl; orphans = refl; replied = refl },
+      (
+        record { known = lit< tt; lives = refl; in_range = refl; idle = refl; orphans = refl; replied = refl },
+        (
+          record { known = lit< tt; lives = refl; in_range = refl; idle = refl; orphans = refl; replied = refl },
+          (
+            record { known = lit< tt; lives = refl; in_range = refl; idle = refl; orphans = refl; replied = refl },
+            (
+              record { known = lit< tt; lives = refl; in_range = refl; idle = refl; orphans = refl; replied = refl },
+              (
+                record { known = lit< tt; lives = refl; in_range = refl; idle = refl; orphans = refl; replied = refl },
+                (
+                  record { known = lit< tt; lives = refl; in_range = refl; idle = refl; orphans = refl; replied = refl },
+                  (
+                    record { known = lit< tt; lives = refl; in_range = refl; idle = refl; orphans = refl; replied = refl },
+                    (
+                      record { known = lit< tt; lives = refl; in_range = refl; idle = refl; orphans = refl; replied = refl },
+                      (
+                        record { scanned = refl; objects_gone = refl; bytes_gone = refl; exits_gone = refl; shares_gone = refl },
+                        (
+                          record { known = lit< tt; lives = refl; in_range = refl; idle = refl; orphans = refl; replied = refl },
+                          (
+                            record { known = lit< tt; orphan = refl; idle = refl },
+                            (
+                              record { known = lit< tt; lives = refl; in_range = refl; idle = refl; orphans = refl; replied = refl },
+                              (
+                                record { scanned = refl; objects_gone = refl; bytes_gone = refl; exits_gone = refl; shares_gone = refl },
+                                (
+                                  record { known = lit< tt; lives = refl; in_range = refl; idle = refl; orphans = refl; replied = refl },
+                                  (
+                                    record { known = lit< tt; lives = refl; in_range = refl; idle = refl; orphans = refl; replied = refl },
+                                    tt,
+                                  ),
+                                ),
+                              ),
+                            ),
+                          ),
+                        ),
+                      ),
+                    ),
+                  ),
+                ),
+              ),
+            ),
+          ),
+        ),
+      ),
+    ),
+  ),
+)
+
+filed : file_order (trace_doing usual absorbed_for_good) ≡ absorbed_for_good
+unfolding machine file_order_from
+filed = refl
+
+left : left_by (trace_doing usual absorbed_for_good) absorbed_for_good ≡ absorbed_for_good_left
+unfolding machine
+left = refl
+
+rules : KeepsRules (trace_doing usual absorbed_for_good)
+unfolding machine
+rules = rules_kept usual absorbed_for_good refl refl refl
+
+complete : IsComplete (trace_doing usual absorbed_for_good) absorbed_for_good
+unfolding machine
+complete = is_complete usual absorbed_for_good refl refl
+
+pub worked : IsWorked usual absorbed_for_good absorbed_for_good_left
+worked = record { legal = legal; filed = filed; leaves = left; rules = rules; complete = complete }
