@@ -1,0 +1,5 @@
+pub mod AtCells
+pub mod CellSquares
+pub mod EventSquares
+pub mod Told
+pub mod BookSquares

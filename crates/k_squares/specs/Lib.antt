@@ -1,0 +1,4 @@
+pub mod CellAfter
+pub mod BookAfter
+pub mod Answers
+pub mod Follows

@@ -1,0 +1,10 @@
+//! What each event makes of the parts that the cells and the book have of the machine's state, as functions of these parts
+//! alone. Each law is the contract of a public function with an empty body. Below stand the definitions of k_types and the laws
+//! of k_frame, k_laws, k_bounds, k_changes and k_locality.
+#![tactic(auto)]
+
+mod answers;
+mod steps;
+
+pub use answers::touched_cells_are_told;
+pub use steps::steps_show_in_the_parts;
