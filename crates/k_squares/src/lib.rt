@@ -6,5 +6,5 @@
 mod answers;
 mod steps;
 
-pub use answers::touched_cells_are_told;
+pub use answers::{local_operations_are_told, replies_are_told, touched_cells_are_told};
 pub use steps::steps_show_in_the_parts;
