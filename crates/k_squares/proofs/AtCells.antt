@@ -1,5 +1,5 @@
 -- Changes of the parts of one cell or of two, and the small changes of a state as such.
-use Rattle.std.proofs.Common.{◌≡◌, ℕ, ◌<◌, Bool, cond, refl, sym, ap, ◌∙◌, inl, inr, List, length, Option, IsFalse}
+use Rattle.std.proofs.Common.{◌≡◌, ℕ, ◌<◌, cond, sym, ap, ◌∙◌, inl, inr, List, length, Option, IsFalse}
 use Rattle.std.proofs.Math.Path.{fun_ext}
 use Rattle.std.proofs.lemmas.Bool.{cases_Bool}
 use Rattle.k_types.specs.declared.names.Name.{Name}

@@ -1,29 +1,26 @@
 -- What the effect of an operation and the other events make of the book's part.
 use Rattle.std.proofs.Common.{◌≡◌, ℕ, zero, suc, ◌+◌, ◌<◌, ◌&&◌, nat_lt, not, Bool, true, false, cond, refl, sym, ap, ap₂, ◌∙◌, List, [], ◌∷◌, length, length-set, Option, Some, None, get_or, set, arith, IsTrue, IsFalse, inl, inr}
-use Rattle.std.proofs.lemmas.Bool.{ltb-true, and_parts, not-true, not-false, cases_Bool, false≢true, false_from_ne_true}
-use Rattle.std.proofs.Math.Path.{fun_ext}
+use Rattle.std.proofs.lemmas.Bool.{ltb-true, and_parts, not-false, cases_Bool, false≢true, false_from_ne_true}
 use Rattle.k_types.specs.declared.names.Name.{Name}
 use Rattle.k_types.specs.declared.names.Reg.{Reg}
 use Rattle.k_types.specs.declared.names.TypeId.{TypeId}
 use Rattle.k_types.specs.declared.names.Field.{Field}
 use Rattle.k_types.specs.declared.names.SharedId.{SharedId}
-use Rattle.k_types.specs.declared.names.Heap.{Heap}
-use Rattle.k_types.specs.declared.names.Heap.TheVariants.{Kernel, User, Shared}
-use Rattle.k_types.specs.declared.names.Phase.{Phase}
+use Rattle.k_types.specs.declared.names.Heap.TheVariants.{Kernel}
 use Rattle.k_types.specs.declared.names.Phase.TheVariants.{Unmade, Populating, Frozen}
-use Rattle.k_types.specs.declared.event.Fault.TheVariants.{Segv, NotPopulating, Taken}
+use Rattle.k_types.specs.declared.event.Fault.TheVariants.{Taken}
 use Rattle.k_types.specs.declared.op.Op.{Op}
 use Rattle.k_types.specs.declared.op.Op.TheVariants.{New, KNew, SNew, Store, Load, Move, Clear, Dir, Put, Get, Collect, KCollect, Share, Freeze, Attach, Exit}
 use Rattle.k_types.specs.Names.{heap_eq, directory, among}
 use Rattle.k_types.specs.Trace.{Trace, process_count, kinds_of, limit_of, size_of_type}
 use Rattle.k_types.specs.TraceRules.{AreLimits}
 use Rattle.k_types.specs.State.{State, Refers, Holds, register, has_share, has_exit}
-use Rattle.k_types.specs.Owners.{owner_of, user, shared, phase_of, bytes_of, is_absorbed}
+use Rattle.k_types.specs.Owners.{owner_of, user, shared, phase_of, is_absorbed}
 use Rattle.k_types.specs.Reach.{roots_of}
-use Rattle.k_types.specs.Updates.{set_register, create, add_exit, add_share, set_phase, open_scan, close}
-use Rattle.k_types.specs.Replies.{first_fault, faults, at_base, answer, fault_where, is_populating, is_unmade}
-use Rattle.k_types.specs.Effects.{effect, after_store, after_put, after_freeze, with_exit_of_store, after_end_of, after_ended, after_absorbed, after_closing}
-use Rattle.k_types.specs.Cells.{Cell, CellPart, BookPart, part, book_part}
+use Rattle.k_types.specs.Updates.{set_register, create, add_exit, add_share, set_phase, open_scan}
+use Rattle.k_types.specs.Replies.{faults, answer, is_unmade}
+use Rattle.k_types.specs.Effects.{effect, after_store, after_put, after_freeze, with_exit_of_store, after_end_of, after_absorbed, after_closing}
+use Rattle.k_types.specs.Cells.{BookPart, part, book_part}
 use Rattle.k_types.specs.Steps.{in_range}
 use Rattle.k_types.specs.Sound.{IsSound, IsSized}
 use Rattle.k_frame.proofs.FrameSteps.{none_on}
@@ -36,9 +33,9 @@ use Rattle.k_changes.proofs.PinsOnBook.{set_register_on_book}
 use Rattle.k_changes.proofs.MadeOnBook.{new_on_book, new_in_kernel_on_book, new_in_shared_on_book}
 use Rattle.k_changes.proofs.EndsOnBook.{end_on_book}
 use Rattle.k_changes.proofs.TakenOnBook.{taken_on_book}
-use Rattle.k_changes.proofs.ToldBy.{register_told, shared_bytes_told}
+use Rattle.k_changes.proofs.ToldBy.{shared_bytes_told}
 use Rattle.k_squares.specs.CellAfter.{register_in}
-use Rattle.k_squares.specs.BookAfter.{book_repinned, book_stored, book_frozen, book_attached, book_collected, book_operated}
+use Rattle.k_squares.specs.BookAfter.{book_repinned, book_stored, book_frozen, book_attached, book_operated}
 use Rattle.k_squares.proofs.CellSquares.{told, populates, populating_phase, freezes, may_exit}
 
 -- a number of a list that is set to what it is

@@ -1,6 +1,5 @@
 -- What the effect of an operation and the other events make of the parts of cells.
-use Rattle.std.proofs.Common.{◌≡◌, ℕ, ◌+◌, ◌<◌, ◌&&◌, nat_lt, not, Bool, true, false, cond, refl, sym, ap, ap₂, ◌∙◌, List, [], ◌∷◌, length, Option, Some, None, arith, IsTrue, IsFalse}
-use Rattle.std.specs.List.{list_all}
+use Rattle.std.proofs.Common.{◌≡◌, ℕ, ◌+◌, ◌<◌, ◌&&◌, nat_lt, not, true, false, cond, refl, sym, ap, ap₂, ◌∙◌, List, [], ◌∷◌, length, Option, Some, None, arith, IsTrue, IsFalse}
 use Rattle.std.proofs.lemmas.Bool.{ltb-true, and_parts, not-true, not-false}
 use Rattle.std.proofs.Math.Path.{fun_ext}
 use Rattle.k_types.specs.declared.names.Name.{Name}
@@ -8,7 +7,7 @@ use Rattle.k_types.specs.declared.names.SharedId.{SharedId}
 use Rattle.k_types.specs.declared.names.Reg.{Reg}
 use Rattle.k_types.specs.declared.names.TypeId.{TypeId}
 use Rattle.k_types.specs.declared.names.Heap.{Heap}
-use Rattle.k_types.specs.declared.names.Heap.TheVariants.{Kernel, User, Shared}
+use Rattle.k_types.specs.declared.names.Heap.TheVariants.{Kernel, Shared}
 use Rattle.k_types.specs.declared.names.Phase.{Phase}
 use Rattle.k_types.specs.declared.names.Phase.TheVariants.{Populating, Frozen}
 use Rattle.k_types.specs.declared.event.Fault.{Fault}
@@ -17,26 +16,24 @@ use Rattle.k_types.specs.declared.op.Op.{Op}
 use Rattle.k_types.specs.declared.op.Op.TheVariants.{New, KNew, SNew, Store, Load, Move, Clear, Dir, Put, Get, Collect, KCollect, Share, Freeze, Attach, Exit}
 use Rattle.k_types.specs.Names.{heap_eq, directory}
 use Rattle.k_types.specs.Trace.{Trace, process_count, segment_count, kinds_of}
-use Rattle.k_types.specs.State.{State, Refers, Holds, register, is_scanned, scan_of}
+use Rattle.k_types.specs.State.{State, Refers, Holds, register, is_scanned}
 use Rattle.k_types.specs.Owners.{owner_of, user, shared, phase_of, is_absorbed}
 use Rattle.k_types.specs.Reach.{roots_of}
-use Rattle.k_types.specs.Updates.{set_register, create, add_exit, add_share, set_phase, open_scan, close}
+use Rattle.k_types.specs.Updates.{set_register, create, add_exit, add_share, set_phase, open_scan}
 use Rattle.k_types.specs.Replies.{fault_where, first_fault, faults, at_base, answer, is_populating, is_unmade}
-use Rattle.k_types.specs.Effects.{effect, after_store, after_put, after_freeze, with_exit_of_store, after_end_of, after_ended, after_absorbed, after_closing}
+use Rattle.k_types.specs.Effects.{effect, after_store, after_put, after_freeze, with_exit_of_store, after_end_of, after_absorbed, after_closing}
 use Rattle.k_types.specs.Cells.{Cell, CellPart, part, book_part, other_cells}
 use Rattle.k_types.specs.Steps.{in_range}
 use Rattle.k_types.specs.Sound.{IsSound}
-use Rattle.k_types.specs.PartUpdates.{with_register, with_written}
+use Rattle.k_types.specs.PartUpdates.{with_written}
 use Rattle.k_frame.proofs.Elsewhere.{add_share_elsewhere, close_elsewhere}
-use Rattle.k_frame.proofs.ElsewhereOther.{exited_elsewhere, collected_elsewhere, absorbed_elsewhere}
-use Rattle.k_frame.proofs.FrameSteps.{none_on, none_first, owner_linked}
+use Rattle.k_frame.proofs.ElsewhereOther.{exited_elsewhere, absorbed_elsewhere}
+use Rattle.k_frame.proofs.FrameSteps.{none_on, owner_linked}
 use Rattle.k_frame.proofs.OwnerOf.{owner_user, owner_kernel, owner_shared}
 use Rattle.k_laws.specs.Changes.{MayAbsorb, MayExit}
 use Rattle.k_laws.proofs.SoundEffects.{Acts, is_unmade_so, none_is, is_populating_by}
-use Rattle.k_changes.specs.CellChanges.{with_exit_to, with_scan, in_phase, collected, at_its_end, when_absorbed, taking_in}
+use Rattle.k_changes.specs.CellChanges.{with_exit_to, with_scan, in_phase, at_its_end, when_absorbed, taking_in}
 use Rattle.k_changes.specs.BookChanges.{owner_in}
-use Rattle.k_changes.specs.Roots.{roots_in}
-use Rattle.k_changes.proofs.Collected.{ended_on_cell}
 use Rattle.k_changes.proofs.GivenAway.{end_on_cell, end_on_kernel, absorbed_on_cell, absorbed_on_kernel}
 use Rattle.k_changes.proofs.OnBook.{owner_told}
 use Rattle.k_changes.proofs.RootsTold.{roots_told}

@@ -1,5 +1,5 @@
 -- What a step makes of the parts of the cells and of the book.
-use Rattle.std.proofs.Common.{◌≡◌, ℕ, ◌<◌, not, refl, sym, ap, ◌∙◌, List, [], ◌∷◌, length, length-set, get_or, ◌+◌, Option, Some, None, arith, IsTrue, IsFalse}
+use Rattle.std.proofs.Common.{◌≡◌, ℕ, ◌<◌, not, refl, sym, ap, ◌∙◌, length, length-set, get_or, ◌+◌, Option, Some, None, arith, IsTrue}
 use Rattle.std.specs.List.{list_all}
 use Rattle.std.proofs.lemmas.Bool.{and_parts, not-true}
 use Rattle.k_types.specs.declared.names.Pid.{Pid}
@@ -14,13 +14,13 @@ use Rattle.k_types.specs.declared.event.Event.{Event}
 use Rattle.k_types.specs.declared.event.Event.TheVariants.{Done, Ended, Absorbed, Closing}
 use Rattle.k_types.specs.Trace.{Trace, process_count}
 use Rattle.k_types.specs.State.{State, is_scanned, scan_of}
-use Rattle.k_types.specs.Owners.{user, shared, phase_of}
+use Rattle.k_types.specs.Owners.{user, phase_of}
 use Rattle.k_types.specs.Updates.{count_done}
 use Rattle.k_types.specs.Replies.{first_fault, faults, answer, reply_to, refused_or}
 use Rattle.k_types.specs.Effects.{step, after_ended, effect, effect_unless, after_operation}
-use Rattle.k_types.specs.Cells.{Cell, CellPart, part, book_part, cells_touched, other_cells}
-use Rattle.k_types.specs.Steps.{IsPossible, MayBeDone, is_live, has_sharer}
-use Rattle.k_types.specs.Sound.{IsSound, IsSized}
+use Rattle.k_types.specs.Cells.{part, book_part, cells_touched, other_cells}
+use Rattle.k_types.specs.Steps.{IsPossible, is_live, has_sharer}
+use Rattle.k_types.specs.Sound.{IsSound}
 use Rattle.k_types.specs.PartUpdates.{with_done}
 use Rattle.k_frame.proofs.ElsewhereOther.{collected_elsewhere}
 use Rattle.k_frame.proofs.Sizes.{step_sized}

@@ -3,3 +3,5 @@ pub mod CellSquares
 pub mod EventSquares
 pub mod Told
 pub mod BookSquares
+pub mod Counted
+pub mod Locality

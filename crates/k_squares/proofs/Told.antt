@@ -10,7 +10,7 @@ use Rattle.k_types.specs.declared.names.Heap.TheVariants.{Kernel, User, Shared}
 use Rattle.k_types.specs.declared.op.Op.{Op}
 use Rattle.k_types.specs.declared.op.Op.TheVariants.{New, KNew, SNew, Store, Load, Move, Clear, Dir, Put, Get, Collect, KCollect, Share, Freeze, Attach, Exit}
 use Rattle.k_types.specs.declared.event.Fault.{Fault}
-use Rattle.k_types.specs.declared.event.Fault.TheVariants.{NotSharer, Foreign, NoField, WrongKind, Frozen, Segv, NotPopulating, NotFrozen, Taken, KernelFull}
+use Rattle.k_types.specs.declared.event.Fault.TheVariants.{Foreign, NoField, WrongKind, Frozen, Segv, NotPopulating, NotFrozen, Taken, KernelFull}
 use Rattle.k_types.specs.declared.event.Reply.{Reply}
 use Rattle.k_types.specs.declared.event.Reply.TheVariants.{Made, Loaded, Value}
 use Rattle.k_types.specs.declared.event.Event.TheVariants.{Done}
@@ -19,9 +19,9 @@ use Rattle.k_types.specs.Names.{heap_eq, kind_of, among}
 use Rattle.k_types.specs.Trace.{Trace, process_count, limit_of, size_of_type}
 use Rattle.k_types.specs.TraceRules.{AreLimits}
 use Rattle.k_types.specs.State.{State, Content, Holds, register, object_at, fields_of, has_share}
-use Rattle.k_types.specs.Owners.{owner_of, user, shared, phase_of, bytes_of, is_absorbed}
+use Rattle.k_types.specs.Owners.{owner_of, user, phase_of, bytes_of, is_absorbed}
 use Rattle.k_types.specs.Replies.{fault_where, first_fault, faults, at_base, answer, reply_to, refused_or, access_faults, store_faults, load_faults, number_faults, sharer_fault, is_frozen_heap, is_foreign, is_ref, is_unmade, root_of, is_frozen, is_populating, passes_barrier, limit_fault, size_fault, field_at, field_count, reference, reference_from, number_in, number_from}
-use Rattle.k_types.specs.Cells.{Cell, CellPart, part, book_part, base_cell, access_cell, other_cells, cells_touched}
+use Rattle.k_types.specs.Cells.{CellPart, part, book_part, base_cell, access_cell, other_cells, cells_touched}
 use Rattle.k_types.specs.Local.{is_local, is_own, is_local_store, is_local_load}
 use Rattle.k_types.specs.Steps.{in_range}
 use Rattle.k_types.specs.PartUpdates.{held_in}
@@ -30,7 +30,7 @@ use Rattle.k_changes.specs.BookChanges.{owner_in}
 use Rattle.k_changes.proofs.OnBook.{owner_told}
 use Rattle.k_changes.proofs.ToldBy.{register_told, object_told, name_told, bytes_told, shared_bytes_told, limit_told}
 use Rattle.k_squares.specs.CellAfter.{register_in}
-use Rattle.k_squares.specs.Answers.{field_in, field_count_in, sharer_fault_in, is_frozen_in, size_fault_in, passes_barrier_in, access_faults_in, store_faults_in, load_faults_in, number_faults_in, freeze_faults_in, faults_in, reference_from_in, number_from_in, answer_in, reply_in, base_cell_in, access_cell_in, other_cells_in, cells_in, is_own_field_in, is_local_store_in, is_local_load_in, is_local_in}
+use Rattle.k_squares.specs.Answers.{field_in, field_count_in, sharer_fault_in, is_frozen_in, size_fault_in, passes_barrier_in, access_faults_in, store_faults_in, load_faults_in, number_faults_in, freeze_faults_in, faults_in, reference_from_in, number_from_in, answer_in, reply_in, base_cell_in, access_cell_in, other_cells_in, cells_in, is_local_store_in, is_local_load_in, is_local_in}
 use Rattle.k_squares.proofs.CellSquares.{told, populates, populating_phase}
 
 -- the faults at a base by two functions that agree

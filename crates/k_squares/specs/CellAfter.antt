@@ -1,6 +1,6 @@
 -- What an event makes of the parts of the cells, as a function of the parts that the cells and the book had. The book tells who
 -- owns what, the process's own cell what its registers hold, and the reply what an operation was answered.
-use Rattle.std.specs.Prelude.{ℕ, Bool, Option, Some, None, if◌then◌else◌}
+use Rattle.std.specs.Prelude.{ℕ, Option, Some, None, if◌then◌else◌}
 use Rattle.k_types.specs.declared.names.Name.{Name}
 use Rattle.k_types.specs.declared.names.TypeId.{TypeId}
 use Rattle.k_types.specs.declared.names.Heap.{Heap}

@@ -1,12 +1,11 @@
-ghost use Rattle.std.specs.Prelude.{IsFalse, IsTrue, ◌<◌, ◌≡◌, ℕ};
-ghost use Rattle.k_squares.specs.Answers.{cells_in, is_local_in, reply_in};
+ghost use Rattle.std.specs.Prelude.{IsFalse, ◌<◌, ◌≡◌, ℕ};
+ghost use Rattle.k_squares.specs.Answers.{cells_in, is_local_in};
+ghost use Rattle.k_squares.specs.Follows.{ReplyFollows};
 ghost use Rattle.k_types.specs.Cells.{book_part, cells_touched, part};
 ghost use Rattle.k_types.specs.Local.{is_local};
 ghost use Rattle.k_types.specs.Names.{among};
 ghost use Rattle.k_types.specs.Owners.{user};
-ghost use Rattle.k_types.specs.Replies.{reply_to};
 ghost use Rattle.k_types.specs.State.{State};
-ghost use Rattle.k_types.specs.Steps.{in_range};
 ghost use Rattle.k_types.specs.Trace.{Trace, process_count};
 ghost use Rattle.k_types.specs.TraceRules.{AreLimits};
 ghost use Rattle.k_types.specs.declared.event.Event.TheVariants.{Done};
@@ -23,9 +22,7 @@ pub fn touched_cells_are_told()
 
 /// What an operation of a living process is answered is told by the parts of the cells that it touches and of the book.
 pub fn replies_are_told()
-    ensures { (trace : Trace) (st : State) (p : ℕ) (op : Op) → AreLimits trace → p < process_count trace →
-        IsFalse (among p st.ended) → IsTrue (in_range trace op) →
-        reply_to trace st p op ≡ reply_in trace (book_part trace st) (part trace st) p op }
+    ensures { (trace : Trace) (st : State) (p : ℕ) (op : Op) → AreLimits trace → ReplyFollows trace st p op }
 {}
 
 /// Whether an operation of a living process is local is told by its cell alone.
