@@ -5,3 +5,4 @@ pub mod Told
 pub mod BookSquares
 pub mod Counted
 pub mod Locality
+pub mod Laws

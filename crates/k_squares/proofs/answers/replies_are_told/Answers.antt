@@ -1,5 +1,5 @@
-use Rattle.k_squares.proofs.Told.{reply_told}
+use Rattle.k_squares.proofs.Laws.{replies_are_told}
 use Rattle.k_squares.proofs.answers.replies_are_told.Goals as goal
 
 pub returns : goal.returns
-returns c = λ trace st p op limits known lives inside. reply_told trace st limits p known op lives inside
+returns c = replies_are_told

@@ -1,11 +1,11 @@
-use Rattle.k_squares.proofs.Counted.{pins_counted, entries_counted, charges_counted}
+use Rattle.k_squares.proofs.Laws.{what_is_let_go_is_counted-pins, what_is_let_go_is_counted-entries, what_is_let_go_is_counted-charges}
 use Rattle.k_squares.proofs.owed.what_is_let_go_is_counted.Goals as goal
 
 pub returns-clause-pins : goal.returns-clause-pins
-returns-clause-pins c = pins_counted
+returns-clause-pins c = what_is_let_go_is_counted-pins
 
 pub returns-clause-entries : goal.returns-clause-entries
-returns-clause-entries c = entries_counted
+returns-clause-entries c = what_is_let_go_is_counted-entries
 
 pub returns-clause-charges : goal.returns-clause-charges
-returns-clause-charges c = charges_counted
+returns-clause-charges c = what_is_let_go_is_counted-charges
