@@ -4,5 +4,6 @@ pub mod EventSquares
 pub mod Told
 pub mod BookSquares
 pub mod Counted
+pub mod OnlyTouched
 pub mod Locality
 pub mod Laws

@@ -2,7 +2,6 @@
 use Rattle.std.proofs.Common.{◌≡◌, ℕ, ◌+◌, ◌<◌, ◌==◌, ◌&&◌, ◌||◌, ◌++◌, not, nat_lt, nat_le, Bool, true, false, cond, refl, sym, ap, ap₂, ◌∙◌, List, [], ◌∷◌, length, Option, Some, None, get_or, eqb-true, IsTrue, IsFalse}
 use Rattle.std.proofs.lemmas.Bool.{ltb-true, and_parts}
 use Rattle.k_types.specs.declared.names.Name.{Name}
-use Rattle.k_types.specs.declared.names.Pid.{Pid}
 use Rattle.k_types.specs.declared.names.SharedId.{SharedId}
 use Rattle.k_types.specs.declared.names.Phase.{Phase}
 use Rattle.k_types.specs.declared.names.Heap.{Heap}
@@ -13,7 +12,8 @@ use Rattle.k_types.specs.declared.event.Fault.{Fault}
 use Rattle.k_types.specs.declared.event.Fault.TheVariants.{Foreign, NoField, WrongKind, Frozen, Segv, NotPopulating, NotFrozen, Taken, KernelFull}
 use Rattle.k_types.specs.declared.event.Reply.{Reply}
 use Rattle.k_types.specs.declared.event.Reply.TheVariants.{Made, Loaded, Value}
-use Rattle.k_types.specs.declared.event.Event.TheVariants.{Done}
+use Rattle.k_types.specs.declared.event.Event.{Event}
+use Rattle.k_types.specs.declared.event.Event.TheVariants.{Done, Ended, Absorbed, Closing}
 use Rattle.k_types.specs.Barrier.{legal_store}
 use Rattle.k_types.specs.Names.{heap_eq, kind_of, among}
 use Rattle.k_types.specs.Trace.{Trace, process_count, limit_of, size_of_type}
@@ -30,7 +30,9 @@ use Rattle.k_changes.specs.BookChanges.{owner_in}
 use Rattle.k_changes.proofs.OnBook.{owner_told}
 use Rattle.k_changes.proofs.ToldBy.{register_told, object_told, name_told, bytes_told, shared_bytes_told, limit_told}
 use Rattle.k_squares.specs.CellAfter.{register_in}
-use Rattle.k_squares.specs.Answers.{field_in, field_count_in, sharer_fault_in, is_frozen_in, size_fault_in, passes_barrier_in, access_faults_in, store_faults_in, load_faults_in, number_faults_in, freeze_faults_in, faults_in, reference_from_in, number_from_in, answer_in, reply_in, base_cell_in, access_cell_in, other_cells_in, cells_in, is_local_store_in, is_local_load_in, is_local_in}
+use Rattle.k_squares.specs.Answers.{field_in, field_count_in, sharer_fault_in, is_frozen_in, size_fault_in, passes_barrier_in, access_faults_in, store_faults_in, load_faults_in, number_faults_in, freeze_faults_in, faults_in, reference_from_in, number_from_in, answer_in, reply_in}
+use Rattle.k_squares.specs.Touches.{base_cell_in, access_cell_in, other_cells_in, touched_in}
+use Rattle.k_squares.specs.Locals.{is_local_store_in, is_local_load_in, is_local_in}
 use Rattle.k_squares.proofs.CellSquares.{told, populates, populating_phase}
 
 -- the faults at a base by two functions that agree
@@ -80,9 +82,12 @@ module _ (trace : Trace) (st : State) where
   others_told p (Attach r s) = refl
   others_told p Exit = refl
 
-  pub touched_told : (pid : Pid) (op : Op) (said : Reply) → cells_touched trace st (Done pid op said) ≡ cells_in trace (book_part trace st) (part trace st (User pid)) pid op
+  pub touched_told : (event : Event) → cells_touched trace st event ≡ touched_in trace (book_part trace st) (part trace st) event
   unfolding cells_touched
-  touched_told pid op said = ap (λ cells. User pid ∷ cells) (others_told pid.0 op)
+  touched_told (Done pid op said) = ap (λ cells. User pid ∷ cells) (others_told pid.0 op)
+  touched_told (Ended h a b c d) = refl
+  touched_told (Absorbed s) = refl
+  touched_told Closing = refl
 
   -- an access through a register reads its owner's cell
   phases_told : st.phases ≡ (book_part trace st).phases

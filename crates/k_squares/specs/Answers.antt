@@ -1,8 +1,6 @@
--- What an operation is answered, which cells it touches and whether it is local, by the parts of the process's own cell, of the
--- touched cells and of the book.
-use Rattle.std.specs.Prelude.{ℕ, ◌+◌, ◌==◌, ◌&&◌, ◌||◌, not, nat_lt, nat_le, Bool, true, false, List, [], ◌∷◌, ◌++◌, length, slice_index_or, Option, Some, None, if◌then◌else◌}
+-- What an operation is answered, by the parts of the process's own cell, of the touched cells and of the book.
+use Rattle.std.specs.Prelude.{◌≡◌, ℕ, ◌+◌, not, nat_lt, nat_le, Bool, true, false, List, [], ◌∷◌, ◌++◌, length, slice_index_or, Option, Some, None, if◌then◌else◌}
 use Rattle.k_types.specs.declared.names.Name.{Name}
-use Rattle.k_types.specs.declared.names.Pid.{Pid}
 use Rattle.k_types.specs.declared.names.SharedId.{SharedId}
 use Rattle.k_types.specs.declared.names.Heap.{Heap}
 use Rattle.k_types.specs.declared.names.Heap.TheVariants.{Kernel, User, Shared}
@@ -10,6 +8,8 @@ use Rattle.k_types.specs.declared.op.Op.{Op}
 use Rattle.k_types.specs.declared.op.Op.TheVariants.{New, KNew, SNew, Store, Load, Move, Clear, Dir, Put, Get, Collect, KCollect, Share, Freeze, Attach, Exit}
 use Rattle.k_types.specs.declared.event.Fault.{Fault}
 use Rattle.k_types.specs.declared.event.Fault.TheVariants.{Foreign, NotSharer, NoField, WrongKind, Frozen, Segv, NotPopulating, NotFrozen, Taken, KernelFull}
+use Rattle.k_types.specs.declared.event.Event.{Event}
+use Rattle.k_types.specs.declared.event.Event.TheVariants.{Done as DoneEvent, Ended, Absorbed, Closing}
 use Rattle.k_types.specs.declared.event.Reply.{Reply}
 use Rattle.k_types.specs.declared.event.Reply.TheVariants.{Done, Made, Loaded, Value}
 use Rattle.k_types.specs.Barrier.{legal_store}
@@ -18,15 +18,13 @@ use Rattle.k_types.specs.Trace.{Trace, limit_of, size_of_type, segment_of}
 use Rattle.k_types.specs.State.{Content, Holds, object_at, fields_of}
 use Rattle.k_types.specs.Owners.{user, phase_of}
 use Rattle.k_types.specs.Replies.{fault_where, first_fault, at_base, limit_fault, refused_or, is_foreign, is_ref, is_unmade, is_frozen, is_populating, root_of, reference, number_in}
-use Rattle.k_types.specs.Local.{is_own}
 use Rattle.k_types.specs.Cells.{Cell, CellPart, BookPart}
-use Rattle.k_types.specs.PartUpdates.{held_in}
 use Rattle.k_changes.specs.CellChanges.{next_name_in}
 use Rattle.k_changes.specs.BookChanges.{owner_in, bytes_in}
 use Rattle.k_changes.specs.Told.{full_limit_in}
 use Rattle.k_squares.specs.CellAfter.{register_in}
 
--- what the field of the object holds, and the number of the object's fields, by the cell that has it
+-- what the field of the object holds, by the cell that has it
 abbrev pub field_in : CellPart → Name → ℕ → Content
 field_in c x i = slice_index_or (fields_of (object_at c.objects x)) i (Holds 0)
 
@@ -150,70 +148,9 @@ answer_in trace book parts p Exit = Done
 unfoldable pub reply_in : Trace → BookPart → (Cell → CellPart) → ℕ → Op → Reply
 reply_in trace book parts p op = refused_or (first_fault (faults_in trace book parts p op)) (answer_in trace book parts p op)
 
--- the cell beside the process's own that an access to an object of the heap touches
-abbrev pub base_cell_in : BookPart → ℕ → Heap → List Cell
-base_cell_in book p Kernel = Kernel ∷ []
-base_cell_in book p (User q) = []
-base_cell_in book p (Shared s) = if book.shares p s.0 then Shared s ∷ [] else []
-
--- the same for an access through what a register holds
-abbrev pub access_cell_in : Trace → BookPart → ℕ → Option Name → List Cell
-access_cell_in trace book p None = []
-access_cell_in trace book p (Some x) = base_cell_in book p (owner_in trace book x.seg.0)
-
--- the cells beside the process's own that its operation touches, by the own cell's and the book's part
-unfoldable pub other_cells_in : Trace → BookPart → CellPart → ℕ → Op → List Cell
-other_cells_in trace book own p (New r ty) = []
-other_cells_in trace book own p (KNew r ty) = Kernel ∷ []
-other_cells_in trace book own p (SNew r s ty) = Shared s ∷ []
-other_cells_in trace book own p (Store base i value) = access_cell_in trace book p (held_in own.process base.0)
-other_cells_in trace book own p (Load r base i) = access_cell_in trace book p (held_in own.process base.0)
-other_cells_in trace book own p (Move r from) = []
-other_cells_in trace book own p (Clear r) = []
-other_cells_in trace book own p (Dir r) = []
-other_cells_in trace book own p (Put base i number) = access_cell_in trace book p (held_in own.process base.0)
-other_cells_in trace book own p (Get base i) = access_cell_in trace book p (held_in own.process base.0)
-other_cells_in trace book own p Collect = []
-other_cells_in trace book own p KCollect = Kernel ∷ []
-other_cells_in trace book own p (Share s) = Shared s ∷ []
-other_cells_in trace book own p (Freeze s root) = Shared s ∷ []
-other_cells_in trace book own p (Attach r s) = Shared s ∷ []
-other_cells_in trace book own p Exit = Kernel ∷ []
-
--- the cells that the process's operation touches, its own first
-abbrev pub cells_in : Trace → BookPart → CellPart → Pid → Op → List Cell
-cells_in trace book own pid op = User pid ∷ other_cells_in trace book own pid.0 op
-
--- the access to the field of an object of the process's heap is refused for the field, or what it holds is own
-abbrev pub is_own_field_in : CellPart → ℕ → Name → ℕ → Bool → Bool
-is_own_field_in own p x i goes_on =
-    (x.seg.0 == p + 1) && (nat_le (field_count_in own x) i || not (is_ref (field_in own x i)) || goes_on)
-
--- the store of the value is local, by what the base register holds
-abbrev pub is_local_store_in : CellPart → ℕ → Option Name → ℕ → Option Name → Bool
-is_local_store_in own p None i value = true
-is_local_store_in own p (Some x) i value = is_own_field_in own p x i (is_own p value)
-
--- the load is local, by what the base register holds and what the result register held
-abbrev pub is_local_load_in : CellPart → ℕ → Option Name → ℕ → Option Name → Bool
-is_local_load_in own p None i old = true
-is_local_load_in own p (Some x) i old = is_own_field_in own p x i (is_own p (reference (field_in own x i)) && is_own p old)
-
--- the operation reads and changes nothing outside the process's heap, by the own cell's part
-unfoldable pub is_local_in : CellPart → ℕ → Op → Bool
-is_local_in own p (New r ty) = false
-is_local_in own p (KNew r ty) = false
-is_local_in own p (SNew r s ty) = false
-is_local_in own p (Store base i value) = is_local_store_in own p (held_in own.process base.0) i (held_in own.process value.0)
-is_local_in own p (Load r base i) = is_local_load_in own p (held_in own.process base.0) i (held_in own.process r.0)
-is_local_in own p (Move r from) = is_own p (held_in own.process r.0) && is_own p (held_in own.process from.0)
-is_local_in own p (Clear r) = is_own p (held_in own.process r.0)
-is_local_in own p (Dir r) = false
-is_local_in own p (Put base i number) = is_own p (held_in own.process base.0)
-is_local_in own p (Get base i) = is_own p (held_in own.process base.0)
-is_local_in own p Collect = false
-is_local_in own p KCollect = false
-is_local_in own p (Share s) = false
-is_local_in own p (Freeze s root) = false
-is_local_in own p (Attach r s) = false
-is_local_in own p Exit = false
+-- the event is no operation, or one that is answered what the parts give
+abbrev pub IsAnswered : Trace → BookPart → (Cell → CellPart) → Event → Type 0
+IsAnswered trace book parts (DoneEvent pid op said) = said ≡ reply_in trace book parts pid.0 op
+IsAnswered trace book parts (Ended h objects bytes exits shares) = Unit {0}
+IsAnswered trace book parts (Absorbed s) = Unit {0}
+IsAnswered trace book parts Closing = Unit {0}

@@ -7,6 +7,9 @@ mod answers;
 mod owed;
 mod steps;
 
-pub use answers::{local_operations_are_told, replies_are_told, touched_cells_are_told};
+pub use answers::{
+    local_operations_are_told, only_touched_cells_are_read, replies_are_told,
+    touched_cells_are_told,
+};
 pub use owed::what_is_let_go_is_counted;
 pub use steps::{steps_go_by_the_parts, steps_show_in_the_parts};
