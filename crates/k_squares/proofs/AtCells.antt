@@ -14,7 +14,7 @@ use Rattle.k_types.specs.Owners.{owner_of, user, shared, phase_of, is_absorbed}
 use Rattle.k_types.specs.Updates.{count_done, set_register, create, write, add_exit, open_scan, set_phase}
 use Rattle.k_types.specs.Sound.{IsOrdered}
 use Rattle.k_types.specs.Cells.{Cell, CellPart, part}
-use Rattle.k_types.specs.PartUpdates.{with_done, with_register, with_written}
+use Rattle.k_frame.specs.PartUpdates.{with_done, with_register, with_written}
 use Rattle.k_frame.proofs.Elsewhere.{count_done_elsewhere, set_register_elsewhere, create_elsewhere, write_elsewhere, add_exit_elsewhere, open_scan_elsewhere}
 use Rattle.k_frame.proofs.ElsewhereOther.{set_phase_elsewhere}
 use Rattle.k_frame.proofs.LocalEffects.{part_done, part_register}

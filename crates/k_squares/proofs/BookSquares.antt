@@ -11,6 +11,7 @@ use Rattle.k_types.specs.declared.names.Phase.TheVariants.{Unmade, Populating, F
 use Rattle.k_types.specs.declared.event.Fault.TheVariants.{Taken}
 use Rattle.k_types.specs.declared.op.Op.{Op}
 use Rattle.k_types.specs.declared.op.Op.TheVariants.{New, KNew, SNew, Store, Load, Move, Clear, Dir, Put, Get, Collect, KCollect, Share, Freeze, Attach, Exit}
+use Rattle.k_types.specs.Bounds.{register_count}
 use Rattle.k_types.specs.Names.{heap_eq, directory, among}
 use Rattle.k_types.specs.Trace.{Trace, process_count, kinds_of, limit_of, size_of_type}
 use Rattle.k_types.specs.TraceRules.{AreLimits}
@@ -56,12 +57,12 @@ unfolding add_share
 shared_sized trace st p s z = record { made = z.made; registers = z.registers; each = z.each; done = z.done; phases = z.phases; maxima = z.maxima }
 
 -- the number of the first register that an operation in range names
-small_register : (r : Reg) (rest : Bool) → IsTrue (nat_lt r.0 16 && rest) → r.0 < 16
-small_register r rest t = ltb-true _ _ (and_parts (nat_lt r.0 16) rest t).0
+small_register : (r : Reg) (rest : Bool) → IsTrue (nat_lt r.0 register_count && rest) → r.0 < register_count
+small_register r rest t = ltb-true _ _ (and_parts (nat_lt r.0 register_count) rest t).0
 
 module _ (trace : Trace) (st : State) where
   -- a register that is set after a change that leaves the registers, the owners and the lengths of the lists
-  repinned : (su : State) (p r : ℕ) (v : Option Name) → IsSized trace su → p < process_count trace → r < 16 → owner_of trace su ≡ owner_of trace st → su.registers ≡ st.registers →
+  repinned : (su : State) (p r : ℕ) (v : Option Name) → IsSized trace su → p < process_count trace → r < register_count → owner_of trace su ≡ owner_of trace st → su.registers ≡ st.registers →
       book_part trace (set_register p r v su) ≡ book_repinned trace (book_part trace st) (part trace st) p r v (book_part trace su)
   repinned su p r v sized known small owners registers =
       set_register_on_book trace su p r v sized known small
@@ -124,17 +125,17 @@ module _ (trace : Trace) (st : State) where
               ∙ sym (ap (λ b. cond b (book_part trace st) (with_charge (limit_of trace p) (get_or (book_part trace st).shared_bytes s 0) (with_share p s (book_part trace st)))) f)
         ]
 
-    new_book : (seg : ℕ) (r : Reg) (ty : TypeId) (v : Option Name) (after : BookPart) → p < process_count trace → r.0 < 16 → book_part trace (create seg ty (kinds_of trace ty) st) ≡ after →
+    new_book : (seg : ℕ) (r : Reg) (ty : TypeId) (v : Option Name) (after : BookPart) → p < process_count trace → r.0 < register_count → book_part trace (create seg ty (kinds_of trace ty) st) ≡ after →
         book_part trace (set_register p r.0 v (create seg ty (kinds_of trace ty) st)) ≡ book_repinned trace (book_part trace st) (part trace st) p r.0 v after
     unfolding create
     new_book seg r ty v after known small made =
         repinned (create seg ty (kinds_of trace ty) st) p r.0 v (created_sized trace st seg ty (kinds_of trace ty) sound.shape.sized) known small refl refl
         ∙ ap (book_repinned trace (book_part trace st) (part trace st) p r.0 v) made
 
-    set_book : (r : Reg) (v : Option Name) → p < process_count trace → r.0 < 16 → book_part trace (set_register p r.0 v st) ≡ book_repinned trace (book_part trace st) (part trace st) p r.0 v (book_part trace st)
+    set_book : (r : Reg) (v : Option Name) → p < process_count trace → r.0 < register_count → book_part trace (set_register p r.0 v st) ≡ book_repinned trace (book_part trace st) (part trace st) p r.0 v (book_part trace st)
     set_book r v known small = repinned st p r.0 v sound.shape.sized known small refl refl
 
-    attach_book : (r : Reg) (s : ℕ) (v : Option Name) → p < process_count trace → IsFalse (among p st.ended) → r.0 < 16 → s < trace.shared_heaps →
+    attach_book : (r : Reg) (s : ℕ) (v : Option Name) → p < process_count trace → IsFalse (among p st.ended) → r.0 < register_count → s < trace.shared_heaps →
         book_part trace (set_register p r.0 v (add_share p s st)) ≡ book_repinned trace (book_part trace st) (part trace st) p r.0 v (book_attached trace p s (book_part trace st))
     unfolding add_share
     attach_book r s v known lives small inside =
@@ -157,7 +158,7 @@ module _ (trace : Trace) (st : State) where
         book_part trace (create (1 + process_count trace + s.0) ty (kinds_of trace ty) st) ≡ with_shared_bytes s.0 (size_of_type trace ty) (with_charge (limit_of trace p) (size_of_type trace ty) (book_part trace st))
     unfolding faults in_range
     snew_book r s ty acts =
-        let inside = ltb-true _ _ (and_parts (nat_lt r.0 16) (nat_lt s.0 trace.shared_heaps) (and_parts (nat_lt r.0 16 && nat_lt s.0 trace.shared_heaps) (nat_lt ty.0 (length trace.types)) acts.in_range).0).1 in
+        let inside = ltb-true _ _ (and_parts (nat_lt r.0 register_count) (nat_lt s.0 trace.shared_heaps) (and_parts (nat_lt r.0 register_count && nat_lt s.0 trace.shared_heaps) (nat_lt ty.0 (length trace.types)) acts.in_range).0).1 in
         new_in_shared_on_book trace st limits sound (record { 0 = p }) s.0 ty acts.known acts.lives inside (populating_phase (phase_of st.phases s.0) p (populates trace st p s _ acts.fine))
 
     exit_book : MayExit trace st p → book_part trace (after_end_of trace p st) ≡ when_ended trace (owner_in trace (book_part trace st)) p (part trace st (user p)) (part trace st Kernel) (book_part trace st)
@@ -171,7 +172,7 @@ module _ (trace : Trace) (st : State) where
     effect_book (KNew r ty) acts = new_book 0 r ty _ _ acts.known (small_register r _ acts.in_range) (new_in_kernel_on_book trace st sound p ty acts.known acts.lives)
     effect_book (SNew r s ty) acts =
         new_book (1 + process_count trace + s.0) r ty _ _ acts.known
-        (small_register r _ (and_parts (nat_lt r.0 16 && nat_lt s.0 trace.shared_heaps) _ acts.in_range).0) (snew_book r s ty acts)
+        (small_register r _ (and_parts (nat_lt r.0 register_count && nat_lt s.0 trace.shared_heaps) _ acts.in_range).0) (snew_book r s ty acts)
     effect_book (Store base i value) acts =
         stored_book (register st.registers p base.0) i (register st.registers p value.0)
         ∙ ap₂ (λ x v. book_stored (owner_of trace st) x v (part trace st) (book_part trace st)) (told trace st p base.0) (told trace st p value.0)
@@ -189,5 +190,5 @@ module _ (trace : Trace) (st : State) where
     effect_book (Share s) acts = share_book s acts
     effect_book (Freeze s root) acts = freeze_book s root acts
     effect_book (Attach r s) acts =
-        attach_book r s.0 _ acts.known acts.lives (small_register r _ acts.in_range) (ltb-true _ _ (and_parts (nat_lt r.0 16) (nat_lt s.0 trace.shared_heaps) acts.in_range).1)
+        attach_book r s.0 _ acts.known acts.lives (small_register r _ acts.in_range) (ltb-true _ _ (and_parts (nat_lt r.0 register_count) (nat_lt s.0 trace.shared_heaps) acts.in_range).1)
     effect_book Exit acts = exit_book (may_exit trace st p acts)

@@ -14,6 +14,7 @@ use Rattle.k_types.specs.declared.event.Fault.{Fault}
 use Rattle.k_types.specs.declared.event.Fault.TheVariants.{Segv, NotPopulating, Taken}
 use Rattle.k_types.specs.declared.op.Op.{Op}
 use Rattle.k_types.specs.declared.op.Op.TheVariants.{New, KNew, SNew, Store, Load, Move, Clear, Dir, Put, Get, Collect, KCollect, Share, Freeze, Attach, Exit}
+use Rattle.k_types.specs.Bounds.{register_count}
 use Rattle.k_types.specs.Names.{heap_eq, directory}
 use Rattle.k_types.specs.Trace.{Trace, process_count, segment_count, kinds_of}
 use Rattle.k_types.specs.State.{State, Refers, Holds, register, is_scanned}
@@ -25,7 +26,7 @@ use Rattle.k_types.specs.Effects.{effect, after_store, after_put, after_freeze, 
 use Rattle.k_types.specs.Cells.{Cell, CellPart, part, book_part, other_cells}
 use Rattle.k_types.specs.Steps.{in_range}
 use Rattle.k_types.specs.Sound.{IsSound}
-use Rattle.k_types.specs.PartUpdates.{with_written}
+use Rattle.k_frame.specs.PartUpdates.{with_written}
 use Rattle.k_frame.proofs.Elsewhere.{add_share_elsewhere, close_elsewhere}
 use Rattle.k_frame.proofs.ElsewhereOther.{exited_elsewhere, absorbed_elsewhere}
 use Rattle.k_frame.proofs.FrameSteps.{none_on, owner_linked}
@@ -128,7 +129,7 @@ module _ (trace : Trace) (st : State) where
       unfolding faults in_range
       snew_cells r s ty acts =
           let populating = populating_phase (phase_of st.phases s.0) p (populates trace st p s _ acts.fine) in
-          let inside = ltb-true _ _ (and_parts (nat_lt r.0 16) (nat_lt s.0 trace.shared_heaps) (and_parts (nat_lt r.0 16 && nat_lt s.0 trace.shared_heaps) (nat_lt ty.0 (length trace.types)) acts.in_range).0).1 in
+          let inside = ltb-true _ _ (and_parts (nat_lt r.0 register_count) (nat_lt s.0 trace.shared_heaps) (and_parts (nat_lt r.0 register_count && nat_lt s.0 trace.shared_heaps) (nat_lt ty.0 (length trace.types)) acts.in_range).0).1 in
           create_cells trace st (shared s.0) (1 + process_count trace + s.0) ty (kinds_of trace ty) (owner_shared trace st s.0 (ap is_absorbed populating)) (made_long (1 + process_count trace + s.0) (omega (arith, inside))) sound.names.ordered
 
       share_cells : (s : SharedId) → Acts trace st p (Share s) → part trace (add_share p s.0 (set_phase s.0 (Populating (record { 0 = p })) st)) ≡ at_cell (Shared s) (in_phase (Populating (record { 0 = p }))) (part trace st)
@@ -141,7 +142,7 @@ module _ (trace : Trace) (st : State) where
       freeze_cells : (s : SharedId) (root : Reg) → Acts trace st p (Freeze s root) → part trace (after_freeze s.0 (register st.registers p root.0) st) ≡ cells_frozen (Shared s) (register_in (part trace st) p root.0) (part trace st)
       unfolding faults in_range
       freeze_cells s root acts =
-          frozen_cells s.0 (register st.registers p root.0) (phases_long s.0 (ltb-true _ _ (and_parts (nat_lt s.0 trace.shared_heaps) (nat_lt root.0 16) acts.in_range).0))
+          frozen_cells s.0 (register st.registers p root.0) (phases_long s.0 (ltb-true _ _ (and_parts (nat_lt s.0 trace.shared_heaps) (nat_lt root.0 register_count) acts.in_range).0))
           (freezes trace st p s (register st.registers p root.0) acts.fine)
           ∙ ap (λ v. cells_frozen (Shared s) v (part trace st)) (told p root.0)
 

@@ -21,7 +21,7 @@ use Rattle.k_types.specs.Effects.{step, after_ended, effect, effect_unless, afte
 use Rattle.k_types.specs.Cells.{part, book_part, cells_touched, other_cells}
 use Rattle.k_types.specs.Steps.{IsPossible, is_live, has_sharer}
 use Rattle.k_types.specs.Sound.{IsSound}
-use Rattle.k_types.specs.PartUpdates.{with_done}
+use Rattle.k_frame.specs.PartUpdates.{with_done}
 use Rattle.k_frame.proofs.ElsewhereOther.{collected_elsewhere}
 use Rattle.k_frame.proofs.Sizes.{step_sized}
 use Rattle.k_laws.specs.Changes.{MayAbsorb}

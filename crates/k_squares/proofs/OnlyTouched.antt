@@ -22,7 +22,7 @@ use Rattle.k_types.specs.State.{Refers, Holds}
 use Rattle.k_types.specs.Owners.{user, phase_of}
 use Rattle.k_types.specs.Replies.{fault_where, first_fault, at_base, refused_or, is_ref, is_populating, reference, number_in}
 use Rattle.k_types.specs.Cells.{Cell, CellPart, BookPart}
-use Rattle.k_types.specs.PartUpdates.{held_in, with_done, with_written}
+use Rattle.k_frame.specs.PartUpdates.{held_in, with_done, with_written}
 use Rattle.k_frame.proofs.NameTests.{heap_eq_refl}
 use Rattle.k_changes.specs.CellChanges.{with_scan, taking_in, at_its_end, when_absorbed, in_phase, collected, next_name_in}
 use Rattle.k_changes.specs.BookChanges.{owner_in, bytes_in, with_pin_moved, with_entry, without_entries, drops, when_collected, when_ended, when_taken}

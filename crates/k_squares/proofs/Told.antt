@@ -15,6 +15,7 @@ use Rattle.k_types.specs.declared.event.Reply.TheVariants.{Made, Loaded, Value}
 use Rattle.k_types.specs.declared.event.Event.{Event}
 use Rattle.k_types.specs.declared.event.Event.TheVariants.{Done, Ended, Absorbed, Closing}
 use Rattle.k_types.specs.Barrier.{legal_store}
+use Rattle.k_types.specs.Bounds.{register_count}
 use Rattle.k_types.specs.Names.{heap_eq, kind_of, among}
 use Rattle.k_types.specs.Trace.{Trace, process_count, limit_of, size_of_type}
 use Rattle.k_types.specs.TraceRules.{AreLimits}
@@ -24,7 +25,7 @@ use Rattle.k_types.specs.Replies.{fault_where, first_fault, faults, at_base, ans
 use Rattle.k_types.specs.Cells.{CellPart, part, book_part, base_cell, access_cell, other_cells, cells_touched}
 use Rattle.k_types.specs.Local.{is_local, is_own, is_local_store, is_local_load}
 use Rattle.k_types.specs.Steps.{in_range}
-use Rattle.k_types.specs.PartUpdates.{held_in}
+use Rattle.k_frame.specs.PartUpdates.{held_in}
 use Rattle.k_frame.proofs.OwnerOf.{owner_user, owner_kernel, owner_shared}
 use Rattle.k_changes.specs.BookChanges.{owner_in}
 use Rattle.k_changes.proofs.OnBook.{owner_told}
@@ -196,7 +197,7 @@ module _ (trace : Trace) (st : State) where
         at_base_same (register st.registers p root.0) _ (freeze_faults_in trace (book_part trace st) p (Shared s) s) (freeze_told s)
         ∙ ap (λ b. at_base b (freeze_faults_in trace (book_part trace st) p (Shared s) s)) (told trace st p root.0)
     faults_told (Attach r s) inside =
-        let heap = ltb-true _ _ (and_parts (nat_lt r.0 16) (nat_lt s.0 trace.shared_heaps) inside).1 in
+        let heap = ltb-true _ _ (and_parts (nat_lt r.0 register_count) (nat_lt s.0 trace.shared_heaps) inside).1 in
         ap₂ (λ (phases : List Phase) f. fault_where (not (is_frozen (phase_of phases s.0))) (NotFrozen s) ∷ f ∷ []) phases_told
         (ap₂ (λ b f. cond b None f) (shares_told p s.0) (size_told (bytes_of trace st (Shared s)) ∙ ap (size_fault_in trace (book_part trace st) p) (sym (shared_bytes_told trace st s.0 heap))))
     faults_told Exit inside = refl

@@ -17,7 +17,7 @@ use Rattle.k_types.specs.Trace.{Trace, kinds_of, segment_of}
 use Rattle.k_types.specs.State.{Refers, Holds}
 use Rattle.k_types.specs.Owners.{user, shared}
 use Rattle.k_types.specs.Cells.{Cell, CellPart, BookPart}
-use Rattle.k_types.specs.PartUpdates.{held_in, with_done, with_register, with_written}
+use Rattle.k_frame.specs.PartUpdates.{held_in, with_done, with_register, with_written}
 use Rattle.k_changes.specs.CellChanges.{with_created, with_exit_to, with_scan, in_phase, collected, at_its_end, when_absorbed, taking_in}
 use Rattle.k_changes.specs.BookChanges.{owner_in}
 use Rattle.k_changes.specs.Roots.{roots_in}

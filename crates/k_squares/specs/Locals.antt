@@ -6,7 +6,7 @@ use Rattle.k_types.specs.declared.op.Op.TheVariants.{New, KNew, SNew, Store, Loa
 use Rattle.k_types.specs.Replies.{is_ref, reference}
 use Rattle.k_types.specs.Local.{is_own}
 use Rattle.k_types.specs.Cells.{CellPart}
-use Rattle.k_types.specs.PartUpdates.{held_in}
+use Rattle.k_frame.specs.PartUpdates.{held_in}
 use Rattle.k_squares.specs.Answers.{field_count_in, field_in}
 
 -- the access to the field of an object of the process's heap is refused for the field, or what it holds is own

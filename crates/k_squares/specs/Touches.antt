@@ -10,7 +10,7 @@ use Rattle.k_types.specs.declared.event.Event.{Event}
 use Rattle.k_types.specs.declared.event.Event.TheVariants.{Done as DoneEvent, Ended, Absorbed, Closing}
 use Rattle.k_types.specs.Trace.{Trace}
 use Rattle.k_types.specs.Cells.{Cell, CellPart, BookPart}
-use Rattle.k_types.specs.PartUpdates.{held_in}
+use Rattle.k_frame.specs.PartUpdates.{held_in}
 use Rattle.k_changes.specs.BookChanges.{owner_in}
 
 -- the cell beside the process's own that an access to an object of the heap touches
