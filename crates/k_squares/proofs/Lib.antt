@@ -1,0 +1,9 @@
+pub mod AtCells
+pub mod CellSquares
+pub mod EventSquares
+pub mod Told
+pub mod BookSquares
+pub mod Counted
+pub mod OnlyTouched
+pub mod Locality
+pub mod Laws

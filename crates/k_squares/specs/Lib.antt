@@ -1,0 +1,7 @@
+pub mod CellAfter
+pub mod BookAfter
+pub mod Answers
+pub mod Touches
+pub mod Locals
+pub mod Follows
+pub mod Owed
