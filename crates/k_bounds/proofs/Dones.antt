@@ -10,7 +10,7 @@ use Rattle.k_types.specs.declared.op.Op.TheVariants.{New, KNew, SNew, Store, Loa
 use Rattle.k_types.specs.declared.event.Fault.{Fault}
 use Rattle.k_types.specs.declared.event.Event.{Event}
 use Rattle.k_types.specs.declared.event.Event.TheVariants.{Done, Ended, Absorbed, Closing}
-use Rattle.k_types.specs.TraceRules.{KeepsRules}
+use Rattle.k_types.specs.TraceRules.{AreLimits}
 use Rattle.k_types.specs.Trace.{Trace, process_count}
 use Rattle.k_types.specs.State.{State, register}
 use Rattle.k_types.specs.Replies.{first_fault, faults}
@@ -137,6 +137,6 @@ begun_at_most [] = omega arith
 begun_at_most (event ∷ history) = omega (arith, begun_low event, begun_at_most history)
 
 -- a history has at most two events an operation, one a shared heap, and two more
-pub length_at_most : (trace : Trace) → KeepsRules trace → (history : List Event) → IsLegalHistory trace history → length history ≤ 2 * operation_count history + trace.shared_heaps + 2
-length_at_most trace keeps history legal =
-    omega (arith, by_kinds history, begun_at_most history, collections_balance trace keeps history legal, absorbed_at_most trace history legal, closings trace history legal, one_if_low (state_after trace history).closed)
+pub length_at_most : (trace : Trace) → AreLimits trace → (history : List Event) → IsLegalHistory trace history → length history ≤ 2 * operation_count history + trace.shared_heaps + 2
+length_at_most trace limits history legal =
+    omega (arith, by_kinds history, begun_at_most history, collections_balance trace limits history legal, absorbed_at_most trace history legal, closings trace history legal, one_if_low (state_after trace history).closed)

@@ -9,7 +9,7 @@ use Rattle.k_types.specs.declared.event.Fault.{Fault}
 use Rattle.k_types.specs.declared.event.Event.{Event}
 use Rattle.k_types.specs.declared.event.Event.TheVariants.{Done, Ended, Absorbed as AbsorbedEvent, Closing}
 use Rattle.k_types.specs.Names.{heap_eq}
-use Rattle.k_types.specs.TraceRules.{KeepsRules}
+use Rattle.k_types.specs.TraceRules.{AreLimits}
 use Rattle.k_types.specs.Trace.{Trace}
 use Rattle.k_types.specs.State.{State, Scan, register, scan_of}
 use Rattle.k_types.specs.Replies.{first_fault, faults}
@@ -109,7 +109,7 @@ one_closed h (scan ∷ scans) roots distinct opened =
           rw apart (omega (arith, rest))
     ]
 
-module _ (trace : Trace) (keeps : KeepsRules trace) where
+module _ (trace : Trace) (limits : AreLimits trace) where
   -- each collection that was begun has ended or is open
   Balanced : List Event → Type 0
   Balanced history = ended_count history + length (state_after trace history).scans ≡ begun_count history
@@ -135,7 +135,7 @@ module _ (trace : Trace) (keeps : KeepsRules trace) where
       go (Done pid op said) may = omega (arith, before, done_scans trace (state_after trace history) pid.0 op)
       go (Ended h a b c d) may =
           let scan = some_is (scan_of (state_after trace history).scans h) may.scanned in
-          omega (arith, before, ended_scans (state_after trace history) h scan.0 (legal_sound trace history keeps legal) scan.1)
+          omega (arith, before, ended_scans (state_after trace history) h scan.0 (legal_sound trace history limits legal) scan.1)
       go (AbsorbedEvent s) may = let same = ap length (absorbed_scans (state_after trace history) s.0) in omega (arith, before, same)
       go Closing may = omega (arith, before, closing_scans (state_after trace history))
 

@@ -12,7 +12,7 @@ use Rattle.k_types.specs.declared.event.Fault.TheVariants.{NotSharer}
 use Rattle.k_types.specs.declared.event.Reply.{Reply}
 use Rattle.k_types.specs.declared.event.Event.{Event}
 use Rattle.k_types.specs.declared.event.Event.TheVariants.{Done, Ended, Absorbed as AbsorbedEvent, Closing}
-use Rattle.k_types.specs.TraceRules.{KeepsRules}
+use Rattle.k_types.specs.TraceRules.{AreLimits}
 use Rattle.k_types.specs.Trace.{Trace, process_count}
 use Rattle.k_types.specs.State.{State, has_share}
 use Rattle.k_types.specs.Owners.{shared, phase_of, is_absorbed}
@@ -133,9 +133,9 @@ module _ (trace : Trace) (s : ℕ) where
         same_pid q r phase e (IsFrozen root frozen) = absurd (cc (frozen, e))
         same_pid q r phase e (IsAbsorbed absorbed) = absurd (cc (absorbed, e))
 
-  next : KeepsRules trace → (history : List Event) (event : Event) → IsLegalHistory trace history → IsPossible trace (state_after trace history) event → Bound history → Bound (history ++ event ∷ [])
+  next : AreLimits trace → (history : List Event) (event : Event) → IsLegalHistory trace history → IsPossible trace (state_after trace history) event → Bound history → Bound (history ++ event ∷ [])
   unfolding step
-  next keeps history event legal may held = go event refl may
+  next limits history event legal may held = go event refl may
     where
       at : (P : State → Type 0) → P (step trace (state_after trace history) event) → P (state_after trace (history ++ event ∷ []))
       at P t = subst P (sym (state_next trace history event)) t
@@ -152,7 +152,7 @@ module _ (trace : Trace) (s : ℕ) where
           elim (done_cases trace st (shared s) refl pid op) [
             | inl less ↦ fewer history event held pid.0 (op ∷ []) phased (λ t. (may.known, by_event pid op said is t))
                 (at (λ su. exit_count su.exits (shared s) ≤ exit_count st.exits (shared s)) (subst (λ su. exit_count su.exits (shared s) ≤ exit_count st.exits (shared s)) (sym there) less))
-            | inr into ↦ grown history event held pid op said (sym is) (legal_sound trace history keeps legal) into.0 phased
+            | inr into ↦ grown history event held pid op said (sym is) (legal_sound trace history limits legal) into.0 phased
                 (at (λ su. exit_count su.exits (shared s) ≤ exit_count st.exits (shared s) + 1) (subst (λ su. exit_count su.exits (shared s) ≤ exit_count st.exits (shared s) + 1) (sym there) into.1))
           ]
         where
@@ -181,10 +181,10 @@ module _ (trace : Trace) (s : ℕ) where
     bound = inl refl;
   }
 
-  pub shared_exits : KeepsRules trace → (history : List Event) → IsLegalHistory trace history →
+  pub shared_exits : AreLimits trace → (history : List Event) → IsLegalHistory trace history →
       (exit_count (state_after trace history).exits (shared s) ≡ 0) ⊎ ((p : ℕ) × MadeBy trace s history (exit_count (state_after trace history).exits (shared s)) p)
-  shared_exits keeps history legal = (history_induction trace Bound first (next keeps) history legal).bound
+  shared_exits limits history legal = (history_induction trace Bound first (next limits) history legal).bound
 
   -- an unmade heap has no exit items
-  pub unmade_exits : KeepsRules trace → (history : List Event) → IsLegalHistory trace history → phase_of (state_after trace history).phases s ≡ Unmade → exit_count (state_after trace history).exits (shared s) ≡ 0
-  unmade_exits keeps history legal e = (history_induction trace Bound first (next keeps) history legal).none e
+  pub unmade_exits : AreLimits trace → (history : List Event) → IsLegalHistory trace history → phase_of (state_after trace history).phases s ≡ Unmade → exit_count (state_after trace history).exits (shared s) ≡ 0
+  unmade_exits limits history legal e = (history_induction trace Bound first (next limits) history legal).none e

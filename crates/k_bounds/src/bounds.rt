@@ -18,7 +18,7 @@ ghost use Rattle.k_types.specs.Owners.{shared, user};
 ghost use Rattle.k_types.specs.Steps.{IsLegalHistory, done_by, state_after};
 ghost use Rattle.k_types.specs.Totals.{total};
 ghost use Rattle.k_types.specs.Trace.{Trace, process_count};
-ghost use Rattle.k_types.specs.TraceRules.{KeepsRules};
+ghost use Rattle.k_types.specs.TraceRules.{AreLimits};
 ghost use Rattle.k_types.specs.declared.event.Event.{Event};
 ghost use Rattle.k_types.specs.declared.names.Name.{Name};
 
@@ -30,7 +30,7 @@ pub fn exit_items_are_at_most_the_stores()
     ensures all { (trace : Trace) (history : List Event) → length (state_after trace history).exits ≤ store_count history }
     ensures user { (trace : Trace) (p : ℕ) (history : List Event) → IsLegalHistory trace history →
         exit_count (state_after trace history).exits (user p) ≤ stores_by p history }
-    ensures shared { (trace : Trace) (s : ℕ) (history : List Event) → KeepsRules trace → IsLegalHistory trace history →
+    ensures shared { (trace : Trace) (s : ℕ) (history : List Event) → AreLimits trace → IsLegalHistory trace history →
         (exit_count (state_after trace history).exits (shared s) ≡ 0)
         ⊎ ((p : ℕ) × MadeBy trace s history (exit_count (state_after trace history).exits (shared s)) p) }
 {}
@@ -47,7 +47,7 @@ pub fn serials_are_at_most_the_allocations()
 ///
 /// Source: own.
 pub fn collections_end_once()
-    ensures { (trace : Trace) (history : List Event) → KeepsRules trace → IsLegalHistory trace history →
+    ensures { (trace : Trace) (history : List Event) → AreLimits trace → IsLegalHistory trace history →
         ended_count history + length (state_after trace history).scans ≡ begun_count history }
 {}
 
@@ -65,7 +65,7 @@ pub fn heaps_are_absorbed_once()
 ///
 /// Source: own.
 pub fn histories_are_short()
-    ensures { (trace : Trace) (history : List Event) → KeepsRules trace → IsLegalHistory trace history →
+    ensures { (trace : Trace) (history : List Event) → AreLimits trace → IsLegalHistory trace history →
         length history ≤ 2 * operation_count history + trace.shared_heaps + 2 }
 {}
 

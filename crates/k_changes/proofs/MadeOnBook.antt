@@ -22,7 +22,7 @@ use Rattle.k_base.proofs.Charges.{bit_turned}
 use Rattle.k_base.proofs.Sums.{bit}
 use Rattle.k_frame.proofs.OwnerOf.{owner_user, owner_kernel, owner_shared}
 use Rattle.k_laws.proofs.SoundNew.{bytes_after}
-use Rattle.k_laws.proofs.Charged.{new_charge, knew_charge, snew_charge}
+use Rattle.k_laws.proofs.Charged.{new_charge, charge_of_kernel_new, snew_charge}
 
 module _ (trace : Trace) (st : State) where
   -- the bytes of the shared heaps, where the segment's owner is that heap
@@ -44,12 +44,12 @@ module _ (trace : Trace) (st : State) where
       (ap (λ f. map f (numbers_below trace.shared_heaps)) (fun_ext (λ s. nothing _ _ (size_of_type trace ty) (shared_after (p + 1) ty (user p) (owner_user trace st p known lives) s))))
       (direct_raised trace st limits p (size_of_type trace ty) (charge_of trace st) (charge_of trace (create (p + 1) ty (kinds_of trace ty) st)) known (new_charge trace st p sound known lives ty))
 
-  pub new_in_kernel_on_book : IsSound trace st → (p : ℕ) (ty : TypeId) → p < process_count trace → IsFalse (among p st.ended) → book_part trace (create 0 ty (kinds_of trace ty) st) ≡ book_part trace st
+  pub new_in_kernel_on_book : (ty : TypeId) → book_part trace (create 0 ty (kinds_of trace ty) st) ≡ book_part trace st
   unfolding book_part create
-  new_in_kernel_on_book sound p ty known lives =
+  new_in_kernel_on_book ty =
       ap₂ (λ bytes direct. record (book_part trace st) { shared_bytes = bytes; direct = direct })
       (ap (λ f. map f (numbers_below trace.shared_heaps)) (fun_ext (λ s. nothing _ _ (size_of_type trace ty) (shared_after 0 ty Kernel (owner_kernel trace st) s))))
-      (ap (λ c. map (direct_by trace c) (numbers_below (length trace.limits))) (fun_ext (λ q. none_more _ _ (q == p) (knew_charge trace st p sound known lives ty q))))
+      (ap (λ c. map (direct_by trace c) (numbers_below (length trace.limits))) (fun_ext (λ q. charge_of_kernel_new trace st ty q)))
 
   pub new_in_shared_on_book : AreLimits trace → IsSound trace st → (pid : Pid) (s : ℕ) (ty : TypeId) → pid.0 < process_count trace → IsFalse (among pid.0 st.ended) → s < trace.shared_heaps → phase_of st.phases s ≡ Populating pid →
       book_part trace (create (1 + process_count trace + s) ty (kinds_of trace ty) st) ≡ with_shared_bytes s (size_of_type trace ty) (with_charge (limit_of trace pid.0) (size_of_type trace ty) (book_part trace st))

@@ -49,8 +49,8 @@ pub fn what_a_new_object_changes_in_the_book()
         p < process_count trace → IsFalse (among p st.ended) →
         book_part trace (create (p + 1) ty (kinds_of trace ty) st)
         ≡ with_charge (limit_of trace p) (size_of_type trace ty) (book_part trace st) }
-    ensures kernel { (trace : Trace) (st : State) (p : ℕ) (ty : TypeId) → IsSound trace st → p < process_count trace →
-        IsFalse (among p st.ended) → book_part trace (create 0 ty (kinds_of trace ty) st) ≡ book_part trace st }
+    ensures kernel { (trace : Trace) (st : State) (ty : TypeId) →
+        book_part trace (create 0 ty (kinds_of trace ty) st) ≡ book_part trace st }
     ensures shared { (trace : Trace) (st : State) (pid : Pid) (s : ℕ) (ty : TypeId) → AreLimits trace → IsSound trace st →
         pid.0 < process_count trace → IsFalse (among pid.0 st.ended) → s < trace.shared_heaps →
         phase_of st.phases s ≡ Populating pid →

@@ -20,7 +20,7 @@ use Rattle.k_frame.specs.Alike.{Alike}
 use Rattle.k_base.proofs.NameTests.{heap_eq_refl}
 use Rattle.k_base.proofs.Objects.{kept-written}
 use Rattle.k_frame.proofs.OwnerOf.{owner_user}
-use Rattle.k_frame.proofs.LocalSteps.{same_register, own_st, own_su, loaded_same, own_faults, at_fault}
+use Rattle.k_frame.proofs.LocalSteps.{lives_too, same_register, own_st, own_su, loaded_same, own_faults, at_fault}
 
 -- a store is refused where the access or the kind of the field is at fault
 pub no_store : (trace : Trace) (st : State) (p : ℕ) (x : Name) (i : ℕ) (v : Option Name) → owner_of trace st x.seg.0 ≡ user p → IsTrue (nat_le (field_count st x) i || not (is_ref (field_at st x i))) → first_fault (store_faults trace st p i v x) ≡ None → ⊥
@@ -87,7 +87,7 @@ module _ (trace : Trace) (p : ℕ) (st su : State) (alike : Alike trace p st su)
         | inr value ↦
             ap (λ s. part trace (write x i (Refers v) s) (user p)) (link_own trace p st x v (own_st trace p st su alike x own) (own_value v value st alike.known alike.lives))
             ∙ written_same x i (Refers v)
-            ∙ sym (ap (λ s. part trace (write x i (Refers v) s) (user p)) (link_own trace p su x v (own_su trace p st su alike x own) (own_value v value su alike.known alike.lives_too)))
+            ∙ sym (ap (λ s. part trace (write x i (Refers v) s) (user p)) (link_own trace p su x v (own_su trace p st su alike x own) (own_value v value su alike.known (lives_too trace p st su alike))))
       ]
 
   pub effect_same : (op : Op) → IsTrue (is_local st p op) → first_fault (faults trace st p op) ≡ None → part trace (effect trace p op st) (user p) ≡ part trace (effect trace p op su) (user p)

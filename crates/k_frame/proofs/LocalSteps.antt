@@ -1,5 +1,5 @@
 -- A local operation does the same wherever the process's cell is the same.
-use Rattle.std.proofs.Common.{◌≡◌, ℕ, ◌+◌, ◌==◌, ◌||◌, not, nat_le, Bool, true, false, cond, refl, sym, ap, ap₂, ◌∙◌, List, [], ◌∷◌, ◌++◌, Option, Some, None, eqb-true, eq-eqb, inl, inr, IsTrue, get_or, slice_index_or, IsSome}
+use Rattle.std.proofs.Common.{◌≡◌, ℕ, ◌+◌, ◌==◌, ◌||◌, not, nat_le, Bool, true, false, cond, refl, sym, ap, ap₂, ◌∙◌, List, [], ◌∷◌, ◌++◌, Option, Some, None, eqb-true, eq-eqb, inl, inr, IsTrue, get_or, slice_index_or, IsSome, IsFalse}
 use Rattle.std.proofs.lemmas.Bool.{false≢true, or_cases, and_parts}
 use Rattle.k_types.specs.declared.names.Name.{Name}
 use Rattle.k_types.specs.declared.op.Op.{Op}
@@ -7,7 +7,7 @@ use Rattle.k_types.specs.declared.op.Op.TheVariants.{New, KNew, SNew, Store, Loa
 use Rattle.k_types.specs.declared.event.Fault.{Fault}
 use Rattle.k_types.specs.declared.event.Fault.TheVariants.{WrongKind, Frozen, Segv, NoField}
 use Rattle.k_types.specs.declared.event.Reply.TheVariants.{Loaded, Value}
-use Rattle.k_types.specs.Names.{heap_eq}
+use Rattle.k_types.specs.Names.{heap_eq, among}
 use Rattle.k_types.specs.Trace.{Trace}
 use Rattle.k_types.specs.State.{State, Holds, register, object_at, fields_of}
 use Rattle.k_types.specs.Owners.{owner_of, objects_of, user}
@@ -42,6 +42,11 @@ own_faults trace st p x i own fault = rw (own, eq-eqb p p refl) (field_fault (na
     field_fault false true t = refl
     field_fault false false t = absurd (false≢true t)
 
+-- what is alike has ended in both states or in none
+pub lives_too : (trace : Trace) (p : ℕ) (st su : State) → Alike trace p st su → IsFalse (among p su.ended)
+unfolding part process_parts
+lives_too trace p st su alike = sym (ap (λ c. (process_parts c.process).has_ended) alike.same) ∙ alike.lives
+
 module _ (trace : Trace) (p : ℕ) (st su : State) (alike : Alike trace p st su) where
   pub same_row : slice_index_or st.registers p [] ≡ slice_index_or su.registers p []
   unfolding part process_parts
@@ -58,7 +63,7 @@ module _ (trace : Trace) (p : ℕ) (st su : State) (alike : Alike trace p st su)
   own_st x e = ap (owner_of trace st) (eqb-true x.seg.0 (p + 1) e) ∙ owner_user trace st p alike.known alike.lives
 
   pub own_su : (x : Name) → IsTrue (x.seg.0 == p + 1) → owner_of trace su x.seg.0 ≡ user p
-  own_su x e = ap (owner_of trace su) (eqb-true x.seg.0 (p + 1) e) ∙ owner_user trace su p alike.known alike.lives_too
+  own_su x e = ap (owner_of trace su) (eqb-true x.seg.0 (p + 1) e) ∙ owner_user trace su p alike.known (lives_too trace p st su alike)
 
   found_in : (s : State) (x : Name) → owner_of trace s x.seg.0 ≡ user p → object_at (objects_of (owner_of trace s) (user p) s.objects) x ≡ object_at s.objects x
   found_in s x own = object_at-kept (λ n. heap_eq (owner_of trace s n.seg.0) (user p)) s.objects x ∙ ap (λ b. cond b (object_at s.objects x) None) (heap_eq-same (owner_of trace s x.seg.0) (user p) own)

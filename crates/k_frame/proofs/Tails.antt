@@ -24,7 +24,7 @@ use Rattle.k_types.specs.Cells.{ProcessPart, part, Cell, cells_touched, touches,
 use Rattle.k_types.specs.Steps.{IsPossible, IsRun, run, IsLegalHistory, state_after, waits_for_orphans, touch_count_from}
 use Rattle.k_types.specs.Local.{is_local, AreLocal, is_local_load, is_local_store, is_own}
 use Rattle.k_frame.specs.Alike.{Alike}
-use Rattle.k_frame.proofs.LocalSteps.{reply_same, faults_same, same_register, same_object}
+use Rattle.k_frame.proofs.LocalSteps.{lives_too, reply_same, faults_same, same_register, same_object}
 use Rattle.k_frame.proofs.OwnerOf.{owner_user}
 use Rattle.k_frame.proofs.LocalEffects.{effect_same, part_done}
 use Rattle.k_frame.specs.PartUpdates.{with_done}
@@ -96,11 +96,10 @@ module _ (trace : Trace) (p : ℕ) where
   unfolding after_operation count_done
   after_alike st su op alike l m =
       let ks = kept st op alike.known alike.lives l in
-      let ku = kept su op alike.known alike.lives_too m in
+      let ku = kept su op alike.known (lives_too trace p st su alike) m in
       record {
         known = alike.known;
         lives = ap (among p) ks.ended ∙ alike.lives;
-        lives_too = ap (among p) ku.ended ∙ alike.lives_too;
         counted = subst (λ n. p < n) (sym (length-set _ p _ ∙ ap length ks.done)) alike.counted;
         counted_too = subst (λ n. p < n) (sym (length-set _ p _ ∙ ap length ku.done)) alike.counted_too;
         same = same_after;
@@ -113,7 +112,7 @@ module _ (trace : Trace) (p : ℕ) where
       same_after : part trace (after_operation trace p op st) (user p) ≡ part trace (after_operation trace p op su) (user p)
       same_after =
           let ks = kept st op alike.known alike.lives l in
-          let ku = kept su op alike.known alike.lives_too m in
+          let ku = kept su op alike.known (lives_too trace p st su alike) m in
           part_done trace p (effect_unless (first_fault (faults trace st p op)) trace p op st) (subst (λ n. p < n) (sym (ap length ks.done)) alike.counted)
           ∙ ap with_done (same_effect (first_fault (faults trace st p op)) refl ∙ ap (λ f. part trace (effect_unless f trace p op su) (user p)) (faults_same trace p st su alike op l))
           ∙ sym (part_done trace p (effect_unless (first_fault (faults trace su p op)) trace p op su) (subst (λ n. p < n) (sym (ap length ku.done)) alike.counted_too))
@@ -158,7 +157,7 @@ module _ (trace : Trace) (p : ℕ) where
   unfolding part is_local cells_touched
   possible_too st su pid op said same alike l may = record {
     known = may.known;
-    lives = ap (λ q. among q su.ended) same ∙ alike.lives_too;
+    lives = ap (λ q. among q su.ended) same ∙ (lives_too trace p st su alike);
     in_range = may.in_range;
     idle = idle_too;
     orphans = or_left _ _ (not_from_false _ (never_waits op l));
@@ -178,7 +177,7 @@ module _ (trace : Trace) (p : ℕ) where
           and_from _ _
           (ap (λ q. not (is_scanned su.scans (user q))) same ∙ ap (λ o. not (is_some o)) (sym scan_same) ∙ ap (λ q. not (is_scanned st.scans (user q))) (sym same) ∙ here)
           (ap (λ q. list_all (λ c. not (is_scanned su.scans c)) (other_cells trace su q op)) same
-          ∙ ap (list_all (λ c. not (is_scanned su.scans c))) (local_beside trace su p op alike.known alike.lives_too (local_same st su op alike l)))
+          ∙ ap (list_all (λ c. not (is_scanned su.scans c))) (local_beside trace su p op alike.known (lives_too trace p st su alike) (local_same st su op alike l)))
 
   -- what the list of local events leaves after the other state
   pub record Follows (su : State) (events : List Event) (end : State) : Type 0 where
@@ -208,9 +207,9 @@ module _ (trace : Trace) (p : ℕ) where
         legal = (possible_too st su pid op said local.0 alike local.1 legal.0, subst (λ s. IsRun trace s events) (sym su_is) ih.legal);
         local = (local.0, m, subst (λ s. AreLocal trace p s events) (sym su_is) ih.local);
         cell = ap (λ s. part trace (run trace s events) (user p)) su_is ∙ ih.cell ∙ sym (ap (λ s. part trace (run trace s events) (user p)) st_is);
-        book = ap (λ s. book_part trace (run trace s events)) su_is ∙ ih.book ∙ book_after su op alike.known alike.lives_too m;
+        book = ap (λ s. book_part trace (run trace s events)) su_is ∙ ih.book ∙ book_after su op alike.known (lives_too trace p st su alike) m;
         others = λ c apart. ap (λ s. part trace (run trace s events) c) su_is ∙ ih.others c apart
-            ∙ after_operation_elsewhere trace su p c apart op alike.known alike.lives_too (ap (list_any (λ d. heap_eq d c)) (local_beside trace su p op alike.known alike.lives_too m));
+            ∙ after_operation_elsewhere trace su p c apart op alike.known (lives_too trace p st su alike) (ap (list_any (λ d. heap_eq d c)) (local_beside trace su p op alike.known (lives_too trace p st su alike) m));
       }
 
 -- whether the cell's process has ended
@@ -256,7 +255,6 @@ tail_law trace p known rest tail longer short local apart = go tail (legal_rest 
         (record {
           known = inside;
           lives = lives;
-          lives_too = same_ended trace p (state_after trace known) (state_after trace (known ++ rest)) same ∙ lives;
           counted = rw (history_sized trace known).done inside;
           counted_too = rw (history_sized trace (known ++ rest)).done inside;
           same = sym same;

@@ -1,5 +1,5 @@
 -- Events that don't touch a cell leave its part and its count of touches as they were, and its process has done nothing.
-use Rattle.std.proofs.Common.{◌≡◌, ℕ, ◌+◌, ◌==◌, cond, true, false, refl, ap, ◌∙◌, inl, inr, List, [], ◌∷◌, ◌++◌, append-nil, arith, IsFalse}
+use Rattle.std.proofs.Common.{◌≡◌, ℕ, ◌+◌, ◌==◌, cond, true, false, refl, ap, ◌∙◌, inl, inr, List, [], ◌∷◌, ◌++◌, append-nil, arith, IsFalse, IsTrue}
 use Rattle.std.proofs.lemmas.Bool.{cases_Bool, or_left}
 use Rattle.k_types.specs.declared.names.Pid.{Pid}
 use Rattle.k_types.specs.declared.op.Op.{Op}
@@ -36,6 +36,16 @@ count_kept trace c history event apart =
     let split = touches_append trace (opening trace) c history (event ∷ []) in
     let none : touch_count_from trace (state_after trace history) c (event ∷ []) ≡ 0 = ap (λ b. cond b 1 0 + 0) apart in
     omega arith
+
+pub count_raised : (trace : Trace) (c : Cell) (history : List Event) (event : Event) → IsTrue (touches trace (state_after trace history) event c) → touch_count trace c (history ++ event ∷ []) ≡ touch_count trace c history + 1
+count_raised trace c history event meets =
+    let split = touches_append trace (opening trace) c history (event ∷ []) in
+    let one : touch_count_from trace (state_after trace history) c (event ∷ []) ≡ 1 = ap (λ b. cond b 1 0 + 0) meets in
+    omega arith
+
+-- as many touches after the later events as before them are none in them
+pub none_touch : (trace : Trace) (c : Cell) (known rest : List Event) → touch_count trace c (known ++ rest) ≡ touch_count trace c known → touch_count_from trace (state_after trace known) c rest ≡ 0
+none_touch trace c known rest same = let split = touches_append trace (opening trace) c known rest in omega arith
 
 -- an operation of the process touches its cell
 own_touched : (trace : Trace) (st : State) (pid : Pid) (op : Op) (said : Reply) (p : ℕ) → (pid.0 == p) ≡ true → touches trace st (Done pid op said) (user p) ≡ true

@@ -10,7 +10,6 @@ use Rattle.k_types.specs.State.{State}
 pub record Alike (trace : Trace) (p : ℕ) (st su : State) : Type 0 where
   pub known : p < process_count trace
   pub lives : IsFalse (among p st.ended)
-  pub lives_too : IsFalse (among p su.ended)
   pub counted : p < length st.done
   pub counted_too : p < length su.done
   pub same : part trace st (user p) ≡ part trace su (user p)

@@ -1,14 +1,15 @@
-ghost use Rattle.std.specs.Prelude.{IsFalse, List, [], ◌∷◌, ◌++◌, ◌≡◌, ℕ};
+ghost use Rattle.std.specs.Prelude.{IsFalse, IsTrue, List, [], ◌+◌, ◌∷◌, ◌++◌, ◌≡◌, ◌↔◌, ℕ};
 ghost use Rattle.k_types.specs.Cells.{Cell, part, touches};
 ghost use Rattle.k_types.specs.Effects.{step};
 ghost use Rattle.k_types.specs.Owners.{user};
 ghost use Rattle.k_types.specs.Sound.{IsSized};
 ghost use Rattle.k_types.specs.State.{State};
-ghost use Rattle.k_types.specs.Steps.{IsLegalHistory, IsPossible, done_by, state_after, touch_count};
+ghost use Rattle.k_types.specs.Steps.{IsLegalHistory, IsPossible, IsRun, done_by, run, state_after, touch_count, touch_count_from};
 ghost use Rattle.k_types.specs.Trace.{Trace};
 ghost use Rattle.k_types.specs.declared.event.Event.{Event};
 
-/// The frame: a step leaves the part of each cell that it does not touch as it was, and its count of touches. So a cell whose
+/// The frame: a step leaves the part of each cell that it does not touch as it was, and its count of touches, and raises the count of
+/// each cell that it touches by 1. So a cell whose
 /// count of touches is still the same has the same part.
 ///
 /// Source: own.
@@ -19,6 +20,9 @@ pub fn steps_leave_other_cells()
     ensures count { (trace : Trace) (c : Cell) (history : List Event) (event : Event) →
         IsFalse (touches trace (state_after trace history) event c) →
         touch_count trace c (history ++ event ∷ []) ≡ touch_count trace c history }
+    ensures touched { (trace : Trace) (c : Cell) (history : List Event) (event : Event) →
+        IsTrue (touches trace (state_after trace history) event c) →
+        touch_count trace c (history ++ event ∷ []) ≡ touch_count trace c history + 1 }
     ensures untouched { (trace : Trace) (c : Cell) (known rest : List Event) → IsLegalHistory trace (known ++ rest) →
         touch_count trace c (known ++ rest) ≡ touch_count trace c known →
         part trace (state_after trace (known ++ rest)) c ≡ part trace (state_after trace known) c }
@@ -38,4 +42,17 @@ pub fn untouched_processes_do_nothing()
 /// Source: own.
 pub fn lists_keep_their_lengths()
     ensures { (trace : Trace) (history : List Event) → IsSized trace (state_after trace history) }
+{}
+
+/// Histories add up: of two lists of events that follow one another the state, the touches of each cell and the operations of each
+/// process are those of the first and then of the second from the state that the first leaves, and together they are legal exactly
+/// where each is in its place.
+pub fn histories_add_up()
+    ensures state { (trace : Trace) (known rest : List Event) →
+        state_after trace (known ++ rest) ≡ run trace (state_after trace known) rest }
+    ensures legal { (trace : Trace) (known rest : List Event) →
+        IsLegalHistory trace (known ++ rest) ↔ (IsLegalHistory trace known × IsRun trace (state_after trace known) rest) }
+    ensures touches { (trace : Trace) (c : Cell) (known rest : List Event) →
+        touch_count trace c (known ++ rest) ≡ touch_count trace c known + touch_count_from trace (state_after trace known) c rest }
+    ensures done { (p : ℕ) (known rest : List Event) → done_by p (known ++ rest) ≡ done_by p known ++ done_by p rest }
 {}

@@ -6,6 +6,7 @@ mod frame;
 mod locality;
 
 pub use frame::{
-    lists_keep_their_lengths, steps_leave_other_cells, untouched_processes_do_nothing,
+    histories_add_up, lists_keep_their_lengths, steps_leave_other_cells,
+    untouched_processes_do_nothing,
 };
 pub use locality::{local_operations_go_by_their_cell, tails_follow};

@@ -8,7 +8,7 @@ ghost use Rattle.k_types.specs.Names.{among, heap_eq};
 ghost use Rattle.k_types.specs.Owners.{user};
 ghost use Rattle.k_types.specs.Replies.{reply_to};
 ghost use Rattle.k_types.specs.State.{State};
-ghost use Rattle.k_types.specs.Steps.{IsLegalHistory, IsPossible, state_after, touch_count_from};
+ghost use Rattle.k_types.specs.Steps.{IsLegalHistory, IsPossible, state_after, touch_count};
 ghost use Rattle.k_types.specs.Trace.{Trace, process_count};
 ghost use Rattle.k_types.specs.declared.event.Event.{Event};
 ghost use Rattle.k_types.specs.declared.event.Event.TheVariants.{Done};
@@ -37,13 +37,13 @@ pub fn local_operations_go_by_their_cell()
 {}
 
 /// The law on tails: what a process does inside its heap after some events it does in the same way after more events that do
-/// not touch its heap's cell. So a tail may be published later than it was done.
+/// not touch its heap's cell, which is seen by equal counts of touches. So a tail may be published later than it was done.
 ///
 /// Source: own.
 pub fn tails_follow()
     ensures { (trace : Trace) (p : ℕ) (known rest tail : List Event) →
         IsLegalHistory trace (known ++ rest) → IsLegalHistory trace (known ++ tail) →
         AreLocal trace p (state_after trace known) tail →
-        touch_count_from trace (state_after trace known) (user p) rest ≡ 0 →
+        touch_count trace (user p) (known ++ rest) ≡ touch_count trace (user p) known →
         TailFollows trace p known rest tail }
 {}

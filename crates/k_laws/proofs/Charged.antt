@@ -47,6 +47,16 @@ charge_same b c ended shares users heaps q =
 nothing_more : (a b : ℕ) (t : Bool) → a ≡ b → a ≡ b + 0 * bit t
 nothing_more a b t e = omega (arith, e)
 
+-- an object in the kernel's heap is charged to nobody
+pub charge_of_kernel_new : (trace : Trace) (st : State) (ty : TypeId) (q : ℕ) → charge_of trace (create 0 ty (kinds_of trace ty) st) q ≡ charge_of trace st q
+unfolding create
+charge_of_kernel_new trace st ty q = charge_same (bytes_of trace (create 0 ty (kinds_of trace ty) st)) (bytes_of trace st) st.ended st.shares (λ k. same (user k) refl) (λ k. same (shared k) refl) q
+  where
+    same : (h : Heap) → IsFalse (heap_eq Kernel h) → bytes_of trace (create 0 ty (kinds_of trace ty) st) h ≡ bytes_of trace st h
+    same h apart =
+        bytes_after trace st 0 ty h ∙ ap (λ own. bytes_of trace st h + size_of_type trace ty * bit (heap_eq own h)) (owner_kernel trace st)
+        ∙ ap (λ b. bytes_of trace st h + size_of_type trace ty * bit b) apart ∙ (omega arith)
+
 module _ (trace : Trace) (st : State) (p : ℕ) (sound : IsSound trace st) (known : p < process_count trace) (lives : IsFalse (among p st.ended)) where
   abbrev pub Same : State → ℕ → Type 0
   Same su q = charge_of trace su q ≡ charge_of trace st q + 0 * bit (q == p)
@@ -56,14 +66,8 @@ module _ (trace : Trace) (st : State) (p : ℕ) (sound : IsSound trace st) (know
   new_charge ty q = charge_added (bytes_of trace st) (bytes_of trace (create (p + 1) ty (kinds_of trace ty) st)) st.ended st.shares p (size_of_type trace ty) lives
       (λ h. bytes_after trace st (p + 1) ty h ∙ ap (λ own. bytes_of trace st h + size_of_type trace ty * bit (heap_eq own h)) (owner_user trace st p known lives)) q
 
-  pub knew_charge : (ty : TypeId) (q : ℕ) → Same (create 0 ty (kinds_of trace ty) st) q
-  unfolding create
-  knew_charge ty q = nothing_more _ _ (q == p) (charge_same (bytes_of trace (create 0 ty (kinds_of trace ty) st)) (bytes_of trace st) st.ended st.shares (λ k. same (user k) refl) (λ k. same (shared k) refl) q)
-    where
-      same : (h : Heap) → IsFalse (heap_eq Kernel h) → bytes_of trace (create 0 ty (kinds_of trace ty) st) h ≡ bytes_of trace st h
-      same h apart =
-          bytes_after trace st 0 ty h ∙ ap (λ own. bytes_of trace st h + size_of_type trace ty * bit (heap_eq own h)) (owner_kernel trace st)
-          ∙ ap (λ b. bytes_of trace st h + size_of_type trace ty * bit b) apart ∙ (omega arith)
+  knew_charge : (ty : TypeId) (q : ℕ) → Same (create 0 ty (kinds_of trace ty) st) q
+  knew_charge ty q = nothing_more _ _ (q == p) (charge_of_kernel_new trace st ty q)
 
   pub snew_charge : (s : ℕ) (pid : Pid) (ty : TypeId) → phase_of st.phases s ≡ Populating pid → pid.0 ≡ p → (q : ℕ) →
       charge_of trace (create (1 + process_count trace + s) ty (kinds_of trace ty) st) q ≡ charge_of trace st q + size_of_type trace ty * bit (q == p)

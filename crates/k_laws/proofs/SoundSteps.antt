@@ -11,7 +11,7 @@ use Rattle.k_types.specs.declared.event.Fault.{Fault}
 use Rattle.k_types.specs.declared.event.Reply.{Reply}
 use Rattle.k_types.specs.declared.event.Event.{Event}
 use Rattle.k_types.specs.declared.event.Event.TheVariants.{Done, Ended, Absorbed, Closing}
-use Rattle.k_types.specs.TraceRules.{AreLimits, KeepsRules}
+use Rattle.k_types.specs.TraceRules.{AreLimits}
 use Rattle.k_types.specs.Trace.{Trace}
 use Rattle.k_types.specs.State.{State, opening, scan_of, is_scanned}
 use Rattle.k_types.specs.Owners.{user, bytes_by, phase_of}
@@ -131,5 +131,5 @@ run_sound trace rules_hold st [] sound legal = sound
 run_sound trace rules_hold st (event ∷ events) sound legal = run_sound trace rules_hold (step trace st event) events (step_sound trace rules_hold st sound event legal.0) legal.1
 
 -- every state of a legal history is sound
-pub legal_sound : (trace : Trace) (history : List Event) → KeepsRules trace → IsLegalHistory trace history → IsSound trace (state_after trace history)
-legal_sound trace history keeps legal = run_sound trace keeps.limits (opening trace) history (opening_sound trace keeps.limits) legal
+pub legal_sound : (trace : Trace) (history : List Event) → AreLimits trace → IsLegalHistory trace history → IsSound trace (state_after trace history)
+legal_sound trace history limits legal = run_sound trace limits (opening trace) history (opening_sound trace limits) legal

@@ -8,7 +8,7 @@ ghost use Rattle.k_types.specs.Sound.{IsSound};
 ghost use Rattle.k_types.specs.State.{State};
 ghost use Rattle.k_types.specs.Steps.{IsLegalHistory, IsPossible, state_after};
 ghost use Rattle.k_types.specs.Trace.{Trace, limit_of};
-ghost use Rattle.k_types.specs.TraceRules.{AreLimits, IsTree, KeepsRules, is_exit};
+ghost use Rattle.k_types.specs.TraceRules.{AreLimits, IsTree, is_exit};
 ghost use Rattle.k_types.specs.declared.event.Event.{Event};
 ghost use Rattle.k_types.specs.declared.event.Event.TheVariants.{Done};
 ghost use Rattle.k_types.specs.declared.event.Reply.{Reply};
@@ -59,7 +59,7 @@ pub fn nobody_raises_the_charge_of_another()
 ///
 /// Source: own.
 pub fn uses_fit()
-    ensures { (trace : Trace) (history : List Event) (m : ℕ) → KeepsRules trace → IsLegalHistory trace history →
+    ensures { (trace : Trace) (history : List Event) (m : ℕ) → AreLimits trace → IsLegalHistory trace history →
         m < length trace.limits →
         use_of trace (state_after trace history) m ≤ max_of (limits_in trace (state_after trace history)) m }
 {}

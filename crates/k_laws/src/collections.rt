@@ -6,7 +6,7 @@ ghost use Rattle.k_types.specs.Sound.{IsSound};
 ghost use Rattle.k_types.specs.State.{State, has};
 ghost use Rattle.k_types.specs.Steps.{IsLegalHistory, IsPossible, state_after};
 ghost use Rattle.k_types.specs.Trace.{Trace};
-ghost use Rattle.k_types.specs.TraceRules.{KeepsRules};
+ghost use Rattle.k_types.specs.TraceRules.{AreLimits};
 ghost use Rattle.k_types.specs.declared.event.Event.{Event};
 ghost use Rattle.k_types.specs.declared.event.Event.TheVariants.{Ended};
 ghost use Rattle.k_types.specs.declared.names.Heap.{Heap};
@@ -17,7 +17,7 @@ ghost use Rattle.k_types.specs.declared.names.Name.{Name};
 ///
 /// Source: KaffeOS paper, on the independent collection of heaps by entry and exit items.
 pub fn collections_free_nothing_live()
-    ensures { (trace : Trace) (history : List Event) (h : Heap) (objects bytes exits shares : ℕ) → KeepsRules trace →
+    ensures { (trace : Trace) (history : List Event) (h : Heap) (objects bytes exits shares : ℕ) → AreLimits trace →
         IsLegalHistory trace (history ++ Ended h objects bytes exits shares ∷ []) → (n : Name) →
         IsTrue (has (live_everywhere trace (state_after trace history)) n) →
         IsTrue (has (state_after trace (history ++ Ended h objects bytes exits shares ∷ [])).objects n) }

@@ -6,7 +6,8 @@ ghost use Rattle.k_types.specs.Sound.{IsSound};
 ghost use Rattle.k_types.specs.State.{State};
 ghost use Rattle.k_types.specs.Trace.{Trace};
 
-/// The book's part tells the uses. The parts of all cells and of the book determine a sound state, but for the order of lists that no definition reads.
+/// The book's part tells the uses. The parts of all cells and of the book determine a sound state, but for the order of the
+/// lists of exit items, shares, ended processes and scans.
 ///
 /// Source: own.
 pub fn parts_determine_the_state()

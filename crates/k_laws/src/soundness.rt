@@ -4,7 +4,7 @@ ghost use Rattle.k_types.specs.Sound.{IsSound};
 ghost use Rattle.k_types.specs.State.{State, opening};
 ghost use Rattle.k_types.specs.Steps.{IsLegalHistory, IsPossible, state_after};
 ghost use Rattle.k_types.specs.Trace.{Trace};
-ghost use Rattle.k_types.specs.TraceRules.{AreLimits, KeepsRules};
+ghost use Rattle.k_types.specs.TraceRules.{AreLimits};
 ghost use Rattle.k_types.specs.declared.event.Event.{Event};
 
 /// The opening state of a trace is sound.
@@ -26,6 +26,6 @@ pub fn steps_are_sound()
 ///
 /// Source: own.
 pub fn states_are_sound()
-    ensures { (trace : Trace) (history : List Event) → KeepsRules trace → IsLegalHistory trace history →
+    ensures { (trace : Trace) (history : List Event) → AreLimits trace → IsLegalHistory trace history →
         IsSound trace (state_after trace history) }
 {}

@@ -9,7 +9,7 @@ use Rattle.k_types.specs.declared.event.Event.{Event}
 use Rattle.k_types.specs.declared.event.Event.TheVariants.{Ended, Closing}
 use Rattle.k_types.specs.Names.{heap_eq, name_eq, name_among, directory}
 use Rattle.k_types.specs.Trace.{Trace}
-use Rattle.k_types.specs.TraceRules.{KeepsRules}
+use Rattle.k_types.specs.TraceRules.{AreLimits}
 use Rattle.k_types.specs.State.{State, Object, opening, has, refers, refers_in}
 use Rattle.k_types.specs.Owners.{owner_of, objects_of, shared, phase_of}
 use Rattle.k_types.specs.Reach.{reach_in, roots_of, is_root, is_held, is_entered}
@@ -158,9 +158,9 @@ module _ (trace : Trace) (s0 : State) (only : (n : Name) → IsTrue (name_among 
       let kept = (and_parts (has kept_objects n) (in_set kept_objects again (length kept_objects) n) (sym (set_has kept_objects again (length kept_objects) n) ∙ ap (λ objects. has objects n) (sym end_set) ∙ t)).0 in
       (and_parts (has s2.objects n) (heap_eq (owner_of trace s2 n.seg.0) Kernel) (sym (has-kept (λ m. heap_eq (owner_of trace s2 m.seg.0) Kernel) s2.objects n) ∙ kept)).0)
 
-module _ (trace : Trace) (keeps : KeepsRules trace) where
+module _ (trace : Trace) (limits : AreLimits trace) where
   unmade : (history : List Event) → IsLegalHistory trace history → (s : ℕ) → phase_of (state_after trace history).phases s ≡ Unmade → exit_count (state_after trace history).exits (shared s) ≡ 0
-  unmade history legal s e = unmade_exits trace s keeps history legal e
+  unmade history legal s e = unmade_exits trace s limits history legal e
 
   -- before the closing only the directory is a root
   only_directory : (before : List Event) → IsLegalHistory trace before → IsPossible trace (state_after trace before) Closing → (n : Name) → IsTrue (name_among n (roots_of trace (state_after trace before) Kernel)) → n ≡ directory
@@ -169,7 +169,7 @@ module _ (trace : Trace) (keeps : KeepsRules trace) where
       let st = state_after trace before in
       let root = (and_parts (has st.objects n && heap_eq (owner_of trace st n.seg.0) Kernel) (is_root trace st Kernel n) (sym (among-roots trace st Kernel n) ∙ t)).1 in
       elim (or_cases (is_entered trace st n) (name_eq directory n) root) [
-        | inl entered ↦ absurd (false≢true (sym (not_entered trace st (legal_sound trace before keeps legal) may.all_ended may.orphans (unmade before legal) n) ∙ entered))
+        | inl entered ↦ absurd (false≢true (sym (not_entered trace st (legal_sound trace before limits legal) may.all_ended may.orphans (unmade before legal) n) ∙ entered))
         | inr is ↦ sym (name_eq-true directory n is)
       ]
 
@@ -179,7 +179,7 @@ module _ (trace : Trace) (keeps : KeepsRules trace) where
 
   pub reclaimed : (history : List Event) → IsLegalHistory trace history → IsComplete trace history → IsTrue (all_ended trace (state_after trace history)) → IsReclaimed trace (state_after trace history)
   reclaimed history legal complete over =
-      let sound = legal_sound trace history keeps legal in
+      let sound = legal_sound trace history limits legal in
       let orphans = complete.no_orphan over in
       let none = unmade history legal in
       record {

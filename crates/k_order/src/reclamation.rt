@@ -3,7 +3,7 @@ ghost use Rattle.k_order.specs.Reclaimed.{IsReclaimed};
 ghost use Rattle.k_types.specs.Complete.{IsComplete, all_ended};
 ghost use Rattle.k_types.specs.Steps.{IsLegalHistory, state_after};
 ghost use Rattle.k_types.specs.Trace.{Trace};
-ghost use Rattle.k_types.specs.TraceRules.{KeepsRules};
+ghost use Rattle.k_types.specs.TraceRules.{AreLimits};
 ghost use Rattle.k_types.specs.declared.event.Event.{Event};
 
 /// Full reclamation: after a complete history in which every process has ended, the objects left are those that the directory
@@ -11,7 +11,7 @@ ghost use Rattle.k_types.specs.declared.event.Event.{Event};
 ///
 /// Source: KaffeOS paper, on the full reclamation of memory.
 pub fn ended_histories_leave_what_the_directory_reaches()
-    ensures { (trace : Trace) (history : List Event) → KeepsRules trace → IsLegalHistory trace history →
+    ensures { (trace : Trace) (history : List Event) → AreLimits trace → IsLegalHistory trace history →
         IsComplete trace history → IsTrue (all_ended trace (state_after trace history)) →
         IsReclaimed trace (state_after trace history) }
 {}

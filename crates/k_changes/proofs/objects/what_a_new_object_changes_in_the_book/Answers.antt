@@ -5,7 +5,7 @@ pub returns-clause-own : goal.returns-clause-own
 returns-clause-own c = λ trace st p ty limits sound known lives. new_on_book trace st limits sound p ty known lives
 
 pub returns-clause-kernel : goal.returns-clause-kernel
-returns-clause-kernel c = λ trace st p ty sound known lives. new_in_kernel_on_book trace st sound p ty known lives
+returns-clause-kernel c = λ trace st ty. new_in_kernel_on_book trace st ty
 
 pub returns-clause-shared : goal.returns-clause-shared
 returns-clause-shared c = λ trace st pid s ty limits sound known lives inside phase. new_in_shared_on_book trace st limits sound pid s ty known lives inside phase
