@@ -21,7 +21,7 @@ use Rattle.k_changes.proofs.OnBook.{get_mapped, owner_told}
 use Rattle.k_squares.specs.Owed.{PinsAreCounted, EntriesAreCounted, ChargesAreCounted}
 
 -- a number of a list is at most the sum of those that pass a test that it passes
-passing_within : (f : ℕ → ℕ) (test : ℕ → Bool) (p first n : ℕ) → test p ≡ true → first ≤ p → p < first + n → f p ≤ total f (filter test (numbers_from first n))
+pub passing_within : (f : ℕ → ℕ) (test : ℕ → Bool) (p first n : ℕ) → test p ≡ true → first ≤ p → p < first + n → f p ≤ total f (filter test (numbers_from first n))
 passing_within f test p first zero t low high = absurd (omega (arith, low, high))
 passing_within f test p first (suc n) t low high =
     go (λ ne. passing_within f test p (suc first) n t (omega (arith, low, ne)) (omega (arith, high))) (test first) refl (cases_eq first p)
@@ -33,7 +33,7 @@ passing_within f test p first (suc n) t low high =
     go rest true e (inr ne) = let least = rest ne in omega (arith, least)
     go rest false e (inr ne) = rest ne
 
-within_all : (f : ℕ → ℕ) (p n : ℕ) → p < n → f p ≤ total f (numbers_below n)
+pub within_all : (f : ℕ → ℕ) (p n : ℕ) → p < n → f p ≤ total f (numbers_below n)
 within_all f p n low =
     let some = passing_within f (λ q. true) p 0 n refl (omega arith) (omega (arith, low)) in
     let all = total_fewer f (λ q. true) (numbers_below n) in
@@ -70,7 +70,7 @@ module _ (trace : Trace) (st : State) (p : ℕ) (known : p < process_count trace
   }
 
 -- an exit item is counted
-exit_counted : (exits : List ExitItem) (h : Heap) (n : Name) → has_exit exits h n ≡ true → 0 < total (λ (e : ExitItem). cond (name_eq e.target n) 1 0) exits
+pub exit_counted : (exits : List ExitItem) (h : Heap) (n : Name) → has_exit exits h n ≡ true → 0 < total (λ (e : ExitItem). cond (name_eq e.target n) 1 0) exits
 exit_counted [] h n t = absurd (false≢true t)
 exit_counted (e ∷ exits) h n t = go (exit_counted exits h n) (name_eq e.target n) t
   where
@@ -121,7 +121,7 @@ fewer_bytes trace b p test =
     one true false bytes = omega arith
     one false y bytes = omega arith
 
-charge_within : (trace : Trace) (st : State) (p : ℕ) → AreLimits trace → p < process_count trace → charge_of trace st p ≤ get_or (book_part trace st).direct (limit_of trace p) 0
+pub charge_within : (trace : Trace) (st : State) (p : ℕ) → AreLimits trace → p < process_count trace → charge_of trace st p ≤ get_or (book_part trace st).direct (limit_of trace p) 0
 unfolding book_part
 charge_within trace st p limits known =
     let at = get_mapped (direct_by trace (charge_of trace st)) 0 (length trace.limits) (limit_of trace p) (limits.limited p known) in
