@@ -169,7 +169,7 @@ module _ (trace : Trace) (st : State) where
     pub effect_book : (op : Op) → Acts trace st p op → book_part trace (effect trace p op st) ≡ book_operated trace (book_part trace st) (part trace st) p op (answer trace st p op)
     unfolding effect book_operated answer in_range
     effect_book (New r ty) acts = new_book (p + 1) r ty _ _ acts.known (small_register r _ acts.in_range) (new_on_book trace st limits sound p ty acts.known acts.lives)
-    effect_book (KNew r ty) acts = new_book 0 r ty _ _ acts.known (small_register r _ acts.in_range) (new_in_kernel_on_book trace st sound p ty acts.known acts.lives)
+    effect_book (KNew r ty) acts = new_book 0 r ty _ _ acts.known (small_register r _ acts.in_range) (new_in_kernel_on_book trace st ty)
     effect_book (SNew r s ty) acts =
         new_book (1 + process_count trace + s.0) r ty _ _ acts.known
         (small_register r _ (and_parts (nat_lt r.0 register_count && nat_lt s.0 trace.shared_heaps) _ acts.in_range).0) (snew_book r s ty acts)
