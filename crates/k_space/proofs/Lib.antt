@@ -1,7 +1,9 @@
 pub mod NameTests
+pub mod StampLemmas
 pub mod GrayLists
 pub mod Rows
 pub mod Pushed
+pub mod ListedLemmas
 pub mod Freed
 pub mod AreaRows
 pub mod Segs

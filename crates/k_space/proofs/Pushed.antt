@@ -3,10 +3,10 @@ use Rattle.std.proofs.Common.{◌≡◌, ◌≢◌, ℕ, zero, suc, ◌+◌, ◌
 use Rattle.std.proofs.lemmas.Bool.{cases_eq}
 use Rattle.std.proofs.lemmas.List.{get_or_append_left, get_or_push, map-append, length-append}
 use Rattle.slab.specs.Slab.{Slab, get, slab_len, Updates}
-use Rattle.k_space.specs.declared.segment.Place.{Place}
-use Rattle.k_space.specs.declared.segment.Place.TheVariants.{Empty, At}
-use Rattle.k_space.specs.declared.segment.Mark.{Mark}
-use Rattle.k_space.specs.declared.segment.Mark.TheVariants.{White as MarkWhite}
+use Rattle.k_space.specs.declared.marks.Place.{Place}
+use Rattle.k_space.specs.declared.marks.Place.TheVariants.{Empty, At}
+use Rattle.k_space.specs.declared.marks.Mark.{Mark}
+use Rattle.k_space.specs.declared.marks.Mark.TheVariants.{White as MarkWhite}
 use Rattle.k_space.specs.declared.segment.Cell.{Cell}
 use Rattle.k_space.specs.Segments.{Row, SegmentValue, new_row, placed}
 use Rattle.k_space.specs.Places.{row_of, row_in, IsSound, IsPlaced, IsKept, IsGrayList, is_gray_place}
@@ -14,7 +14,7 @@ use Rattle.k_space.proofs.GrayLists.{At_inside, list_pushed, count_pushed}
 use Rattle.k_space.proofs.Rows.{maps_agree, same_At, same_cell}
 
 -- one object more
-at_pushed : (places : List Place) (x : Place) (i slot : ℕ) (mark : Mark) → get_or (places ++ x ∷ []) i Empty ≡ At slot mark → (get_or places i Empty ≡ At slot mark) ⊎ ((i ≡ length places) × (x ≡ At slot mark))
+pub at_pushed : (places : List Place) (x : Place) (i slot : ℕ) (mark : Mark) → get_or (places ++ x ∷ []) i Empty ≡ At slot mark → (get_or places i Empty ≡ At slot mark) ⊎ ((i ≡ length places) × (x ≡ At slot mark))
 at_pushed [] x zero slot mark e = inr (refl, e)
 at_pushed [] x (suc i) slot mark e = absurd (cc)
 at_pushed (y ∷ ys) x zero slot mark e = inl e

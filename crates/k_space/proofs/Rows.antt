@@ -5,10 +5,10 @@ use Rattle.std.proofs.lemmas.Bool.{cases_eq}
 use Rattle.std.proofs.lemmas.List.Sums.{sum_by-cons}
 use Rattle.std.proofs.lemmas.List.{get_or-set_same, get_or-set_other, length-set, map-set, set-get_or}
 use Rattle.slab.specs.Slab.{Slab, get, with_value}
-use Rattle.k_space.specs.declared.segment.Place.{Place}
-use Rattle.k_space.specs.declared.segment.Place.TheVariants.{Empty, At}
-use Rattle.k_space.specs.declared.segment.Mark.{Mark}
-use Rattle.k_space.specs.declared.segment.Mark.TheVariants.{White as MarkWhite, Gray as MarkGray, Black as MarkBlack}
+use Rattle.k_space.specs.declared.marks.Place.{Place}
+use Rattle.k_space.specs.declared.marks.Place.TheVariants.{Empty, At}
+use Rattle.k_space.specs.declared.marks.Mark.{Mark}
+use Rattle.k_space.specs.declared.marks.Mark.TheVariants.{White as MarkWhite, Gray as MarkGray, Black as MarkBlack}
 use Rattle.k_space.specs.declared.segment.Cell.{Cell}
 use Rattle.k_space.specs.Segments.{Gray, Black, Row, SegmentValue, LiesAt, row_at, with_row, some_gray, unmarked_row}
 use Rattle.k_space.specs.Places.{row_of, row_in, color_of, IsSound, IsPlaced, IsKept, IsGrayList, is_gray_place, white_place}
@@ -304,7 +304,7 @@ pub same_row : {x y : Row} → ◌≡◌ {A = Option Row} (Some x) (Some y) → 
 same_row e = cc
 
 -- no marks
-white_there : (places : List Place) (j s : ℕ) (mark : Mark) → get_or (map white_place places) j Empty ≡ At s mark → (was : Mark) × (get_or places j Empty ≡ At s was)
+pub white_there : (places : List Place) (j s : ℕ) (mark : Mark) → get_or (map white_place places) j Empty ≡ At s mark → (was : Mark) × (get_or places j Empty ≡ At s was)
 white_there places j s mark e = by_place (get_or places j Empty) refl
   where
     by_place : (p : Place) → get_or places j Empty ≡ p → (was : Mark) × (get_or places j Empty ≡ At s was)

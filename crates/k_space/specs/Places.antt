@@ -3,10 +3,10 @@ use Rattle.std.specs.Prelude.{◌≡◌, ℕ, zero, suc, ◌+◌, ◌-◌, ◌*�
 use Rattle.slab.specs.Slab.{Slab, get, slab_len}
 use Rattle.k_types.specs.Totals.{total}
 use Rattle.k_types.specs.Types.{object_size}
-use Rattle.k_space.specs.declared.segment.Place.{Place}
-use Rattle.k_space.specs.declared.segment.Place.TheVariants.{Empty, At}
-use Rattle.k_space.specs.declared.segment.Mark.{Mark}
-use Rattle.k_space.specs.declared.segment.Mark.TheVariants.{White as MarkWhite, Gray as MarkGray, Black as MarkBlack}
+use Rattle.k_space.specs.declared.marks.Place.{Place}
+use Rattle.k_space.specs.declared.marks.Place.TheVariants.{Empty, At}
+use Rattle.k_space.specs.declared.marks.Mark.{Mark}
+use Rattle.k_space.specs.declared.marks.Mark.TheVariants.{White as MarkWhite, Gray as MarkGray, Black as MarkBlack}
 use Rattle.k_space.specs.declared.segment.Cell.{Cell}
 use Rattle.k_space.specs.Segments.{Color, White, Gray, Black, Row}
 
@@ -79,3 +79,7 @@ white_place (At slot mark) = At slot MarkWhite
 abbrev pub is_white_place : Place → Bool
 is_white_place (At slot MarkWhite) = true
 is_white_place _ = false
+
+abbrev pub is_empty_place : Place → Bool
+is_empty_place Empty = true
+is_empty_place (At slot mark) = false

@@ -1,9 +1,9 @@
-ghost use Rattle.std.specs.Prelude.{◌≡◌, ◌≢◌, ◌<◌, ◌+◌, ◌==◌, ◌++◌, ◌∷◌, [], ℕ, length, map, Some, None, IfOk, IfNone, IfSome, OnSome, slice_get, slice_set, slice_index_or, position, option_copied, IsFalse, IsTrue};
+ghost use Rattle.std.specs.Prelude.{◌≡◌, ◌≢◌, ◌<◌, ◌+◌, ◌==◌, ◌++◌, ◌∷◌, [], ℕ, length, map, Some, None, IfOk, IfNone, IfSome, OnSome, slice_get, slice_set, slice_index_or, position, option_copied, not, IsFalse, IsTrue};
 ghost use Rattle.std.specs.Option.{option_copied_mut};
 ghost use Rattle.std.specs.Borrow.{sem};
 ghost use Rattle.std.specs.List.{position_or_len};
 ghost use Rattle.k_space.specs.Segments.{SegmentValue, row_at, some_gray, unmarked_segment};
-ghost use Rattle.k_space.specs.Areas.{place_of, segment_at, row_of_name, with_row_of, HasDistinct, IsBlackened, gray_at, grayed, has_number, unmarked};
+ghost use Rattle.k_space.specs.Areas.{place_of, segment_at, row_of_name, with_row_of, HasDistinct, IsBlackened, is_foreign, gray_at, grayed, has_number, unmarked};
 
 use crate::segment::Segment;
 use k_io::NoMemory;
@@ -33,11 +33,11 @@ impl Model for Area {
 
     ghost Value = { AreaValue };
 
-    ghost use Rattle.std.specs.Prelude.{vec_capacity, ◌≤◌, length};
+    ghost use Rattle.std.specs.Prelude.{vec_capacity, ◌≤◌, ◌≡◌, length};
 
     ghost view = { λ a. record { segments = a.segments.items; room = a.room } };
 
-    ghost invariant = { λ a. a.room ≤ vec_capacity a.segments };
+    ghost invariant = { λ a. (a.room ≤ vec_capacity a.segments) × (length a.hints.segments.items ≡ a.room) };
 }
 
 /// Whether the segment of that number stands there.
@@ -176,8 +176,22 @@ impl Area {
         requires { HasDistinct self.old.segments }
         ensures { self.new ≡ grayed self.old target }
     {
-        if let Some(segment) = self.get_mut(target.seg) {
-            segment.make_gray(target.serial);
+        self.gray_own(target);
+    }
+
+    /// The same, and tells whether the area has the segment of that name. Source: own.
+    pub fn gray_own(&mut self, target: Name) -> bool
+        requires { HasDistinct self.old.segments }
+        ensures grayed { self.new ≡ grayed self.old target }
+        ensures own { result ≡ not (is_foreign self.old target) }
+        ensures foreign { IsFalse result → self.new ≡ self.old }
+    {
+        match self.get_mut(target.seg) {
+            Some(segment) => {
+                segment.make_gray(target.serial);
+                true
+            }
+            None => false,
         }
     }
 
@@ -218,7 +232,7 @@ impl Area {
         Some(Name { seg, serial })
     }
 
-    /// Takes the marks of all objects away. It passes each serial that was given. Source: own.
+    /// Takes the marks of all objects away. It passes the segments, and costs as much for each as there. Source: own.
     pub fn unmark_all(&mut self)
         ensures { self.new ≡ unmarked self.old }
     {

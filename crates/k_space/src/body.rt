@@ -1,4 +1,5 @@
-ghost use Rattle.std.specs.Prelude.{◌≡◌, length, slice_get, slice_set, Some, option_map, ◌<◌, ◌≤◌, IfOk};
+ghost use Rattle.std.specs.Prelude.{◌≡◌, length, slice_get, slice_set, Some, slice_index_or, option_map, ℕ, ◌<◌, ◌≤◌, IfOk};
+ghost use Rattle.k_space.specs.declared.body.Stored.TheVariants.{Null as NoTarget};
 ghost use Rattle.k_types.specs.State.{Refers, Holds, field_kind, fresh};
 ghost use Rattle.k_types.specs.Types.{object_size};
 ghost use Rattle.k_space.specs.Objects.{HasRef, HasInt, content_of, new_body, new_directory};
@@ -128,6 +129,21 @@ impl Body {
         ensures { slice_get self.now.fields field ≡ Some (content_of result) }
     {
         self.fields[field as usize]
+    }
+
+    /// Writes what the fields hold to the front of the list, and gives their number.
+    pub(crate) fn copy_to(&self, into: &mut [Stored]) -> u32
+        requires { 16 ≤ length into.old }
+        ensures count { result ≡ length self.now.fields }
+        ensures most { result ≤ 16 }
+        ensures copied { (i : ℕ) → i < result → slice_get self.now.fields i ≡ Some (content_of (slice_index_or into.new i NoTarget)) }
+        ensures len { length into.new ≡ length into.old }
+    {
+        let count = self.fields.len() as u32;
+        for i in 0..count {
+            into[i as usize] = self.stored(i);
+        }
+        count
     }
 
     /// What the reference field refers to; nothing where it is null.

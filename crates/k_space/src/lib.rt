@@ -13,6 +13,8 @@
 
 mod area;
 mod body;
+mod live;
+mod marks;
 mod segment;
 #[cfg(test)]
 mod tests;

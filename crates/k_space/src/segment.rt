@@ -1,53 +1,20 @@
-ghost use Rattle.std.specs.Prelude.{◌≡◌, ◌<◌, ◌≤◌, ◌^◌, ℕ, length, map, vec_capacity, Some, None, option_map, IfOk, IfSome, IfNone, ◌∷◌, [], slice_set, slice_get, ◌==◌, IsFalse, IsTrue, OnSome};
+ghost use Rattle.std.specs.Prelude.{◌≡◌, ◌<◌, ◌≤◌, ℕ, length, map, Some, None, option_map, IfOk, IfSome, IfNone, ◌∷◌, [], slice_set, slice_get, slice_index_or, ◌==◌, IsFalse, IsTrue, OnSome};
 ghost use Rattle.k_types.specs.State.{Refers, Holds, field_kind};
 ghost use Rattle.k_types.specs.Types.{object_size};
 ghost use Rattle.k_space.specs.Objects.{HasRef, HasInt, content_of};
+ghost use Rattle.k_space.specs.declared.body.Stored.TheVariants.{Null as NoTarget};
 ghost use Rattle.k_types.specs.Names.{name_of};
 ghost use Rattle.k_space.specs.Segments.{Row, White, Black, Gray, LiesAt, IsLive, row_at, made, with_row, placed, some_gray, is_gray, is_marked, gray_or_black, segment_bytes, unmarked_segment, body_of};
-ghost use Rattle.k_space.specs.Sweeping.{IsFreed, IsFree, IsFirstUnmarked, IsUnmarkedAt};
-ghost use Rattle.k_space.specs.Places.{white_place, is_white_place};
+ghost use Rattle.k_space.specs.Sweeping.{IsFreed, IsFree, IsFirstUnmarked, IsTakenAway, IsUnmarkedAt};
 
 use crate::body::{Body, Stored};
+use crate::live::next_white;
+use crate::marks::{Mark, Place, Places};
 use k_io::NoMemory;
 use k_types::{Field, Link, Seg, Serial, Slot, TypeId};
 use slab::Slab;
 use std::alloc::Global;
 use std::marker::Model;
-
-/// How far the marking of an object has come. A gray one names the next gray one by its serial, the last
-/// one names 0.
-#[derive(Clone, Copy)]
-enum Mark {
-    White,
-    Gray(u32),
-    Black,
-}
-
-/// Where an object lies, by its serial.
-#[derive(Clone, Copy)]
-enum Place {
-    Empty,
-    At(usize, Mark),
-}
-
-impl Place {
-    /// The place with no mark.
-    fn whitened(self) -> Place
-        ensures { result ≡ white_place self }
-    {
-        match self {
-            Place::At(slot, _) => Place::At(slot, Mark::White),
-            Place::Empty => Place::Empty,
-        }
-    }
-
-    /// Whether it has an object without a mark.
-    fn is_white(self) -> bool
-        ensures { result ≡ is_white_place self }
-    {
-        matches!(self, Place::At(_, Mark::White))
-    }
-}
 
 #[derive(Drop)]
 struct Cell {
@@ -69,7 +36,7 @@ pub struct Gone {
 pub struct Segment {
     number: Seg,
     room: u32,
-    places: Vec<Place>,
+    places: Places,
     cells: Slab<Cell>,
     // The serial of the first gray object; 0 where there is none.
     gray: u32,
@@ -77,6 +44,10 @@ pub struct Segment {
     bytes: u64,
     // One more than the highest slot that was ever used.
     end: usize,
+    // The serials of the live objects, in any order, and of some that are gone.
+    live: Vec<u32>,
+    // None of them is white but of so many first ones.
+    left: usize,
 }
 
 impl Model for Segment {
@@ -84,25 +55,19 @@ impl Model for Segment {
 
     ghost Value = { SegmentValue };
 
-    ghost use Rattle.std.specs.Prelude.{map, vec_capacity};
+    ghost use Rattle.std.specs.Prelude.{map, vec_capacity, ◌≤◌};
     ghost use Rattle.k_space.specs.Places.{row_of, IsSound, AreBytes, AreBelow};
+    ghost use Rattle.k_space.specs.Listed.{IsListed};
 
     ghost view = { λ s. record { number = s.number.0; room = s.room; rows = map (row_of s.cells) s.places.items } };
 
     ghost invariant = { λ s. record {
-      sound : IsSound s.places.items s.cells s.room (vec_capacity s.places) s.gray;
+      sound : IsSound s.places.items s.cells s.room s.places.capacity s.gray;
       bytes : AreBytes s.places.items s.cells s.bytes;
       end : AreBelow s.cells s.end;
+      listed : IsListed s.places.items s.live.items s.left;
+      reserved : s.room ≤ vec_capacity s.live;
     } };
-}
-
-/// Takes the marks of all places away.
-fn whiten(places: &mut [Place])
-    ensures { places.new ≡ map white_place places.old }
-{
-    for place in places.iter_mut() {
-        *place = place.whitened();
-    }
 }
 
 impl Segment {
@@ -111,7 +76,7 @@ impl Segment {
     pub fn make(alloc: Global, seg: Seg, room: u32) -> Result<Segment, NoMemory>
         ensures { IfOk result (λ s. s ≡ record { number = seg.0; room = room; rows = None ∷ [] }) }
     {
-        let mut places = Vec::with_capacity(alloc, room as usize + 1)?;
+        let mut places = Places::make(alloc, room as usize + 1)?;
         places.push_reserved(Place::Empty);
         let cells = Slab::with_capacity(alloc, room as usize)?;
         // Read so that the proof has its range: the number of a slot, plus 1, fits.
@@ -124,6 +89,8 @@ impl Segment {
             gray: 0,
             bytes: 0,
             end: 0,
+            live: Vec::with_capacity(alloc, room as usize)?,
+            left: 0,
         })
     }
 
@@ -164,6 +131,8 @@ impl Segment {
         });
         self.places.push_reserved(Place::At(slot, Mark::White));
         self.end = self.end.max(slot + 1);
+        self.live.push_reserved(serial);
+        self.left = self.live.len();
         Link {
             seg: self.number,
             slot: Slot(slot),
@@ -179,7 +148,7 @@ impl Segment {
         if at >= self.places.len() {
             return None;
         }
-        match self.places[at] {
+        match self.places.at(at) {
             Place::At(slot, _) => Some(Slot(slot)),
             Place::Empty => None,
         }
@@ -234,6 +203,19 @@ impl Segment {
         self.body_at(slot).stored(field)
     }
 
+    /// Writes what the fields of the object there hold to the front of the list, and gives their number. Constant
+    /// time. Source: own.
+    pub fn copy_fields(&self, slot: Slot, into: &mut [Stored]) -> u32
+        requires live { IsLive self.now slot.0 }
+        requires room { 16 ≤ length into.old }
+        ensures count { (serial : ℕ) (row : Row) → LiesAt self.now slot.0 serial row → result ≡ length row.fields }
+        ensures most { result ≤ 16 }
+        ensures copied { (serial : ℕ) (row : Row) (i : ℕ) → LiesAt self.now slot.0 serial row → i < result → slice_get row.fields i ≡ Some (content_of (slice_index_or into.new i NoTarget)) }
+        ensures len { length into.new ≡ length into.old }
+    {
+        self.body_at(slot).copy_to(into)
+    }
+
     /// What a reference field of the object there refers to; nothing where it is null. Its slot
     /// is a hint. Constant time. Source: own.
     pub fn read_ref(&self, slot: Slot, field: u32) -> Option<Link>
@@ -285,11 +267,11 @@ impl Segment {
         if at >= self.places.len() {
             return;
         }
-        let place = self.places[at];
+        let place = self.places.at(at);
         match place {
             Place::At(slot, mark) => match mark {
                 Mark::White => {
-                    self.places[at] = Place::At(slot, Mark::Gray(self.gray));
+                    self.places.set(at, Place::At(slot, Mark::Gray(self.gray)));
                     self.gray = serial.0;
                 }
                 Mark::Gray(_) => {}
@@ -311,11 +293,11 @@ impl Segment {
         }
         let serial = self.gray;
         let at = serial as usize;
-        let place = self.places[at];
+        let place = self.places.at(at);
         match place {
             Place::At(slot, mark) => match mark {
                 Mark::Gray(next) => {
-                    self.places[at] = Place::At(slot, Mark::Black);
+                    self.places.set(at, Place::At(slot, Mark::Black));
                     self.gray = next;
                     Some(Serial(serial))
                 }
@@ -326,12 +308,14 @@ impl Segment {
         }
     }
 
-    /// Takes the marks of all objects away. It passes each serial that was given. Source: own.
+    /// Takes the marks of all objects away. Constant time, but for one pass of the serials at each 2,000,000,000th
+    /// call. Source: own.
     pub fn unmark_all(&mut self)
         ensures { self.new ≡ unmarked_segment self.old }
     {
-        whiten(&mut self.places);
+        self.places.whiten();
         self.gray = 0;
+        self.left = self.live.len();
     }
 
     /// Frees the first object that isn't marked, by slots from that one on. It passes the slots up to
@@ -344,6 +328,24 @@ impl Segment {
         match self.first_unmarked(from.0) {
             Some(slot) => Some(self.free(slot)),
             None => None,
+        }
+    }
+
+    /// Frees an object that isn't marked. Calls up to the one that frees nothing look at each live object once.
+    /// Source: own.
+    pub fn free_unmarked(&mut self) -> Option<Gone>
+        ensures freed { IfSome result (λ gone. IsTakenAway self.old self.new gone) }
+        ensures none { IfNone result ((serial : ℕ) (row : Row) → row_at self.old serial ≡ Some row → IsTrue (is_marked row.color)) }
+        ensures kept { IfNone result (self.new ≡ self.old) }
+    {
+        let left = next_white(&mut self.live, &self.places, self.left);
+        self.left = left;
+        if left == 0 {
+            return None;
+        }
+        match self.places.at(self.live[left - 1] as usize) {
+            Place::At(slot, _) => Some(self.free(slot)),
+            Place::Empty => unreachable!(),
         }
     }
 
@@ -383,7 +385,7 @@ impl Segment {
         let Some(cell) = self.cells.get(slot) else {
             return false;
         };
-        self.places[cell.serial.0 as usize].is_white()
+        self.places.at(cell.serial.0 as usize).is_white()
     }
 
     /// Frees the object there, which isn't marked.
@@ -394,7 +396,7 @@ impl Segment {
     {
         let cell = self.cells.remove(slot);
         let bytes = cell.body.bytes();
-        self.places[cell.serial.0 as usize] = Place::Empty;
+        self.places.set(cell.serial.0 as usize, Place::Empty);
         self.bytes -= bytes;
         Gone {
             slot: Slot(slot),
