@@ -88,7 +88,7 @@ freed places cells after room capacity head i slot cell sound here found updates
               let was = sound.kept s x (sym (updates.others s differs) ∙ e) in
               let other : x.serial.0 ≢ i = λ same.
               differs (same_At s slot was.mark MarkWhite (sym was.there ∙ ap (λ k. get_or places k Empty) same ∙ here)).0 in
-              record { mark = was.mark; there = get_or-set_other places i x.serial.0 Empty Empty other ∙ was.there }
+              record { mark = was.mark; there = get_or-set_other places i x.serial.0 Empty Empty other ∙ was.there; few = was.few }
         ]
 
 -- what a contract sees of it

@@ -8,5 +8,6 @@ pub mod Freed
 pub mod AreaRows
 pub mod Segs
 pub mod Bytes
+pub mod Soundness
 pub mod Numbers
 pub mod Fields

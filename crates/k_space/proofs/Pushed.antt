@@ -21,9 +21,9 @@ at_pushed (y ∷ ys) x zero slot mark e = inl e
 at_pushed (y ∷ ys) x (suc i) slot mark e = elim (at_pushed ys x i slot mark e) [ inl there ↦ inl there | inr here ↦ inr (ap suc here.0, here.1) ]
 
 pub pushed : (places : List Place) (cells after : Slab Cell) (room capacity : ℕ) (head : ℕ) (slot : ℕ) (cell : Cell) → IsSound places cells room capacity head → length places ≤ room →
-    get cells slot ≡ None → Updates cells after slot (Some cell) → slab_len after ≡ slab_len cells + 1 → after.capacity ≡ cells.capacity → cell.serial.0 ≡ length places →
+    get cells slot ≡ None → Updates cells after slot (Some cell) → slab_len after ≡ slab_len cells + 1 → after.capacity ≡ cells.capacity → cell.serial.0 ≡ length places → length cell.body.fields ≤ 16 →
     IsSound (places ++ At slot MarkWhite ∷ []) after room capacity head
-pushed places cells after room capacity head slot cell sound more vacant updates len stays serial =
+pushed places cells after room capacity head slot cell sound more vacant updates len stays serial few =
     record {
       first = get_or_append_left places (At slot MarkWhite ∷ []) Empty 0 sound.begun ∙ sound.first;
       begun = omega (arith, length-append places (At slot MarkWhite ∷ []));
@@ -58,10 +58,11 @@ pushed places cells after room capacity head slot cell sound more vacant updates
               record {
                 mark = MarkWhite;
                 there = ap (λ (c : Cell). get_or (places ++ At slot MarkWhite ∷ []) c.serial.0 Empty) (sym one) ∙ get_or_push places (At slot MarkWhite) Empty cell.serial.0 (sym serial) ∙ ap (λ t. At t MarkWhite) (sym same);
+                few = subst (λ (c : Cell). length c.body.fields ≤ 16) one few;
               }
           | inr differs ↦
               let was = sound.kept s x (sym (updates.others s differs) ∙ e) in
-              record { mark = was.mark; there = get_or_append_left places (At slot MarkWhite ∷ []) Empty x.serial.0 (At_inside places x.serial.0 s was.mark was.there) ∙ was.there }
+              record { mark = was.mark; there = get_or_append_left places (At slot MarkWhite ∷ []) Empty x.serial.0 (At_inside places x.serial.0 s was.mark was.there) ∙ was.there; few = was.few }
         ]
 
 -- the rows that were there

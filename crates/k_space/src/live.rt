@@ -1,4 +1,4 @@
-ghost use Rattle.std.specs.Prelude.{◌≡◌, ◌<◌, ◌-◌, length, vec_capacity, slice_index_or, IsTrue};
+ghost use Rattle.std.specs.Prelude.{◌≡◌, ◌<◌, ◌-◌, ◌≤◌, length, vec_capacity, slice_index_or, IsTrue};
 ghost use Rattle.k_space.specs.declared.marks.Place.TheVariants.{Empty as NoPlace};
 ghost use Rattle.k_space.specs.Places.{is_white_place};
 ghost use Rattle.k_space.specs.Listed.{IsListed};
@@ -26,4 +26,23 @@ pub(crate) fn next_white(live: &mut Vec<u32>, places: &Places, from: usize) -> u
         left = at;
     }
     left
+}
+
+/// Takes the serial of an object that is gone off the list, where it is the last of those that are left. It gives how many are left
+/// then.
+pub(crate) fn unlist(live: &mut Vec<u32>, places: &Places, left: usize, serial: u32) -> usize
+    requires listed { IsListed places.now.items live.old.items left }
+    requires gone { slice_index_or places.now.items serial NoPlace ≡ NoPlace }
+    ensures listed { IsListed places.now.items live.new.items result }
+    ensures capacity { vec_capacity live.new ≡ vec_capacity live.old }
+{
+    if left == 0 {
+        return left;
+    }
+    let at = left - 1;
+    if live[at] != serial {
+        return left;
+    }
+    live.swap_remove(at);
+    at
 }

@@ -1,14 +1,14 @@
-ghost use Rattle.std.specs.Prelude.{◌≡◌, ◌<◌, ◌≤◌, ℕ, length, map, Some, None, option_map, IfOk, IfSome, IfNone, ◌∷◌, [], slice_set, slice_get, slice_index_or, ◌==◌, IsFalse, IsTrue, OnSome};
+ghost use Rattle.std.specs.Prelude.{◌≡◌, ◌<◌, ◌≤◌, ◌+◌, ℕ, length, map, Some, None, option_map, IfOk, IfSome, IfNone, ◌∷◌, [], slice_set, slice_get, slice_index_or, ◌==◌, IsFalse, IsTrue, OnSome};
 ghost use Rattle.k_types.specs.State.{Refers, Holds, field_kind};
 ghost use Rattle.k_types.specs.Types.{object_size};
 ghost use Rattle.k_space.specs.Objects.{HasRef, HasInt, content_of};
 ghost use Rattle.k_space.specs.declared.body.Stored.TheVariants.{Null as NoTarget};
 ghost use Rattle.k_types.specs.Names.{name_of};
-ghost use Rattle.k_space.specs.Segments.{Row, White, Black, Gray, LiesAt, IsLive, row_at, made, with_row, placed, some_gray, is_gray, is_marked, gray_or_black, segment_bytes, unmarked_segment, body_of};
+ghost use Rattle.k_space.specs.Segments.{Row, White, Black, Gray, LiesAt, IsLive, row_at, made, with_row, IsSegment, placed, some_gray, is_gray, is_marked, gray_or_black, segment_bytes, unmarked_segment, body_of};
 ghost use Rattle.k_space.specs.Sweeping.{IsFreed, IsFree, IsFirstUnmarked, IsTakenAway, IsUnmarkedAt};
 
 use crate::body::{Body, Stored};
-use crate::live::next_white;
+use crate::live::{next_white, unlist};
 use crate::marks::{Mark, Place, Places};
 use k_io::NoMemory;
 use k_types::{Field, Link, Seg, Serial, Slot, TypeId};
@@ -55,7 +55,7 @@ impl Model for Segment {
 
     ghost Value = { SegmentValue };
 
-    ghost use Rattle.std.specs.Prelude.{map, vec_capacity, ◌≤◌};
+    ghost use Rattle.std.specs.Prelude.{map, vec_capacity, ◌≡◌};
     ghost use Rattle.k_space.specs.Places.{row_of, IsSound, AreBytes, AreBelow};
     ghost use Rattle.k_space.specs.Listed.{IsListed};
 
@@ -66,7 +66,7 @@ impl Model for Segment {
       bytes : AreBytes s.places.items s.cells s.bytes;
       end : AreBelow s.cells s.end;
       listed : IsListed s.places.items s.live.items s.left;
-      reserved : s.room ≤ vec_capacity s.live;
+      reserved : vec_capacity s.live ≡ s.room;
     } };
 }
 
@@ -96,21 +96,25 @@ impl Segment {
 
     /// The number of the segment. Constant time. Source: own.
     pub fn number(&self) -> Seg
-        ensures { result.0 ≡ self.now.number }
+        ensures value { result.0 ≡ self.now.number }
+        ensures sound { IsSegment self.now }
     {
         self.number
     }
 
     /// How many serials were given, which never falls. Constant time. Source: own.
     pub fn made(&self) -> u32
-        ensures { result ≡ made self.now }
+        ensures value { result ≡ made self.now }
+        ensures begun { length self.now.rows ≡ result + 1 }
+        ensures sound { IsSegment self.now }
     {
         (self.places.len() - 1) as u32
     }
 
     /// The bytes of the live objects. They are kept, and not added up here: constant time. Source: own.
     pub fn bytes(&self) -> u64
-        ensures { result ≡ segment_bytes self.now }
+        ensures value { result ≡ segment_bytes self.now }
+        ensures sound { IsSegment self.now }
     {
         self.bytes
     }
@@ -121,6 +125,7 @@ impl Segment {
         requires { made self.old < self.old.room }
         ensures seg { result.seg.0 ≡ self.old.number }
         ensures serial { result.serial.0 ≡ length self.old.rows }
+        ensures next { result.serial.0 ≡ made self.old + 1 }
         ensures placed { self.new ≡ placed self.old result.slot.0 body }
     {
         let serial = self.places.len() as u32;
@@ -398,6 +403,7 @@ impl Segment {
         let bytes = cell.body.bytes();
         self.places.set(cell.serial.0 as usize, Place::Empty);
         self.bytes -= bytes;
+        self.left = unlist(&mut self.live, &self.places, self.left, cell.serial.0);
         Gone {
             slot: Slot(slot),
             serial: cell.serial,

@@ -30,8 +30,9 @@ invariant_of-self c =
     let more : length places ≤ c.self.inside.room = omega (arith, rows, room, c.requires, c.self.invariant.sound.begun) in
     let serial : c.len-serial.result ≡ length places = omega (arith, c.len-serial.ensures) in
     let updates = c.insert_reserved-slot.ensures.updates in
+    let few : length c.args.body.fields ≤ 16 = omega (arith, c.bytes.ensures.size, c.bytes.ensures.most) in
     let sound = pushed places c.self.inside.cells c.insert_reserved-slot.new.self c.self.inside.room _ c.self.inside.gray c.insert_reserved-slot.result _ c.self.invariant.sound more
-    c.insert_reserved-slot.ensures.was_vacant updates c.insert_reserved-slot.ensures.len c.insert_reserved-slot.ensures.capacity serial in
+    c.insert_reserved-slot.ensures.was_vacant updates c.insert_reserved-slot.ensures.len c.insert_reserved-slot.ensures.capacity serial few in
     let old = rows_kept places c.self.inside.cells c.insert_reserved-slot.new.self c.self.inside.room _ c.self.inside.gray c.insert_reserved-slot.result _ c.self.invariant.sound c.insert_reserved-slot.ensures.was_vacant updates in
     let most = subst (λ n. n ≤ 144) c.bytes.ensures.size c.bytes.ensures.most in
     let bytes = bytes_pushed places c.self.inside.cells c.insert_reserved-slot.new.self c.self.inside.bytes c.insert_reserved-slot.result _ c.self.invariant.bytes old updates.changed most in
