@@ -16,7 +16,6 @@ use std::marker::Brand;
 use std::sync::ledger::{Blank, Ledger};
 
 /// Takes all marks away, from objects and exit items. It passes the segments, and each exit item once.
-/// Source: own.
 pub fn clear(area: &mut Area, exits: &mut ExitTable)
     ensures area { area.new ≡ unmarked area.old }
     ensures exits { exits.new ≡ unmarked_exits exits.old }
@@ -26,7 +25,7 @@ pub fn clear(area: &mut Area, exits: &mut ExitTable)
 }
 
 /// Makes a live object of the area gray, so that marking begins with it. A marked one stays as it is, and
-/// a name that is no live object of the area changes nothing. It looks through the segments. Source: own.
+/// a name that is no live object of the area changes nothing. It looks through the segments.
 pub fn root(area: &mut Area, target: Link)
     requires { HasDistinct area.old.segments }
     ensures { area.new ≡ grayed area.old (name_of target) }
@@ -123,7 +122,7 @@ pub fn mark<L: Ledger>(area: &mut Area, exits: &mut ExitTable, steps: &mut Steps
     }
 }
 
-/// Marks with a counter of its own, for a caller that counts no steps. Source: own.
+/// Marks with a counter of its own, for a caller that counts no steps.
 pub fn mark_uncounted(area: &mut Area, exits: &mut ExitTable)
     requires distinct { HasDistinct area.old.segments }
     requires exits { (a n : Named) → IsTrue (refers_at area.old a n) → IsTrue (is_foreign area.old n) → IsTrue (has_target exits.old.items n) }

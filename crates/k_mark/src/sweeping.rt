@@ -5,7 +5,7 @@ ghost use Rattle.k_mark.specs.Sweeping.{swept, swept_segment, dead_objects, dead
 
 use k_space::{Area, Segment};
 
-/// What was freed: how many objects, and how many bytes they took. Source: own.
+/// What was freed: how many objects, and how many bytes they took.
 #[derive(Clone, Copy, Debug)]
 pub struct Swept {
     pub objects: u32,

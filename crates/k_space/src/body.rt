@@ -40,7 +40,7 @@ impl Stored {
     }
 }
 
-/// The content of one object, of at most 16 fields. Source: own.
+/// The content of one object, of at most 16 fields.
 #[derive(Drop)]
 pub struct Body {
     ty: Option<TypeId>,
@@ -60,7 +60,7 @@ impl Model for Body {
 
 impl Body {
     /// A new object of the type: references are null, integers are 0. `NoMemory` comes where its fields
-    /// find no memory. Source: own.
+    /// find no memory.
     pub fn make(alloc: Global, types: &TypeTable, ty: TypeId) -> Result<Body, NoMemory>
         requires { ty.0 < length types.now }
         ensures { IfOk result (λ b. b ≡ new_body types.now ty) }
@@ -80,7 +80,6 @@ impl Body {
     }
 
     /// The directory, with so many references, all null. `NoMemory` comes where they find no memory.
-    /// Source: own.
     pub fn directory(alloc: Global, fields: u32) -> Result<Body, NoMemory>
         requires { fields ≤ 16 }
         ensures { IfOk result (λ b. b ≡ new_directory fields) }
@@ -89,14 +88,14 @@ impl Body {
         Ok(Body { ty: None, fields })
     }
 
-    /// The object's type. The directory alone has none. Source: own.
+    /// The object's type. The directory alone has none.
     pub fn type_of(&self) -> Option<TypeId>
         ensures { result ≡ self.now.ty }
     {
         self.ty
     }
 
-    /// The size of the object in bytes: 16, and 8 for each field. Constant time. Source: own.
+    /// The size of the object in bytes: 16, and 8 for each field. Constant time.
     pub fn bytes(&self) -> u64
         ensures size { result ≡ object_size (length self.now.fields) }
         ensures most { result ≤ 144 }

@@ -6,7 +6,8 @@
 //! call changes, and that everything else stays. Only the calls named `make` and
 //! [`Body::directory`] take memory.
 //!
-//! Looking an object up, reading, writing and placing take constant time in the number of objects.
+//! Looking an object up, reading, writing and placing take constant time in the number of objects, and so
+//! does taking all marks away. A sweep costs in proportion to the objects that are live when it begins.
 //!
 //! The crate stands on `k_types` for names and types of objects, and on `slab` for the slots.
 #![tactic(auto)]

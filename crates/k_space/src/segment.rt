@@ -31,7 +31,7 @@ pub struct Gone {
 }
 
 /// The objects that were made under one number. Each has a serial, which is never used again, and
-/// lies in a slot, which is. Source: own.
+/// lies in a slot, which is.
 #[derive(Drop)]
 pub struct Segment {
     number: Seg,
@@ -72,7 +72,7 @@ impl Model for Segment {
 
 impl Segment {
     /// A segment with no object, in which `room` serials can be given. It takes the memory for all of
-    /// them at once; `NoMemory` comes where there is none. Source: own.
+    /// them at once; `NoMemory` comes where there is none.
     pub fn make(alloc: Global, seg: Seg, room: u32) -> Result<Segment, NoMemory>
         ensures { IfOk result (λ s. s ≡ record { number = seg.0; room = room; rows = None ∷ [] }) }
     {
@@ -94,7 +94,7 @@ impl Segment {
         })
     }
 
-    /// The number of the segment. Constant time. Source: own.
+    /// The number of the segment. Constant time.
     pub fn number(&self) -> Seg
         ensures value { result.0 ≡ self.now.number }
         ensures sound { IsSegment self.now }
@@ -102,7 +102,7 @@ impl Segment {
         self.number
     }
 
-    /// How many serials were given, which never falls. Constant time. Source: own.
+    /// How many serials were given, which never falls. Constant time.
     pub fn made(&self) -> u32
         ensures value { result ≡ made self.now }
         ensures begun { length self.now.rows ≡ result + 1 }
@@ -111,7 +111,7 @@ impl Segment {
         (self.places.len() - 1) as u32
     }
 
-    /// The bytes of the live objects. They are kept, and not added up here: constant time. Source: own.
+    /// The bytes of the live objects. They are kept, and not added up here: constant time.
     pub fn bytes(&self) -> u64
         ensures value { result ≡ segment_bytes self.now }
         ensures sound { IsSegment self.now }
@@ -120,7 +120,7 @@ impl Segment {
     }
 
     /// Puts an object in, under the next serial, and in a slot that has none. Constant time, and no
-    /// memory. Source: own.
+    /// memory.
     pub fn place(&mut self, body: Body) -> Link
         requires { made self.old < self.old.room }
         ensures seg { result.seg.0 ≡ self.old.number }
@@ -145,7 +145,7 @@ impl Segment {
         }
     }
 
-    /// Where the object of that serial lies. Constant time. Source: own.
+    /// Where the object of that serial lies. Constant time.
     pub fn find(&self, serial: Serial) -> Option<Slot>
         ensures { option_map (λ s. s.0) result ≡ option_map (λ row. row.slot) (row_at self.now serial.0) }
     {
@@ -159,7 +159,7 @@ impl Segment {
         }
     }
 
-    /// The serial of the object there. Constant time. Source: own.
+    /// The serial of the object there. Constant time.
     pub fn serial_of(&self, slot: Slot) -> Serial
         requires { IsLive self.now slot.0 }
         ensures { (serial : ℕ) (row : Row) → LiesAt self.now slot.0 serial row → result.0 ≡ serial }
@@ -167,7 +167,7 @@ impl Segment {
         self.cells[slot.0].serial
     }
 
-    /// The size of the object there, in bytes. Constant time. Source: own.
+    /// The size of the object there, in bytes. Constant time.
     pub fn bytes_of(&self, slot: Slot) -> u64
         requires { IsLive self.now slot.0 }
         ensures { (serial : ℕ) (row : Row) → LiesAt self.now slot.0 serial row → result ≡ object_size (length row.fields) }
@@ -175,7 +175,7 @@ impl Segment {
         self.body_at(slot).bytes()
     }
 
-    /// The type of the object there. The directory alone has none. Constant time. Source: own.
+    /// The type of the object there. The directory alone has none. Constant time.
     pub fn type_of(&self, slot: Slot) -> Option<TypeId>
         requires { IsLive self.now slot.0 }
         ensures { (serial : ℕ) (row : Row) → LiesAt self.now slot.0 serial row → result ≡ row.ty }
@@ -183,7 +183,7 @@ impl Segment {
         self.body_at(slot).type_of()
     }
 
-    /// The kind of a field of the object there; nothing past the last field. Constant time. Source: own.
+    /// The kind of a field of the object there; nothing past the last field. Constant time.
     pub fn kind_of(&self, slot: Slot, field: u32) -> Option<Field>
         requires { IsLive self.now slot.0 }
         ensures { (serial : ℕ) (row : Row) → LiesAt self.now slot.0 serial row → result ≡ option_map field_kind (slice_get row.fields field) }
@@ -191,7 +191,7 @@ impl Segment {
         self.body_at(slot).kind_of(field)
     }
 
-    /// The number of fields of the object there. Constant time. Source: own.
+    /// The number of fields of the object there. Constant time.
     pub fn field_count(&self, slot: Slot) -> u32
         requires { IsLive self.now slot.0 }
         ensures { (serial : ℕ) (row : Row) → LiesAt self.now slot.0 serial row → result ≡ length row.fields }
@@ -199,7 +199,7 @@ impl Segment {
         self.body_at(slot).len()
     }
 
-    /// What a field of either kind holds. Constant time. Source: own.
+    /// What a field of either kind holds. Constant time.
     pub fn stored(&self, slot: Slot, field: u32) -> Stored
         requires live { IsLive self.now slot.0 }
         requires field { (serial : ℕ) (row : Row) → LiesAt self.now slot.0 serial row → field < length row.fields }
@@ -209,7 +209,7 @@ impl Segment {
     }
 
     /// Writes what the fields of the object there hold to the front of the list, and gives their number. Constant
-    /// time. Source: own.
+    /// time.
     pub fn copy_fields(&self, slot: Slot, into: &mut [Stored]) -> u32
         requires live { IsLive self.now slot.0 }
         requires room { 16 ≤ length into.old }
@@ -221,8 +221,7 @@ impl Segment {
         self.body_at(slot).copy_to(into)
     }
 
-    /// What a reference field of the object there refers to; nothing where it is null. Its slot
-    /// is a hint. Constant time. Source: own.
+    /// What a reference field of the object there refers to, by its name; nothing where it is null. Constant time.
     pub fn read_ref(&self, slot: Slot, field: u32) -> Option<Link>
         requires live { IsLive self.now slot.0 }
         requires kind { (serial : ℕ) (row : Row) → LiesAt self.now slot.0 serial row → HasRef row.fields field }
@@ -231,7 +230,7 @@ impl Segment {
         self.body_at(slot).read_ref(field)
     }
 
-    /// The number in an integer field of the object there. Constant time. Source: own.
+    /// The number in an integer field of the object there. Constant time.
     pub fn read_int(&self, slot: Slot, field: u32) -> u64
         requires live { IsLive self.now slot.0 }
         requires kind { (serial : ℕ) (row : Row) → LiesAt self.now slot.0 serial row → HasInt row.fields field }
@@ -241,7 +240,7 @@ impl Segment {
     }
 
     /// Writes a reference, or null, into a reference field of the object there. It asks no write
-    /// barrier, and adds no exit item: both are the caller's. Constant time, and no memory. Source: own.
+    /// barrier, and adds no exit item: both are the caller's. Constant time, and no memory.
     pub fn write_ref(&mut self, slot: Slot, field: u32, value: Option<Link>)
         requires live { IsLive self.old slot.0 }
         requires kind { (serial : ℕ) (row : Row) → LiesAt self.old slot.0 serial row → HasRef row.fields field }
@@ -252,7 +251,6 @@ impl Segment {
     }
 
     /// Writes a number into an integer field of the object there. Constant time, and no memory.
-    /// Source: own.
     pub fn write_int(&mut self, slot: Slot, field: u32, value: u64)
         requires live { IsLive self.old slot.0 }
         requires kind { (serial : ℕ) (row : Row) → LiesAt self.old slot.0 serial row → HasInt row.fields field }
@@ -263,7 +261,7 @@ impl Segment {
     }
 
     /// Makes a white object gray. Other objects, and serials with no object, stay as they are. Constant
-    /// time, and no memory. Source: own.
+    /// time, and no memory.
     pub fn make_gray(&mut self, serial: Serial)
         ensures grayed { (row : Row) → row_at self.old serial.0 ≡ Some row → self.new ≡ with_row self.old serial.0 (Some (record row { color = gray_or_black row.color })) }
         ensures gone { row_at self.old serial.0 ≡ None → self.new ≡ self.old }
@@ -286,7 +284,7 @@ impl Segment {
         }
     }
 
-    /// Takes a gray object, and makes it black. Constant time. Source: own.
+    /// Takes a gray object, and makes it black. Constant time.
     pub fn take_gray(&mut self) -> Option<Serial>
         ensures some { (serial : Serial) → result ≡ Some serial → (row : Row) × LiesAt self.old row.slot serial.0 row × (row.color ≡ Gray)
             × (self.new ≡ with_row self.old serial.0 (Some (record row { color = Black }))) }
@@ -313,8 +311,8 @@ impl Segment {
         }
     }
 
-    /// Takes the marks of all objects away. Constant time, but for one pass of the serials at each 2,000,000,000th
-    /// call. Source: own.
+    /// Takes the marks of all objects away. Constant time, however many objects were ever made, but for one pass
+    /// of the serials at each 2,000,000,000th call.
     pub fn unmark_all(&mut self)
         ensures { self.new ≡ unmarked_segment self.old }
     {
@@ -324,7 +322,8 @@ impl Segment {
     }
 
     /// Frees the first object that isn't marked, by slots from that one on. It passes the slots up to
-    /// that object, so that calls from the freed slot on pass each slot once. Source: own.
+    /// that object, so that calls from the freed slot on pass each slot once that was ever used.
+    /// [`Segment::free_unmarked`], which keeps no order, passes those of live objects alone.
     pub fn sweep_next(&mut self, from: Slot) -> Option<Gone>
         ensures freed { IfSome result (λ gone. IsFreed self.old self.new from.0 gone) }
         ensures none { IfNone result ((serial : ℕ) (row : Row) → row_at self.old serial ≡ Some row → from.0 ≤ row.slot → IsTrue (is_marked row.color)) }
@@ -336,8 +335,8 @@ impl Segment {
         }
     }
 
-    /// Frees an object that isn't marked. Calls up to the one that frees nothing look at each live object once.
-    /// Source: own.
+    /// Frees an object that isn't marked. All calls up to the one that frees nothing look once at each object that
+    /// was live, freed or not, and at none that were freed before: a sweep costs no more than that.
     pub fn free_unmarked(&mut self) -> Option<Gone>
         ensures freed { IfSome result (λ gone. IsTakenAway self.old self.new gone) }
         ensures none { IfNone result ((serial : ℕ) (row : Row) → row_at self.old serial ≡ Some row → IsTrue (is_marked row.color)) }
