@@ -8,7 +8,7 @@ use Rattle.k_types.specs.State.{State, Object, has, refers_in}
 use Rattle.k_types.specs.Owners.{owner_of}
 use Rattle.k_types.specs.Sound.{HasNoDangling}
 use Rattle.k_types.specs.Cells.{Cell, CellPart, part}
-use Rattle.k_frame.proofs.Objects.{has-kept, refers_in-kept}
+use Rattle.k_base.proofs.Objects.{has-kept, refers_in-kept}
 use Rattle.k_space.specs.Segments.{Row, SegmentValue, made}
 use Rattle.k_space.specs.Areas.{AreaValue, segment_at, row_in_segment, row_of_name}
 use Rattle.k_space.proofs.NameTests.{name_eq_refl}

@@ -5,7 +5,7 @@ use Rattle.k_types.specs.declared.names.Name.{Name}
 use Rattle.k_types.specs.Names.{name_eq, name_among}
 use Rattle.k_types.specs.Numbers.{numbers_from}
 use Rattle.k_types.specs.State.{Object, has}
-use Rattle.k_frame.proofs.Objects.{has-kept}
+use Rattle.k_base.proofs.Objects.{has-kept}
 use Rattle.k_space.specs.Segments.{Row, SegmentValue, made, some_gray, some_black, unmarked_row as white_row}
 use Rattle.k_space.specs.Areas.{AreaValue, segment_at, row_of_name, gray_at, black_at, unmarked}
 use Rattle.k_space.proofs.NameTests.{name_eq_refl}

@@ -8,7 +8,7 @@ use Rattle.k_types.specs.declared.names.Name.{Name}
 use Rattle.k_types.specs.State.{Object}
 use Rattle.k_types.specs.Owners.{object_bytes}
 use Rattle.k_types.specs.Totals.{total}
-use Rattle.k_frame.proofs.Sums.{total_append}
+use Rattle.k_base.proofs.Sums.{total_append}
 use Rattle.k_space.specs.Segments.{Row, SegmentValue, object_of, objects_from, segment_objects, segment_bytes, some_marked, is_marked}
 use Rattle.k_space.specs.Areas.{AreaValue, HasDistinct, segment_at, marked_at}
 use Rattle.k_mark.specs.Sweeping.{dead_row, dead_bytes_of, dead_objects, dead_bytes}
