@@ -11,7 +11,7 @@ use Rattle.k_types.specs.Cells.{Cell, CellPart, part}
 use Rattle.k_base.proofs.Objects.{has-kept, refers_in-kept}
 use Rattle.k_space.specs.Segments.{Row, SegmentValue, made}
 use Rattle.k_space.specs.Areas.{AreaValue, segment_at, row_in_segment, row_of_name}
-use Rattle.k_space.proofs.NameTests.{name_eq_refl}
+use Rattle.k_base.proofs.NameTests.{name_eq_refl}
 use Rattle.k_areas.specs.Shown.{area_objects, HasNoneFrom}
 use Rattle.k_areas.specs.Parts.{ShowsPart, IsSoundInside, AreForeignTold}
 use Rattle.k_areas.proofs.Shown.{at_row, any_area}

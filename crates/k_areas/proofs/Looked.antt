@@ -4,12 +4,12 @@ use Rattle.std.proofs.lemmas.Bool.{cases_eq, cases_Bool, false≢true}
 use Rattle.k_types.specs.declared.names.Name.{Name}
 use Rattle.k_types.specs.Names.{name_eq}
 use Rattle.k_types.specs.State.{Content}
-use Rattle.k_base.proofs.NameTests.{name_eq-false}
+use Rattle.k_base.proofs.NameTests.{name_eq-false, name_eq-true}
 use Rattle.k_space.specs.Objects.{BodyValue}
 use Rattle.k_space.specs.Segments.{Row, Color, White, Gray, Black, SegmentValue, row_at, placed, new_row, some_gray, some_black, some_marked, is_gray, is_black, is_marked, gray_or_black, unmarked_row, unmarked_segment}
 use Rattle.k_space.specs.Areas.{AreaValue, segment_at, row_in_segment, row_of_name, with_segment, with_row_of, marked_at, gray_at, black_at, grayed, grayed_row, unmarked}
 use Rattle.k_space.proofs.AreaRows.{found, after_same, after_other}
-use Rattle.k_space.proofs.NameTests.{name_eq-true, name_eq-parts}
+use Rattle.k_space.proofs.NameTests.{name_eq-parts}
 use Rattle.k_mark.specs.Sweeping.{swept, swept_segment, survivor}
 use Rattle.k_areas.specs.Shown.{name_in}
 use Rattle.k_areas.proofs.Found.{at_map, at_push_same, at_push_other, at_set_same, at_set_other}

@@ -8,7 +8,7 @@ use Rattle.k_types.specs.State.{Object, has}
 use Rattle.k_base.proofs.Objects.{has-kept}
 use Rattle.k_space.specs.Segments.{Row, SegmentValue, made, some_gray, some_black, unmarked_row as white_row}
 use Rattle.k_space.specs.Areas.{AreaValue, segment_at, row_of_name, gray_at, black_at, unmarked}
-use Rattle.k_space.proofs.NameTests.{name_eq_refl}
+use Rattle.k_base.proofs.NameTests.{name_eq_refl}
 use Rattle.k_exit.specs.Exits.{ExitRow, has_target, target_marked, targets, unmarked_row}
 use Rattle.k_areas.specs.Shown.{area_objects, HasNoneFrom}
 use Rattle.k_areas.specs.Lists.{made_list, names_where, gray_names, black_names, marked_targets}

@@ -15,12 +15,12 @@ use Rattle.k_types.specs.Reach.{reach_among}
 use Rattle.k_types.specs.Totals.{total}
 use Rattle.k_types.specs.Updates.{with_object, object_after_write}
 use Rattle.k_types.specs.Cells.{CellPart}
-use Rattle.k_types.specs.PartUpdates.{with_written}
+use Rattle.k_frame.specs.PartUpdates.{with_written}
 use Rattle.k_space.specs.Objects.{new_body}
 use Rattle.k_space.specs.Segments.{Row, Color, White, Gray, Black, is_gray, is_black, is_marked, some_gray, some_black, some_marked, SegmentValue, object_of, placed, made, new_row, with_row, unmarked_row, unmarked_segment}
 use Rattle.k_space.specs.Areas.{AreaValue, black_at, is_foreign, marked_at, place_of, row_of_name, segment_at, with_segment, with_row_of, unmarked}
 use Rattle.k_space.proofs.AreaRows.{Found, found, number_found, changed_is}
-use Rattle.k_space.proofs.NameTests.{name_eq_refl}
+use Rattle.k_base.proofs.NameTests.{name_eq_refl}
 use Rattle.k_space.proofs.Numbers.{distinct_push}
 use Rattle.k_mark.specs.Marking.{ShowsObjects, some_lead_to}
 use Rattle.k_mark.specs.Sweeping.{swept, swept_segment, survivor, dead_bytes, dead_objects}

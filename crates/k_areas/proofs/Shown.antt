@@ -11,7 +11,8 @@ use Rattle.k_space.specs.Segments.{Row, Color, SegmentValue, object_of, objects_
 use Rattle.k_space.specs.Areas.{segment_at, row_in_segment, row_of_name}
 use Rattle.k_areas.specs.Shown.{area_objects, objects_of_some, HasNoneFrom}
 use Rattle.k_space.proofs.AreaRows.{number_found}
-use Rattle.k_space.proofs.NameTests.{name_eq-true, name_eq-parts}
+use Rattle.k_base.proofs.NameTests.{name_eq-true}
+use Rattle.k_space.proofs.NameTests.{name_eq-parts}
 
 -- what a test says of the object of a name, if there is one
 abbrev pub at_row : (Object → Bool) → Name → Option Row → Bool

@@ -12,7 +12,7 @@ ghost use Rattle.k_types.specs.Sound.{HasNoDangling};
 ghost use Rattle.k_types.specs.Owners.{object_bytes};
 ghost use Rattle.k_types.specs.Totals.{total};
 ghost use Rattle.k_types.specs.Cells.{Cell, CellPart, part};
-ghost use Rattle.k_types.specs.PartUpdates.{with_written};
+ghost use Rattle.k_frame.specs.PartUpdates.{with_written};
 ghost use Rattle.k_space.specs.Objects.{new_body};
 ghost use Rattle.k_space.specs.Segments.{Row, SegmentValue, placed};
 ghost use Rattle.k_space.specs.Areas.{AreaValue, is_foreign, row_of_name, segment_at, with_segment, with_row_of, unmarked};

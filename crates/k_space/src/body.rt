@@ -6,7 +6,7 @@ ghost use Rattle.k_space.specs.Objects.{HasRef, HasInt, content_of, new_body, ne
 ghost use Rattle.k_types.specs.Names.{name_of};
 
 use k_io::NoMemory;
-use k_types::{Field, Link, Name, Slot, TypeId, TypeTable};
+use k_types::{Field, Link, Name, TypeId, TypeTable, object_size};
 use std::alloc::Global;
 use std::marker::Model;
 
@@ -65,7 +65,7 @@ impl Body {
         requires { ty.0 < length types.now }
         ensures { IfOk result (λ b. b ≡ new_body types.now ty) }
     {
-        let count = (types.size_of(ty) as u32 - 16) / 8;
+        let count = types.field_count(ty);
         let mut fields = Vec::with_capacity(alloc, count as usize)?;
         for i in 0..count {
             let Some(kind) = types.kind_of(ty, i) else {
@@ -100,7 +100,7 @@ impl Body {
         ensures size { result ≡ object_size (length self.now.fields) }
         ensures most { result ≤ 144 }
     {
-        16 + 8 * self.fields.len() as u64
+        object_size(self.fields.len() as u32)
     }
 
     /// The number of fields.
@@ -151,11 +151,7 @@ impl Body {
         ensures { slice_get self.now.fields field ≡ Some (Refers (option_map name_of result)) }
     {
         match self.fields[field as usize] {
-            Stored::Refers(name) => Some(Link {
-                seg: name.seg,
-                slot: Slot(0),
-                serial: name.serial,
-            }),
+            Stored::Refers(name) => Some(name.link()),
             Stored::Null => None,
             Stored::Holds(_) => None,
         }

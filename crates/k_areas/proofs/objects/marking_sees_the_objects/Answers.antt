@@ -4,7 +4,7 @@ use Rattle.k_types.specs.Names.{name_eq}
 use Rattle.k_types.specs.State.{Object, refers}
 use Rattle.k_space.specs.Segments.{Row, object_of}
 use Rattle.k_space.specs.Areas.{row_of_name}
-use Rattle.k_space.proofs.NameTests.{name_eq_refl}
+use Rattle.k_base.proofs.NameTests.{name_eq_refl}
 use Rattle.k_mark.specs.Marking.{some_lead_to}
 use Rattle.k_areas.proofs.Shown.{at_row, any_area}
 use Rattle.k_areas.proofs.objects.marking_sees_the_objects.Goals as goal
