@@ -6,13 +6,13 @@ use Rattle.k_types.specs.declared.names.Link.{Link}
 use Rattle.k_types.specs.declared.names.TypeId.{TypeId}
 use Rattle.k_types.specs.declared.names.Field.{Field}
 use Rattle.k_types.specs.Names.{name_of}
-use Rattle.k_types.specs.State.{Refers}
-use Rattle.k_space.specs.Objects.{BodyValue, new_body}
-use Rattle.k_space.specs.Segments.{SegmentValue, Row, Color, White, Gray, Black, LiesAt, with_row, placed, is_gray, is_marked, unmarked_row, unmarked_segment}
+use Rattle.k_types.specs.State.{Content, Refers, Holds}
+use Rattle.k_space.specs.Objects.{BodyValue, HasRef, new_body}
+use Rattle.k_space.specs.Segments.{SegmentValue, Row, Color, White, Gray, Black, LiesAt, row_at, with_row, placed, is_gray, is_marked, unmarked_row, unmarked_segment}
 use Rattle.k_space.specs.Areas.{AreaValue, place_of, row_in_segment, gray_at, marked_at, unmarked, grayed}
 use Rattle.k_mark.specs.Reached.{begins, follows}
 use Rattle.k_mark.specs.Marking.{IsReachedIn, some_lead_to, refers_at, work}
-use Rattle.k_mark.specs.Example.{AreNodes, node_types, node_name, node, three_nodes}
+use Rattle.k_mark.specs.Example.{AreNodes, ArePlaced, node_types, node_name, node, nodes_of, three_nodes}
 
 abbrev node_type : TypeId
 node_type = record { 0 = 0 }
@@ -20,35 +20,76 @@ node_type = record { 0 = 0 }
 abbrev empty_segment : SegmentValue
 empty_segment = record { number = 1; room = 3; rows = None ∷ [] }
 
-abbrev segment_of : ℕ → ℕ → ℕ → Option Name → SegmentValue
-segment_of x y z target = record { number = 1; room = 3; rows = None ∷ Some (node x White target) ∷ Some (node y White None) ∷ Some (node z White None) ∷ [] }
+same_row : {a b : Row} → ◌≡◌ {A = Option Row} (Some a) (Some b) → a ≡ b
+same_row e = cc
+
+has_both : (one other : Option Name) (row : Row) → Refers one ∷ Refers other ∷ Holds 0 ∷ [] ≡ row.fields → HasRef row.fields 0 × HasRef row.fields 1
+has_both one other row e =
+    (record { target = one; is = ap (λ (f : List Content). slice_get f 0) (sym e) }, record { target = other; is = ap (λ (f : List Content). slice_get f 1) (sym e) })
 
 -- three nodes placed in an empty segment, one after another
 pub placed_nodes : (types : List (List Field)) (s t u v : SegmentValue) (a b c : BodyValue) (x y z : ℕ) → types ≡ node_types → s ≡ empty_segment →
     a ≡ new_body types node_type → b ≡ new_body types node_type → c ≡ new_body types node_type →
-    t ≡ placed s x a → u ≡ placed t y b → v ≡ placed u z c → v ≡ segment_of x y z None
+    t ≡ placed s x a → u ≡ placed t y b → v ≡ placed u z c → v ≡ nodes_of x y z None None None
 placed_nodes types s t u v a b c x y z is se ae be ce te ue ve =
     one_more u v c z (placed (placed empty_segment x (new_body node_types node_type)) y (new_body node_types node_type)) (one_more t u b y (placed empty_segment x (new_body node_types node_type)) (one_more s t a x empty_segment se ae te) be ue) ce ve
   where
     one_more : (s t : SegmentValue) (body : BodyValue) (slot : ℕ) (w : SegmentValue) → s ≡ w → body ≡ new_body types node_type → t ≡ placed s slot body → t ≡ placed w slot (new_body node_types node_type)
     one_more s t body slot w se be te = te ∙ ap₂ (λ (v : SegmentValue) (d : BodyValue). placed v slot d) se (be ∙ ap (λ (ts : List (List Field)). new_body ts node_type) is)
 
-pub first_lives : (s : SegmentValue) (x y z : ℕ) → s ≡ segment_of x y z None → LiesAt s x 1 (node x White None)
-first_lives s x y z e = record { there = ap (λ (v : SegmentValue). get_or v.rows 1 None) e; slot_is = refl }
+module _ (s : SegmentValue) (x y z : ℕ) (one other back : Option Name) (is : s ≡ nodes_of x y z one other back) where
+  pub first_lives : LiesAt s x 1 (node x White one other)
+  first_lives = record { there = ap (λ (v : SegmentValue). get_or v.rows 1 None) is; slot_is = refl }
 
--- the second of them has that name
+  pub second_lives : LiesAt s y 2 (node y White back None)
+  second_lives = record { there = ap (λ (v : SegmentValue). get_or v.rows 2 None) is; slot_is = refl }
+
+  -- every object of the segment has two reference fields
+  refers_by_serial : (serial : ℕ) (row : Row) → get_or (nodes_of x y z one other back).rows serial None ≡ Some row → HasRef row.fields 0 × HasRef row.fields 1
+  refers_by_serial zero row e = absurd (cc)
+  refers_by_serial (suc zero) row e = has_both one other row (ap (λ (w : Row). w.fields) (same_row e))
+  refers_by_serial (suc (suc zero)) row e = has_both back None row (ap (λ (w : Row). w.fields) (same_row e))
+  refers_by_serial (suc (suc (suc zero))) row e = has_both None None row (ap (λ (w : Row). w.fields) (same_row e))
+  refers_by_serial (suc (suc (suc (suc serial)))) row e = absurd (cc)
+
+  pub has_refs : (serial : ℕ) (row : Row) → row_at s serial ≡ Some row → HasRef row.fields 0 × HasRef row.fields 1
+  has_refs serial row e = refers_by_serial serial row (ap (λ (v : SegmentValue). row_at v serial) (sym is) ∙ e)
+
+-- the first and the second of them have these names
+pub first_name : (s : SegmentValue) (link : Link) → s ≡ empty_segment → link.seg.0 ≡ s.number → link.serial.0 ≡ length s.rows → name_of link ≡ node_name 1
+first_name s link se seg serial =
+    ap₂ (λ m n. record { seg = record { 0 = m }; serial = record { 0 = n } }) (seg ∙ ap (λ (v : SegmentValue). v.number) se) (serial ∙ ap (λ (v : SegmentValue). length v.rows) se)
+
 pub second_name : (s t : SegmentValue) (a : BodyValue) (x : ℕ) (link : Link) → s ≡ empty_segment → t ≡ placed s x a → link.seg.0 ≡ t.number → link.serial.0 ≡ length t.rows → name_of link ≡ node_name 2
 second_name s t a x link se te seg serial =
     let whole : t ≡ placed empty_segment x a = te ∙ ap (λ (v : SegmentValue). placed v x a) se in
     ap₂ (λ m n. record { seg = record { 0 = m }; serial = record { 0 = n } }) (seg ∙ ap (λ (v : SegmentValue). v.number) whole) (serial ∙ ap (λ (v : SegmentValue). length v.rows) whole)
 
--- the segment of the three nodes where the first refers to the second, alone in an area
-pub connected : (s t : SegmentValue) (x y z : ℕ) (link : Link) → s ≡ segment_of x y z None → name_of link ≡ node_name 2 →
-    ((serial : ℕ) (row : Row) → LiesAt s x serial row → t ≡ with_row s serial (Some (record row { fields = slice_set row.fields 0 (Refers (option_map name_of (Some link))) }))) →
-    t ≡ segment_of x y z (Some (node_name 2))
-connected s t x y z link se le written =
-    written 1 (node x White None) (first_lives s x y z se)
-    ∙ ap₂ (λ (v : SegmentValue) (n : Name). with_row v 1 (Some (record (node x White None) { fields = slice_set (node x White None).fields 0 (Refers (Some n)) }))) se le
+-- a reference written into a field of an object that lies in that slot
+abbrev pub IsWritten : SegmentValue → SegmentValue → ℕ → ℕ → Link → Type 0
+IsWritten s t slot field link =
+    (serial : ℕ) (row : Row) → LiesAt s slot serial row → t ≡ with_row s serial (Some (record row { fields = slice_set row.fields field (Refers (option_map name_of (Some link))) }))
+
+pub written_first : (s t : SegmentValue) (x y z : ℕ) (one other back : Option Name) (field : ℕ) (link : Link) (n : Name) → s ≡ nodes_of x y z one other back → name_of link ≡ n → IsWritten s t x field link →
+    t ≡ with_row (nodes_of x y z one other back) 1 (Some (record (node x White one other) { fields = slice_set (node x White one other).fields field (Refers (Some n)) }))
+written_first s t x y z one other back field link n is name written =
+    written 1 (node x White one other) (first_lives s x y z one other back is)
+    ∙ ap₂ (λ (v : SegmentValue) (m : Name). with_row v 1 (Some (record (node x White one other) { fields = slice_set (node x White one other).fields field (Refers (Some m)) }))) is name
+
+pub written_second : (s t : SegmentValue) (x y z : ℕ) (one other back : Option Name) (field : ℕ) (link : Link) (n : Name) → s ≡ nodes_of x y z one other back → name_of link ≡ n → IsWritten s t y field link →
+    t ≡ with_row (nodes_of x y z one other back) 2 (Some (record (node y White back None) { fields = slice_set (node y White back None).fields field (Refers (Some n)) }))
+written_second s t x y z one other back field link n is name written =
+    written 2 (node y White back None) (second_lives s x y z one other back is)
+    ∙ ap₂ (λ (v : SegmentValue) (m : Name). with_row v 2 (Some (record (node y White back None) { fields = slice_set (node y White back None).fields field (Refers (Some m)) }))) is name
+
+-- after the first reference of the first object, and after both
+pub once_written : (s t : SegmentValue) (first second : Link) (p : ArePlaced s first second) → IsWritten s t first.slot.0 0 second → t ≡ nodes_of first.slot.0 second.slot.0 p.z (Some (node_name 2)) None None
+once_written s t first second p written = written_first s t first.slot.0 second.slot.0 p.z None None None 0 second (node_name 2) p.is p.second_is written
+
+pub twice_written : (s t u : SegmentValue) (first second : Link) (p : ArePlaced s first second) → IsWritten s t first.slot.0 0 second → IsWritten t u first.slot.0 1 second →
+    u ≡ nodes_of first.slot.0 second.slot.0 p.z (Some (node_name 2)) (Some (node_name 2)) None
+twice_written s t u first second p once twice =
+    written_first t u first.slot.0 second.slot.0 p.z (Some (node_name 2)) None None 1 second (node_name 2) (once_written s t first second p once) p.second_is twice
 
 -- roots: the first is gray
 pub rooted : (a b c : AreaValue) → AreNodes a White White White → b ≡ unmarked a → c ≡ grayed b (node_name 1) → AreNodes c Gray White White
@@ -56,7 +97,7 @@ rooted a b c n be ce = record { x = n.x; y = n.y; z = n.z; is = ce ∙ ap (λ (v
 
 module _ (x y z : ℕ) where
   -- no node refers to the third
-  none_by_serial : (serial : ℕ) → some_lead_to (option_map (λ (row : Row). row.fields) (get_or (None ∷ Some (node x Gray (Some (node_name 2))) ∷ Some (node y White None) ∷ Some (node z White None) ∷ []) serial None)) (node_name 3) ≡ false
+  none_by_serial : (serial : ℕ) → some_lead_to (option_map (λ (row : Row). row.fields) (get_or (None ∷ Some (node x Gray (Some (node_name 2)) (Some (node_name 2))) ∷ Some (node y White (Some (node_name 1)) None) ∷ Some (node z White None None) ∷ []) serial None)) (node_name 3) ≡ false
   none_by_serial zero = refl
   none_by_serial (suc zero) = refl
   none_by_serial (suc (suc zero)) = refl
@@ -136,7 +177,7 @@ area_from_parts a s rows segments all number room is =
 recolored : (x y z : ℕ) (a : AreaValue) → unmarked a ≡ three_nodes x y z White White White → (p : Color) × (q : Color) × (r : Color) × (a ≡ three_nodes x y z p q r)
 recolored x y z a e =
     let one = one_segment a.segments _ (ap (λ (v : AreaValue). v.segments) e) in
-    let rows = three_rows one.0.rows (node x White (Some (node_name 2))) (node y White None) (node z White None) (ap (λ (s : SegmentValue). s.rows) one.2) in (
+    let rows = three_rows one.0.rows (node x White (Some (node_name 2)) (Some (node_name 2))) (node y White (Some (node_name 1)) None) (node z White None None) (ap (λ (s : SegmentValue). s.rows) one.2) in (
       rows.0,
       rows.1,
       rows.2,

@@ -8,7 +8,7 @@ use Rattle.k_space.specs.Segments.{SegmentValue, Row, Color, White, Gray, Black,
 use Rattle.k_space.specs.Areas.{AreaValue, segment_at, row_in_segment, row_of_name, with_row_of, HasDistinct, fields_at, is_foreign, black_at, marked_at, unmarked, grayed, grayed_row}
 use Rattle.k_exit.specs.Exits.{ExitRow, has_target, target_marked, targets, marked_if}
 use Rattle.k_mark.specs.Marking.{Marks, looked, looked_by, looked_all, fields_lead_to, is_ref}
-use Rattle.k_space.proofs.NameTests.{name_eq-true, name_eq-same}
+use Rattle.k_base.proofs.NameTests.{name_eq-true, name_eq-same}
 use Rattle.k_space.proofs.AreaRows.{Found, found, after_same, after_other, after_foreign, after_distinct, after_total, same_unmarked}
 use Rattle.k_mark.proofs.Left.{left, todo_row, black_work, black_row}
 

@@ -9,7 +9,7 @@ use Rattle.k_space.specs.Areas.{AreaValue, row_of_name, with_row_of, HasDistinct
 use Rattle.k_exit.specs.Exits.{ExitRow, has_target, target_marked, targets}
 use Rattle.k_mark.specs.Marking.{Marks, looked_all, fields_lead_to, some_lead_to, refers_at, IsReachedIn, IsExit, is_ref}
 use Rattle.k_mark.specs.Reached.{begins, follows}
-use Rattle.k_space.proofs.NameTests.{name_eq-true}
+use Rattle.k_base.proofs.NameTests.{name_eq-true}
 use Rattle.k_space.proofs.AreaRows.{found, after_same, after_foreign, after_distinct, after_total, same_unmarked}
 use Rattle.k_mark.proofs.Left.{left, todo_row, black_work, black_row}
 

@@ -1,21 +1,18 @@
 -- What one sweep of a segment has done so far.
-use Rattle.std.proofs.Common.{◌≡◌, ℕ, zero, suc, ◌+◌, ◌<◌, ◌≤◌, Bool, true, false, cond, refl, sym, ap, ap₂, ◌∙◌, inl, inr, List, [], ◌∷◌, length, map, get_or, set, sum_by, Option, Some, None, arith}
+use Rattle.std.proofs.Common.{◌≡◌, ℕ, zero, suc, ◌+◌, ◌<◌, true, cond, refl, sym, ap, ap₂, ◌∙◌, List, [], ◌∷◌, length, map, get_or, sum_by, Option, Some, None, arith}
 use Rattle.std.proofs.Math.Seq.{map-set_same}
-use Rattle.std.proofs.lemmas.Bool.{cases_eq, cases_lt, false≢true}
-use Rattle.std.proofs.lemmas.List.{get_or-set_same, get_or-set_other}
 use Rattle.std.proofs.lemmas.List.Sums.{sum_by-cons, sum_by-set}
 use Rattle.k_types.specs.Types.{object_size}
 use Rattle.k_space.specs.declared.segment.Gone.{Gone}
-use Rattle.k_space.specs.Segments.{Row, SegmentValue, Color, White, Gray, Black, row_at, is_marked}
-use Rattle.k_space.specs.Sweeping.{IsFreed}
+use Rattle.k_space.specs.Segments.{Row, SegmentValue, row_at, is_marked}
+use Rattle.k_space.specs.Sweeping.{IsTakenAway}
 use Rattle.k_mark.specs.Sweeping.{survivor, swept_segment, dead_row, dead_bytes_of}
 
--- the survivors are the same, the objects below the slot are marked, and what was freed and is dead still is what was dead
-pub record IsSweeping (old now : SegmentValue) (from objects bytes begun_objects begun_bytes : ℕ) : Type 0 where
+-- the survivors are the same, and what was freed and is dead still is what was dead
+pub record IsSweeping (old now : SegmentValue) (objects bytes begun_objects begun_bytes : ℕ) : Type 0 where
   pub number : now.number ≡ old.number
   pub room : now.room ≡ old.room
   pub survivors : map survivor now.rows ≡ map survivor old.rows
-  pub passed : (serial : ℕ) (row : Row) → row_at now serial ≡ Some row → row.slot < from → is_marked row.color ≡ true
   pub objects_are : objects + sum_by dead_row now.rows ≡ begun_objects + sum_by dead_row old.rows
   pub bytes_are : bytes + sum_by dead_bytes_of now.rows ≡ begun_bytes + sum_by dead_bytes_of old.rows
 
@@ -24,19 +21,13 @@ inside [] i row e = absurd (cc)
 inside (x ∷ xs) zero row e = omega arith
 inside (x ∷ xs) (suc i) row e = omega (arith, inside xs i row e)
 
-unmarked_color : (c : Color) → is_marked c ≡ false → c ≡ White
-unmarked_color White e = refl
-unmarked_color Gray e = absurd (false≢true (sym e))
-unmarked_color Black e = absurd (false≢true (sym e))
-
-pub goes_on : (old now after : SegmentValue) (from objects bytes begun_objects begun_bytes : ℕ) (gone : Gone) → IsSweeping old now from objects bytes begun_objects begun_bytes → IsFreed now after from gone →
-    IsSweeping old after gone.slot.0 (objects + 1) (bytes + gone.bytes) begun_objects begun_bytes × (sum_by dead_row after.rows < sum_by dead_row now.rows)
-goes_on old now after from objects bytes begun_objects begun_bytes gone was freed = (
+pub goes_on : (old now after : SegmentValue) (objects bytes begun_objects begun_bytes : ℕ) (gone : Gone) → IsSweeping old now objects bytes begun_objects begun_bytes → IsTakenAway now after gone →
+    IsSweeping old after (objects + 1) (bytes + gone.bytes) begun_objects begun_bytes × (sum_by dead_row after.rows < sum_by dead_row now.rows)
+goes_on old now after objects bytes begun_objects begun_bytes gone was freed = (
   record {
     number = ap (λ (s : SegmentValue). s.number) freed.freed ∙ was.number;
     room = ap (λ (s : SegmentValue). s.room) freed.freed ∙ was.room;
     survivors = ap (λ (s : SegmentValue). map survivor s.rows) freed.freed ∙ map-set_same survivor now.rows gone.serial.0 None None (sym dead_survivor) ∙ was.survivors;
-    passed = λ serial row at below. passed_after serial row (sym (ap (λ (s : SegmentValue). row_at s serial) freed.freed) ∙ at) below;
     objects_are = omega (arith, was.objects_are, objects_less, one);
     bytes_are = omega (arith, was.bytes_are, bytes_less, size);
   },
@@ -61,23 +52,6 @@ goes_on old now after from objects bytes begun_objects begun_bytes gone was free
     size : dead_bytes_of (get_or now.rows gone.serial.0 None) ≡ gone.bytes
     size = ap dead_bytes_of freed.there ∙ ap (λ c. cond (is_marked c) 0 (object_size (length freed.row.fields))) freed.unmarked ∙ sym freed.bytes
 
-    passed_after : (serial : ℕ) (row : Row) → get_or (set now.rows gone.serial.0 None) serial None ≡ Some row → row.slot < gone.slot.0 → is_marked row.color ≡ true
-    passed_after serial row at below =
-        elim (cases_eq serial gone.serial.0) [
-          | inl same ↦
-              let none : None ≡ Some row = sym (get_or-set_same now.rows gone.serial.0 None None within) ∙ ap (λ k. get_or (set now.rows gone.serial.0 None) k None) (sym same) ∙ at in
-              absurd (cc)
-          | inr differs ↦ was_there serial row (sym (get_or-set_other now.rows gone.serial.0 serial None None differs) ∙ at) below (is_marked row.color) refl
-        ]
-      where
-        was_there : (serial : ℕ) (row : Row) → row_at now serial ≡ Some row → row.slot < gone.slot.0 → (b : Bool) → is_marked row.color ≡ b → is_marked row.color ≡ true
-        was_there serial row at below true e = e
-        was_there serial row at below false e =
-            elim (cases_lt row.slot from) [
-              | inl low ↦ was.passed serial row at low
-              | inr high ↦ let first = freed.first serial row at high (unmarked_color row.color e) in absurd (omega (arith, first, below))
-            ]
-
 -- nothing dead is left
 none_dead : (f : Option Row → ℕ) (rows : List (Option Row)) → ((serial : ℕ) → f (get_or rows serial None) ≡ 0) → sum_by f rows ≡ 0
 none_dead f [] none = refl
@@ -87,18 +61,15 @@ all_survive : (rows : List (Option Row)) → ((serial : ℕ) → survivor (get_o
 all_survive [] same = refl
 all_survive (r ∷ rs) same = ap₂ (λ x xs. x ∷ xs) (same 0) (all_survive rs (λ serial. same (suc serial)))
 
-pub ends : (old now : SegmentValue) (from objects bytes begun_objects begun_bytes : ℕ) → IsSweeping old now from objects bytes begun_objects begun_bytes →
-    ((serial : ℕ) (row : Row) → row_at now serial ≡ Some row → from ≤ row.slot → is_marked row.color ≡ true) →
+pub ends : (old now : SegmentValue) (objects bytes begun_objects begun_bytes : ℕ) → IsSweeping old now objects bytes begun_objects begun_bytes →
+    ((serial : ℕ) (row : Row) → row_at now serial ≡ Some row → is_marked row.color ≡ true) →
     (now ≡ swept_segment old) × (objects ≡ begun_objects + sum_by dead_row old.rows) × (bytes ≡ begun_bytes + sum_by dead_bytes_of old.rows)
-ends old now from objects bytes begun_objects begun_bytes was none = (
+ends old now objects bytes begun_objects begun_bytes was marked = (
   whole,
   omega (arith, was.objects_are, none_dead dead_row now.rows (λ serial. by_row dead_row refl (λ row e. ap (λ b. cond b 0 1) e) (get_or now.rows serial None) (marked serial))),
   omega (arith, was.bytes_are, none_dead dead_bytes_of now.rows (λ serial. by_row dead_bytes_of refl (λ row e. ap (λ b. cond b 0 (object_size (length row.fields))) e) (get_or now.rows serial None) (marked serial))),
 )
   where
-    marked : (serial : ℕ) (row : Row) → get_or now.rows serial None ≡ Some row → is_marked row.color ≡ true
-    marked serial row at = elim (cases_lt row.slot from) [ inl low ↦ was.passed serial row at low | inr high ↦ none serial row at high ]
-
     by_row : (f : Option Row → ℕ) → f None ≡ 0 → ((row : Row) → is_marked row.color ≡ true → f (Some row) ≡ 0) → (o : Option Row) → ((row : Row) → o ≡ Some row → is_marked row.color ≡ true) → f o ≡ 0
     by_row f zero_at one_at None m = zero_at
     by_row f zero_at one_at (Some row) m = one_at row (m row refl)

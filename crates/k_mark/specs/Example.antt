@@ -1,10 +1,13 @@
--- Three objects of a reference, a reference and an integer: the first refers to the second, nothing to the third.
+-- Three objects of a reference, a reference and an integer: the first refers to the second in both reference fields, the second back to
+-- the first, and nothing to the third.
 use Rattle.std.specs.Prelude.{◌≡◌, ℕ, List, [], ◌∷◌, Option, Some, None}
 use Rattle.k_types.specs.declared.names.Name.{Name}
 use Rattle.k_types.specs.declared.names.Field.{Field}
 use Rattle.k_types.specs.declared.names.Field.TheVariants.{Ref, Int}
 use Rattle.k_types.specs.State.{Refers, Holds}
-use Rattle.k_space.specs.Segments.{Color, Row}
+use Rattle.k_types.specs.declared.names.Link.{Link}
+use Rattle.k_types.specs.Names.{name_of}
+use Rattle.k_space.specs.Segments.{Color, White, Row, SegmentValue}
 use Rattle.k_space.specs.Areas.{AreaValue}
 
 abbrev pub node_types : List (List Field)
@@ -13,9 +16,29 @@ node_types = (Ref ∷ Ref ∷ Int ∷ []) ∷ []
 abbrev pub node_name : ℕ → Name
 node_name serial = record { seg = record { 0 = 1 }; serial = record { 0 = serial } }
 
--- a node in a slot, with its mark and what its first field refers to
-abbrev pub node : ℕ → Color → Option Name → Row
-node slot color target = record { slot = slot; color = color; ty = Some (record { 0 = 0 }); fields = Refers target ∷ Refers None ∷ Holds 0 ∷ [] }
+-- a node in a slot, with its mark and what its reference fields refer to
+abbrev pub node : ℕ → Color → Option Name → Option Name → Row
+node slot color one other = record { slot = slot; color = color; ty = Some (record { 0 = 0 }); fields = Refers one ∷ Refers other ∷ Holds 0 ∷ [] }
+
+-- the segment of three nodes in these slots, without marks, and what the reference fields of the first and the second refer to
+abbrev pub nodes_of : ℕ → ℕ → ℕ → Option Name → Option Name → Option Name → SegmentValue
+nodes_of x y z one other back = record {
+  number = 1;
+  room = 3;
+  rows = None ∷ Some (node x White one other) ∷ Some (node y White back None) ∷ Some (node z White None None) ∷ [];
+}
+
+-- three new nodes, of which these are the first two
+pub record ArePlaced (s : SegmentValue) (first second : Link) : Type 0 where
+  pub z : ℕ
+  pub is : s ≡ nodes_of first.slot.0 second.slot.0 z None None None
+  pub first_is : name_of first ≡ node_name 1
+  pub second_is : name_of second ≡ node_name 2
+
+-- the first refers to the second in both fields, and the second back to the first
+pub record AreConnected (s : SegmentValue) (first second : Link) : Type 0 where
+  pub z : ℕ
+  pub is : s ≡ nodes_of first.slot.0 second.slot.0 z (Some (node_name 2)) (Some (node_name 2)) (Some (node_name 1))
 
 -- three nodes in these slots, with these marks
 abbrev pub three_nodes : ℕ → ℕ → ℕ → Color → Color → Color → AreaValue
@@ -23,7 +46,7 @@ three_nodes x y z first second third = record {
   segments = record {
     number = 1;
     room = 3;
-    rows = None ∷ Some (node x first (Some (node_name 2))) ∷ Some (node y second None) ∷ Some (node z third None) ∷ [];
+    rows = None ∷ Some (node x first (Some (node_name 2)) (Some (node_name 2))) ∷ Some (node y second (Some (node_name 1)) None) ∷ Some (node z third None None) ∷ [];
   } ∷ [];
   room = 1;
 }

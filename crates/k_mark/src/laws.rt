@@ -8,7 +8,7 @@ ghost use Rattle.k_space.specs.Areas.{AreaValue, gray_at, is_foreign};
 ghost use Rattle.k_mark.specs.Reached.{IsReached};
 ghost use Rattle.k_mark.specs.Marking.{IsReachedIn, IsExit, ShowsObjects};
 
-/// What references reach is what the closure of as many folds as there are objects has. Source: own.
+/// What references reach is what the closure of as many folds as there are objects has.
 pub fn reached_is_the_closure()
     ensures { (pool : List Object) (start : Name → Bool) (n : Name) →
         IsTrue (has (closure (length pool) pool (filter (λ o. start o.name) pool)) n) ↔ IsReached (has pool) (refers_in pool) start n }
@@ -16,7 +16,6 @@ pub fn reached_is_the_closure()
 
 /// Where an area shows these objects and its gray ones are these roots, what is reached in it is what the
 /// machine reaches among the objects, and its exits are the names outside to which reached objects refer.
-/// Source: own.
 pub fn marked_is_the_closure()
     ensures reached { (area : AreaValue) (pool : List Object) (roots : List Name) → ShowsObjects area pool → ((n : Name) → name_among n roots ≡ gray_at area n) →
         (n : Name) → IsReachedIn area n ↔ IsTrue (has (reach_among pool roots) n) }

@@ -1,8 +1,9 @@
-ghost use Rattle.std.specs.Prelude.{◌≡◌, ℕ, ◌<◌, ◌≤◌, ◌↔◌, IsTrue, IsFalse, IsSome, Some, None, List, length, option_map, slice_get, is_some, ◌∷◌, [], ◌+◌, count_by};
+ghost use Rattle.std.specs.Prelude.{◌≡◌, ℕ, ◌<◌, ◌≤◌, ◌↔◌, IsTrue, IsFalse, IsSome, Some, None, List, length, slice_get, slice_index_or, is_some, ◌∷◌, [], ◌+◌, count_by};
 ghost use Rattle.k_types.specs.declared.names.Name.{Name as Named};
 ghost use Rattle.k_types.specs.State.{Content};
 ghost use Rattle.k_types.specs.Names.{name_of};
 ghost use Rattle.k_space.specs.Objects.{content_of};
+ghost use Rattle.k_space.specs.declared.body.Stored.TheVariants.{Null as NoTarget};
 ghost use Rattle.k_space.specs.Areas.{HasDistinct, row_of_name, fields_at, is_foreign, marked_at, gray_at, black_at, grayed, unmarked};
 ghost use Rattle.k_exit.specs.Exits.{has_target, target_marked, targets, unmarked as unmarked_exits};
 ghost use Rattle.k_mark.specs.Marking.{IsReachedIn, IsExit, Marks, looked, looked_all, fields_lead_to, refers_at, is_ref, work};
@@ -14,7 +15,7 @@ use k_types::{Link, Name};
 use std::marker::Brand;
 use std::sync::ledger::{Blank, Ledger};
 
-/// Takes all marks away, from objects and exit items. It passes each of them once. Source: own.
+/// Takes all marks away, from objects and exit items. It passes the segments, and each exit item once.
 pub fn clear(area: &mut Area, exits: &mut ExitTable)
     ensures area { area.new ≡ unmarked area.old }
     ensures exits { exits.new ≡ unmarked_exits exits.old }
@@ -24,7 +25,7 @@ pub fn clear(area: &mut Area, exits: &mut ExitTable)
 }
 
 /// Makes a live object of the area gray, so that marking begins with it. A marked one stays as it is, and
-/// a name that is no live object of the area changes nothing. It looks through the segments. Source: own.
+/// a name that is no live object of the area changes nothing. It looks through the segments.
 pub fn root(area: &mut Area, target: Link)
     requires { HasDistinct area.old.segments }
     ensures { area.new ≡ grayed area.old (name_of target) }
@@ -32,11 +33,15 @@ pub fn root(area: &mut Area, target: Link)
     area.make_gray(target.name());
 }
 
-/// What the field of that object holds; nothing past the last field.
-fn held(area: &Area, at: Name, field: u32) -> Option<Stored>
+/// Writes what the fields of that object hold to the front of the list, and gives their number.
+fn copied(area: &Area, at: Name, into: &mut [Stored]) -> u32
     requires distinct { HasDistinct area.now.segments }
     requires live { IsSome (row_of_name area.now.segments at) }
-    ensures { (fields : List Content) → fields_at area.now at ≡ Some fields → option_map content_of result ≡ slice_get fields field }
+    requires room { 16 ≤ length into.old }
+    ensures count { (fields : List Content) → fields_at area.now at ≡ Some fields → result ≡ length fields }
+    ensures most { result ≤ 16 }
+    ensures copied { (fields : List Content) (i : ℕ) → fields_at area.now at ≡ Some fields → i < result → slice_get fields i ≡ Some (content_of (slice_index_or into.new i NoTarget)) }
+    ensures len { length into.new ≡ length into.old }
 {
     let Some(segment) = area.get(at.seg) else {
         unreachable!()
@@ -44,26 +49,7 @@ fn held(area: &Area, at: Name, field: u32) -> Option<Stored>
     let Some(slot) = segment.find(at.serial) else {
         unreachable!()
     };
-    if field < segment.field_count(slot) {
-        Some(segment.stored(slot, field))
-    } else {
-        None
-    }
-}
-
-/// The number of fields of that object.
-fn count(area: &Area, at: Name) -> u32
-    requires distinct { HasDistinct area.now.segments }
-    requires live { IsSome (row_of_name area.now.segments at) }
-    ensures { (fields : List Content) → fields_at area.now at ≡ Some fields → result ≡ length fields }
-{
-    let Some(segment) = area.get(at.seg) else {
-        unreachable!()
-    };
-    let Some(slot) = segment.find(at.serial) else {
-        unreachable!()
-    };
-    segment.field_count(slot)
+    segment.copy_fields(slot, into)
 }
 
 /// Looks at one field: an object of the area is made gray, a foreign target is marked.
@@ -79,9 +65,7 @@ fn look<L: Ledger>(area: &mut Area, exits: &mut ExitTable, steps: &mut Steps<L>,
         Stored::Null => steps.tick(),
         Stored::Refers(target) => {
             steps.tick();
-            if area.get(target.seg).is_some() {
-                area.make_gray(target);
-            } else {
+            if !area.gray_own(target) {
                 exits.mark(target);
             }
         }
@@ -89,8 +73,15 @@ fn look<L: Ledger>(area: &mut Area, exits: &mut ExitTable, steps: &mut Steps<L>,
     }
 }
 
-/// Looks at each field of the object.
-fn trace<L: Ledger>(area: &mut Area, exits: &mut ExitTable, steps: &mut Steps<L>, at: Name)
+/// Looks at each field of the object. The list is for what they hold.
+fn trace<L: Ledger>(
+    area: &mut Area,
+    exits: &mut ExitTable,
+    steps: &mut Steps<L>,
+    at: Name,
+    held: &mut [Stored],
+)
+    requires list { 16 ≤ length held.old }
     requires distinct { HasDistinct area.old.segments }
     requires live { IsSome (row_of_name area.old.segments at) }
     requires exits { (fields : List Content) (n : Named) → fields_at area.old at ≡ Some fields → IsTrue (fields_lead_to fields n) → IsTrue (is_foreign area.old n) → IsTrue (has_target exits.old.items n) }
@@ -98,12 +89,11 @@ fn trace<L: Ledger>(area: &mut Area, exits: &mut ExitTable, steps: &mut Steps<L>
     ensures steps { (fields : List Content) → fields_at area.old at ≡ Some fields → steps.new ≡ steps.old + count_by is_ref fields }
     ensures looked { (fields : List Content) → fields_at area.old at ≡ Some fields →
         record { area = area.new; exits = exits.new.items } ≡ looked_all fields (record { area = area.old; exits = exits.old.items }) }
+    ensures list { length held.new ≡ length held.old }
 {
-    let count = count(area, at);
+    let count = copied(area, at, held);
     for field in 0..count {
-        let Some(stored) = held(area, at, field) else {
-            unreachable!()
-        };
+        let stored = held[field as usize];
         look(area, exits, steps, stored);
     }
 }
@@ -125,13 +115,14 @@ pub fn mark<L: Ledger>(area: &mut Area, exits: &mut ExitTable, steps: &mut Steps
     ensures exits { (n : Named) → IsTrue (target_marked exits.new.items n) ↔ IsExit area.old n }
     ensures steps { steps.new ≡ steps.old + work area.new }
 {
+    let mut held = [Stored::Null; 16];
     while let Some(at) = area.take_gray() {
         steps.tick();
-        trace(area, exits, steps, at);
+        trace(area, exits, steps, at, &mut held);
     }
 }
 
-/// Marks with a counter of its own, for a caller that counts no steps. Source: own.
+/// Marks with a counter of its own, for a caller that counts no steps.
 pub fn mark_uncounted(area: &mut Area, exits: &mut ExitTable)
     requires distinct { HasDistinct area.old.segments }
     requires exits { (a n : Named) → IsTrue (refers_at area.old a n) → IsTrue (is_foreign area.old n) → IsTrue (has_target exits.old.items n) }

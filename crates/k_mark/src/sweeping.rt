@@ -4,9 +4,8 @@ ghost use Rattle.k_space.specs.Areas.{HasDistinct};
 ghost use Rattle.k_mark.specs.Sweeping.{swept, swept_segment, dead_objects, dead_bytes, dead_row, dead_bytes_of};
 
 use k_space::{Area, Segment};
-use k_types::Slot;
 
-/// What was freed: how many objects, and how many bytes they took. Source: own.
+/// What was freed: how many objects, and how many bytes they took.
 #[derive(Clone, Copy, Debug)]
 pub struct Swept {
     pub objects: u32,
@@ -21,16 +20,14 @@ fn sweep_segment(segment: &mut Segment, from_dead: &mut Swept)
     ensures objects { from_dead.new.objects ≡ from_dead.old.objects + sum_by dead_row segment.old.rows }
     ensures bytes { from_dead.new.bytes ≡ from_dead.old.bytes + sum_by dead_bytes_of segment.old.rows }
 {
-    let mut from = Slot(0);
-    while let Some(gone) = segment.sweep_next(from) {
-        from = gone.slot;
+    while let Some(gone) = segment.free_unmarked() {
         from_dead.objects += 1;
         from_dead.bytes += gone.bytes;
     }
 }
 
-/// Frees the objects that aren't marked, and adds their number and bytes. It passes each slot once, and
-/// takes no memory. Source: KaffeOS paper, on the separate collection of heaps.
+/// Frees the objects that aren't marked, and adds their number and bytes. It looks at each live object
+/// once, and takes no memory. Source: KaffeOS paper, on the separate collection of heaps.
 pub fn sweep(area: &mut Area, from_dead: &mut Swept)
     requires distinct { HasDistinct area.old.segments }
     requires objects { from_dead.old.objects + dead_objects area.old < 2 ^ 32 }

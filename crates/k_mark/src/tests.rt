@@ -1,6 +1,6 @@
 ghost use Rattle.std.specs.Prelude.{◌≡◌, ◌+◌, ◌<◌, [], IfOk};
 ghost use Rattle.k_space.specs.Segments.{White, Black};
-ghost use Rattle.k_mark.specs.Example.{AreNodes, node_types};
+ghost use Rattle.k_mark.specs.Example.{AreConnected, AreNodes, ArePlaced, node_types};
 
 use crate::{Steps, Swept, clear, mark, root, sweep};
 use k_exit::ExitTable;
@@ -20,16 +20,34 @@ fn types(alloc: Global) -> Result<TypeTable, NoMemory>
     TypeTable::make(alloc, &[node])
 }
 
-/// Three objects in a segment of their own, of which the first refers to the second.
-fn three_nodes(alloc: Global) -> Result<Area, NoMemory>
-    ensures { IfOk result (λ a. AreNodes a White White White) }
+/// Three new objects in a segment of their own, and the first two of them.
+fn place_nodes(alloc: Global) -> Result<(Segment, Link, Link), NoMemory>
+    ensures { IfOk result (λ r. ArePlaced r.0 r.1 r.2) }
 {
     let types = types(alloc)?;
     let mut segment = Segment::make(alloc, Seg(1), 3)?;
     let first = segment.place(Body::make(alloc, &types, TypeId(0))?);
     let second = segment.place(Body::make(alloc, &types, TypeId(0))?);
     segment.place(Body::make(alloc, &types, TypeId(0))?);
+    Ok((segment, first, second))
+}
+
+/// Has the first refer to the second in both reference fields, and the second back to the first.
+fn connect(segment: &mut Segment, first: Link, second: Link)
+    requires { ArePlaced segment.old first second }
+    ensures { AreConnected segment.new first second }
+{
     segment.write_ref(first.slot, 0, Some(second));
+    segment.write_ref(first.slot, 1, Some(second));
+    segment.write_ref(second.slot, 0, Some(first));
+}
+
+/// The three objects in an area, connected so.
+fn three_nodes(alloc: Global) -> Result<Area, NoMemory>
+    ensures { IfOk result (λ a. AreNodes a White White White) }
+{
+    let (mut segment, first, second) = place_nodes(alloc)?;
+    connect(&mut segment, first, second);
     let mut area = Area::make(alloc, 1)?;
     area.add(segment);
     Ok(area)

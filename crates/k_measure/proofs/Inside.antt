@@ -18,7 +18,7 @@ use Rattle.k_mark.specs.Marking.{fields_lead_to, refers_at}
 use Rattle.k_mark.specs.Sweeping.{survivor, swept, swept_segment}
 use Rattle.k_space.proofs.AreaRows.{found, same_unmarked}
 use Rattle.k_space.proofs.Numbers.{distinct_from, found_at}
-use Rattle.k_space.proofs.NameTests.{name_eq-true}
+use Rattle.k_base.proofs.NameTests.{name_eq-true}
 use Rattle.k_mark.proofs.Looks.{test_after}
 use Rattle.k_mark.proofs.Marked.{refers_fields}
 use Rattle.k_measure.specs.Inside.{LeadNowhere, LeadInto, AreNew, KeepsInside, IsOne, HasNoBlack}

@@ -294,3 +294,67 @@ pub fn run<R: Alloc<A = Global> + CpuClock + Eprint>(
     watch.lap(rt, "place");
     run_on(rt, watch, segment, size, last)
 }
+
+/// Clears so many times.
+fn clear_rounds(heap: &mut Area, exits: &mut ExitTable, rounds: u32)
+    requires one { IsOne heap.old }
+    ensures one { IsOne heap.new }
+{
+    for _round in 0..rounds {
+        clear(heap, exits);
+    }
+}
+
+/// Clears and marks so many times.
+fn mark_rounds(area: &mut Area, exits: &mut ExitTable, rounds: u32)
+    requires one { IsOne area.old }
+    ensures one { IsOne area.new }
+{
+    for _round in 0..rounds {
+        mark(area, exits, false);
+    }
+}
+
+/// Clears, marks and sweeps so many times.
+fn collect_rounds(area: &mut Area, exits: &mut ExitTable, rounds: u32)
+    requires one { IsOne area.old }
+    ensures one { IsOne area.new }
+{
+    for _round in 0..rounds {
+        mark(area, exits, false);
+        let _swept = sweep_one(area);
+    }
+}
+
+/// Collects so many times, where of `size` objects that were made about `live` are reached.
+pub fn run_again<R: Alloc<A = Global> + CpuClock + Eprint>(
+    rt: &R,
+    watch: &mut Watch,
+    size: u32,
+    live: u32,
+    rounds: u32,
+) -> Result<Outcome, NoMemory>
+    requires small { size ≤ 10000000 }
+    requires live { live ≤ 10000000 }
+{
+    let alloc = rt.alloc();
+    let room = size;
+    let mut segment = Segment::make(alloc, SEG, room)?;
+    let types = types(alloc)?;
+    let bodies = make(alloc, &types, size)?;
+    place(&mut segment, bodies);
+    link(&mut segment, live);
+    let mut exits = ExitTable::make(rt.alloc(), 1)?;
+    let mut area = area_of(rt.alloc(), segment)?;
+    mark(&mut area, &mut exits, false);
+    let swept = sweep_one(&mut area);
+    watch.lap(rt, "before");
+    clear_rounds(&mut area, &mut exits, rounds);
+    watch.lap(rt, "clears");
+    mark_rounds(&mut area, &mut exits, rounds);
+    watch.lap(rt, "clears_marks");
+    collect_rounds(&mut area, &mut exits, rounds);
+    watch.lap(rt, "collections");
+    let left = bytes_of(&area);
+    Ok(found(size, left, swept))
+}

@@ -65,6 +65,18 @@ fn measured(
             found.objects, found.bytes, found.freed, found.freed_bytes
         )?));
     }
+    if word == "again" || word == "dead" {
+        let (live, rounds) = if word == "again" {
+            (size / 10 * 3, 4_000)
+        } else {
+            (10, 60_000)
+        };
+        let found = heap::run_again(rt, watch, size, live, rounds)?;
+        return Ok(Some(format!(in alloc;
+            "{word} {size}: {} objects of {} bytes, {} freed of {} bytes",
+            found.objects, found.bytes, found.freed, found.freed_bytes
+        )?));
+    }
     if word == "add" || word == "has" {
         let found = exits::run(rt, watch, size, word == "has")?;
         return Ok(Some(format!(in alloc;

@@ -4,13 +4,14 @@ use Rattle.std.proofs.lemmas.Bool.{cases_eq}
 use Rattle.std.proofs.lemmas.List.Sums.{sum_by-cons}
 use Rattle.std.proofs.lemmas.List.{get_or-set_same, get_or-set_other, length-set, map-set}
 use Rattle.slab.specs.Slab.{Slab, get, slab_len, Updates}
-use Rattle.k_space.specs.declared.segment.Place.{Place}
-use Rattle.k_space.specs.declared.segment.Place.TheVariants.{Empty, At}
-use Rattle.k_space.specs.declared.segment.Mark.{Mark}
-use Rattle.k_space.specs.declared.segment.Mark.TheVariants.{White as MarkWhite, Gray as MarkGray, Black as MarkBlack}
+use Rattle.k_space.specs.declared.marks.Place.{Place}
+use Rattle.k_space.specs.declared.marks.Place.TheVariants.{Empty, At}
+use Rattle.k_space.specs.declared.marks.Mark.{Mark}
+use Rattle.k_space.specs.declared.marks.Mark.TheVariants.{White as MarkWhite, Gray as MarkGray, Black as MarkBlack}
 use Rattle.k_space.specs.declared.segment.Cell.{Cell}
+use Rattle.k_space.specs.declared.segment.Gone.{Gone}
 use Rattle.k_space.specs.Segments.{White, Row, SegmentValue, LiesAt, row_at, with_row, is_marked}
-use Rattle.k_space.specs.Sweeping.{IsUnmarkedAt}
+use Rattle.k_space.specs.Sweeping.{IsUnmarkedAt, IsFree, IsTakenAway}
 use Rattle.k_space.specs.Places.{row_of, row_in, color_of, IsSound, IsPlaced, IsKept, IsGrayList, is_gray_place, is_white_place}
 use Rattle.k_space.proofs.GrayLists.{At_inside, list_kept, count-set}
 use Rattle.k_space.proofs.Rows.{map_len, set_agree, row_at_view, same_At, lies_in, row_there, bit, same_cell}
@@ -87,7 +88,7 @@ freed places cells after room capacity head i slot cell sound here found updates
               let was = sound.kept s x (sym (updates.others s differs) ∙ e) in
               let other : x.serial.0 ≢ i = λ same.
               differs (same_At s slot was.mark MarkWhite (sym was.there ∙ ap (λ k. get_or places k Empty) same ∙ here)).0 in
-              record { mark = was.mark; there = get_or-set_other places i x.serial.0 Empty Empty other ∙ was.there }
+              record { mark = was.mark; there = get_or-set_other places i x.serial.0 Empty Empty other ∙ was.there; few = was.few }
         ]
 
 -- what a contract sees of it
@@ -120,12 +121,12 @@ at_slot : (number room : ℕ) (places : List Place) (cells : Slab Cell) (capacit
 at_slot number room places cells capacity head s slot cell mark sound is found here =
     record { there = row_there number room places cells s cell.serial.0 slot mark (Some cell) is here found; slot_is = refl }
 
-white_mark : (slot : ℕ) (mark : Mark) → is_white_place (At slot mark) ≡ true → color_of mark ≡ White
+pub white_mark : (slot : ℕ) (mark : Mark) → is_white_place (At slot mark) ≡ true → color_of mark ≡ White
 white_mark slot MarkWhite e = refl
 white_mark slot (MarkGray next) e = absurd (cc)
 white_mark slot MarkBlack e = absurd (cc)
 
-other_mark : (slot : ℕ) (mark : Mark) → is_white_place (At slot mark) ≡ false → is_marked (color_of mark) ≡ true
+pub other_mark : (slot : ℕ) (mark : Mark) → is_white_place (At slot mark) ≡ false → is_marked (color_of mark) ≡ true
 other_mark slot MarkWhite e = absurd (cc)
 other_mark slot (MarkGray next) e = refl
 other_mark slot MarkBlack e = refl
@@ -194,3 +195,25 @@ pub white_place_is : (slot : ℕ) (mark : Mark) → color_of mark ≡ White → 
 white_place_is slot MarkWhite e = refl
 white_place_is slot (MarkGray next) e = absurd (cc)
 white_place_is slot MarkBlack e = absurd (cc)
+
+-- a white place has an object without a mark
+pub unmarked_place : (number room : ℕ) (places : List Place) (cells : Slab Cell) (capacity head : ℕ) (s : SegmentValue) (serial slot : ℕ) (mark : Mark) → IsSound places cells room capacity head →
+    record { number = number; room = room; rows = map (row_of cells) places } ≡ s → get_or places serial Empty ≡ At slot mark → is_white_place (At slot mark) ≡ true → IsUnmarkedAt s slot
+unmarked_place number room places cells capacity head s serial slot mark sound is here white =
+    let placed = sound.placed serial slot mark here in
+    record {
+      serial = serial;
+      row = record { slot = slot; color = color_of mark; ty = placed.cell.body.ty; fields = placed.cell.body.fields };
+      lies = record { there = row_there number room places cells s serial slot mark (Some placed.cell) is here placed.there; slot_is = refl };
+      unmarked = white_mark slot mark white;
+    }
+
+pub taken_away : (s new : SegmentValue) (slot : ℕ) (gone : Gone) (u : IsUnmarkedAt s slot) → gone.slot.0 ≡ slot → IsFree s new u.serial u.row gone → IsTakenAway s new gone
+taken_away s new slot gone u at free = record {
+  row = u.row;
+  there = ap (row_at s) free.serial_is ∙ u.lies.there;
+  slot = u.lies.slot_is ∙ sym at;
+  unmarked = u.unmarked;
+  bytes = free.bytes;
+  freed = free.freed ∙ ap (λ k. with_row s k None) (sym free.serial_is);
+}

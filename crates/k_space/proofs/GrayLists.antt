@@ -2,10 +2,10 @@
 use Rattle.std.proofs.Common.{◌≡◌, ◌≢◌, ℕ, zero, suc, ◌+◌, ◌<◌, ◌≤◌, Bool, true, false, cond, refl, sym, ap, subst, ◌∙◌, List, [], ◌∷◌, length, get_or, set, count_by, ◌++◌, arith}
 use Rattle.std.proofs.lemmas.List.{get_or-set_same, get_or-set_other, get_or_append_left}
 use Rattle.std.proofs.lemmas.List.Sums.{sum_by-set, sum_by-cons, sum_by-append}
-use Rattle.k_space.specs.declared.segment.Place.{Place}
-use Rattle.k_space.specs.declared.segment.Place.TheVariants.{Empty, At}
-use Rattle.k_space.specs.declared.segment.Mark.{Mark}
-use Rattle.k_space.specs.declared.segment.Mark.TheVariants.{Gray}
+use Rattle.k_space.specs.declared.marks.Place.{Place}
+use Rattle.k_space.specs.declared.marks.Place.TheVariants.{Empty, At}
+use Rattle.k_space.specs.declared.marks.Mark.{Mark}
+use Rattle.k_space.specs.declared.marks.Mark.TheVariants.{Gray}
 use Rattle.k_space.specs.Places.{IsGrayList, is_gray_place}
 
 pub At_inside : (places : List Place) (i slot : ℕ) (mark : Mark) → get_or places i Empty ≡ At slot mark → i < length places

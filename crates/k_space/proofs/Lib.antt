@@ -1,10 +1,13 @@
 pub mod NameTests
+pub mod StampLemmas
 pub mod GrayLists
 pub mod Rows
 pub mod Pushed
+pub mod ListedLemmas
 pub mod Freed
 pub mod AreaRows
 pub mod Segs
 pub mod Bytes
+pub mod Soundness
 pub mod Numbers
 pub mod Fields

@@ -3,10 +3,10 @@ use Rattle.std.proofs.Common.{◌≡◌, ◌≢◌, ℕ, zero, suc, ◌+◌, ◌
 use Rattle.std.proofs.lemmas.Bool.{cases_eq}
 use Rattle.std.proofs.lemmas.List.{get_or_append_left, get_or_push, map-append, length-append}
 use Rattle.slab.specs.Slab.{Slab, get, slab_len, Updates}
-use Rattle.k_space.specs.declared.segment.Place.{Place}
-use Rattle.k_space.specs.declared.segment.Place.TheVariants.{Empty, At}
-use Rattle.k_space.specs.declared.segment.Mark.{Mark}
-use Rattle.k_space.specs.declared.segment.Mark.TheVariants.{White as MarkWhite}
+use Rattle.k_space.specs.declared.marks.Place.{Place}
+use Rattle.k_space.specs.declared.marks.Place.TheVariants.{Empty, At}
+use Rattle.k_space.specs.declared.marks.Mark.{Mark}
+use Rattle.k_space.specs.declared.marks.Mark.TheVariants.{White as MarkWhite}
 use Rattle.k_space.specs.declared.segment.Cell.{Cell}
 use Rattle.k_space.specs.Segments.{Row, SegmentValue, new_row, placed}
 use Rattle.k_space.specs.Places.{row_of, row_in, IsSound, IsPlaced, IsKept, IsGrayList, is_gray_place}
@@ -14,16 +14,16 @@ use Rattle.k_space.proofs.GrayLists.{At_inside, list_pushed, count_pushed}
 use Rattle.k_space.proofs.Rows.{maps_agree, same_At, same_cell}
 
 -- one object more
-at_pushed : (places : List Place) (x : Place) (i slot : ℕ) (mark : Mark) → get_or (places ++ x ∷ []) i Empty ≡ At slot mark → (get_or places i Empty ≡ At slot mark) ⊎ ((i ≡ length places) × (x ≡ At slot mark))
+pub at_pushed : (places : List Place) (x : Place) (i slot : ℕ) (mark : Mark) → get_or (places ++ x ∷ []) i Empty ≡ At slot mark → (get_or places i Empty ≡ At slot mark) ⊎ ((i ≡ length places) × (x ≡ At slot mark))
 at_pushed [] x zero slot mark e = inr (refl, e)
 at_pushed [] x (suc i) slot mark e = absurd (cc)
 at_pushed (y ∷ ys) x zero slot mark e = inl e
 at_pushed (y ∷ ys) x (suc i) slot mark e = elim (at_pushed ys x i slot mark e) [ inl there ↦ inl there | inr here ↦ inr (ap suc here.0, here.1) ]
 
 pub pushed : (places : List Place) (cells after : Slab Cell) (room capacity : ℕ) (head : ℕ) (slot : ℕ) (cell : Cell) → IsSound places cells room capacity head → length places ≤ room →
-    get cells slot ≡ None → Updates cells after slot (Some cell) → slab_len after ≡ slab_len cells + 1 → after.capacity ≡ cells.capacity → cell.serial.0 ≡ length places →
+    get cells slot ≡ None → Updates cells after slot (Some cell) → slab_len after ≡ slab_len cells + 1 → after.capacity ≡ cells.capacity → cell.serial.0 ≡ length places → length cell.body.fields ≤ 16 →
     IsSound (places ++ At slot MarkWhite ∷ []) after room capacity head
-pushed places cells after room capacity head slot cell sound more vacant updates len stays serial =
+pushed places cells after room capacity head slot cell sound more vacant updates len stays serial few =
     record {
       first = get_or_append_left places (At slot MarkWhite ∷ []) Empty 0 sound.begun ∙ sound.first;
       begun = omega (arith, length-append places (At slot MarkWhite ∷ []));
@@ -58,10 +58,11 @@ pushed places cells after room capacity head slot cell sound more vacant updates
               record {
                 mark = MarkWhite;
                 there = ap (λ (c : Cell). get_or (places ++ At slot MarkWhite ∷ []) c.serial.0 Empty) (sym one) ∙ get_or_push places (At slot MarkWhite) Empty cell.serial.0 (sym serial) ∙ ap (λ t. At t MarkWhite) (sym same);
+                few = subst (λ (c : Cell). length c.body.fields ≤ 16) one few;
               }
           | inr differs ↦
               let was = sound.kept s x (sym (updates.others s differs) ∙ e) in
-              record { mark = was.mark; there = get_or_append_left places (At slot MarkWhite ∷ []) Empty x.serial.0 (At_inside places x.serial.0 s was.mark was.there) ∙ was.there }
+              record { mark = was.mark; there = get_or_append_left places (At slot MarkWhite ∷ []) Empty x.serial.0 (At_inside places x.serial.0 s was.mark was.there) ∙ was.there; few = was.few }
         ]
 
 -- the rows that were there

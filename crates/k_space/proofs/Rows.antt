@@ -5,10 +5,10 @@ use Rattle.std.proofs.lemmas.Bool.{cases_eq}
 use Rattle.std.proofs.lemmas.List.Sums.{sum_by-cons}
 use Rattle.std.proofs.lemmas.List.{get_or-set_same, get_or-set_other, length-set, map-set, set-get_or}
 use Rattle.slab.specs.Slab.{Slab, get, with_value}
-use Rattle.k_space.specs.declared.segment.Place.{Place}
-use Rattle.k_space.specs.declared.segment.Place.TheVariants.{Empty, At}
-use Rattle.k_space.specs.declared.segment.Mark.{Mark}
-use Rattle.k_space.specs.declared.segment.Mark.TheVariants.{White as MarkWhite, Gray as MarkGray, Black as MarkBlack}
+use Rattle.k_space.specs.declared.marks.Place.{Place}
+use Rattle.k_space.specs.declared.marks.Place.TheVariants.{Empty, At}
+use Rattle.k_space.specs.declared.marks.Mark.{Mark}
+use Rattle.k_space.specs.declared.marks.Mark.TheVariants.{White as MarkWhite, Gray as MarkGray, Black as MarkBlack}
 use Rattle.k_space.specs.declared.segment.Cell.{Cell}
 use Rattle.k_space.specs.Segments.{Gray, Black, Row, SegmentValue, LiesAt, row_at, with_row, some_gray, unmarked_row}
 use Rattle.k_space.specs.Places.{row_of, row_in, color_of, IsSound, IsPlaced, IsKept, IsGrayList, is_gray_place, white_place}
@@ -99,8 +99,9 @@ recolored places cells room capacity head after i slot m n sound here grays =
               record {
                 mark = n;
                 there = ap (λ k. get_or (set places i (At slot n)) k Empty) same ∙ get_or-set_same places i (At slot n) Empty within ∙ ap (λ t. At t n) (sym (same_At s slot was.mark m at).0);
+                few = was.few;
               }
-          | inr differs ↦ record { mark = was.mark; there = get_or-set_other places i cell.serial.0 (At slot n) Empty differs ∙ was.there }
+          | inr differs ↦ record { mark = was.mark; there = get_or-set_other places i cell.serial.0 (At slot n) Empty differs ∙ was.there; few = was.few }
         ]
 
 row_in_recolored : (slot : ℕ) (m n : Mark) (row : Row) (o : Option Cell) → row_in slot m o ≡ Some row → row_in slot n o ≡ Some (record row { color = color_of n })
@@ -229,9 +230,9 @@ pub same_cell : {x y : Cell} → ◌≡◌ {A = Option Cell} (Some x) (Some y) �
 same_cell e = cc
 
 -- another body in one slot
-pub rewritten : (places : List Place) (cells : Slab Cell) (room capacity : ℕ) (head : ℕ) (slot : ℕ) (cell new : Cell) → IsSound places cells room capacity head → get cells slot ≡ Some cell → new.serial.0 ≡ cell.serial.0 →
+pub rewritten : (places : List Place) (cells : Slab Cell) (room capacity : ℕ) (head : ℕ) (slot : ℕ) (cell new : Cell) → IsSound places cells room capacity head → get cells slot ≡ Some cell → new.serial.0 ≡ cell.serial.0 → length new.body.fields ≡ length cell.body.fields →
     IsSound places (with_value cells slot new) room capacity head
-rewritten places cells room capacity head slot cell new sound found serial =
+rewritten places cells room capacity head slot cell new sound found serial fields =
     record {
       first = sound.first;
       begun = sound.begun;
@@ -267,7 +268,7 @@ rewritten places cells room capacity head slot cell new sound found serial =
           | inl same ↦
               let one : new ≡ x = same_cell (sym here ∙ ap (get (with_value cells slot new)) (sym same) ∙ e) in
               let was = sound.kept slot cell found in
-              record { mark = was.mark; there = ap (λ (c : Cell). get_or places c.serial.0 Empty) (sym one) ∙ ap (λ k. get_or places k Empty) serial ∙ was.there ∙ ap (λ t. At t was.mark) (sym same) }
+              record { mark = was.mark; there = ap (λ (c : Cell). get_or places c.serial.0 Empty) (sym one) ∙ ap (λ k. get_or places k Empty) serial ∙ was.there ∙ ap (λ t. At t was.mark) (sym same); few = omega (arith, fields, was.few, ap (λ (c : Cell). length c.body.fields) one) }
           | inr differs ↦ sound.kept s x (sym (get_or-set_other cells.slots slot s (Some new) None differs) ∙ e)
         ]
 
@@ -304,7 +305,7 @@ pub same_row : {x y : Row} → ◌≡◌ {A = Option Row} (Some x) (Some y) → 
 same_row e = cc
 
 -- no marks
-white_there : (places : List Place) (j s : ℕ) (mark : Mark) → get_or (map white_place places) j Empty ≡ At s mark → (was : Mark) × (get_or places j Empty ≡ At s was)
+pub white_there : (places : List Place) (j s : ℕ) (mark : Mark) → get_or (map white_place places) j Empty ≡ At s mark → (was : Mark) × (get_or places j Empty ≡ At s was)
 white_there places j s mark e = by_place (get_or places j Empty) refl
   where
     by_place : (p : Place) → get_or places j Empty ≡ p → (was : Mark) × (get_or places j Empty ≡ At s was)
@@ -332,7 +333,7 @@ whitened places cells room capacity head sound =
       keys = sound.keys;
       fits = omega (arith, map_len white_place places, sound.fits);
       placed = λ j s mark e. let was = white_there places j s mark e in sound.placed j s was.0 was.1;
-      kept = λ s x e. let was = sound.kept s x e in record { mark = MarkWhite; there = get_or-map white_place places x.serial.0 Empty ∙ ap white_place was.there };
+      kept = λ s x e. let was = sound.kept s x e in record { mark = MarkWhite; there = get_or-map white_place places x.serial.0 Empty ∙ ap white_place was.there; few = was.few };
       grays = subst (λ (n : ℕ). IsGrayList (map white_place places) n 0) (sym (no_gray_left places)) refl;
     }
 

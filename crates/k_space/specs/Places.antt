@@ -3,10 +3,10 @@ use Rattle.std.specs.Prelude.{◌≡◌, ℕ, zero, suc, ◌+◌, ◌-◌, ◌*�
 use Rattle.slab.specs.Slab.{Slab, get, slab_len}
 use Rattle.k_types.specs.Totals.{total}
 use Rattle.k_types.specs.Types.{object_size}
-use Rattle.k_space.specs.declared.segment.Place.{Place}
-use Rattle.k_space.specs.declared.segment.Place.TheVariants.{Empty, At}
-use Rattle.k_space.specs.declared.segment.Mark.{Mark}
-use Rattle.k_space.specs.declared.segment.Mark.TheVariants.{White as MarkWhite, Gray as MarkGray, Black as MarkBlack}
+use Rattle.k_space.specs.declared.marks.Place.{Place}
+use Rattle.k_space.specs.declared.marks.Place.TheVariants.{Empty, At}
+use Rattle.k_space.specs.declared.marks.Mark.{Mark}
+use Rattle.k_space.specs.declared.marks.Mark.TheVariants.{White as MarkWhite, Gray as MarkGray, Black as MarkBlack}
 use Rattle.k_space.specs.declared.segment.Cell.{Cell}
 use Rattle.k_space.specs.Segments.{Color, White, Gray, Black, Row}
 
@@ -40,21 +40,22 @@ pub record IsPlaced (cells : Slab Cell) (serial slot : ℕ) : Type 0 where
   pub there : get cells slot ≡ Some cell
   pub serial_is : cell.serial.0 ≡ serial
 
--- the object's serial has the slot
+-- the object's serial has the slot, and it has at most 16 fields
 pub record IsKept (places : List Place) (slot : ℕ) (cell : Cell) : Type 0 where
   pub mark : Mark
   pub there : slice_index_or places cell.serial.0 Empty ≡ At slot mark
+  pub few : length cell.body.fields ≤ 16
 
 abbrev pub row_bytes : Option Row → ℕ
 row_bytes None = 0
 row_bytes (Some row) = object_size (length row.fields)
 
--- places and slots name each other, the gray places are one list, there is room for every serial, and the bytes are kept
+-- places and slots name each other, the gray places are one list, and there is room for every serial, and memory for no more
 pub record IsSound (places : List Place) (cells : Slab Cell) (room capacity head : ℕ) : Type 0 where
   pub first : slice_index_or places 0 Empty ≡ Empty
   pub begun : 0 < length places
   pub within : length places ≤ room + 1
-  pub reserved : room + 1 ≤ capacity
+  pub reserved : capacity ≡ room + 1
   pub small : room < 2 ^ 32
   pub keys : cells.capacity < 2 ^ 64
   pub fits : slab_len cells + (room + 1 - length places) ≤ cells.capacity
@@ -62,10 +63,10 @@ pub record IsSound (places : List Place) (cells : Slab Cell) (room capacity head
   pub kept : (slot : ℕ) (cell : Cell) → get cells slot ≡ Some cell → IsKept places slot cell
   pub grays : IsGrayList places (count_by is_gray_place places) head
 
--- the bytes are those of the objects
+-- the bytes are those of the objects, at most 144 for each serial
 pub record AreBytes (places : List Place) (cells : Slab Cell) (bytes : ℕ) : Type 0 where
   pub counted : bytes ≡ total row_bytes (map (row_of cells) places)
-  pub small : bytes ≤ 144 * length places
+  pub small : bytes + 144 ≤ 144 * length places
 
 -- no slot from that one on has an object
 pub record AreBelow (cells : Slab Cell) (end : ℕ) : Type 0 where
@@ -79,3 +80,7 @@ white_place (At slot mark) = At slot MarkWhite
 abbrev pub is_white_place : Place → Bool
 is_white_place (At slot MarkWhite) = true
 is_white_place _ = false
+
+abbrev pub is_empty_place : Place → Bool
+is_empty_place Empty = true
+is_empty_place (At slot mark) = false

@@ -1,5 +1,5 @@
 -- What a contract sees of a segment.
-use Rattle.std.specs.Prelude.{◌≡◌, ℕ, ◌+◌, ◌-◌, Bool, true, false, List, [], ◌∷◌, ◌++◌, length, map, slice_index_or, slice_set, Option, Some, None}
+use Rattle.std.specs.Prelude.{◌≡◌, ℕ, ◌+◌, ◌-◌, ◌*◌, ◌<◌, ◌≤◌, ◌^◌, Bool, true, false, List, [], ◌∷◌, ◌++◌, length, map, slice_index_or, slice_set, Option, Some, None}
 use Rattle.k_types.specs.declared.names.TypeId.{TypeId}
 use Rattle.k_types.specs.State.{Content, Object}
 use Rattle.k_types.specs.Totals.{total}
@@ -118,3 +118,13 @@ unmarked_row (Some row) = Some (record row { color = White })
 
 abbrev pub unmarked_segment : SegmentValue → SegmentValue
 unmarked_segment s = record s { rows = map unmarked_row s.rows }
+
+-- what holds of every segment: the serials from 1 on were given, within the room; an object has at most 16 fields; no two objects lie in one slot
+pub record IsSegment (s : SegmentValue) : Type 0 where
+  pub begun : length s.rows ≡ made s + 1
+  pub first : row_at s 0 ≡ None
+  pub within : made s ≤ s.room
+  pub small : s.room < 2 ^ 32
+  pub fields : (serial : ℕ) (row : Row) → row_at s serial ≡ Some row → length row.fields ≤ 16
+  pub bytes : segment_bytes s ≤ 144 * made s
+  pub apart : (i j : ℕ) (one other : Row) → row_at s i ≡ Some one → row_at s j ≡ Some other → one.slot ≡ other.slot → i ≡ j

@@ -15,6 +15,15 @@ pub record IsFreed (old new : SegmentValue) (from : ℕ) (gone : Gone) : Type 0 
   pub bytes : gone.bytes ≡ object_size (length row.fields)
   pub freed : new ≡ with_row old gone.serial.0 None
 
+-- that object was live and not marked, and now it alone is gone
+pub record IsTakenAway (old new : SegmentValue) (gone : Gone) : Type 0 where
+  pub row : Row
+  pub there : row_at old gone.serial.0 ≡ Some row
+  pub slot : row.slot ≡ gone.slot.0
+  pub unmarked : row.color ≡ White
+  pub bytes : gone.bytes ≡ object_size (length row.fields)
+  pub freed : new ≡ with_row old gone.serial.0 None
+
 -- an object without a mark lies there
 pub record IsUnmarkedAt (s : SegmentValue) (slot : ℕ) : Type 0 where
   pub serial : ℕ

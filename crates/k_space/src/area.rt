@@ -1,9 +1,9 @@
-ghost use Rattle.std.specs.Prelude.{◌≡◌, ◌≢◌, ◌<◌, ◌+◌, ◌==◌, ◌++◌, ◌∷◌, [], ℕ, length, map, Some, None, IfOk, IfNone, IfSome, OnSome, slice_get, slice_set, slice_index_or, position, option_copied, IsFalse, IsTrue};
+ghost use Rattle.std.specs.Prelude.{◌≡◌, ◌≢◌, ◌<◌, ◌+◌, ◌==◌, ◌++◌, ◌∷◌, [], ℕ, length, map, Some, None, IfOk, IfNone, IfSome, OnSome, slice_get, slice_set, slice_index_or, position, option_copied, not, IsFalse, IsTrue};
 ghost use Rattle.std.specs.Option.{option_copied_mut};
 ghost use Rattle.std.specs.Borrow.{sem};
 ghost use Rattle.std.specs.List.{position_or_len};
 ghost use Rattle.k_space.specs.Segments.{SegmentValue, row_at, some_gray, unmarked_segment};
-ghost use Rattle.k_space.specs.Areas.{place_of, segment_at, row_of_name, with_row_of, HasDistinct, IsBlackened, gray_at, grayed, has_number, unmarked};
+ghost use Rattle.k_space.specs.Areas.{place_of, segment_at, row_of_name, with_row_of, HasDistinct, IsBlackened, is_foreign, gray_at, grayed, has_number, unmarked};
 
 use crate::segment::Segment;
 use k_io::NoMemory;
@@ -20,7 +20,7 @@ struct Hints {
     gray: usize,
 }
 
-/// The segments of one heap. Their numbers are different, which each call but `make` needs. Source: own.
+/// The segments of one heap. Their numbers are different, which each call but `make` needs.
 #[derive(Drop)]
 pub struct Area {
     segments: Vec<Segment>,
@@ -33,11 +33,11 @@ impl Model for Area {
 
     ghost Value = { AreaValue };
 
-    ghost use Rattle.std.specs.Prelude.{vec_capacity, ◌≤◌, length};
+    ghost use Rattle.std.specs.Prelude.{vec_capacity, ◌≡◌, length};
 
     ghost view = { λ a. record { segments = a.segments.items; room = a.room } };
 
-    ghost invariant = { λ a. a.room ≤ vec_capacity a.segments };
+    ghost invariant = { λ a. (vec_capacity a.segments ≡ a.room) × (length a.hints.segments.items ≡ a.room) };
 }
 
 /// Whether the segment of that number stands there.
@@ -85,7 +85,7 @@ impl Area {
     ghost use Rattle.k_space.specs.AreaLends.{lends_segment};
 
     /// An area with no segment, and room for so many. It takes the memory for all of them at once;
-    /// `NoMemory` comes where there is none. Source: own.
+    /// `NoMemory` comes where there is none.
     pub fn make(alloc: Global, room: u32) -> Result<Area, NoMemory>
         ensures { IfOk result (λ a. a ≡ record { segments = []; room = room }) }
     {
@@ -99,14 +99,14 @@ impl Area {
         })
     }
 
-    /// The number of segments. Source: own.
+    /// The number of segments.
     pub fn len(&self) -> usize
         ensures { result ≡ length self.now.segments }
     {
         self.segments.len()
     }
 
-    /// The number of the segment at place `i`, counted from 0. Source: own.
+    /// The number of the segment at place `i`, counted from 0.
     pub fn seg_at(&self, i: usize) -> Seg
         requires { i < length self.now.segments }
         ensures { (s : SegmentValue) → slice_get self.now.segments i ≡ Some s → result.0 ≡ s.number }
@@ -114,7 +114,7 @@ impl Area {
         self.segments[i].number()
     }
 
-    /// Adds a segment. It comes last. Constant time, and no memory. Source: own.
+    /// Adds a segment. It comes last. Constant time, and no memory.
     pub fn add(&mut self, segment: Segment)
         requires distinct { HasDistinct self.old.segments }
         requires room { length self.old.segments < self.old.room }
@@ -128,7 +128,7 @@ impl Area {
     }
 
     /// The segment of that number. A number below the room is found at once where it is there; any other
-    /// costs a look through the numbers. Source: own.
+    /// costs a look through the numbers.
     pub fn get(&self, seg: Seg) -> Option<&Segment>
         requires { HasDistinct self.now.segments }
         ensures { option_copied result ≡ segment_at self.now.segments seg.0 }
@@ -137,7 +137,7 @@ impl Area {
         self.segments.get(at)
     }
 
-    /// The segment of that number, for writing. The others stay. It costs as much as `get`. Source: own.
+    /// The segment of that number, for writing. The others stay. It costs as much as `get`.
     pub fn get_mut(&mut self, seg: Seg) -> Option<&mut Segment>
         requires { HasDistinct self.old.segments }
         ensures* writes_back { sem 𝓛 (lends_segment self.entry seg.0 result) }
@@ -148,7 +148,7 @@ impl Area {
     }
 
     /// Takes the segment of that number out, with its objects. The others stay, in any order. It looks
-    /// through the segments. Source: own.
+    /// through the segments.
     pub fn take(&mut self, seg: Seg) -> Option<Segment>
         requires { HasDistinct self.old.segments }
         ensures value { result ≡ segment_at self.old.segments seg.0 }
@@ -171,18 +171,32 @@ impl Area {
     }
 
     /// Makes a white object gray. A name that is no live object of the area changes nothing. It costs as
-    /// much as `get`. Source: own.
+    /// much as `get`.
     pub fn make_gray(&mut self, target: Name)
         requires { HasDistinct self.old.segments }
         ensures { self.new ≡ grayed self.old target }
     {
-        if let Some(segment) = self.get_mut(target.seg) {
-            segment.make_gray(target.serial);
+        self.gray_own(target);
+    }
+
+    /// The same, and tells whether the area has the segment of that name.
+    pub fn gray_own(&mut self, target: Name) -> bool
+        requires { HasDistinct self.old.segments }
+        ensures grayed { self.new ≡ grayed self.old target }
+        ensures own { result ≡ not (is_foreign self.old target) }
+        ensures foreign { IsFalse result → self.new ≡ self.old }
+    {
+        match self.get_mut(target.seg) {
+            Some(segment) => {
+                segment.make_gray(target.serial);
+                true
+            }
+            None => false,
         }
     }
 
     /// Takes a gray object, and makes it black. It looks first in the segment where it found the last one,
-    /// and then through the segments. Source: own.
+    /// and then through the segments.
     pub fn take_gray(&mut self) -> Option<Name>
         requires { HasDistinct self.old.segments }
         ensures some { IfSome result (λ n. IsBlackened self.old self.new n) }
@@ -218,7 +232,8 @@ impl Area {
         Some(Name { seg, serial })
     }
 
-    /// Takes the marks of all objects away. It passes each serial that was given. Source: own.
+    /// Takes the marks of all objects away. It passes the segments, each in constant time as
+    /// [`Segment::unmark_all`] says, and no objects.
     pub fn unmark_all(&mut self)
         ensures { self.new ≡ unmarked self.old }
     {

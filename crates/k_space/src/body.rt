@@ -1,11 +1,12 @@
-ghost use Rattle.std.specs.Prelude.{◌≡◌, length, slice_get, slice_set, Some, option_map, ◌<◌, ◌≤◌, IfOk};
+ghost use Rattle.std.specs.Prelude.{◌≡◌, length, slice_get, slice_set, Some, slice_index_or, option_map, ℕ, ◌<◌, ◌≤◌, IfOk};
+ghost use Rattle.k_space.specs.declared.body.Stored.TheVariants.{Null as NoTarget};
 ghost use Rattle.k_types.specs.State.{Refers, Holds, field_kind, fresh};
 ghost use Rattle.k_types.specs.Types.{object_size};
 ghost use Rattle.k_space.specs.Objects.{HasRef, HasInt, content_of, new_body, new_directory};
 ghost use Rattle.k_types.specs.Names.{name_of};
 
 use k_io::NoMemory;
-use k_types::{Field, Link, Name, Slot, TypeId, TypeTable};
+use k_types::{Field, Link, Name, TypeId, TypeTable, object_size};
 use std::alloc::Global;
 use std::marker::Model;
 
@@ -39,7 +40,7 @@ impl Stored {
     }
 }
 
-/// The content of one object, of at most 16 fields. Source: own.
+/// The content of one object, of at most 16 fields.
 #[derive(Drop)]
 pub struct Body {
     ty: Option<TypeId>,
@@ -59,12 +60,12 @@ impl Model for Body {
 
 impl Body {
     /// A new object of the type: references are null, integers are 0. `NoMemory` comes where its fields
-    /// find no memory. Source: own.
+    /// find no memory.
     pub fn make(alloc: Global, types: &TypeTable, ty: TypeId) -> Result<Body, NoMemory>
         requires { ty.0 < length types.now }
         ensures { IfOk result (λ b. b ≡ new_body types.now ty) }
     {
-        let count = (types.size_of(ty) as u32 - 16) / 8;
+        let count = types.field_count(ty);
         let mut fields = Vec::with_capacity(alloc, count as usize)?;
         for i in 0..count {
             let Some(kind) = types.kind_of(ty, i) else {
@@ -79,7 +80,6 @@ impl Body {
     }
 
     /// The directory, with so many references, all null. `NoMemory` comes where they find no memory.
-    /// Source: own.
     pub fn directory(alloc: Global, fields: u32) -> Result<Body, NoMemory>
         requires { fields ≤ 16 }
         ensures { IfOk result (λ b. b ≡ new_directory fields) }
@@ -88,19 +88,19 @@ impl Body {
         Ok(Body { ty: None, fields })
     }
 
-    /// The object's type. The directory alone has none. Source: own.
+    /// The object's type. The directory alone has none.
     pub fn type_of(&self) -> Option<TypeId>
         ensures { result ≡ self.now.ty }
     {
         self.ty
     }
 
-    /// The size of the object in bytes: 16, and 8 for each field. Constant time. Source: own.
+    /// The size of the object in bytes: 16, and 8 for each field. Constant time.
     pub fn bytes(&self) -> u64
         ensures size { result ≡ object_size (length self.now.fields) }
         ensures most { result ≤ 144 }
     {
-        16 + 8 * self.fields.len() as u64
+        object_size(self.fields.len() as u32)
     }
 
     /// The number of fields.
@@ -130,17 +130,28 @@ impl Body {
         self.fields[field as usize]
     }
 
+    /// Writes what the fields hold to the front of the list, and gives their number.
+    pub(crate) fn copy_to(&self, into: &mut [Stored]) -> u32
+        requires { 16 ≤ length into.old }
+        ensures count { result ≡ length self.now.fields }
+        ensures most { result ≤ 16 }
+        ensures copied { (i : ℕ) → i < result → slice_get self.now.fields i ≡ Some (content_of (slice_index_or into.new i NoTarget)) }
+        ensures len { length into.new ≡ length into.old }
+    {
+        let count = self.fields.len() as u32;
+        for i in 0..count {
+            into[i as usize] = self.stored(i);
+        }
+        count
+    }
+
     /// What the reference field refers to; nothing where it is null.
     pub(crate) fn read_ref(&self, field: u32) -> Option<Link>
         requires { HasRef self.now.fields field }
         ensures { slice_get self.now.fields field ≡ Some (Refers (option_map name_of result)) }
     {
         match self.fields[field as usize] {
-            Stored::Refers(name) => Some(Link {
-                seg: name.seg,
-                slot: Slot(0),
-                serial: name.serial,
-            }),
+            Stored::Refers(name) => Some(name.link()),
             Stored::Null => None,
             Stored::Holds(_) => None,
         }

@@ -6,13 +6,16 @@
 //! call changes, and that everything else stays. Only the calls named `make` and
 //! [`Body::directory`] take memory.
 //!
-//! Looking an object up, reading, writing and placing take constant time in the number of objects.
+//! Looking an object up, reading, writing and placing take constant time in the number of objects, and so
+//! does taking all marks away. A sweep costs in proportion to the objects that are live when it begins.
 //!
 //! The crate stands on `k_types` for names and types of objects, and on `slab` for the slots.
 #![tactic(auto)]
 
 mod area;
 mod body;
+mod live;
+mod marks;
 mod segment;
 #[cfg(test)]
 mod tests;

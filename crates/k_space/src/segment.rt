@@ -1,53 +1,20 @@
-ghost use Rattle.std.specs.Prelude.{◌≡◌, ◌<◌, ◌≤◌, ◌^◌, ℕ, length, map, vec_capacity, Some, None, option_map, IfOk, IfSome, IfNone, ◌∷◌, [], slice_set, slice_get, ◌==◌, IsFalse, IsTrue, OnSome};
+ghost use Rattle.std.specs.Prelude.{◌≡◌, ◌<◌, ◌≤◌, ◌+◌, ℕ, length, map, Some, None, option_map, IfOk, IfSome, IfNone, ◌∷◌, [], slice_set, slice_get, slice_index_or, ◌==◌, IsFalse, IsTrue, OnSome};
 ghost use Rattle.k_types.specs.State.{Refers, Holds, field_kind};
 ghost use Rattle.k_types.specs.Types.{object_size};
 ghost use Rattle.k_space.specs.Objects.{HasRef, HasInt, content_of};
+ghost use Rattle.k_space.specs.declared.body.Stored.TheVariants.{Null as NoTarget};
 ghost use Rattle.k_types.specs.Names.{name_of};
-ghost use Rattle.k_space.specs.Segments.{Row, White, Black, Gray, LiesAt, IsLive, row_at, made, with_row, placed, some_gray, is_gray, is_marked, gray_or_black, segment_bytes, unmarked_segment, body_of};
-ghost use Rattle.k_space.specs.Sweeping.{IsFreed, IsFree, IsFirstUnmarked, IsUnmarkedAt};
-ghost use Rattle.k_space.specs.Places.{white_place, is_white_place};
+ghost use Rattle.k_space.specs.Segments.{Row, White, Black, Gray, LiesAt, IsLive, row_at, made, with_row, IsSegment, placed, some_gray, is_gray, is_marked, gray_or_black, segment_bytes, unmarked_segment, body_of};
+ghost use Rattle.k_space.specs.Sweeping.{IsFreed, IsFree, IsFirstUnmarked, IsTakenAway, IsUnmarkedAt};
 
 use crate::body::{Body, Stored};
+use crate::live::{next_white, unlist};
+use crate::marks::{Mark, Place, Places};
 use k_io::NoMemory;
 use k_types::{Field, Link, Seg, Serial, Slot, TypeId};
 use slab::Slab;
 use std::alloc::Global;
 use std::marker::Model;
-
-/// How far the marking of an object has come. A gray one names the next gray one by its serial, the last
-/// one names 0.
-#[derive(Clone, Copy)]
-enum Mark {
-    White,
-    Gray(u32),
-    Black,
-}
-
-/// Where an object lies, by its serial.
-#[derive(Clone, Copy)]
-enum Place {
-    Empty,
-    At(usize, Mark),
-}
-
-impl Place {
-    /// The place with no mark.
-    fn whitened(self) -> Place
-        ensures { result ≡ white_place self }
-    {
-        match self {
-            Place::At(slot, _) => Place::At(slot, Mark::White),
-            Place::Empty => Place::Empty,
-        }
-    }
-
-    /// Whether it has an object without a mark.
-    fn is_white(self) -> bool
-        ensures { result ≡ is_white_place self }
-    {
-        matches!(self, Place::At(_, Mark::White))
-    }
-}
 
 #[derive(Drop)]
 struct Cell {
@@ -64,12 +31,12 @@ pub struct Gone {
 }
 
 /// The objects that were made under one number. Each has a serial, which is never used again, and
-/// lies in a slot, which is. Source: own.
+/// lies in a slot, which is.
 #[derive(Drop)]
 pub struct Segment {
     number: Seg,
     room: u32,
-    places: Vec<Place>,
+    places: Places,
     cells: Slab<Cell>,
     // The serial of the first gray object; 0 where there is none.
     gray: u32,
@@ -77,6 +44,10 @@ pub struct Segment {
     bytes: u64,
     // One more than the highest slot that was ever used.
     end: usize,
+    // The serials of the live objects, in any order, and of some that are gone.
+    live: Vec<u32>,
+    // None of them is white but of so many first ones.
+    left: usize,
 }
 
 impl Model for Segment {
@@ -84,34 +55,28 @@ impl Model for Segment {
 
     ghost Value = { SegmentValue };
 
-    ghost use Rattle.std.specs.Prelude.{map, vec_capacity};
+    ghost use Rattle.std.specs.Prelude.{map, vec_capacity, ◌≡◌};
     ghost use Rattle.k_space.specs.Places.{row_of, IsSound, AreBytes, AreBelow};
+    ghost use Rattle.k_space.specs.Listed.{IsListed};
 
     ghost view = { λ s. record { number = s.number.0; room = s.room; rows = map (row_of s.cells) s.places.items } };
 
     ghost invariant = { λ s. record {
-      sound : IsSound s.places.items s.cells s.room (vec_capacity s.places) s.gray;
+      sound : IsSound s.places.items s.cells s.room s.places.capacity s.gray;
       bytes : AreBytes s.places.items s.cells s.bytes;
       end : AreBelow s.cells s.end;
+      listed : IsListed s.places.items s.live.items s.left;
+      reserved : vec_capacity s.live ≡ s.room;
     } };
-}
-
-/// Takes the marks of all places away.
-fn whiten(places: &mut [Place])
-    ensures { places.new ≡ map white_place places.old }
-{
-    for place in places.iter_mut() {
-        *place = place.whitened();
-    }
 }
 
 impl Segment {
     /// A segment with no object, in which `room` serials can be given. It takes the memory for all of
-    /// them at once; `NoMemory` comes where there is none. Source: own.
+    /// them at once; `NoMemory` comes where there is none.
     pub fn make(alloc: Global, seg: Seg, room: u32) -> Result<Segment, NoMemory>
         ensures { IfOk result (λ s. s ≡ record { number = seg.0; room = room; rows = None ∷ [] }) }
     {
-        let mut places = Vec::with_capacity(alloc, room as usize + 1)?;
+        let mut places = Places::make(alloc, room as usize + 1)?;
         places.push_reserved(Place::Empty);
         let cells = Slab::with_capacity(alloc, room as usize)?;
         // Read so that the proof has its range: the number of a slot, plus 1, fits.
@@ -124,36 +89,43 @@ impl Segment {
             gray: 0,
             bytes: 0,
             end: 0,
+            live: Vec::with_capacity(alloc, room as usize)?,
+            left: 0,
         })
     }
 
-    /// The number of the segment. Constant time. Source: own.
+    /// The number of the segment. Constant time.
     pub fn number(&self) -> Seg
-        ensures { result.0 ≡ self.now.number }
+        ensures value { result.0 ≡ self.now.number }
+        ensures sound { IsSegment self.now }
     {
         self.number
     }
 
-    /// How many serials were given, which never falls. Constant time. Source: own.
+    /// How many serials were given, which never falls. Constant time.
     pub fn made(&self) -> u32
-        ensures { result ≡ made self.now }
+        ensures value { result ≡ made self.now }
+        ensures begun { length self.now.rows ≡ result + 1 }
+        ensures sound { IsSegment self.now }
     {
         (self.places.len() - 1) as u32
     }
 
-    /// The bytes of the live objects. They are kept, and not added up here: constant time. Source: own.
+    /// The bytes of the live objects. They are kept, and not added up here: constant time.
     pub fn bytes(&self) -> u64
-        ensures { result ≡ segment_bytes self.now }
+        ensures value { result ≡ segment_bytes self.now }
+        ensures sound { IsSegment self.now }
     {
         self.bytes
     }
 
     /// Puts an object in, under the next serial, and in a slot that has none. Constant time, and no
-    /// memory. Source: own.
+    /// memory.
     pub fn place(&mut self, body: Body) -> Link
         requires { made self.old < self.old.room }
         ensures seg { result.seg.0 ≡ self.old.number }
         ensures serial { result.serial.0 ≡ length self.old.rows }
+        ensures next { result.serial.0 ≡ made self.old + 1 }
         ensures placed { self.new ≡ placed self.old result.slot.0 body }
     {
         let serial = self.places.len() as u32;
@@ -164,6 +136,8 @@ impl Segment {
         });
         self.places.push_reserved(Place::At(slot, Mark::White));
         self.end = self.end.max(slot + 1);
+        self.live.push_reserved(serial);
+        self.left = self.live.len();
         Link {
             seg: self.number,
             slot: Slot(slot),
@@ -171,7 +145,7 @@ impl Segment {
         }
     }
 
-    /// Where the object of that serial lies. Constant time. Source: own.
+    /// Where the object of that serial lies. Constant time.
     pub fn find(&self, serial: Serial) -> Option<Slot>
         ensures { option_map (λ s. s.0) result ≡ option_map (λ row. row.slot) (row_at self.now serial.0) }
     {
@@ -179,13 +153,13 @@ impl Segment {
         if at >= self.places.len() {
             return None;
         }
-        match self.places[at] {
+        match self.places.at(at) {
             Place::At(slot, _) => Some(Slot(slot)),
             Place::Empty => None,
         }
     }
 
-    /// The serial of the object there. Constant time. Source: own.
+    /// The serial of the object there. Constant time.
     pub fn serial_of(&self, slot: Slot) -> Serial
         requires { IsLive self.now slot.0 }
         ensures { (serial : ℕ) (row : Row) → LiesAt self.now slot.0 serial row → result.0 ≡ serial }
@@ -193,7 +167,7 @@ impl Segment {
         self.cells[slot.0].serial
     }
 
-    /// The size of the object there, in bytes. Constant time. Source: own.
+    /// The size of the object there, in bytes. Constant time.
     pub fn bytes_of(&self, slot: Slot) -> u64
         requires { IsLive self.now slot.0 }
         ensures { (serial : ℕ) (row : Row) → LiesAt self.now slot.0 serial row → result ≡ object_size (length row.fields) }
@@ -201,7 +175,7 @@ impl Segment {
         self.body_at(slot).bytes()
     }
 
-    /// The type of the object there. The directory alone has none. Constant time. Source: own.
+    /// The type of the object there. The directory alone has none. Constant time.
     pub fn type_of(&self, slot: Slot) -> Option<TypeId>
         requires { IsLive self.now slot.0 }
         ensures { (serial : ℕ) (row : Row) → LiesAt self.now slot.0 serial row → result ≡ row.ty }
@@ -209,7 +183,7 @@ impl Segment {
         self.body_at(slot).type_of()
     }
 
-    /// The kind of a field of the object there; nothing past the last field. Constant time. Source: own.
+    /// The kind of a field of the object there; nothing past the last field. Constant time.
     pub fn kind_of(&self, slot: Slot, field: u32) -> Option<Field>
         requires { IsLive self.now slot.0 }
         ensures { (serial : ℕ) (row : Row) → LiesAt self.now slot.0 serial row → result ≡ option_map field_kind (slice_get row.fields field) }
@@ -217,7 +191,7 @@ impl Segment {
         self.body_at(slot).kind_of(field)
     }
 
-    /// The number of fields of the object there. Constant time. Source: own.
+    /// The number of fields of the object there. Constant time.
     pub fn field_count(&self, slot: Slot) -> u32
         requires { IsLive self.now slot.0 }
         ensures { (serial : ℕ) (row : Row) → LiesAt self.now slot.0 serial row → result ≡ length row.fields }
@@ -225,7 +199,7 @@ impl Segment {
         self.body_at(slot).len()
     }
 
-    /// What a field of either kind holds. Constant time. Source: own.
+    /// What a field of either kind holds. Constant time.
     pub fn stored(&self, slot: Slot, field: u32) -> Stored
         requires live { IsLive self.now slot.0 }
         requires field { (serial : ℕ) (row : Row) → LiesAt self.now slot.0 serial row → field < length row.fields }
@@ -234,8 +208,20 @@ impl Segment {
         self.body_at(slot).stored(field)
     }
 
-    /// What a reference field of the object there refers to; nothing where it is null. Its slot
-    /// is a hint. Constant time. Source: own.
+    /// Writes what the fields of the object there hold to the front of the list, and gives their number. Constant
+    /// time.
+    pub fn copy_fields(&self, slot: Slot, into: &mut [Stored]) -> u32
+        requires live { IsLive self.now slot.0 }
+        requires room { 16 ≤ length into.old }
+        ensures count { (serial : ℕ) (row : Row) → LiesAt self.now slot.0 serial row → result ≡ length row.fields }
+        ensures most { result ≤ 16 }
+        ensures copied { (serial : ℕ) (row : Row) (i : ℕ) → LiesAt self.now slot.0 serial row → i < result → slice_get row.fields i ≡ Some (content_of (slice_index_or into.new i NoTarget)) }
+        ensures len { length into.new ≡ length into.old }
+    {
+        self.body_at(slot).copy_to(into)
+    }
+
+    /// What a reference field of the object there refers to, by its name; nothing where it is null. Constant time.
     pub fn read_ref(&self, slot: Slot, field: u32) -> Option<Link>
         requires live { IsLive self.now slot.0 }
         requires kind { (serial : ℕ) (row : Row) → LiesAt self.now slot.0 serial row → HasRef row.fields field }
@@ -244,7 +230,7 @@ impl Segment {
         self.body_at(slot).read_ref(field)
     }
 
-    /// The number in an integer field of the object there. Constant time. Source: own.
+    /// The number in an integer field of the object there. Constant time.
     pub fn read_int(&self, slot: Slot, field: u32) -> u64
         requires live { IsLive self.now slot.0 }
         requires kind { (serial : ℕ) (row : Row) → LiesAt self.now slot.0 serial row → HasInt row.fields field }
@@ -254,7 +240,7 @@ impl Segment {
     }
 
     /// Writes a reference, or null, into a reference field of the object there. It asks no write
-    /// barrier, and adds no exit item: both are the caller's. Constant time, and no memory. Source: own.
+    /// barrier, and adds no exit item: both are the caller's. Constant time, and no memory.
     pub fn write_ref(&mut self, slot: Slot, field: u32, value: Option<Link>)
         requires live { IsLive self.old slot.0 }
         requires kind { (serial : ℕ) (row : Row) → LiesAt self.old slot.0 serial row → HasRef row.fields field }
@@ -265,7 +251,6 @@ impl Segment {
     }
 
     /// Writes a number into an integer field of the object there. Constant time, and no memory.
-    /// Source: own.
     pub fn write_int(&mut self, slot: Slot, field: u32, value: u64)
         requires live { IsLive self.old slot.0 }
         requires kind { (serial : ℕ) (row : Row) → LiesAt self.old slot.0 serial row → HasInt row.fields field }
@@ -276,7 +261,7 @@ impl Segment {
     }
 
     /// Makes a white object gray. Other objects, and serials with no object, stay as they are. Constant
-    /// time, and no memory. Source: own.
+    /// time, and no memory.
     pub fn make_gray(&mut self, serial: Serial)
         ensures grayed { (row : Row) → row_at self.old serial.0 ≡ Some row → self.new ≡ with_row self.old serial.0 (Some (record row { color = gray_or_black row.color })) }
         ensures gone { row_at self.old serial.0 ≡ None → self.new ≡ self.old }
@@ -285,11 +270,11 @@ impl Segment {
         if at >= self.places.len() {
             return;
         }
-        let place = self.places[at];
+        let place = self.places.at(at);
         match place {
             Place::At(slot, mark) => match mark {
                 Mark::White => {
-                    self.places[at] = Place::At(slot, Mark::Gray(self.gray));
+                    self.places.set(at, Place::At(slot, Mark::Gray(self.gray)));
                     self.gray = serial.0;
                 }
                 Mark::Gray(_) => {}
@@ -299,7 +284,7 @@ impl Segment {
         }
     }
 
-    /// Takes a gray object, and makes it black. Constant time. Source: own.
+    /// Takes a gray object, and makes it black. Constant time.
     pub fn take_gray(&mut self) -> Option<Serial>
         ensures some { (serial : Serial) → result ≡ Some serial → (row : Row) × LiesAt self.old row.slot serial.0 row × (row.color ≡ Gray)
             × (self.new ≡ with_row self.old serial.0 (Some (record row { color = Black }))) }
@@ -311,11 +296,11 @@ impl Segment {
         }
         let serial = self.gray;
         let at = serial as usize;
-        let place = self.places[at];
+        let place = self.places.at(at);
         match place {
             Place::At(slot, mark) => match mark {
                 Mark::Gray(next) => {
-                    self.places[at] = Place::At(slot, Mark::Black);
+                    self.places.set(at, Place::At(slot, Mark::Black));
                     self.gray = next;
                     Some(Serial(serial))
                 }
@@ -326,16 +311,19 @@ impl Segment {
         }
     }
 
-    /// Takes the marks of all objects away. It passes each serial that was given. Source: own.
+    /// Takes the marks of all objects away. Constant time, however many objects were ever made, but for one pass
+    /// of the serials at each 2,000,000,000th call.
     pub fn unmark_all(&mut self)
         ensures { self.new ≡ unmarked_segment self.old }
     {
-        whiten(&mut self.places);
+        self.places.whiten();
         self.gray = 0;
+        self.left = self.live.len();
     }
 
     /// Frees the first object that isn't marked, by slots from that one on. It passes the slots up to
-    /// that object, so that calls from the freed slot on pass each slot once. Source: own.
+    /// that object, so that calls from the freed slot on pass each slot once that was ever used.
+    /// [`Segment::free_unmarked`], which keeps no order, passes those of live objects alone.
     pub fn sweep_next(&mut self, from: Slot) -> Option<Gone>
         ensures freed { IfSome result (λ gone. IsFreed self.old self.new from.0 gone) }
         ensures none { IfNone result ((serial : ℕ) (row : Row) → row_at self.old serial ≡ Some row → from.0 ≤ row.slot → IsTrue (is_marked row.color)) }
@@ -344,6 +332,24 @@ impl Segment {
         match self.first_unmarked(from.0) {
             Some(slot) => Some(self.free(slot)),
             None => None,
+        }
+    }
+
+    /// Frees an object that isn't marked. All calls up to the one that frees nothing look once at each object that
+    /// was live, freed or not, and at none that were freed before: a sweep costs no more than that.
+    pub fn free_unmarked(&mut self) -> Option<Gone>
+        ensures freed { IfSome result (λ gone. IsTakenAway self.old self.new gone) }
+        ensures none { IfNone result ((serial : ℕ) (row : Row) → row_at self.old serial ≡ Some row → IsTrue (is_marked row.color)) }
+        ensures kept { IfNone result (self.new ≡ self.old) }
+    {
+        let left = next_white(&mut self.live, &self.places, self.left);
+        self.left = left;
+        if left == 0 {
+            return None;
+        }
+        match self.places.at(self.live[left - 1] as usize) {
+            Place::At(slot, _) => Some(self.free(slot)),
+            Place::Empty => unreachable!(),
         }
     }
 
@@ -383,7 +389,7 @@ impl Segment {
         let Some(cell) = self.cells.get(slot) else {
             return false;
         };
-        self.places[cell.serial.0 as usize].is_white()
+        self.places.at(cell.serial.0 as usize).is_white()
     }
 
     /// Frees the object there, which isn't marked.
@@ -394,8 +400,9 @@ impl Segment {
     {
         let cell = self.cells.remove(slot);
         let bytes = cell.body.bytes();
-        self.places[cell.serial.0 as usize] = Place::Empty;
+        self.places.set(cell.serial.0 as usize, Place::Empty);
         self.bytes -= bytes;
+        self.left = unlist(&mut self.live, &self.places, self.left, cell.serial.0);
         Gone {
             slot: Slot(slot),
             serial: cell.serial,

@@ -1,5 +1,5 @@
 use crate::{Area, Body, Segment};
-use k_types::{Field, Seg, Slot, TypeId, TypeTable};
+use k_types::{Field, Seg, Serial, Slot, TypeId, TypeTable};
 use std::test::Fail;
 
 // Two objects of 40 bytes, one after the other: the second lies in the slot of the first, under a serial of its own.
@@ -34,5 +34,34 @@ fn a_new_object_has_its_type_and_size(rt: HostRuntime) -> Result<(), Fail> {
     let body = Body::make(rt.alloc(), &types, TypeId(0))?;
     assert_eq!(rt; body.bytes(), 40);
     assert_eq!(rt; body.type_of(), Some(TypeId(0)));
+    Ok(())
+}
+
+// An object has from none to 16 fields.
+#[test]
+fn objects_of_no_and_of_16_fields_are_made(rt: HostRuntime) -> Result<(), Fail> {
+    let none = Vec::new(rt.alloc());
+    let most = vec![in rt.alloc(); Field::Int; 16]?;
+    let types = TypeTable::make(rt.alloc(), &[none, most])?;
+    let empty = Body::make(rt.alloc(), &types, TypeId(0))?;
+    let full = Body::make(rt.alloc(), &types, TypeId(1))?;
+    assert_eq!(rt; empty.bytes(), 16);
+    assert_eq!(rt; full.bytes(), 144);
+    let empty = Body::directory(rt.alloc(), 0)?;
+    let full = Body::directory(rt.alloc(), 16)?;
+    assert_eq!(rt; empty.bytes(), 16);
+    assert_eq!(rt; full.bytes(), 144);
+    Ok(())
+}
+
+// A segment or an area may have no room at all.
+#[test]
+fn tables_without_room_are_made(rt: HostRuntime) -> Result<(), Fail> {
+    let segment = Segment::make(rt.alloc(), Seg(0), 0)?;
+    assert_eq!(rt; segment.made(), 0);
+    assert!(rt; segment.find(Serial(0)).is_none());
+    let area = Area::make(rt.alloc(), 0)?;
+    assert_eq!(rt; area.len(), 0);
+    assert!(rt; area.get(Seg(0)).is_none());
     Ok(())
 }

@@ -4,7 +4,7 @@ use Rattle.k_mark.proofs.SweepSteps.{IsSweeping}
 use Rattle.k_mark.proofs.sweeping.sweep_segment.Given as goal
 
 abbrev pub invariant-loop-gone : goal.invariant-loop-gone
-invariant-loop-gone l = IsSweeping l.fn.segment l.segment l.from.0 l.from_dead.objects l.from_dead.bytes l.fn.from_dead.objects l.fn.from_dead.bytes
+invariant-loop-gone l = IsSweeping l.fn.segment l.segment l.from_dead.objects l.from_dead.bytes l.fn.from_dead.objects l.fn.from_dead.bytes
 
 abbrev pub decreases-loop-gone : goal.decreases-loop-gone
 decreases-loop-gone l = sum_by dead_row l.segment.rows

@@ -1,7 +1,11 @@
-use Rattle.std.proofs.Common.{◌≡◌, ◌-◌, None, is_some, sym, ap, ◌∙◌, arith, length, get_or}
+use Rattle.std.proofs.Common.{refl, ℕ, ◌≡◌, ◌-◌, None, is_some, sym, ap, subst, ◌∙◌, arith, length, get_or}
 use Rattle.k_types.specs.Types.{object_size}
-use Rattle.k_space.specs.declared.segment.Place.TheVariants.{Empty, At}
-use Rattle.k_space.specs.declared.segment.Mark.TheVariants.{White as MarkWhite}
+use Rattle.k_space.specs.declared.marks.Place.TheVariants.{Empty, At}
+use Rattle.k_space.specs.declared.marks.Mark.TheVariants.{White as MarkWhite}
+use Rattle.k_space.specs.declared.marks.Mark.{Mark}
+use Rattle.k_space.proofs.ListedLemmas.{listed_set}
+use Rattle.k_space.specs.Listed.{IsListed}
+use Rattle.k_space.specs.Stamps.{PlacesValue}
 use Rattle.k_space.specs.Segments.{Row, with_row}
 use Rattle.k_space.proofs.GrayLists.{At_inside}
 use Rattle.k_space.proofs.Freed.{place_there, white_place_is, freed, freed_rows, freed_view}
@@ -14,10 +18,10 @@ remove-cell-requires c =
     let l = lies_in _ _ c.self.inside.places.items c.self.inside.cells c.args.self.now c.args.slot c.requires.serial c.requires.row c.self.view_is c.requires.lies in
     ap is_some l.there
 
-pub index_mut-requires : goal.index_mut-requires
-index_mut-requires c =
+pub set-requires : goal.set-requires
+set-requires c =
     let kept = c.self.invariant.sound.kept c.args.slot c.remove-cell.result c.remove-cell.ensures.value in
-    omega (arith, At_inside c.self.inside.places.items c.remove-cell.result.serial.0 c.args.slot kept.mark kept.there, c.self.inside.places.ok.0)
+    omega (arith, At_inside c.self.inside.places.items c.remove-cell.result.serial.0 c.args.slot kept.mark kept.there)
 
 pub overflow_sub-self : goal.overflow_sub-self
 overflow_sub-self c =
@@ -26,6 +30,15 @@ overflow_sub-self c =
     let within = At_inside c.self.inside.places.items c.remove-cell.result.serial.0 c.args.slot kept.mark kept.there in
     let size = size_there c.self.inside.places.items c.self.inside.cells c.remove-cell.result.serial.0 c.args.slot kept.mark c.remove-cell.result kept.there c.remove-cell.ensures.value ∙ sym c.bytes-bytes.ensures.size in
     (bytes_freed c.self.inside.places.items c.self.inside.cells c.remove-cell.new.self c.self.inside.bytes c.remove-cell.result.serial.0 c.bytes-bytes.result c.self.invariant.bytes rows within size).0
+
+pub unlist-self-inside-requires-clause-listed : goal.unlist-self-inside-requires-clause-listed
+unlist-self-inside-requires-clause-listed c =
+    let kept = c.self.invariant.sound.kept c.args.slot c.remove-cell.result c.remove-cell.ensures.value in
+    let within = At_inside c.self.inside.places.items c.remove-cell.result.serial.0 c.args.slot kept.mark kept.there in
+    rw c.set.ensures (listed_set c.self.inside.places.items _ _ c.remove-cell.result.serial.0 Empty c.self.invariant.listed within refl (λ s m e. nowhere s m e))
+  where
+    nowhere : {A : Type 0} (s : ℕ) (m : Mark) → Empty ≡ At s m → A
+    nowhere s m e = absurd (cc)
 
 pub invariant_of-self : goal.invariant_of-self
 invariant_of-self c =
@@ -39,11 +52,13 @@ invariant_of-self c =
     let white = white_place_is c.args.slot there.mark (sym (ap (λ (r : Row). r.color) there.row_is) ∙ c.requires.unmarked) in
     let here : get_or c.self.inside.places.items c.remove-cell.result.serial.0 Empty ≡ At c.args.slot MarkWhite =
     ap (λ k. get_or c.self.inside.places.items k Empty) there.serial_is ∙ there.at ∙ ap (At c.args.slot) white in
-    record {
+    rw c.set.ensures (record {
       sound = freed c.self.inside.places.items c.self.inside.cells c.remove-cell.new.self c.self.inside.room _ c.self.inside.gray c.remove-cell.result.serial.0 c.args.slot c.remove-cell.result c.self.invariant.sound here c.remove-cell.ensures.value updates c.remove-cell.ensures.len c.remove-cell.ensures.capacity;
       bytes = bytes.1 (c.self.inside.bytes - c.bytes-bytes.result) (omega (arith, bytes.0));
       end = below_freed c.self.inside.cells c.remove-cell.new.self c.args.slot c.self.inside.end c.self.invariant.end updates;
-    }
+      listed = subst (λ (p : PlacesValue). IsListed p.items c.unlist-self-inside.new.live.items c.unlist-self-inside.result) c.set.ensures c.unlist-self-inside.ensures.listed;
+      reserved = c.unlist-self-inside.ensures.capacity ∙ c.self.invariant.reserved;
+    })
 
 pub returns-clause-freed : goal.returns-clause-freed
 returns-clause-freed c = λ serial row lies.
@@ -54,6 +69,6 @@ returns-clause-freed c = λ serial row lies.
       serial_is = there.serial_is;
       bytes = c.bytes-bytes.ensures.size ∙ sym (ap (λ (r : Row). object_size (length r.fields)) there.row_is);
       freed =
-          freed_view _ _ c.self.inside.places.items c.self.inside.cells c.remove-cell.new.self _ c.self.inside.gray c.args.self.now c.args.slot c.remove-cell.result.serial.0 c.remove-cell.result there.mark c.self.invariant.sound c.self.view_is here c.remove-cell.ensures.updates
-          ∙ ap (λ k. with_row c.args.self.now k None) there.serial_is;
+          rw c.set.ensures (freed_view _ _ c.self.inside.places.items c.self.inside.cells c.remove-cell.new.self _ c.self.inside.gray c.args.self.now c.args.slot c.remove-cell.result.serial.0 c.remove-cell.result there.mark c.self.invariant.sound c.self.view_is here c.remove-cell.ensures.updates
+          ∙ ap (λ k. with_row c.args.self.now k None) there.serial_is);
     }

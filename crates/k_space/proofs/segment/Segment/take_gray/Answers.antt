@@ -1,12 +1,13 @@
 use Rattle.std.proofs.Common.{◌≡◌, ℕ, Option, Some, refl, sym, ap, subst, ◌∙◌, get_or, count_by}
 use Rattle.k_types.specs.declared.names.Serial.{Serial}
-use Rattle.k_space.specs.declared.segment.Place.TheVariants.{Empty, At}
-use Rattle.k_space.specs.declared.segment.Mark.TheVariants.{White as MarkWhite, Gray as MarkGray, Black as MarkBlack}
+use Rattle.k_space.specs.declared.marks.Place.TheVariants.{Empty, At}
+use Rattle.k_space.specs.declared.marks.Mark.TheVariants.{White as MarkWhite, Gray as MarkGray, Black as MarkBlack}
 use Rattle.k_space.specs.Segments.{SegmentValue, row_at, some_gray}
 use Rattle.k_space.specs.Places.{IsGrayList, is_gray_place}
+use Rattle.k_space.proofs.ListedLemmas.{listed_set}
 use Rattle.k_space.proofs.Bytes.{bytes_recolored}
 use Rattle.k_space.proofs.GrayLists.{above_zero, first_left, head_gray, none_gray, no_head, At_inside}
-use Rattle.k_space.proofs.Rows.{recolored, taken, read_at, gray_row, row_at_view}
+use Rattle.k_space.proofs.Rows.{recolored, taken, gray_row, row_at_view}
 use Rattle.k_space.proofs.segment.Segment.take_gray.Goals as goal
 
 pub returns-then-self-eq0-clause-none : goal.returns-then-self-eq0-clause-none
@@ -23,21 +24,23 @@ invariant_of-self c =
     let at = c.self.inside.gray in
     let some = above_zero at c.if-self-eq0.false in
     let first = head_gray places _ at some c.self.invariant.sound.grays in
-    let here = read_at places at c.index-place.result.now (At c.in-At.slot (MarkGray c.in-Gray.next)) (At_inside places at first.0 (MarkGray first.1) first.2) c.index-place.ensures (c.in-At.is ∙ ap (At c.in-At.slot) c.in-Gray.is) in
-    record {
+    let here = sym c.at-place.ensures ∙ (c.in-At.is ∙ ap (At c.in-At.slot) c.in-Gray.is) in
+    rw c.set.ensures (record {
       sound =
           recolored places c.self.inside.cells c.self.inside.room _ at c.in-Gray.next at c.in-At.slot (MarkGray c.in-Gray.next) MarkBlack c.self.invariant.sound here
           (first_left places _ at c.in-At.slot c.in-Gray.next (At c.in-At.slot MarkBlack) refl here some c.self.invariant.sound.grays refl);
       bytes = bytes_recolored places c.self.inside.cells c.self.inside.bytes at c.in-At.slot (MarkGray c.in-Gray.next) MarkBlack c.self.invariant.bytes here;
       end = c.self.invariant.end;
-    }
+      listed = listed_set places _ _ at (At c.in-At.slot MarkBlack) c.self.invariant.listed (At_inside places at c.in-At.slot (MarkGray c.in-Gray.next) here) refl (λ s m e. c.self.invariant.listed.covers at c.in-At.slot (MarkGray c.in-Gray.next) here);
+      reserved = c.self.invariant.reserved;
+    })
 
 pub unreachable-requires : goal.unreachable-requires
 unreachable-requires c =
     let places = c.self.inside.places.items in
     let at = c.self.inside.gray in
     let first = head_gray places _ at (above_zero at c.if-self-eq0.false) c.self.invariant.sound.grays in
-    let here = read_at places at c.index-place.result.now (At c.in-At.slot MarkWhite) (At_inside places at first.0 (MarkGray first.1) first.2) c.index-place.ensures (c.in-At.is ∙ ap (At c.in-At.slot) c.in-White.is) in
+    let here = sym c.at-place.ensures ∙ (c.in-At.is ∙ ap (At c.in-At.slot) c.in-White.is) in
     let both : At first.0 (MarkGray first.1) ≡ At c.in-At.slot MarkWhite = sym first.2 ∙ here in
     cc
 
@@ -46,7 +49,7 @@ unreachable-requires-in-Black c =
     let places = c.self.inside.places.items in
     let at = c.self.inside.gray in
     let first = head_gray places _ at (above_zero at c.if-self-eq0.false) c.self.invariant.sound.grays in
-    let here = read_at places at c.index-place.result.now (At c.in-At.slot MarkBlack) (At_inside places at first.0 (MarkGray first.1) first.2) c.index-place.ensures (c.in-At.is ∙ ap (At c.in-At.slot) c.in-Black.is) in
+    let here = sym c.at-place.ensures ∙ (c.in-At.is ∙ ap (At c.in-At.slot) c.in-Black.is) in
     let both : At first.0 (MarkGray first.1) ≡ At c.in-At.slot MarkBlack = sym first.2 ∙ here in
     cc
 
@@ -55,9 +58,9 @@ returns-clause-some c = λ serial e.
     let places = c.self.inside.places.items in
     let at = c.self.inside.gray in
     let first = head_gray places _ at (above_zero at c.if-self-eq0.false) c.self.invariant.sound.grays in
-    let here = read_at places at c.index-place.result.now (At c.in-At.slot (MarkGray c.in-Gray.next)) (At_inside places at first.0 (MarkGray first.1) first.2) c.index-place.ensures (c.in-At.is ∙ ap (At c.in-At.slot) c.in-Gray.is) in
+    let here = sym c.at-place.ensures ∙ (c.in-At.is ∙ ap (At c.in-At.slot) c.in-Gray.is) in
     let placed = c.self.invariant.sound.placed at c.in-At.slot (MarkGray c.in-Gray.next) here in
-    taken _ _ places c.self.inside.cells c.args.self.now at serial.0 c.in-At.slot c.in-Gray.next placed.cell c.self.view_is here placed.there (same_serial e)
+    rw c.set.ensures (taken _ _ places c.self.inside.cells c.args.self.now at serial.0 c.in-At.slot c.in-Gray.next placed.cell c.self.view_is here placed.there (same_serial e))
   where
     same_serial : {a : ℕ} {s : Serial} → ◌≡◌ {A = Option Serial} (Some (record { 0 = a })) (Some s) → a ≡ s.0
     same_serial {a} {s} e = let same : record { 0 = a } ≡ s = cc in ap (λ (s : Serial). s.0) same

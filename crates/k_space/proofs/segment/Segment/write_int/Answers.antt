@@ -33,9 +33,11 @@ invariant_of-self c =
     let fields : length c.write_int.new.self.fields ≡ length cell.body.fields =
     ap (λ (b : BodyValue). length b.fields) c.write_int.ensures ∙ length-set cell.body.fields c.args.field (Holds c.args.value) in
     record {
-      sound = rewritten c.self.inside.places.items c.self.inside.cells c.self.inside.room _ c.self.inside.gray c.args.slot.0 cell new c.self.invariant.sound found refl;
+      sound = rewritten c.self.inside.places.items c.self.inside.cells c.self.inside.room _ c.self.inside.gray c.args.slot.0 cell new c.self.invariant.sound found refl fields;
       bytes = bytes_rewritten c.self.inside.places.items c.self.inside.cells c.self.inside.bytes c.args.slot.0 cell new c.self.invariant.bytes found fields (slot_inside c.self.inside.cells.slots c.args.slot.0 cell found);
       end = below_rewritten c.self.inside.cells c.args.slot.0 cell new c.self.inside.end c.self.invariant.end found;
+      listed = c.self.invariant.listed;
+      reserved = c.self.invariant.reserved;
     }
 
 pub returns : goal.returns

@@ -1,0 +1,10 @@
+pub mod Shown
+pub mod Foreign
+pub mod Found
+pub mod Changed
+pub mod Sums
+pub mod Joined
+pub mod Looked
+pub mod Named
+pub mod OfParts
+pub mod Bounded

@@ -1,0 +1,7 @@
+use Rattle.std.proofs.Common.{refl}
+use Rattle.k_types.specs.Reach.{closure}
+use Rattle.k_areas.proofs.example.third_node_is_freed.Goals as goal
+
+pub returns-clause-reached : goal.returns-clause-reached
+unfolding closure
+returns-clause-reached c = refl
