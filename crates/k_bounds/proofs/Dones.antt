@@ -12,16 +12,17 @@ use Rattle.k_types.specs.declared.event.Event.{Event}
 use Rattle.k_types.specs.declared.event.Event.TheVariants.{Done, Ended, Absorbed, Closing}
 use Rattle.k_types.specs.TraceRules.{AreLimits}
 use Rattle.k_types.specs.Trace.{Trace, process_count}
-use Rattle.k_types.specs.State.{State, register}
+use Rattle.k_types.specs.State.{State, opening, register}
 use Rattle.k_types.specs.Replies.{first_fault, faults}
 use Rattle.k_types.specs.Updates.{count_done, set_register, create, open_scan, set_phase, add_share, keep_objects, keep_exits, keep_shares, close_scan, clear_registers, end_process, turn_exits, close}
 use Rattle.k_types.specs.Effects.{step, effect, effect_unless, after_operation, after_store, after_put, after_freeze, after_end_of, after_ended, after_absorbed, after_closing}
-use Rattle.k_types.specs.Steps.{IsPossible, IsLegalHistory, state_after, done_by}
+use Rattle.k_types.specs.Steps.{IsPossible, IsLegalHistory, run, state_after, done_by}
 use Rattle.k_bounds.specs.Counts.{one_if, operation_count, is_operation, ended_count, is_end, absorbed_count, is_absorption, closing_count, is_closing_event, begun_count, has_begun, begins_collection}
 use Rattle.k_bounds.proofs.Counting.{one_if_low}
 use Rattle.k_bounds.proofs.AbsorbedCounts.{absorbed_at_most, closings}
 use Rattle.k_bounds.proofs.ScanCounts.{collections_balance}
 use Rattle.k_frame.proofs.Histories.{history_induction, state_next, done_append}
+use Rattle.k_frame.proofs.Lists.{get_or-set_cases}
 use Rattle.k_frame.proofs.Sizes.{history_sized, zeros_at}
 use Rattle.k_frame.proofs.Rest.{store_rest, put_rest, freeze_rest}
 
@@ -90,6 +91,29 @@ module _ (trace : Trace) where
   closing_done : (st : State) → (after_closing trace st).done ≡ st.done
   unfolding after_closing close open_scan
   closing_done st = refl
+
+  operation_at_most : (st : State) (q p : ℕ) (op : Op) → get_or (after_operation trace q op st).done p 0 ≤ get_or st.done p 0 + 1
+  operation_at_most st q p op =
+      let after = ap (λ done. get_or done p 0) (done_is st q op) in
+      elim (get_or-set_cases st.done q p (get_or st.done q 0 + 1) 0) [
+        | inl same ↦ omega (arith, after, same)
+        | inr here ↦ (let was = ap (λ k. get_or st.done k 0) here.0 in omega (arith, after, here.1, was))
+      ]
+
+  step_at_most : (st : State) (event : Event) (p : ℕ) → get_or (step trace st event).done p 0 ≤ get_or st.done p 0 + one_if (is_operation event)
+  unfolding step
+  step_at_most st (Done pid op said) p = operation_at_most st pid.0 p op
+  step_at_most st (Ended h a b c d) p = (let same = ap (λ done. get_or done p 0) (ended_done st h) in omega (arith, same))
+  step_at_most st (Absorbed s) p = (let same = ap (λ done. get_or done p 0) (absorbed_done st s.0) in omega (arith, same))
+  step_at_most st Closing p = (let same = ap (λ done. get_or done p 0) (closing_done st) in omega (arith, same))
+
+  run_at_most : (st : State) (events : List Event) (p : ℕ) → get_or (run trace st events).done p 0 ≤ get_or st.done p 0 + operation_count events
+  run_at_most st [] p = omega arith
+  run_at_most st (event ∷ events) p = omega (arith, run_at_most (step trace st event) events p, step_at_most st event p)
+
+  -- of every list of events, legal or not
+  pub dones_at_most : (events : List Event) (p : ℕ) → get_or (state_after trace events).done p 0 ≤ operation_count events
+  dones_at_most events p = (let none = zeros_at (process_count trace) p in omega (arith, run_at_most (opening trace) events p, none))
 
   module _ (p : ℕ) where
     Counted : List Event → Type 0

@@ -5,6 +5,7 @@ pub mod ExitCounts
 pub mod Phases
 pub mod SharedBounds
 pub mod SerialBounds
+pub mod ObjectBounds
 pub mod ScanCounts
 pub mod AbsorbedCounts
 pub mod Dones

@@ -65,6 +65,22 @@ has_allocated_in trace seg _ = false
 abbrev pub allocation_count : Trace → ℕ → List Event → ℕ
 allocation_count trace seg history = total (λ event. one_if (has_allocated_in trace seg event)) history
 
+-- the operation allocates
+abbrev pub is_allocation : Op → Bool
+is_allocation (New r ty) = true
+is_allocation (KNew r ty) = true
+is_allocation (SNew r s ty) = true
+is_allocation _ = false
+
+-- the event allocates
+abbrev pub has_allocated : Event → Bool
+has_allocated (Done pid op said) = is_allocation op
+has_allocated _ = false
+
+-- how many allocations the history has, refused ones too
+abbrev pub allocations : List Event → ℕ
+allocations history = total (λ event. one_if (has_allocated event)) history
+
 -- the operation begins a collection
 abbrev pub begins_collection : Op → Bool
 begins_collection Collect = true

@@ -3,6 +3,7 @@ ghost use Rattle.k_bounds.specs.Counts.{
   MadeBy,
   absorbed_count,
   allocation_count,
+  allocations,
   begun_count,
   closing_count,
   ended_count,
@@ -41,6 +42,12 @@ pub fn exit_items_are_at_most_the_stores()
 pub fn serials_are_at_most_the_allocations()
     ensures { (trace : Trace) (history : List Event) (seg : ℕ) →
         slice_index_or (state_after trace history).made seg 0 ≤ one_if (seg == 0) + allocation_count trace seg history }
+{}
+
+/// The objects that are there are at most the allocations, and one more for the directory.
+pub fn objects_are_at_most_the_allocations()
+    ensures { (trace : Trace) (history : List Event) →
+        length (state_after trace history).objects ≤ 1 + allocations history }
 {}
 
 /// Of the collections that were begun, by a process or by the closing, each has ended once or is still open.

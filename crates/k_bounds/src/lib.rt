@@ -9,7 +9,8 @@ mod targets;
 
 pub use bounds::{
     collections_end_once, exit_items_are_at_most_the_stores, heaps_are_absorbed_once,
-    histories_are_short, operations_done_are_those_of_the_history, pins_are_at_most_the_registers,
+    histories_are_short, objects_are_at_most_the_allocations,
+    operations_done_are_those_of_the_history, pins_are_at_most_the_registers,
     serials_are_at_most_the_allocations,
 };
 pub use processes::{

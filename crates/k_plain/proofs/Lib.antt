@@ -22,3 +22,4 @@ pub mod Operated
 pub mod Known
 pub mod Nearests
 pub mod Ordered
+pub mod Rooms

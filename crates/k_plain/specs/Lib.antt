@@ -5,3 +5,4 @@ pub mod Built
 pub mod Runs
 pub mod Nearest
 pub mod Places
+pub mod Rooms

@@ -1,6 +1,7 @@
 ghost use Rattle.std.specs.Prelude.{◌≡◌, ◌<◌, IfOk, OnErr, OnOk, Some, map, length};
 ghost use Rattle.k_plain.specs.Contents.{content};
 ghost use Rattle.k_plain.specs.Machines.{HasEffect};
+ghost use Rattle.k_plain.specs.Rooms.{HasRoom};
 ghost use Rattle.k_types.specs.Sound.{IsOrdered};
 ghost use Rattle.k_types.specs.State.{fresh};
 ghost use Rattle.k_types.specs.Trace.{kinds_of, process_count, segment_count};
@@ -13,9 +14,6 @@ use crate::objects::{FieldValue, PlainObject, place_of};
 use k_io::NoMemory;
 use k_types::{Field, Name, Pid, Reg, Reply, Seg, Serial, TypeId, TypeTable};
 use std::alloc::Global;
-
-// The most objects that a state has at once.
-const MAX_OBJECTS: usize = 0xffff_ffff;
 
 // A field as it is when its object is made.
 fn fresh(kind: Field) -> FieldValue
@@ -48,21 +46,18 @@ fn fresh_fields(alloc: Global, types: &TypeTable, ty: TypeId) -> Result<Vec<Fiel
 }
 
 impl PlainLists {
-    // Makes the segment's next object. `NoMemory` comes where the object finds no memory, its segment has no serial left or
-    // the state no room for one object more, and leaves the state as it was.
+    // Makes the segment's next object. `NoMemory` comes where the object finds no memory, and leaves the state as it was.
     pub(crate) fn create(&mut self, alloc: Global, seg: Seg, ty: TypeId) -> Result<Name, NoMemory>
         requires seg { seg.0 < segment_count self.old.setup }
         requires ty { ty.0 < length self.old.setup.types }
         requires ordered { IsOrdered self.old.state.objects }
+        requires room { HasRoom self.old.state }
         ensures setup { self.new.setup ≡ self.old.setup }
         ensures name { IfOk result (λ name. name ≡ next_name seg.0 self.old.state) }
         ensures ok { OnOk result (self.new.state ≡ create seg.0 ty (kinds_of self.old.setup ty) self.old.state) }
         ensures err { OnErr result (self.new ≡ self.old) }
     {
         let made = self.made[seg.0 as usize];
-        if made == u32::MAX || self.objects.len() >= MAX_OBJECTS {
-            return Err(NoMemory);
-        }
         let fields = fresh_fields(alloc, &self.setup.types, ty)?;
         let name = Name {
             seg,
@@ -93,6 +88,7 @@ impl PlainLists {
         requires reg { reg.0 < 16 }
         requires ty { ty.0 < length self.old.setup.types }
         requires ordered { IsOrdered self.old.state.objects }
+        requires room { HasRoom self.old.state }
         ensures ok { IfOk result (λ said. HasEffect self.old self.new pid.0 (New reg ty) said) }
         ensures err { OnErr result (self.new ≡ self.old) }
     {

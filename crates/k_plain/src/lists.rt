@@ -104,14 +104,6 @@ impl PlainLists {
         self.done[pid.0 as usize]
     }
 
-    // Whether the count of operations done by the process has come to its end.
-    pub(crate) fn is_counted_out(&self, pid: Pid) -> bool
-        requires { pid.0 < process_count self.now.setup }
-        ensures { result ≡ not (nat_lt (slice_index_or self.now.state.done pid.0 0) (2 ^ 32 - 1)) }
-    {
-        self.done[pid.0 as usize] == u32::MAX
-    }
-
     #[tactic(auto, unfolding(k_types::specs::Updates::count_done))]
     pub(crate) fn count_done(&mut self, pid: Pid)
         requires process { pid.0 < process_count self.old.setup }

@@ -1,6 +1,7 @@
 ghost use Rattle.std.specs.Prelude.{◌≡◌, ◌<◌, IfOk, IsTrue, OnErr};
 ghost use Rattle.k_plain.specs.Built.{is_built};
 ghost use Rattle.k_plain.specs.Machines.{HasEffect};
+ghost use Rattle.k_plain.specs.Rooms.{HasRoom};
 ghost use Rattle.k_types.specs.Effects.{step};
 ghost use Rattle.k_types.specs.Replies.{reply_to};
 ghost use Rattle.k_types.specs.Sound.{IsOrdered};
@@ -20,6 +21,7 @@ impl PlainLists {
         requires in_range { IsTrue (in_range self.old.setup op.now) }
         requires built { IsTrue (is_built op.now) }
         requires ordered { IsOrdered self.old.state.objects }
+        requires room { HasRoom self.old.state }
         ensures ok { IfOk result (λ said. HasEffect self.old self.new pid.0 op.now said) }
         ensures err { OnErr result (self.new ≡ self.old) }
     {
@@ -34,21 +36,18 @@ impl PlainLists {
     // Does the operation of the process as the machine does, and gives the machine's reply. What is refused changes the count
     // of operations done alone.
     //
-    // `NoMemory` comes where an object or an exit item finds no memory, or a count of 32 bits has come to its end, and
-    // leaves the machine as it was.
+    // `NoMemory` comes where an object or an exit item finds no memory, and leaves the machine as it was.
     pub(crate) fn operate(&mut self, alloc: Global, pid: Pid, op: &Op) -> Result<Reply, NoMemory>
         requires process { pid.0 < process_count self.old.setup }
         requires in_range { IsTrue (in_range self.old.setup op.now) }
         requires built { IsTrue (is_built op.now) }
         requires ordered { IsOrdered self.old.state.objects }
+        requires room { HasRoom self.old.state }
         ensures setup { self.new.setup ≡ self.old.setup }
         ensures reply { IfOk result (λ said. said ≡ reply_to self.old.setup self.old.state pid.0 op.now) }
         ensures state { IfOk result (λ said. self.new.state ≡ step self.old.setup self.old.state (Done pid op.now said)) }
         ensures err { OnErr result (self.new ≡ self.old) }
     {
-        if self.is_counted_out(pid) {
-            return Err(NoMemory);
-        }
         let reply = self.take_effect(alloc, pid, op)?;
         self.count_done(pid);
         Ok(reply)

@@ -1,6 +1,7 @@
 ghost use Rattle.std.specs.Prelude.{◌≡◌, ◌<◌, [], IfOk, IsTrue, OnErr, slice_index_or};
 ghost use Rattle.k_plain.specs.Built.{is_built};
 ghost use Rattle.k_plain.specs.Machines.{AreSetupRules, Machine};
+ghost use Rattle.k_plain.specs.Rooms.{HasRoom};
 ghost use Rattle.k_types.specs.Known.{IsKnownReply};
 ghost use Rattle.k_types.specs.Effects.{step};
 ghost use Rattle.k_types.specs.Replies.{reply_to};
@@ -55,12 +56,12 @@ impl PlainState {
     /// Does an operation that the machine can do now, as the machine does, and gives the machine's reply. What is refused
     /// changes the count of operations done alone. Each size that is tested is tested against a sum over all objects.
     ///
-    /// `NoMemory` comes where an object or an exit item finds no memory, or a count of 32 bits has come to its end, and
-    /// leaves the state as it was. Source: own.
+    /// `NoMemory` comes where an object or an exit item finds no memory, and leaves the state as it was.
     pub fn operate(&mut self, alloc: Global, pid: Pid, op: &Op) -> Result<Reply, NoMemory>
         requires possible { IsPossible self.old.setup self.old.state
             (Done pid op.now (reply_to self.old.setup self.old.state pid.0 op.now)) }
         requires built { IsTrue (is_built op.now) }
+        requires room { HasRoom self.old.state }
         ensures setup { self.new.setup ≡ self.old.setup }
         ensures reply { IfOk result (λ said. said ≡ reply_to self.old.setup self.old.state pid.0 op.now) }
         ensures state { IfOk result (λ said. self.new.state ≡ step self.old.setup self.old.state (Done pid op.now said)) }

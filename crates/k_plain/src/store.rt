@@ -1,6 +1,7 @@
 ghost use Rattle.std.specs.Prelude.{◌≡◌, ◌<◌, IfOk, MatchResult, None, OnErr, OnOk, Some};
 ghost use Rattle.k_plain.specs.Contents.{content};
 ghost use Rattle.k_plain.specs.Machines.{HasEffect};
+ghost use Rattle.k_plain.specs.Rooms.{HasRoom};
 ghost use Rattle.k_types.specs.Effects.{with_exit_of_store};
 ghost use Rattle.k_types.specs.Replies.{faults, first_fault, passes_barrier};
 ghost use Rattle.k_types.specs.Sound.{IsOrdered};
@@ -15,9 +16,6 @@ use crate::names::{is_same_heap, kind_of};
 use crate::objects::{FieldValue, index_of};
 use k_io::NoMemory;
 use k_types::{Fault, Name, Pid, Reg, Reply, legal};
-
-// The most exit items that a state has at once.
-const MAX_EXITS: usize = 0xffff_ffff;
 
 impl PlainLists {
     // Whether the barrier lets the object refer to the value.
@@ -70,10 +68,10 @@ impl PlainLists {
         Ok((x, to))
     }
 
-    // Adds the exit item of a store, where the owners differ and it is not there. `NoMemory` comes where it finds no memory or
-    // the state has no room for one exit item more.
+    // Adds the exit item of a store, where the owners differ and it is not there. `NoMemory` comes where it finds no memory.
     #[tactic(auto, unfolding(k_types::specs::Effects::with_exit_of_store, k_types::specs::Updates::add_exit))]
     fn add_exit_of_store(&mut self, x: Name, value: Option<Name>) -> Result<(), NoMemory>
+        requires { HasRoom self.old.state }
         ensures setup { self.new.setup ≡ self.old.setup }
         ensures ok { OnOk result (self.new.state ≡ with_exit_of_store self.old.setup x value self.old.state) }
         ensures err { OnErr result (self.new ≡ self.old) }
@@ -81,9 +79,6 @@ impl PlainLists {
         if let Some(y) = value {
             let from = self.owner(x.seg);
             if !is_same_heap(from, self.owner(y.seg)) && !has_exit(&self.exits, from, y) {
-                if self.exits.len() >= MAX_EXITS {
-                    return Err(NoMemory);
-                }
                 self.exits.push(ExitItem::of(from, y))?;
             }
         }
@@ -115,6 +110,7 @@ impl PlainLists {
         requires base { base.0 < 16 }
         requires value { value.0 < 16 }
         requires ordered { IsOrdered self.old.state.objects }
+        requires room { HasRoom self.old.state }
         ensures ok { IfOk result (λ said. HasEffect self.old self.new pid.0 (Store base field value) said) }
         ensures err { OnErr result (self.new ≡ self.old) }
     {

@@ -1,5 +1,5 @@
 use Rattle.std.proofs.Common.{◌≡◌, ℕ, ◌<◌, ◌+◌, List, [], ◌∷◌, ◌++◌, Option, Some, None, map, drop, length, get_or, option_copied, ap, subst, sym, ◌∙◌, refl, arith}
-use Rattle.std.proofs.Common.{nat_lt, true, Vec, Global}
+use Rattle.std.proofs.Common.{◌≤◌, ◌-◌, ◌^◌, nat_lt, true, Vec, Global}
 use Rattle.std.specs.List.{list_all}
 use Rattle.k_types.specs.declared.names.Pid.{Pid}
 use Rattle.k_types.specs.declared.op.Op.{Op}
@@ -10,11 +10,13 @@ use Rattle.k_types.specs.FileOrder.{next_operation}
 use Rattle.k_trace.specs.Meaning.{meaning_of}
 use Rattle.std.specs.List.{AllByRecursion}
 use Rattle.std.specs.Prelude.{IsTrue}
-use Rattle.std.proofs.lemmas.List.{length-append}
+use Rattle.std.proofs.lemmas.List.{length-append, length-map}
 use Rattle.k_types.specs.Steps.{in_range}
 use Rattle.k_types.specs.Known.{IsKnownEvent, IsKnownReply}
 use Rattle.k_plain.specs.Machines.{Machine, setup_of}
 use Rattle.k_plain.proofs.Typed.{all_snoc}
+use Rattle.k_plain.specs.Rooms.{HasRoom}
+use Rattle.k_plain.proofs.Rooms.{room_after}
 use Rattle.k_plain.proofs.Quiet.{quiet_possible}
 use Rattle.k_plain.proofs.FirstForms.{filed_run, next_built, next_in_range, next_is, order_next, order_over, process_known}
 use Rattle.k_plain.proofs.Follows.{Follows, follows_none, follows_some}
@@ -66,6 +68,16 @@ operate-requires-clause-built c =
     let next : next_operation trace st pid.0 ≡ Some c.in-Some.op.now
     = next_is trace st pid.0 c.done-done.result lists (option_copied c.operation_at.result) (Some c.in-Some.op.now) same c.loop-pid.invariant.follows.quiet c.done-done.ensures c.operation_at.ensures (ap option_copied c.in-Some.is) in
     next_built trace st pid.0 c.in-Some.op.now c.requires.form known next
+
+pub operate-requires-clause-room : goal.operate-requires-clause-room
+operate-requires-clause-room c =
+    let trace = (meaning_of c.args.trace.now).trace in
+    let all = c.deref-pid-items.ensures.value in
+    let count : length c.deref-pid-items.result.now ≡ length trace.order
+    = sym (length-map c.deref-pid-items.result.now (λ (pid : Pid). pid.0)) ∙ ap (λ (pids : List Pid). length (map (λ (pid : Pid). pid.0) pids)) all in
+    let bound : length trace.order ≤ 200000 = c.requires.rules.operations.room in
+    let few : length c.loop-pid.events.items < 2 ^ 32 - 2 = omega (arith, count, bound, c.loop-pid.invariant.few, c.loop-pid-test.true) in
+    subst HasRoom (sym c.loop-pid.invariant.follows.after) (room_after trace c.loop-pid.events.items few)
 
 pub loop-pid-preserved : goal.loop-pid-preserved
 loop-pid-preserved c =

@@ -1,5 +1,4 @@
 use Rattle.std.proofs.Common.{◌≡◌, ℕ, ◌<◌, ◌+◌, List, ap, sym, ◌∙◌, get_or, arith}
-use Rattle.std.proofs.lemmas.Bool.Decides.{nat_tests}
 use Rattle.k_types.specs.State.{State}
 use Rattle.k_types.specs.Effects.{after_operation, step}
 use Rattle.k_types.specs.Replies.{faults, first_fault}
@@ -14,8 +13,8 @@ count_done-requires-clause-room c =
     = ap (λ (st : State). st.done) c.in_ok-reply.ensures.ok.state
     ∙ ap (λ (r : Rest). r.done) (unless_rest m.setup c.args.pid.0 c.args.op.now m.state (first_fault (faults m.setup m.state c.args.pid.0 c.args.op.now)) c.requires.built) in
     let at : get_or c.take_effect.new.self.state.done c.args.pid.0 0 ≡ get_or m.state.done c.args.pid.0 0 = ap (λ ns. get_or ns c.args.pid.0 0) same in
-    let room = c.is_counted_out.ensures in
-    grind (arith, nat_tests)
+    let room = c.requires.room.done c.args.pid.0 in
+    omega (arith, at, room)
 
 pub returns-clause-state : goal.returns-clause-state
 unfolding step after_operation
