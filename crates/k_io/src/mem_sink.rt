@@ -1,4 +1,4 @@
-ghost use Rattle.std.specs.Prelude.{◌≡◌, ◌≤◌, ◌<◌, [], length, IfOk, IsErr, IsTrue, ◌↔◌, min};
+ghost use Rattle.std.specs.Prelude.{◌≡◌, ◌≤◌, ◌<◌, [], length, IfOk, OnOk, IsErr, IsTrue, ◌↔◌, min};
 ghost use Rattle.k_io.specs.Causes.{HasCause};
 ghost use Rattle.k_io.specs.Taking.{WriteTakes};
 ghost use Rattle.k_io.specs.Memory.{SinkState, refuses, after_write};
@@ -67,6 +67,7 @@ impl Sink for MemSink {
         ensures bound { IfOk result (λ n. (0 < n) × (n ≤ length piece.now)) }
         ensures bytes { WriteTakes (λ given xs. xs ≡ self.old.taken) (λ given xs. xs ≡ self.new.taken) result piece.now }
         ensures cause { HasCause self.old.faults self.new.faults result }
+        ensures steady { OnOk result (self.new.faults ≡ self.old.faults) }
         ensures answer { IsErr result ↔ IsTrue (refuses self.old) }
         ensures count { IfOk result (λ n. n ≡ min (length piece.now) self.old.space) }
         ensures after { self.new ≡ after_write self.old piece.now }

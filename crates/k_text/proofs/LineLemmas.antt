@@ -1,5 +1,5 @@
 -- Lines as their words, and lists of lines written one after the other.
-use Rattle.std.proofs.Common.{◌≡◌, ◌∙◌, ℕ, zero, suc, ◌+◌, ◌-◌, ◌<◌, ◌≤◌, List, [], ◌∷◌, ◌++◌, length, take, drop, map, sym, ap, subst, arith, append_assoc, add-one, zero-add, Result, Ok, Err, Some, slice_get, codes}
+use Rattle.std.proofs.Common.{refl, ◌≡◌, ◌∙◌, ℕ, zero, suc, ◌+◌, ◌-◌, ◌<◌, ◌≤◌, List, [], ◌∷◌, ◌++◌, length, take, drop, map, sym, ap, subst, arith, append_assoc, add-one, zero-add, Result, Ok, Err, Some, slice_get, codes}
 use Rattle.std.specs.Prelude.{IsErr}
 use Rattle.std.specs.List.{flat_map, join_with_byte}
 use Rattle.std.proofs.lemmas.List.{append-nil, take_more, take_all, take-append-drop, map-append}
@@ -75,14 +75,14 @@ numbers_after i n lt =
 
 -- nothing was written
 pub written_none : (a : List ℕ → List ℕ → Type 0) (x : ℕ) → HasWritten a a x x []
-written_none a x = record { taken = takes_nothing a; later = omega arith }
+written_none a x = record { taken = takes_nothing a; steady = refl }
 
 pub written_same : (a b : List ℕ → List ℕ → Type 0) (x y : ℕ) (text other : List ℕ) → text ≡ other → HasWritten a b x y text → HasWritten a b x y other
 written_same a b x y text other e h = subst (λ (t : List ℕ). HasWritten a b x y t) e h
 
 -- one more text was written
 pub written_then : {E : Type 0} (a b c : List ℕ → List ℕ → Type 0) (x y z : ℕ) (u : Unit {0}) (first second : List ℕ) → HasWritten a b x y first → Writes {T = Unit {0}} {E = E} b c y z (Ok u) second → HasWritten a c x z (first ++ second)
-written_then a b c x y z u first second h w = record { taken = takes_then a b c first second h.taken w.ok; later = omega (arith, h.later, w.cause.later) }
+written_then a b c x y z u first second h w = record { taken = takes_then a b c first second h.taken w.ok; steady = w.steady ∙ h.steady }
 
 -- a text failed behind what was written
 pub failed_behind : {E : Type 0} (a b c : List ℕ → List ℕ → Type 0) (x y z : ℕ) (r : Result (Unit {0}) E) (e : E) (first second rest : List ℕ) → IsErr r → HasWritten a b x y first → Writes {T = Unit {0}} b c y z (Err e) second → Writes a c x z r ((first ++ second) ++ rest)
@@ -91,12 +91,13 @@ failed_behind a b c x y z (Err d) e first second rest is h w =
     record {
       ok = tt;
       err = takes_front_longer a c (first ++ second) rest (takes_front_then a b c first second h.taken w.err);
-      cause = record { later = omega (arith, h.later, w.cause.later); failed = rose_since x y z h.later w.cause.failed };
+      steady = tt;
+      cause = record { later = omega (arith, h.steady, w.cause.later); failed = rose_since x y z (omega (arith, h.steady)) w.cause.failed };
     }
 
 -- what was written is all
 pub written_all : {E : Type 0} (a b : List ℕ → List ℕ → Type 0) (x y : ℕ) (u : Unit {0}) (text : List ℕ) → HasWritten a b x y text → Writes {T = Unit {0}} {E = E} a b x y (Ok u) text
-written_all a b x y u text h = record { ok = h.taken; err = tt; cause = record { later = h.later; failed = tt } }
+written_all a b x y u text h = record { ok = h.taken; err = tt; steady = h.steady; cause = record { later = omega (arith, h.steady); failed = tt } }
 
 -- ---- the lines of the numbers below a bound
 
@@ -196,7 +197,7 @@ writes_line a b x y r line words e w = writes_same a b x y r _ _ (ap (λ (t : Te
 
 -- the first part
 pub part_first : {E : Type 0} (a b : List ℕ → List ℕ → Type 0) (x y : ℕ) (u : Unit {0}) (first : List (List Text)) → Writes {T = Unit {0}} {E = E} a b x y (Ok u) (text_of first) → HasWritten a b x y (text_of first)
-part_first a b x y u first w = record { taken = w.ok; later = w.cause.later }
+part_first a b x y u first w = record { taken = w.ok; steady = w.steady }
 
 -- one more part
 pub part_then : {E : Type 0} (a b c : List ℕ → List ℕ → Type 0) (x y z : ℕ) (u : Unit {0}) (first second : List (List Text))
@@ -213,7 +214,7 @@ part_last {E} a b c x y z r first second h w =
 -- the first part failed
 pub part_failed_first : {E : Type 0} (a b : List ℕ → List ℕ → Type 0) (x y : ℕ) (r : Result (Unit {0}) E) (e : E) (first : List (List Text)) → IsErr r → Writes {T = Unit {0}} a b x y (Err e) (text_of first) → Writes a b x y r (text_of first)
 part_failed_first a b x y (Ok v) e first is w = absurd cc
-part_failed_first a b x y (Err d) e first is w = record { ok = tt; err = w.err; cause = record { later = w.cause.later; failed = w.cause.failed } }
+part_failed_first a b x y (Err d) e first is w = record { ok = tt; err = w.err; steady = tt; cause = record { later = w.cause.later; failed = w.cause.failed } }
 
 -- a part failed
 pub part_failed : {E : Type 0} (a b c : List ℕ → List ℕ → Type 0) (x y z : ℕ) (r : Result (Unit {0}) E) (e : E) (first second : List (List Text))
@@ -230,6 +231,7 @@ part_missing a b x y (Err d) first more is w =
     record {
       ok = tt;
       err = subst (λ (t : List ℕ). TakesFront a b t) (sym (text_of-append first more)) (takes_front_longer a b (text_of first) (text_of more) w.err);
+      steady = tt;
       cause = w.cause;
     }
 

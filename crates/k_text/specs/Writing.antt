@@ -1,8 +1,8 @@
 -- How far a writer of several lines has come.
-use Rattle.std.specs.Prelude.{ℕ, ◌≤◌, List}
+use Rattle.std.specs.Prelude.{◌≡◌, ℕ, List}
 use Rattle.k_io.specs.Taking.{Takes}
 
--- The text was written so far, and the count of faults did not fall.
+-- The text was written so far, and the sink had no fault.
 pub record HasWritten (old new : List ℕ → List ℕ → Type 0) (before now : ℕ) (text : List ℕ) : Type 0 where
   pub taken : Takes old new text
-  pub later : before ≤ now
+  pub steady : now ≡ before

@@ -14,7 +14,11 @@ use Rattle.kaffe.specs.Commands.{IsRun}
 
 -- An answer with no text: nothing was written.
 pub answered_unwritten : (tells : Status → Text → Type 0) (old : List ℕ → List ℕ → Type 0) (count : ℕ) (status : Status) → tells status [] → IsAnswered tells old old count count status
-answered_unwritten tells old count status h = record { status = status; text = []; told = h; written = inl (refl, takes_nothing old) }
+answered_unwritten tells old count status h = record { status = status; text = []; told = h; written = inl (refl, takes_nothing old, refl) }
+
+-- The same of a status that a call gave.
+pub answered_unwritten_as : (tells : Status → Text → Type 0) (old : List ℕ → List ℕ → Type 0) (count : ℕ) (status answer : Status) → answer ≡ status → tells status [] → IsAnswered tells old old count count answer
+answered_unwritten_as tells old count status answer same h = record { status = status; text = []; told = h; written = inl (same, takes_nothing old, refl) }
 
 -- An answer whose text was handed to the sink.
 pub answered_written : (tells : Status → Text → Type 0) (old new : List ℕ → List ℕ → Type 0) (before now : ℕ) (status answer : Status) (text : Text)

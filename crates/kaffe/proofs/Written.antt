@@ -8,7 +8,7 @@ use Rattle.kaffe.specs.Parts.{status_after}
 
 written : {E : Type 0} (old new : List ℕ → List ℕ → Type 0) (before now : ℕ) (r : Result (Unit {0}) E) (text : Text) (status : Status)
     → Writes {T = Unit {0}} {E = E} old new before now r text → IsWritten old new before now status text (status_after status r)
-written old new before now (Ok v) text status w = inl (refl, w.ok)
+written old new before now (Ok v) text status w = inl (refl, w.ok, w.steady)
 written old new before now (Err e) text status w = inr (refl, w.err, w.cause.failed)
 
 pub written_by : {E : Type 0} (old new : List ℕ → List ℕ → Type 0) (before now : ℕ) (r : Result (Unit {0}) E) (text : Text) (status answer : Status)

@@ -59,10 +59,10 @@ Tells words left rest before now ReadFault text = IsRun words × RoseOrLast befo
 Tells words left rest before now WriteFault text = ⊥
 Tells words left rest before now Refused text = ⊥
 
--- The text was taken and the status is the answer; or the sink failed, a front of the text was taken, and the answer is WriteFault.
+-- The text was taken without a fault and the status is the answer; or the sink failed, a front of the text was taken, and the answer is WriteFault.
 abbrev pub IsWritten : (List ℕ → List ℕ → Type 0) → (List ℕ → List ℕ → Type 0) → ℕ → ℕ → Status → Text → Status → Type 0
 IsWritten old new before now status text answer =
-    ((answer ≡ status) × Takes old new text) ⊎ ((answer ≡ WriteFault) × TakesFront old new text × RoseOrLast before now)
+    ((answer ≡ status) × Takes old new text × (now ≡ before)) ⊎ ((answer ≡ WriteFault) × TakesFront old new text × RoseOrLast before now)
 
 -- Some status tells the truth, and its text was written, up to a fault of the sink.
 pub record IsAnswered (tells : Status → Text → Type 0) (old new : List ℕ → List ℕ → Type 0) (before now : ℕ) (answer : Status) : Type 0 where

@@ -7,5 +7,5 @@ pub loop-done-preserved : goal.loop-done-preserved
 loop-done-preserved g c = record {
   within = grind arith;
   taken = takes_more (g.K.Sink.Holds c.args.out.now) (g.K.Sink.Holds c.loop-done.out) (g.K.Sink.Holds c.write.new.self) c.args.bytes.now c.loop-done.done c.in_ok-done.field-0 c.loop-done.invariant.taken (rw (take_rest c.args.bytes.now c.loop-done.done) at c.in_ok-done.ensures.bytes);
-  later = grind arith;
+  steady = grind arith;
 }

@@ -1,4 +1,4 @@
-use Rattle.std.proofs.Common.{length, take, ◌-◌, ◌≤◌}
+use Rattle.std.proofs.Common.{◌≡◌, length, take, ◌-◌, ◌≤◌}
 use Rattle.k_io.specs.Taking.{Takes}
 use Rattle.k_io.proofs.writing.write_all.Given as goal
 
@@ -6,7 +6,7 @@ abbrev pub invariant-loop-done : goal.invariant-loop-done
 invariant-loop-done g l = record {
   within : l.done ≤ length l.bytes;
   taken : Takes (g.K.Sink.Holds l.fn.out) (g.K.Sink.Holds l.out) (take l.done l.bytes);
-  later : g.K.Sink.faults l.fn.out ≤ g.K.Sink.faults l.out;
+  steady : g.K.Sink.faults l.out ≡ g.K.Sink.faults l.fn.out;
 }
 
 abbrev pub decreases-loop-done : goal.decreases-loop-done
