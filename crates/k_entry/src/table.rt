@@ -44,14 +44,12 @@ impl Model for EntryTable {
 }
 
 impl EntryTable {
-    /// A table with no item and room for so many; home number i is that of segment i. There is no memory
-    /// for 2^32 - 1 segments or more, since lists number segments by 32 bits. Source: own.
+    /// A table with no item and room for so many; home number i is that of segment i. There are fewer than 2^32 - 1
+    /// segments, since lists number segments by 32 bits.
     pub fn make(alloc: Global, homes: &[Heap], room: u32) -> Result<EntryTable, NoMemory>
+        requires { length homes.now < 2 ^ 32 - 1 }
         ensures { IfOk result (λ t. t ≡ record { items = []; homes = homes.now; room = room }) }
     {
-        if homes.len() >= u32::MAX as usize {
-            return Err(NoMemory);
-        }
         let slots = Vec::with_capacity(alloc, room as usize)?;
         let chains = Lists::make(alloc, chain_count(room), room)?;
         let segments = Lists::make(alloc, homes.len() + 1, room)?;

@@ -1,24 +1,46 @@
-ghost use Rattle.std.specs.Prelude.{◌≡◌};
+//! Why a call failed: want of memory, a failed read, a failed write.
+ghost use Rattle.std.specs.Prelude.{◌≡◌, ◌↔◌, IsTrue, is_some};
+ghost use Rattle.std.specs.IoError.{error_kind};
+ghost use Rattle.std.specs.declared.io.ErrorKind.{ErrorKind};
 
 use std::alloc::{AllocError, AllocFailed};
+use std::io;
+use std::io::ErrorKind;
 
-/// Memory ran out.
+/// Memory ran out: an allocation was refused.
+///
+/// It is made from a refused allocation alone, ours or one that the system tells of, and only here. So whoever answers
+/// it, in this crate or in one above, has asked for memory and got none.
 #[derive(Clone, Copy, Debug, PartialEq, Eq)]
-pub struct NoMemory;
+pub struct NoMemory {
+    refused: AllocError,
+}
+
+impl NoMemory {
+    /// The refused allocation that an error of the system tells of; `None` where it tells of something else.
+    pub fn told_by(error: &io::Error) -> Option<NoMemory>
+        ensures { IsTrue (is_some result) ↔ error_kind error.now ≡ ErrorKind.OutOfMemory }
+    {
+        match error.kind() {
+            ErrorKind::OutOfMemory => Some(NoMemory {
+                refused: AllocError,
+            }),
+            _ => None,
+        }
+    }
+}
 
 impl From<AllocError> for NoMemory {
-    ghost use Rattle.k_io.specs.declared.errors.NoMemory.{NoMemory};
+    ghost from_gives = { λ refused e. e ≡ record { refused = refused } };
 
-    ghost from_gives = { λ _ e. e ≡ record {} };
-
-    fn from(_error: AllocError) -> NoMemory {
-        NoMemory
+    fn from(refused: AllocError) -> NoMemory {
+        NoMemory { refused }
     }
 }
 
 impl<T: Drop> From<AllocFailed<T>> for NoMemory {
-    fn from(_e: AllocFailed<T>) -> NoMemory {
-        NoMemory
+    fn from(refused: AllocFailed<T>) -> NoMemory {
+        NoMemory::from(AllocError::from(refused))
     }
 }
 

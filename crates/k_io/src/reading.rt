@@ -1,8 +1,8 @@
-ghost use Rattle.std.specs.Prelude.{◌≡◌, ◌<◌, ◌≤◌, ◌+◌, ◌^◌, IfOk, IsErrOf, vec_len};
+ghost use Rattle.std.specs.Prelude.{◌≡◌, ◌<◌, ◌≤◌, ◌+◌, ◌^◌, IfOk, OnOk, IsErrOf, vec_len};
 ghost use Rattle.std.specs.Io.KnownBytes.{Consumes, IsAtEnd};
 ghost use Rattle.k_io.specs.Causes.{RoseOrLast};
 
-use crate::Source;
+use crate::{NoMemory, Source};
 use std::alloc::Global;
 
 /// How many bytes are asked for at once.
@@ -12,7 +12,7 @@ const PIECE: usize = 4096;
 #[derive(Clone, Copy, Debug, PartialEq, Eq)]
 pub enum ReadAllError {
     /// Memory ran out.
-    NoMemory,
+    NoMemory(NoMemory),
     /// The source failed.
     ReadFault,
 }
@@ -32,6 +32,7 @@ pub fn read_all<S: Source>(
     ensures bound { IfOk result (λ v. vec_len v ≤ limit + 1) }
     ensures bytes { IfOk result (λ v. Consumes (S.left src.old) (S.left src.new) v.items) }
     ensures end { IfOk result (λ v. vec_len v ≤ limit → IsAtEnd (S.left src.new)) }
+    ensures steady { OnOk result (S.faults src.new ≡ S.faults src.old) }
     ensures later { S.faults src.old ≤ S.faults src.new }
     ensures fault { IsErrOf result ReadAllError.ReadFault → RoseOrLast (S.faults src.old) (S.faults src.new) }
 {
@@ -42,8 +43,8 @@ pub fn read_all<S: Source>(
         match src.read(&mut buffer[..wanted]) {
             Ok(0) => return Ok(all),
             Ok(count) => {
-                if all.extend_from_slice(&buffer[..count]).is_err() {
-                    return Err(ReadAllError::NoMemory);
+                if let Err(refused) = all.extend_from_slice(&buffer[..count]) {
+                    return Err(ReadAllError::NoMemory(NoMemory::from(refused)));
                 }
             }
             Err(_) => return Err(ReadAllError::ReadFault),

@@ -54,8 +54,5 @@ module _ (limits : ChargedLimits) (uses : List ℕ) (kept : AreUses limits uses)
       (subst (λ (p : List LimitRow × List ℕ × Option LimitId). (m : ℕ) → m < length p.0 → slice_index after m ≡ slice_index p.1 m + row.max * times_on (path_from p.0 p.2) m) (λ i. (er2 i, eu2 i, ef i)) raised))
 
 -- the number of a row that is refused
-pub row_number : (limits seen : ChargedLimits) (at len : ℕ) → limits ≡ seen → len ≡ length limits.rows → at ≡ len + 1 → at - 1 ≡ length seen.rows
-row_number limits seen at len same el is = let count = ap (λ (l : ChargedLimits). length l.rows) same in omega (arith, el, is, count)
-
-pub few_rows : (rows : List LimitRow) (len : ℕ) → len ≡ length rows → len + 1 < 2 ^ 32 → length rows + 1 < 2 ^ 32
-few_rows rows len is few = omega (arith, is, few)
+pub few_rows : (limits seen : ChargedLimits) → limits ≡ seen → length seen.rows + 1 < 2 ^ 32 → length limits.rows + 1 < 2 ^ 32
+few_rows limits seen same few = let count = ap (λ (l : ChargedLimits). length l.rows) same in omega (arith, few, count)

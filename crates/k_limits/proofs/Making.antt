@@ -99,7 +99,7 @@ module _ (rows : List LimitRow) (fine : AreRows rows) where
         let count : length tree.rows ≡ n = ap (λ (l : ChargedLimits). length l.rows) stands ∙ length-take-le n rows (omega (arith, inside)) in
         let same : at ≡ n = reason.0 ∙ count in
         find_from (λ k. is_refused (uncharged (take k rows)) (row_of rows k)) 0 (length rows) n (omega arith) (omega (arith, inside)) (λ k _ below. before k below) (refused_as ∙ reason.1) ∙ ap (λ (k : ℕ). Some k) (sym same)
-    explains before NoMemory reason = tt
+    explains before (NoMemory refused) reason = tt
 
   pub all_made : (tree : ChargedLimits) (n : ℕ) → tree ≡ uncharged (take n rows) → length rows ≤ n → n ≤ length rows → ((at : ℕ) → at < n → is_refused (uncharged (take at rows)) (row_of rows at) ≡ false) → (tree ≡ uncharged rows) × (first_refused rows ≡ None)
   all_made tree n stands past le before =

@@ -35,9 +35,9 @@ first_refused rows = find (λ at. is_refused (uncharged (take at rows)) (row_of 
 -- it is so that no tree was made for this reason
 abbrev pub Explains : List LimitRow → MakeError → Type 0
 Explains rows (ReserveFull row) = first_refused rows ≡ Some row
-Explains rows NoMemory = Unit {0}
+Explains rows (NoMemory refused) = Unit {0}
 
 -- it is so that the row was not added to the limits for this reason
 abbrev pub ExplainsRow : ChargedLimits → LimitRow → MakeError → Type 0
 ExplainsRow limits row (ReserveFull at) = (at ≡ length limits.rows) × IsTrue (is_refused limits row)
-ExplainsRow limits row NoMemory = Unit {0}
+ExplainsRow limits row (NoMemory refused) = Unit {0}

@@ -1,4 +1,5 @@
-use std::alloc::AllocError;
+//! Why no tree of limits was made.
+use k_io::NoMemory;
 
 /// Why no tree of limits was made.
 #[derive(Clone, Copy, Debug, PartialEq, Eq)]
@@ -6,17 +7,17 @@ pub enum MakeError {
     /// The maximum of the hard limit in the row of this number doesn't fit on its parent's path, and no row before it is
     /// such a row.
     ReserveFull(u32),
-    /// There is no memory for the tree, or there are more rows than limits can have numbers.
-    NoMemory,
+    /// There is no memory for the tree.
+    NoMemory(NoMemory),
 }
 
-impl From<AllocError> for MakeError {
+impl From<NoMemory> for MakeError {
     ghost use Rattle.std.specs.Prelude.{◌≡◌};
-    ghost use Rattle.k_limits.specs.declared.error.MakeError.TheVariants.{NoMemory};
+    ghost use Rattle.k_limits.specs.declared.error.MakeError.TheVariants as make_errors;
 
-    ghost from_gives = { λ _ e. e ≡ NoMemory };
+    ghost from_gives = { λ refused e. e ≡ make_errors.NoMemory refused };
 
-    fn from(_error: AllocError) -> MakeError {
-        MakeError::NoMemory
+    fn from(refused: NoMemory) -> MakeError {
+        MakeError::NoMemory(refused)
     }
 }

@@ -7,6 +7,7 @@ ghost use Rattle.k_types.specs.Limits.{ancestors_of};
 
 use crate::error::MakeError;
 use crate::paths::{first_full, is_below, lower, raise, reserved_from};
+use k_io::push;
 use k_types::{LimitId, LimitRow};
 use std::alloc::Global;
 use std::marker::Model;
@@ -35,7 +36,8 @@ impl LimitTree {
     /// The tree of these rows, with nothing charged. The row of number i is the limit of number i. `ReserveFull` names the
     /// first hard row whose maximum doesn't fit on its parent's path.
     pub fn make(alloc: Global, rows: &[LimitRow]) -> Result<LimitTree, MakeError>
-        requires { AreRows rows.now }
+        requires rows { AreRows rows.now }
+        requires few { length rows.now < 2 ^ 32 }
         ensures made { IfOk result (λ tree. (tree ≡ uncharged rows.now) × (first_refused rows.now ≡ None)) }
         ensures refused { IfErr result (λ why. Explains rows.now why) }
     {
@@ -58,7 +60,8 @@ impl LimitTree {
 
     // The same tree with one more limit, which reserves its maximum where it is hard.
     fn with_row(self, row: &LimitRow) -> Result<LimitTree, MakeError>
-        requires { AreRows (self.rows ++ row.now ∷ []) }
+        requires rows { AreRows (self.rows ++ row.now ∷ []) }
+        requires few { length self.rows + 1 < 2 ^ 32 }
         ensures added { IfOk result (λ tree. (tree.rows ≡ self.rows ++ row.now ∷ []) × (tree.direct ≡ self.direct ++ 0 ∷ []) × IsFalse (is_refused self row.now)) }
         ensures refused { IfErr result (λ why. ExplainsRow self row.now why) }
     {
@@ -67,17 +70,14 @@ impl LimitTree {
             mut direct,
             mut uses,
         } = self;
-        let Ok(at) = u32::try_from(rows.len() + 1) else {
-            return Err(MakeError::NoMemory);
-        };
         let parent = reserved_from(row);
         if first_full(&rows, &uses, parent, row.max).is_some() {
-            return Err(MakeError::ReserveFull(at - 1));
+            return Err(MakeError::ReserveFull(rows.len() as u32));
         }
         raise(&rows, &mut uses, parent, row.max);
-        let (Ok(()), Ok(()), Ok(())) = (rows.push(*row), direct.push(0), uses.push(0)) else {
-            return Err(MakeError::NoMemory);
-        };
+        push(&mut rows, *row)?;
+        push(&mut direct, 0)?;
+        push(&mut uses, 0)?;
         Ok(LimitTree { rows, direct, uses })
     }
 

@@ -83,7 +83,10 @@ fn measured(
 fn words(rt: &HostRuntime) -> Result<Vec<String>, NoMemory> {
     match env::args(rt) {
         Ok(args) => Ok(args.skip(1).collect(rt.alloc())?),
-        Err(_) => Err(NoMemory),
+        Err(error) => match NoMemory::told_by(&error) {
+            Some(refused) => Err(refused),
+            None => Ok(Vec::new(rt.alloc())),
+        },
     }
 }
 

@@ -126,7 +126,7 @@ ended_two n t (Ok c) h e = by_test (has_process c.place) e
     by_test true e = let same : c.said ≡ t = cc in subst (λ (x : NamedTrace). 2 ≤ length x.trace.limits) same (h c refl)
 
 ended_refused : (n : ℕ) (e : ReadError) (r : Result SoFar BadLine) → Refuses (λ c. c.said) e r → Refuses (λ t. t) e (at_end n r)
-ended_refused n read.NoMemory r h = tt
+ended_refused n (read.NoMemory refused) r h = tt
 ended_refused n (read.Bad line reason) r h = rw h refl
 ended_refused n read.LaterLimit r h = λ t e. ended_two n t r h e
 

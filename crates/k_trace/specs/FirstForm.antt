@@ -39,5 +39,5 @@ pub record IsFirstForm (trace : Trace) : Type 0 where
 
 -- no trace of this form is spelled, and the answer says so by line 0 and reason 13; or memory ran out
 abbrev pub IsRefused : Text → TraceError → Type 0
-IsRefused bytes NoMemory = Unit {0}
+IsRefused bytes (NoMemory refused) = Unit {0}
 IsRefused bytes (Bad line reason) = (line ≡ 0) × (reason ≡ 13) × ((t : NamedTrace) → Spells bytes t → ¬ IsFirstForm t.trace)

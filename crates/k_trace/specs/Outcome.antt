@@ -27,7 +27,7 @@ HasLaterLimit judged = (d : SoFar) → judged ≡ Ok d → 2 ≤ length d.said.t
 
 -- memory ran out, or the line is bad by that reason, or it is a limit below the root
 abbrev pub RefusesLine : LineError → Judged → Type 0
-RefusesLine line.NoMemory judged = Unit {0}
+RefusesLine (line.NoMemory refused) judged = Unit {0}
 RefusesLine (line.Bad reason) judged = judged ≡ Err reason
 RefusesLine line.LaterLimit judged = HasLaterLimit judged
 

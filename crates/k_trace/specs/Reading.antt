@@ -9,7 +9,7 @@ use Rattle.k_trace.specs.Judgement.{SoFar, BadLine}
 
 -- memory ran out, or that is the first bad line, or what is good says two limits at least
 abbrev pub Refuses : {A : Type 0} → (A → NamedTrace) → ReadError → Result A BadLine → Type 0
-Refuses said read.NoMemory judged = Unit {0}
+Refuses said (read.NoMemory refused) judged = Unit {0}
 Refuses said (read.Bad n r) judged = judged ≡ Err (record { line = n; reason = r })
 Refuses {A} said read.LaterLimit judged = (d : A) → judged ≡ Ok d → 2 ≤ length (said d).trace.limits
 

@@ -1,44 +1,24 @@
+//! Why a line, or the whole text of a trace, isn't read.
 ghost use Rattle.std.specs.Prelude.{◌≡◌};
 
 use k_io::NoMemory;
-use std::alloc::{AllocError, AllocFailed};
 
 /// Why a line isn't taken: memory ran out, the line is bad by this reason, or it is a line below
 /// the root limit, which isn't read yet.
 #[derive(Debug, Drop)]
 pub enum LineError {
-    NoMemory,
+    NoMemory(NoMemory),
     Bad(u32),
     LaterLimit,
 }
 
 impl From<NoMemory> for LineError {
-    ghost use Rattle.k_trace.specs.declared.errors.LineError.TheVariants.{NoMemory};
+    ghost use Rattle.k_trace.specs.declared.errors.LineError.TheVariants as line_errors;
 
-    ghost from_gives = { λ _ e. e ≡ NoMemory };
+    ghost from_gives = { λ refused e. e ≡ line_errors.NoMemory refused };
 
-    fn from(_e: NoMemory) -> LineError {
-        LineError::NoMemory
-    }
-}
-
-impl From<AllocError> for LineError {
-    ghost use Rattle.k_trace.specs.declared.errors.LineError.TheVariants.{NoMemory};
-
-    ghost from_gives = { λ _ e. e ≡ NoMemory };
-
-    fn from(_e: AllocError) -> LineError {
-        LineError::NoMemory
-    }
-}
-
-impl<T: Drop> From<AllocFailed<T>> for LineError {
-    ghost use Rattle.k_trace.specs.declared.errors.LineError.TheVariants.{NoMemory};
-
-    ghost from_gives = { λ _ e. e ≡ NoMemory };
-
-    fn from(_e: AllocFailed<T>) -> LineError {
-        LineError::NoMemory
+    fn from(refused: NoMemory) -> LineError {
+        LineError::NoMemory(refused)
     }
 }
 
@@ -46,25 +26,26 @@ impl<T: Drop> From<AllocFailed<T>> for LineError {
 /// there is a limit below the root.
 #[derive(Debug, Drop)]
 pub enum ReadError {
-    NoMemory,
+    NoMemory(NoMemory),
     Bad { line: u32, reason: u32 },
     LaterLimit,
 }
 
 impl From<NoMemory> for ReadError {
-    ghost use Rattle.k_trace.specs.declared.errors.ReadError.TheVariants.{NoMemory};
+    ghost use Rattle.k_trace.specs.declared.errors.ReadError.TheVariants as read_errors;
 
-    ghost from_gives = { λ _ e. e ≡ NoMemory };
+    ghost from_gives = { λ refused e. e ≡ read_errors.NoMemory refused };
 
-    fn from(_e: NoMemory) -> ReadError {
-        ReadError::NoMemory
+    fn from(refused: NoMemory) -> ReadError {
+        ReadError::NoMemory(refused)
     }
 }
 
-/// Why bytes are no trace that can be read. Source: own.
+/// Why bytes are no trace that can be read.
 #[derive(Debug, Drop)]
 pub enum TraceError {
-    NoMemory,
+    /// Memory ran out.
+    NoMemory(NoMemory),
     /// The number of the line, counted from 1, and the number of the reason.
     Bad { line: u32, reason: u32 },
 }

@@ -86,7 +86,7 @@ pub fn read_trace(alloc: Global, bytes: &[u8]) -> Result<Trace, TraceError>
                 })
             }
         }
-        Err(ReadError::NoMemory) => Err(TraceError::NoMemory),
+        Err(ReadError::NoMemory(refused)) => Err(TraceError::NoMemory(refused)),
         Err(ReadError::Bad { .. }) => Err(TraceError::Bad {
             line: 0,
             reason: 13,

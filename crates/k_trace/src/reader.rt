@@ -10,7 +10,7 @@ use crate::names::Names;
 use crate::operations::Operations;
 use crate::place::Place;
 use crate::trace::Trace;
-use k_io::NoMemory;
+use k_io::{NoMemory, push};
 use k_types::{Field, LimitId, LimitRow, Op, Setup, TypeTable};
 use k_words::{
     after_word, are_words, is, is_keyword, is_name, is_printable, number, word, word_count,
@@ -167,7 +167,7 @@ impl Reader {
             return Err(LineError::Bad(9));
         }
         let fields = fields_of(alloc, line)?;
-        self.types.push(fields)?;
+        push(&mut self.types, fields)?;
         self.names.declare_type(alloc, name)?;
         self.place = Place::Types;
         Ok(())
@@ -193,11 +193,12 @@ impl Reader {
         if self.names.limit_count() >= 128 {
             return Err(LineError::Bad(9));
         }
-        self.limits.push(LimitRow {
+        let root = LimitRow {
             parent: None,
             hard: true,
             max,
-        })?;
+        };
+        push(&mut self.limits, root)?;
         self.names.declare_limit(alloc, name)?;
         self.place = Place::Limits;
         Ok(())
@@ -224,7 +225,7 @@ impl Reader {
             return Err(LineError::Bad(9));
         }
         self.operations.add_process(alloc)?;
-        self.procs.push(limit)?;
+        push(&mut self.procs, limit)?;
         self.names.declare_proc(alloc, name)?;
         self.place = Place::Procs;
         Ok(())

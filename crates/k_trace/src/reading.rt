@@ -20,7 +20,7 @@ fn read_lines(alloc: Global, reader: &mut Reader, bytes: &[u8]) -> Result<u32, R
         let (line, after) = next_line(rest);
         match reader.take(alloc, line) {
             Ok(()) => {}
-            Err(LineError::NoMemory) => return Err(ReadError::NoMemory),
+            Err(LineError::NoMemory(refused)) => return Err(ReadError::NoMemory(refused)),
             Err(LineError::LaterLimit) => return Err(ReadError::LaterLimit),
             Err(LineError::Bad(reason)) => {
                 return Err(ReadError::Bad {

@@ -14,24 +14,26 @@ mod tests;
 mod texts;
 
 use crate::call::kaffe;
-use crate::status::{Status, exit_code};
+use crate::status::{exit_code, want_of_memory};
 use k_io::{NoGate, NoMemory, StdSink, StdSource};
 use std::env;
-use std::io::ErrorKind;
 use std::process::ExitCode;
 
 /// The words after the program's name; none where one of them is not UTF-8, which is no command.
 fn words(rt: &HostRuntime) -> Result<Vec<String>, NoMemory> {
     match env::args(rt) {
         Ok(args) => Ok(args.skip(1).collect(rt.alloc())?),
-        Err(error) if error.kind() == ErrorKind::InvalidData => Ok(Vec::new(rt.alloc())),
-        Err(_) => Err(NoMemory),
+        Err(error) => match NoMemory::told_by(&error) {
+            Some(refused) => Err(refused),
+            None => Ok(Vec::new(rt.alloc())),
+        },
     }
 }
 
 fn main(rt: HostRuntime) -> ExitCode {
-    let Ok(words) = words(&rt) else {
-        return exit_code(Status::WantOfMemory);
+    let words = match words(&rt) {
+        Ok(words) => words,
+        Err(refused) => return exit_code(want_of_memory(refused)),
     };
     let mut source = StdSource::of(rt.stdin());
     let mut sink = StdSink::of(rt.stdout());

@@ -8,7 +8,7 @@ ghost use Rattle.k_plain.specs.Runs.{IsFiled};
 ghost use Rattle.kaffe.specs.Answers.{IsAnswered, IsUnwritten, IsWritten, Tells};
 ghost use Rattle.kaffe.specs.Parts.{TellsOfInput, TellsOfTrace};
 
-use crate::status::Status;
+use crate::status::{Status, want_of_memory};
 use crate::texts::{after_writing, write_bad_trace};
 use k_io::{ReadAllError, Sink, Source, read_all};
 use k_plain::{PlainEnd, solo};
@@ -28,7 +28,7 @@ pub fn run<S: Source, K: Sink>(alloc: Global, src: &mut S, out: &mut K) -> Statu
 {
     match read_all(alloc, src, TRACE_LIMIT) {
         Ok(bytes) => run_input(alloc, &bytes, out),
-        Err(ReadAllError::NoMemory) => Status::WantOfMemory,
+        Err(ReadAllError::NoMemory(refused)) => want_of_memory(refused),
         Err(ReadAllError::ReadFault) => Status::ReadFault,
     }
 }
@@ -40,7 +40,7 @@ fn run_input<K: Sink>(alloc: Global, bytes: &[u8], out: &mut K) -> Status
 {
     match read_trace(alloc, bytes) {
         Ok(trace) => run_trace(alloc, &trace, out),
-        Err(TraceError::NoMemory) => Status::WantOfMemory,
+        Err(TraceError::NoMemory(refused)) => want_of_memory(refused),
         Err(TraceError::Bad { line, reason }) => write_bad_trace(out, line, reason),
     }
 }
@@ -52,10 +52,10 @@ fn run_trace<K: Sink>(alloc: Global, trace: &Trace, out: &mut K) -> Status
     ensures answered { IsAnswered (TellsOfTrace (meaning_of trace.now)) (K.Holds out.old) (K.Holds out.new) (K.faults out.old) (K.faults out.new) result }
     ensures unwritten { IsUnwritten result → out.new ≡ out.old }
 {
-    let Ok(end) = solo(alloc, trace) else {
-        return Status::WantOfMemory;
-    };
-    write_report(out, trace, &end)
+    match solo(alloc, trace) {
+        Ok(end) => write_report(out, trace, &end),
+        Err(refused) => want_of_memory(refused),
+    }
 }
 
 /// Writes the report of the trace.

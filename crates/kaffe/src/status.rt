@@ -2,6 +2,7 @@ ghost use Rattle.std.specs.Prelude.{◌≡◌};
 ghost use Rattle.std.specs.Process.{exit_status};
 ghost use Rattle.kaffe.specs.Numbers.{number_of};
 
+use k_io::NoMemory;
 use std::process::ExitCode;
 
 /// How a call ended. As a number from 0 to 6, in this order, it is the program's exit status. Source: own.
@@ -21,6 +22,13 @@ pub enum Status {
     WriteFault,
     /// A report is not that of its trace. No command answers it yet.
     Refused,
+}
+
+/// The status of a call whose allocation was refused. No other place makes it.
+pub fn want_of_memory(_refused: NoMemory) -> Status
+    ensures { result ≡ Status.WantOfMemory }
+{
+    Status::WantOfMemory
 }
 
 /// The exit status of the program. Source: own.

@@ -1,5 +1,6 @@
 use Rattle.std.proofs.Common.{refl}
-use Rattle.kaffe.proofs.Answered.{answered_unwritten, answered_written}
+use Rattle.kaffe.specs.declared.status.Status.TheVariants.{WantOfMemory}
+use Rattle.kaffe.proofs.Answered.{answered_unwritten_as, answered_written}
 use Rattle.kaffe.proofs.run.run_trace.Goals as goal
 
 pub solo-requires : goal.solo-requires
@@ -8,8 +9,8 @@ solo-requires g c = record { rules = c.requires.good.rules; form = c.requires.bu
 pub write_report-requires : goal.write_report-requires
 write_report-requires g c = record { good = c.requires.good; run = c.in-Ok.ensures }
 
-pub returns-clause-answered : goal.returns-clause-answered
-returns-clause-answered g c = answered_written _ _ _ _ _ _ _ _ (record { whole = refl; legal = c.in-Ok.ensures.legal; complete = c.in-Ok.ensures.complete }) c.write_report.ensures
+pub returns-in-Ok-clause-answered : goal.returns-in-Ok-clause-answered
+returns-in-Ok-clause-answered g c = answered_written _ _ _ _ _ _ _ _ (record { whole = refl; legal = c.in-Ok.ensures.legal; complete = c.in-Ok.ensures.complete }) c.write_report.ensures
 
-pub returns-in_default-clause-answered : goal.returns-in_default-clause-answered
-returns-in_default-clause-answered g c = answered_unwritten _ _ _ _ refl
+pub returns-in-Err-clause-answered : goal.returns-in-Err-clause-answered
+returns-in-Err-clause-answered g c = answered_unwritten_as _ _ _ WantOfMemory _ c.want_of_memory.ensures refl

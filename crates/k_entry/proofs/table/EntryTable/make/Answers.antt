@@ -11,7 +11,7 @@ invariant_of-result c =
     record {
       reserved = omega (arith, c.in_ok-slots.ensures.capacity);
       kept = kept_made c.in_ok-slots.slots.items c.in_ok-chains.chains c.in_ok-segments.segments c.in_ok-walks.walks c.in_ok-homes.homes.items c.args.room c.chain_count.result (length c.args.homes.now + 1) (length c.args.homes.now + 1) (length c.args.homes.now)
-          c.in_ok-slots.ensures.items c.in_ok-chains.ensures c.in_ok-segments.ensures c.in_ok-walks.ensures c.chain_count.ensures (ap (λ n. n + 1) len) (ap (λ n. n + 1) len) len (omega (arith, len, c.if-homes.false));
+          c.in_ok-slots.ensures.items c.in_ok-chains.ensures c.in_ok-segments.ensures c.in_ok-walks.ensures c.chain_count.ensures (ap (λ n. n + 1) len) (ap (λ n. n + 1) len) len (omega (arith, len, c.requires));
     }
 
 pub returns : goal.returns
