@@ -22,7 +22,7 @@ use Rattle.k_bounds.proofs.Counting.{one_if_low}
 use Rattle.k_bounds.proofs.AbsorbedCounts.{absorbed_at_most, closings}
 use Rattle.k_bounds.proofs.ScanCounts.{collections_balance}
 use Rattle.k_frame.proofs.Histories.{history_induction, state_next, done_append}
-use Rattle.k_frame.proofs.Lists.{get_or-set_cases}
+use Rattle.k_base.proofs.Lists.{get_or-set_cases}
 use Rattle.k_frame.proofs.Sizes.{history_sized, zeros_at}
 use Rattle.k_frame.proofs.Rest.{store_rest, put_rest, freeze_rest}
 
