@@ -1,5 +1,5 @@
--- A freeze is refused for a root that is null or lies elsewhere, and a second freeze because nobody populates the heap
--- any more.
+-- A freeze is refused for a root that is null or lies elsewhere; after the freeze nobody populates the heap any more,
+-- so a second freeze is refused, and so is an allocation there.
 use Rattle.std.proofs.Common.{◌≡◌, refl, lit<}
 use Rattle.k_types.specs.Steps.{IsLegalHistory}
 use Rattle.k_types.specs.FileOrder.{file_order, file_order_from}
@@ -28,7 +28,10 @@ legal = (
             record { known = lit< tt; lives = refl; in_range = refl; idle = refl; orphans = refl; replied = refl },
             (
               record { known = lit< tt; lives = refl; in_range = refl; idle = refl; orphans = refl; replied = refl },
-              tt,
+              (
+                record { known = lit< tt; lives = refl; in_range = refl; idle = refl; orphans = refl; replied = refl },
+                tt,
+              ),
             ),
           ),
         ),

@@ -232,8 +232,8 @@ phases_of_a_shared_heap_left = record {
   pins = 0 ∷ [];
 }
 
--- A freeze is refused for a root that is null or lies elsewhere, and a second freeze because nobody populates the heap
--- any more.
+-- A freeze is refused for a root that is null or lies elsewhere; after the freeze nobody populates the heap any more,
+-- so a second freeze is refused, and so is an allocation there.
 abbrev pub refused_freezes : List Event
 refused_freezes =
     did 0 (Share s) Fine
@@ -243,6 +243,7 @@ refused_freezes =
     ∷ did 0 (Freeze s (reg 1)) (Refused Segv)
     ∷ did 0 (Freeze s (reg 0)) Fine
     ∷ did 0 (Freeze s (reg 0)) (Refused (NotPopulating s))
+    ∷ did 0 (SNew (reg 2) s node) (Refused (NotPopulating s))
     ∷ []
 
 -- what it leaves
@@ -255,7 +256,7 @@ refused_freezes_left = record {
       ∷ [];
   made = 1 ∷ 1 ∷ 0 ∷ 1 ∷ [];
   registers = holding 0 0 (name 3 1) ∷ holding 0 1 (name 1 1) ∷ [];
-  done = 7 ∷ 0 ∷ [];
+  done = 8 ∷ 0 ∷ [];
   owners = Kernel ∷ user 0 ∷ user 1 ∷ shared 0 ∷ [];
   phases = Frozen (name 3 1) ∷ [];
   ended = [];

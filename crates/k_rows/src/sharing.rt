@@ -34,8 +34,8 @@ pub fn phases_of_a_shared_heap_row()
     ensures { IsWorked usual phases_of_a_shared_heap phases_of_a_shared_heap_left }
 {}
 
-/// A freeze is refused for a root that is null or lies elsewhere, and a second freeze because
-/// nobody populates the heap any more.
+/// A freeze is refused for a root that is null or lies elsewhere; after the freeze nobody populates
+/// the heap any more, so a second freeze is refused, and so is an allocation there.
 pub fn refused_freezes_row()
     ensures { IsWorked usual refused_freezes refused_freezes_left }
 {}
