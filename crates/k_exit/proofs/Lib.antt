@@ -4,4 +4,5 @@ pub mod Links
 pub mod Relinks
 pub mod Removes
 pub mod Lists
+pub mod Takes
 pub mod Order

@@ -42,6 +42,7 @@ invariant_of-self c =
           (λ j. mark_same (λ (y : Item). y.target) items c.in-Some.i c.index_mut.result.now (λ y. refl) within x j)
           (λ j. mark_same (λ (y : Item). y.next) items c.in-Some.i c.index_mut.result.now (λ y. refl) within x j);
       reserved = c.self.invariant.reserved;
+      heads_reserved = c.self.invariant.heads_reserved;
       distinct = subst (λ (rs : List ExitRow). AreDistinct rs) (sym (rows c)) (distinct_marked (map row_of items) c.args.target c.self.invariant.distinct);
       passed = subst (λ (rs : List ExitRow). HasPassed rs c.self.inside.wanted c.self.inside.from) (sym (rows c)) (passed_marked (map row_of items) c.self.inside.wanted c.self.inside.from c.args.target c.self.invariant.passed);
     }
