@@ -5,6 +5,7 @@ pub mod Given
 pub mod HomeWalks
 pub mod Items
 pub mod Joined
+pub mod Known
 pub mod Less
 pub mod Members
 pub mod More

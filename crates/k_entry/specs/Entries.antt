@@ -46,6 +46,7 @@ pub record HasMore (old new : EntryValue) (t : Name) : Type 0 where
   pub items : length new.items ≡ length old.items + (if counted old.items t == 0 then 1 else 0)
   pub homes : new.homes ≡ old.homes
   pub room : new.room ≡ old.room
+  pub entries : AreEntries new
 
 -- that object is counted once less, its item is gone where that was all, and all else stays; the order of the items is free
 pub record HasLess (old new : EntryValue) (t : Name) : Type 0 where
@@ -53,3 +54,4 @@ pub record HasLess (old new : EntryValue) (t : Name) : Type 0 where
   pub items : length new.items + (if counted old.items t == 1 then 1 else 0) ≡ length old.items
   pub homes : new.homes ≡ old.homes
   pub room : new.room ≡ old.room
+  pub entries : AreEntries new
