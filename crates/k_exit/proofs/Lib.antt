@@ -1,4 +1,3 @@
-pub mod Names
 pub mod Last
 pub mod Links
 pub mod Relinks

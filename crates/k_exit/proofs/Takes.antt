@@ -6,7 +6,9 @@ use Rattle.std.proofs.lemmas.Bool.{false≢true, false_from_ne_true}
 use Rattle.std.proofs.lemmas.List.Sorted.{list_any-IsPermutation, sum_by-IsPermutation, length_permutation}
 use Rattle.k_types.specs.declared.names.Name.{Name}
 use Rattle.k_types.specs.Names.{name_eq}
-use Rattle.k_exit.specs.Exits.{ExitRow, AreDistinct, has_target}
+use Rattle.k_base.specs.Distinct.{AreDistinctNames}
+use Rattle.k_base.proofs.Distinct.{distinct_names, counted_once}
+use Rattle.k_exit.specs.Exits.{ExitRow, AreDistinct, targets}
 use Rattle.k_exit.proofs.Lists.{count-cons}
 
 abbrev bit : Bool → ℕ
@@ -50,3 +52,10 @@ left_over p n own rows rest row gone distinct = by_name (name_eq row.target n) r
 
 pub one_fewer : (rows rest : List ExitRow) (row : ExitRow) → IsPermutation rows (row ∷ rest) → length rest + 1 ≡ length rows
 one_fewer rows rest row gone = omega (arith, length_permutation rows (row ∷ rest) gone)
+
+-- both forms of distinctness say the same
+pub targets_distinct : (items : List ExitRow) → AreDistinct items → AreDistinctNames (targets items)
+targets_distinct items once = distinct_names (λ (x : ExitRow). x.target) items once
+
+pub targets_once : (items : List ExitRow) → AreDistinctNames (targets items) → AreDistinct items
+targets_once items distinct = counted_once (λ (x : ExitRow). x.target) items distinct

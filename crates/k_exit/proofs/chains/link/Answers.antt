@@ -1,4 +1,4 @@
-use Rattle.std.proofs.Common.{◌∙◌, length, arith}
+use Rattle.std.proofs.Common.{◌∙◌, arith}
 use Rattle.k_exit.proofs.Relinks.{chain_here}
 use Rattle.k_exit.proofs.chains.link.Goals as goal
 

@@ -1,7 +1,7 @@
 use Rattle.std.proofs.Common.{◌≡◌, ◌<◌, ◌+◌, ℕ, suc, List, refl, sym, ap, ap₂, subst, ◌∙◌, inl, length, map, get_or, set, add-one, arith}
 use Rattle.k_exit.specs.declared.chains.Item.{Item}
 use Rattle.k_exit.specs.Chains.{IsLinked, IsNextAbove, HasNoneAbove, at, row_of, with_next}
-use Rattle.k_exit.proofs.Relinks.{linked_at, linked_head, chain_here, read_at, next_rows, any_default}
+use Rattle.k_exit.proofs.Relinks.{linked_at, linked_head, read_at, next_rows, any_default}
 use Rattle.k_exit.proofs.chains.link_in.Goals as goal
 
 -- the place is one of the items
