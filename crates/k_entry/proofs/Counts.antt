@@ -1,6 +1,6 @@
 -- Counts of objects in lists of items.
 use Rattle.std.proofs.Common.{◌≡◌, ◌≢◌, ◌==◌, ℕ, ◌+◌, ◌<◌, ◌≤◌, Bool, true, false, cond, refl, sym, ap, ap₂, ◌∙◌, List, [], ◌∷◌, ◌++◌, map, sum_by, count_by, eqb-true, arith}
-use Rattle.std.proofs.lemmas.Bool.{and_parts, false_from_ne_true}
+use Rattle.std.proofs.lemmas.Bool.{false_from_ne_true}
 use Rattle.std.proofs.lemmas.List.Sums.{sum_by-cons}
 use Rattle.std.proofs.lemmas.List.{map-append}
 use Rattle.k_types.specs.Totals.{total}
@@ -15,14 +15,6 @@ use Rattle.k_lists.proofs.Members.{in_head}
 use Rattle.k_entry.proofs.Members.{Split, split, cons_in, is_in_append}
 use Rattle.k_entry.proofs.With.{IsWith, with_total, with_length, total_append}
 use Rattle.k_entry.proofs.Joined.{Single, or_cases}
-
-abbrev named : ℕ → ℕ → Name
-named seg serial = record { seg = record { 0 = seg }; serial = record { 0 = serial } }
-
-pub name_is : (a b : Name) → name_eq a b ≡ true → a ≡ b
-name_is a b e =
-    let parts = and_parts (a.seg.0 == b.seg.0) (a.serial.0 == b.serial.0) e in
-    ap₂ named (eqb-true a.seg.0 b.seg.0 parts.0) (eqb-true a.serial.0 b.serial.0 parts.1)
 
 abbrev pub bit : Bool → ℕ
 bit b = cond b 1 0

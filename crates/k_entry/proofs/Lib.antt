@@ -12,4 +12,5 @@ pub mod More
 pub mod Recounts
 pub mod Rehomes
 pub mod Ways
+pub mod WholeWalks
 pub mod With

@@ -7,6 +7,7 @@ use Rattle.k_types.specs.Totals.{total}
 use Rattle.k_types.specs.declared.names.Name.{Name}
 use Rattle.k_types.specs.Names.{name_eq}
 use Rattle.k_types.specs.Counted.{Counted}
+use Rattle.k_base.proofs.NameTests.{name_eq-true}
 use Rattle.k_lists.specs.Lists.{ListsValue, AreApart, members, is_in}
 use Rattle.k_entry.specs.declared.item.Item.{Item}
 use Rattle.k_entry.specs.Entries.{HasMore, home_of}
@@ -14,7 +15,7 @@ use Rattle.k_entry.specs.Slots.{at, row_at, bucket, buckets, walk_of, entered, P
 use Rattle.k_lists.proofs.Apart.{apart_in}
 use Rattle.k_entry.proofs.With.{IsWith, with_front, with_map, with_total, with_length}
 use Rattle.k_entry.proofs.Joined.{joined, joined_same, joined_with, map_same}
-use Rattle.k_entry.proofs.Counts.{name_is, bit, hits, hits_are, no_hits, more_new}
+use Rattle.k_entry.proofs.Counts.{bit, hits, hits_are, no_hits, more_new}
 use Rattle.k_entry.proofs.Items.{order_below, used_is, entries_of}
 use Rattle.k_entry.proofs.Changes.{same_or_not, IsPut, put_here, put_there, put_old, put_new, put_cases, put_size}
 use Rattle.k_entry.proofs.Entered.{IsEntered, entered_of}
@@ -167,7 +168,7 @@ kept_more p v t i slots chains segments walks k m =
 
     by_test : (n : Name) (b : Bool) → name_eq t n ≡ b → count_by (λ (item : Counted). name_eq item.object n) (shown (moved p slots chains segments walks)).items ≤ 1
     by_test n true is =
-        let none : total (hits n) (shown p).items ≡ 0 = ap (λ (x : Name). total (hits x) (shown p).items) (sym (name_is t n is)) ∙ m.none in
+        let none : total (hits n) (shown p).items ≡ 0 = ap (λ (x : Name). total (hits x) (shown p).items) (sym (name_eq-true t n is)) ∙ m.none in
         let one : hits n (record { object = t; count = 1 }) ≡ 1 = ap bit is in
         omega (arith, one, none, hits_are (shown (moved p slots chains segments walks)).items n, with_total (hits n) (record { object = t; count = 1 }) (shown p).items (shown (moved p slots chains segments walks)).items (items_more p v t i slots chains segments walks k m))
     by_test n false off =
