@@ -1,4 +1,4 @@
-ghost use Rattle.std.specs.Prelude.{◌≡◌, ◌+◌, ◌-◌, ◌<◌, ◌≤◌, ◌^◌, [], ℕ, Some, None, IfOk, IfSome, IfNone, length, option_map, slice_set};
+ghost use Rattle.std.specs.Prelude.{◌≡◌, ◌+◌, ◌-◌, ◌<◌, ◌≤◌, ◌^◌, [], ℕ, Some, None, IfOk, IfSome, IfNone, length, option_map, slice_set, vec_capacity};
 ghost use Rattle.std.specs.List.Sorted.{IsPermutation};
 ghost use Rattle.k_types.specs.declared.names.Name.{Name as Named};
 ghost use Rattle.k_types.specs.Names.{name_of};
@@ -34,16 +34,29 @@ impl Model for EntryTable {
 
     ghost Value = { EntryValue };
 
-    ghost use Rattle.std.specs.Prelude.{vec_capacity, ◌≡◌};
+    ghost use Rattle.std.specs.Prelude.{length, vec_capacity, ◌≡◌};
     ghost use Rattle.k_entry.specs.Slots.{shown, AreKept, AreKnown};
 
     ghost view = { λ t. shown (record { slots = t.slots.items; chains = t.chains; segments = t.segments; walks = t.walks; homes = t.homes.items; room = t.room }) };
 
     ghost invariant = { λ t. record {
       reserved : vec_capacity t.slots ≡ t.room;
+      homes_reserved : vec_capacity t.homes ≡ length t.homes.items;
       kept : AreKept (record { slots = t.slots.items; chains = t.chains; segments = t.segments; walks = t.walks; homes = t.homes.items; room = t.room });
       known : AreKnown (record { slots = t.slots.items; chains = t.chains; segments = t.segments; walks = t.walks; homes = t.homes.items; room = t.room });
     } };
+}
+
+/// The same homes, with memory for no more.
+fn copied(alloc: Global, homes: &[Heap]) -> Result<Vec<Heap>, NoMemory>
+    ensures items { IfOk result (λ copy. copy.items ≡ homes.now) }
+    ensures capacity { IfOk result (λ copy. vec_capacity copy ≡ length homes.now) }
+{
+    let mut copy = Vec::with_capacity(alloc, homes.len())?;
+    for home in homes {
+        copy.push_reserved(*home);
+    }
+    Ok(copy)
 }
 
 impl EntryTable {
@@ -60,7 +73,7 @@ impl EntryTable {
         let chains = Lists::make(alloc, chain_count(room), room)?;
         let segments = Lists::make(alloc, homes.len() + 1, room)?;
         let walks = Lists::make(alloc, homes.len() + 1, homes.len() as u32)?;
-        let homes = homes.to_vec(alloc)?;
+        let homes = copied(alloc, homes)?;
         Ok(EntryTable {
             slots,
             chains,

@@ -32,6 +32,7 @@ invariant_of-self-else-item-eq1 c =
     let r = recount_by c.self.inside.slots.items c.in-Some.i (c.index-item.result.now.count - 1) c.index-item.result.now c.with_count-else-item-eq1.result f.within c.index-item.ensures c.with_count-else-item-eq1.ensures in
     record {
       reserved = c.self.invariant.reserved;
+      homes_reserved = c.self.invariant.homes_reserved;
       known = known_recount p c.args.target (set c.self.inside.slots.items c.in-Some.i c.with_count-else-item-eq1.result) c.in-Some.i (c.index-item.result.now.count - 1) c.self.invariant.kept c.self.invariant.known f r;
       kept = kept_recount p (set c.self.inside.slots.items c.in-Some.i c.with_count-else-item-eq1.result) c.in-Some.i (c.index-item.result.now.count - 1) c.self.invariant.kept r (omega (arith, read, f.positive, c.if-item-eq1.false));
     }
@@ -63,6 +64,7 @@ invariant_of-self c =
     c.remove.ensures.removed c.take_out.ensures.segments c.take_out.ensures.walks c.push_front.ensures.pushed c.push_front.ensures.apart c.take_out.ensures.walks_apart in
     record {
       reserved = c.self.invariant.reserved;
+      homes_reserved = c.self.invariant.homes_reserved;
       kept = kept_cleared (moved p c.self.inside.slots.items c.remove.new.self c.push_front.new.self c.take_out.new.walks) c.in-Some.i c.with_count.result
           (kept_less p c.take_out.new.segments c.args.target c.in-Some.i c.remove.new.self c.push_front.new.self c.take_out.new.walks c.self.invariant.kept m) (freed_there p c.take_out.new.segments c.args.target c.in-Some.i c.remove.new.self c.push_front.new.self c.take_out.new.walks m);
       known = known_less p c.take_out.new.segments c.args.target c.in-Some.i c.with_count.result c.remove.new.self c.push_front.new.self c.take_out.new.walks c.self.invariant.known m (ap (λ (x : Item). x.count) c.with_count.ensures);

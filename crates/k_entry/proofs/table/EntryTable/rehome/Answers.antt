@@ -1,4 +1,4 @@
-use Rattle.std.proofs.Common.{◌≡◌, ◌<◌, true, length, sym, ap, subst, ◌∙◌, arith}
+use Rattle.std.proofs.Common.{◌≡◌, ◌<◌, true, length, length-set, sym, ap, subst, ◌∙◌, arith}
 use Rattle.std.specs.List.Sorted.{IsPermutation}
 use Rattle.k_lists.specs.Lists.{members, is_in}
 use Rattle.k_entry.specs.Entries.{EntryValue}
@@ -27,6 +27,7 @@ invariant_of-self c =
     record {
       reserved = c.self.invariant.reserved;
       known = c.self.invariant.known;
+      homes_reserved = omega (arith, c.self.invariant.homes_reserved, length-set c.self.inside.homes.items c.args.seg.0 c.args.to);
       kept = kept_rehomed p c.change_walk.new.walks c.args.seg.0 c.args.to c.self.invariant.kept r;
     }
 
