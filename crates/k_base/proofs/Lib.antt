@@ -6,3 +6,4 @@ pub mod Charges
 pub mod Tests
 pub mod Objects
 pub mod Numbered
+pub mod Distinct

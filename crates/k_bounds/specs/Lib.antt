@@ -1,2 +1,2 @@
 pub mod Counts
-pub mod Distinct
+pub use Rattle.k_base.specs.Distinct

@@ -1,6 +1,6 @@
 -- Counts of objects in lists of items.
 use Rattle.std.proofs.Common.{◌≡◌, ◌≢◌, ◌==◌, ℕ, ◌+◌, ◌<◌, ◌≤◌, Bool, true, false, cond, refl, sym, ap, ap₂, ◌∙◌, List, [], ◌∷◌, ◌++◌, map, sum_by, count_by, eqb-true, arith}
-use Rattle.std.proofs.lemmas.Bool.{and_parts, false_from_ne_true}
+use Rattle.std.proofs.lemmas.Bool.{false_from_ne_true}
 use Rattle.std.proofs.lemmas.List.Sums.{sum_by-cons}
 use Rattle.std.proofs.lemmas.List.{map-append}
 use Rattle.k_types.specs.Totals.{total}
@@ -9,20 +9,12 @@ use Rattle.k_types.specs.Names.{name_eq}
 use Rattle.k_types.specs.Counted.{Counted, counted}
 use Rattle.k_lists.specs.Lists.{is_in}
 use Rattle.k_entry.specs.declared.item.Item.{Item}
-use Rattle.k_entry.specs.Entries.{EntryValue, HasMore, HasLess}
+use Rattle.k_entry.specs.Entries.{EntryValue, AreEntries, HasMore, HasLess}
 use Rattle.k_entry.specs.Slots.{at, row_at}
 use Rattle.k_lists.proofs.Members.{in_head}
 use Rattle.k_entry.proofs.Members.{Split, split, cons_in, is_in_append}
 use Rattle.k_entry.proofs.With.{IsWith, with_total, with_length, total_append}
 use Rattle.k_entry.proofs.Joined.{Single, or_cases}
-
-abbrev named : ℕ → ℕ → Name
-named seg serial = record { seg = record { 0 = seg }; serial = record { 0 = serial } }
-
-pub name_is : (a b : Name) → name_eq a b ≡ true → a ≡ b
-name_is a b e =
-    let parts = and_parts (a.seg.0 == b.seg.0) (a.serial.0 == b.serial.0) e in
-    ap₂ named (eqb-true a.seg.0 b.seg.0 parts.0) (eqb-true a.serial.0 b.serial.0 parts.1)
 
 abbrev pub bit : Bool → ℕ
 bit b = cond b 1 0
@@ -72,13 +64,14 @@ recounted x y rest old new n was is same =
     let now : adds n y ≡ cond (name_eq x.object n) y.count 0 = ap (λ (k : Name). cond (name_eq k n) y.count 0) same in
     omega (arith, with_total (adds n) x rest old.items was, with_total (adds n) y rest new.items is, now)
 
-pub more_there : (x y : Counted) (rest : List Counted) (old new : EntryValue) (t : Name) → IsWith x rest old.items → IsWith y rest new.items → total (hits t) old.items ≤ 1 → 0 < x.count → x.object ≡ t → name_eq x.object t ≡ true → y.object ≡ x.object → y.count ≡ x.count + 1 → new.homes ≡ old.homes → new.room ≡ old.room → HasMore old new t
-more_there x y rest old new t was is distinct some named hit same more homes room =
+pub more_there : (x y : Counted) (rest : List Counted) (old new : EntryValue) (t : Name) → IsWith x rest old.items → IsWith y rest new.items → total (hits t) old.items ≤ 1 → 0 < x.count → x.object ≡ t → name_eq x.object t ≡ true → y.object ≡ x.object → y.count ≡ x.count + 1 → new.homes ≡ old.homes → new.room ≡ old.room → AreEntries new → HasMore old new t
+more_there x y rest old new t was is distinct some named hit same more homes room entries =
     record {
       counts = λ n. by_test n (name_eq t n) refl;
       items = omega (arith, with_length x rest old.items was, with_length y rest new.items is, is_zero (counted old.items t) (omega (arith, some, counted_with x rest old.items t was distinct hit)));
       homes = homes;
       room = room;
+      entries = entries;
     }
   where
     by_test : (n : Name) (b : Bool) → name_eq t n ≡ b → counted new.items n ≡ counted old.items n + cond (name_eq t n) 1 0
@@ -95,13 +88,14 @@ more_there x y rest old new t was is distinct some named hit same more homes roo
         let none : bit (name_eq t n) ≡ 0 = ap bit off in
         omega (arith, recounted x y rest old new n was is same, before, after, none)
 
-pub less_there : (x y : Counted) (rest : List Counted) (old new : EntryValue) (t : Name) → IsWith x rest old.items → IsWith y rest new.items → total (hits t) old.items ≤ 1 → x.count ≢ 1 → x.object ≡ t → name_eq x.object t ≡ true → y.object ≡ x.object → y.count + 1 ≡ x.count → new.homes ≡ old.homes → new.room ≡ old.room → HasLess old new t
-less_there x y rest old new t was is distinct some named hit same less homes room =
+pub less_there : (x y : Counted) (rest : List Counted) (old new : EntryValue) (t : Name) → IsWith x rest old.items → IsWith y rest new.items → total (hits t) old.items ≤ 1 → x.count ≢ 1 → x.object ≡ t → name_eq x.object t ≡ true → y.object ≡ x.object → y.count + 1 ≡ x.count → new.homes ≡ old.homes → new.room ≡ old.room → AreEntries new → HasLess old new t
+less_there x y rest old new t was is distinct some named hit same less homes room entries =
     record {
       counts = λ n. by_test n (name_eq t n) refl;
       items = omega (arith, with_length x rest old.items was, with_length y rest new.items is, not_one (counted old.items t) (λ e. some (sym (counted_with x rest old.items t was distinct hit) ∙ e)));
       homes = homes;
       room = room;
+      entries = entries;
     }
   where
     by_test : (n : Name) (b : Bool) → name_eq t n ≡ b → counted new.items n + cond (name_eq t n) 1 0 ≡ counted old.items n
@@ -122,24 +116,26 @@ less_there x y rest old new t was is distinct some named hit same less homes roo
 adds_one : (y : Counted) (t n : Name) → y.object ≡ t → y.count ≡ 1 → adds n y ≡ cond (name_eq t n) 1 0
 adds_one y t n named one = ap₂ (λ (k : Name) m. cond (name_eq k n) m 0) named one
 
-pub more_new : (y : Counted) (old new : EntryValue) (t : Name) → IsWith y old.items new.items → y.object ≡ t → y.count ≡ 1 → counted old.items t ≡ 0 → new.homes ≡ old.homes → new.room ≡ old.room → HasMore old new t
-more_new y old new t is named one none homes room =
+pub more_new : (y : Counted) (old new : EntryValue) (t : Name) → IsWith y old.items new.items → y.object ≡ t → y.count ≡ 1 → counted old.items t ≡ 0 → new.homes ≡ old.homes → new.room ≡ old.room → AreEntries new → HasMore old new t
+more_new y old new t is named one none homes room entries =
     let none_bit : bit (counted old.items t == 0) ≡ 1 = ap (λ n. bit (n == 0)) none in
     record {
       counts = λ n. omega (arith, with_total (adds n) y old.items new.items is, adds_one y t n named one);
       items = omega (arith, with_length y old.items new.items is, none_bit);
       homes = homes;
       room = room;
+      entries = entries;
     }
 
-pub less_gone : (x : Counted) (old new : EntryValue) (t : Name) → IsWith x new.items old.items → total (hits t) old.items ≤ 1 → x.object ≡ t → name_eq x.object t ≡ true → x.count ≡ 1 → new.homes ≡ old.homes → new.room ≡ old.room → HasLess old new t
-less_gone x old new t was distinct named hit one homes room =
+pub less_gone : (x : Counted) (old new : EntryValue) (t : Name) → IsWith x new.items old.items → total (hits t) old.items ≤ 1 → x.object ≡ t → name_eq x.object t ≡ true → x.count ≡ 1 → new.homes ≡ old.homes → new.room ≡ old.room → AreEntries new → HasLess old new t
+less_gone x old new t was distinct named hit one homes room entries =
     let all : bit (counted old.items t == 1) ≡ 1 = ap (λ n. bit (n == 1)) (counted_with x new.items old.items t was distinct hit ∙ one) in
     record {
       counts = λ n. omega (arith, with_total (adds n) x new.items old.items was, adds_one x t n named one);
       items = omega (arith, with_length x new.items old.items was, all);
       homes = homes;
       room = room;
+      entries = entries;
     }
 
 -- items of slots

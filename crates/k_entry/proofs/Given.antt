@@ -1,8 +1,8 @@
 -- The slot that is taken for an item.
-use Rattle.std.proofs.Common.{◌≡◌, ℕ, ◌<◌, true, false, refl, sym, ap, ◌∙◌, List, [], ◌∷◌, ◌++◌, length, set, slice_get, Option, Some, None, length-append, length-set, get_or-set_same, get_or-set_other, arith}
+use Rattle.std.proofs.Common.{◌≡◌, ◌≢◌, ℕ, get_or, inl, inr, ◌<◌, true, false, refl, sym, ap, ◌∙◌, List, [], ◌∷◌, ◌++◌, length, set, slice_get, Option, Some, None, length-append, length-set, get_or-set_same, get_or-set_other, arith}
 use Rattle.std.proofs.Math.Seq.{get_or-append_seam}
-use Rattle.std.proofs.lemmas.List.{get_or_append_left}
-use Rattle.std.proofs.lemmas.Bool.{false_from_ne_true}
+use Rattle.std.proofs.lemmas.List.{get_or_append_left, get_or_past}
+use Rattle.std.proofs.lemmas.Bool.{cases_lt, false_from_ne_true}
 use Rattle.std.specs.Option.{is_some}
 use Rattle.k_lists.specs.Lists.{ListsValue, AreApart, members, is_in}
 use Rattle.k_entry.specs.declared.item.Item.{Item}
@@ -14,7 +14,7 @@ use Rattle.k_entry.proofs.Changes.{IsOut, out_there, out_old, out_free, out_size
 pub given_again : (slots : List Item) (v w : ListsValue) (free i : ℕ) (item : Item) → AreApart v → IsOut v w free i → is_in (members v free) i ≡ true → i < length slots → GivesSlot slots (set slots i item) v w free i item
 given_again slots v w free i item apart out there within = record {
   here = get_or-set_same slots i item blank within;
-  others = λ j ne below. get_or-set_other slots i j item blank ne;
+  others = λ j ne. get_or-set_other slots i j item blank ne;
   within = omega (arith, within, length-set slots i item);
   grows = omega (arith, length-set slots i item);
   by_one = omega (arith, length-set slots i item);
@@ -27,10 +27,18 @@ given_again slots v w free i item apart out there within = record {
   room = (out_size v w free i out).1;
 }
 
+-- past the last slot there is none, before and after
+elsewhere : (slots : List Item) (item : Item) (j : ℕ) → (j ≡ length slots → ⊥) → get_or (slots ++ item ∷ []) j blank ≡ get_or slots j blank
+elsewhere slots item j ne =
+    elim (cases_lt j (length slots)) [
+      | inl below ↦ get_or_append_left slots (item ∷ []) blank j below
+      | inr past ↦ get_or_past (slots ++ item ∷ []) j blank (let apart : j ≢ length slots = ne in omega (arith, past, apart, length-append slots (item ∷ []))) ∙ sym (get_or_past slots j blank past)
+    ]
+
 pub given_new : (slots : List Item) (v : ListsValue) (free : ℕ) (item : Item) → ((list i : ℕ) → is_in (members v list) i ≡ true → i < length slots) → length (members v free) ≡ 0 → GivesSlot slots (slots ++ item ∷ []) v v free (length slots) item
 given_new slots v free item fresh none = record {
   here = get_or-append_seam slots item [] blank;
-  others = λ j ne below. get_or_append_left slots (item ∷ []) blank j below;
+  others = λ j ne. elsewhere slots item j ne;
   within = omega (arith, length-append slots (item ∷ []));
   grows = omega (arith, length-append slots (item ∷ []));
   by_one = omega (arith, length-append slots (item ∷ []));

@@ -9,6 +9,7 @@ use Rattle.k_types.specs.declared.names.Heap.{Heap}
 use Rattle.k_types.specs.declared.names.Heap.TheVariants.{Kernel}
 use Rattle.k_types.specs.Names.{name_eq}
 use Rattle.k_types.specs.Counted.{Counted, counted}
+use Rattle.k_base.proofs.NameTests.{name_eq-true, name_eq_refl}
 use Rattle.k_lists.specs.Lists.{ListsValue, AreApart, members, is_in}
 use Rattle.k_entry.specs.declared.item.Item.{Item}
 use Rattle.k_entry.specs.Entries.{AreEntries, home_of}
@@ -18,10 +19,7 @@ use Rattle.k_lists.proofs.Members.{in_head}
 use Rattle.k_entry.proofs.Members.{cons_in, once_of, any_default}
 use Rattle.k_entry.proofs.With.{with_map}
 use Rattle.k_entry.proofs.Joined.{Single, joined, in_concat, concat_in, in_joined, joined_in, single_concat}
-use Rattle.k_entry.proofs.Counts.{name_is, hits, hits_are, none_at, single_slot, counted_with}
-
-pub name_same : (t : Name) → name_eq t t ≡ true
-name_same t = ap₂ (λ a b. a && b) (eq-eqb t.seg.0 t.seg.0 refl) (eq-eqb t.serial.0 t.serial.0 refl)
+use Rattle.k_entry.proofs.Counts.{hits, hits_are, none_at, single_slot, counted_with}
 
 pub order_below : (p : Parts) (s : ℕ) → AreKept p → is_in (order p) s ≡ true → s < length p.homes
 order_below p s k e = let w = in_concat p.walks.lists s e in omega (arith, apart_in p.walks w.0 s k.walks_apart w.1, k.sizes.walks_room)
@@ -81,7 +79,7 @@ pub none_hit : (p : Parts) (t : Name) → AreKept p → ((i : ℕ) → is_in (me
 none_hit p t k none = none_at p.slots (used p) t (λ j e.
     let u = used_is p j k e in
     false_from_ne_true (name_eq (at p.slots j).target t) (λ is.
-    let chained : is_in (members p.chains (bucket p.room t)) j ≡ true = subst (λ (n : Name). is_in (members p.chains (bucket p.room n)) j ≡ true) (name_is (at p.slots j).target t is) (k.chained (at p.slots j).target.seg.0 j u.homed u.there) in
+    let chained : is_in (members p.chains (bucket p.room t)) j ≡ true = subst (λ (n : Name). is_in (members p.chains (bucket p.room n)) j ≡ true) (name_eq-true (at p.slots j).target t is) (k.chained (at p.slots j).target.seg.0 j u.homed u.there) in
     let bad : true ≡ false = sym is ∙ none j chained in absurd (cc)))
 
 -- the slot of an object that was found
@@ -99,7 +97,7 @@ pub record IsFound (p : Parts) (t : Name) (i : ℕ) : Type 0 where
 pub found : (p : Parts) (t : Name) (i : ℕ) → AreKept p → is_in (members p.chains (bucket p.room t)) i ≡ true → (at p.slots i).target ≡ t → IsFound p t i
 found p t i k there target =
     let l = k.listed (bucket p.room t) i there in
-    let hit : name_eq (at p.slots i).target t ≡ true = ap (λ (n : Name). name_eq n t) target ∙ name_same t in
+    let hit : name_eq (at p.slots i).target t ≡ true = ap (λ (n : Name). name_eq n t) target ∙ name_eq_refl t in
     let in_use = used_of p (at p.slots i).target.seg.0 i k l.homed l.there in
     let single = single_slot p.slots (used p) t i (once_hit p t k) in_use hit in
     record {

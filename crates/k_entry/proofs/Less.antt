@@ -10,8 +10,8 @@ use Rattle.k_entry.proofs.Members.{in_within}
 use Rattle.k_entry.proofs.With.{IsWith, with_map, with_total, with_length}
 use Rattle.k_entry.proofs.Joined.{joined, joined_same, joined_with, in_concat, concat_in}
 use Rattle.k_entry.proofs.Counts.{hits, hits_are, less_gone}
-use Rattle.k_entry.proofs.Items.{order_below, order_single, once_hit, IsFound}
-use Rattle.k_entry.proofs.Changes.{same_or_not, IsPut, put_here, put_there, put_old, put_cases, put_size, IsOut, out_here, out_there, out_old, out_other, out_gone, out_free, out_size, out_with}
+use Rattle.k_entry.proofs.Items.{order_below, order_single, once_hit, entries_of, IsFound}
+use Rattle.k_entry.proofs.Changes.{same_or_not, IsPut, put_here, put_there, put_old, put_new, put_cases, put_size, IsOut, out_here, out_there, out_old, out_other, out_gone, out_free, out_size, out_with}
 use Rattle.k_entry.proofs.Entered.{IsLeft, left_of}
 use Rattle.k_entry.proofs.More.{moved}
 
@@ -135,7 +135,7 @@ kept_less p v t i chains segments walks k m =
 
 pub has_less : (p : Parts) (v : ListsValue) (t : Name) (i : ℕ) (chains segments walks : ListsValue) → AreKept p → IsLess p v t i chains segments walks → (at p.slots i).count ≡ 1 → HasLess (shown p) (shown (moved p p.slots chains segments walks)) t
 has_less p v t i chains segments walks k m one =
-    less_gone (row_at p.slots i) (shown p) (shown (moved p p.slots chains segments walks)) t (items_less p v t i chains segments walks k m) (once_hit p t k) m.found.target m.found.hit one refl refl
+    less_gone (row_at p.slots i) (shown p) (shown (moved p p.slots chains segments walks)) t (items_less p v t i chains segments walks k m) (once_hit p t k) m.found.target m.found.hit one refl refl (entries_of (moved p p.slots chains segments walks) (kept_less p v t i chains segments walks k m))
 
 -- what the calls tell
 pub less_by : (p : Parts) (v : ListsValue) (t : Name) (i free chain walk : ℕ) (chains segments walks : ListsValue) → AreKept p → IsFound p t i → free ≡ length p.homes → chain ≡ bucket p.room t → walk ≡ walk_of (length p.homes) (home_of p.homes t.seg.0) → chains ≡ record p.chains { lists = set p.chains.lists chain (without i (members p.chains chain)) } → v ≡ record p.segments { lists = set p.segments.lists t.seg.0 (without i (members p.segments t.seg.0)) } → walks ≡ left p.walks walk t.seg.0 (without i (members p.segments t.seg.0)) → segments ≡ record v { lists = set v.lists free (i ∷ members v free) } → AreApart segments → AreApart walks → IsLess p v t i chains segments walks
@@ -153,6 +153,10 @@ less_by p v t i free chain walk chains segments walks k f free_is chain_is walk_
       segments_apart = segments_apart;
       walks_apart = walks_apart;
     }
+
+-- the slot is among the free ones then
+pub freed_there : (p : Parts) (v : ListsValue) (t : Name) (i : ℕ) (chains segments walks : ListsValue) → IsLess p v t i chains segments walks → is_in (members segments (length p.homes)) i ≡ true
+freed_there p v t i chains segments walks m = put_new v segments (length p.homes) i m.freed
 
 -- a slot that was taken out of its list is in none
 pub freed_is_free : (p : Parts) (v : ListsValue) (t : Name) (i : ℕ) → AreKept p → IsFound p t i → v ≡ record p.segments { lists = set p.segments.lists t.seg.0 (without i (members p.segments t.seg.0)) } → IsFree v i

@@ -5,10 +5,12 @@ pub mod Given
 pub mod HomeWalks
 pub mod Items
 pub mod Joined
+pub mod Known
 pub mod Less
 pub mod Members
 pub mod More
 pub mod Recounts
 pub mod Rehomes
 pub mod Ways
+pub mod WholeWalks
 pub mod With

@@ -7,6 +7,7 @@ use Rattle.k_types.specs.Totals.{total}
 use Rattle.k_types.specs.declared.names.Name.{Name}
 use Rattle.k_types.specs.Names.{name_eq}
 use Rattle.k_types.specs.Counted.{Counted}
+use Rattle.k_base.proofs.NameTests.{name_eq-true}
 use Rattle.k_lists.specs.Lists.{ListsValue, AreApart, members, is_in}
 use Rattle.k_entry.specs.declared.item.Item.{Item}
 use Rattle.k_entry.specs.Entries.{HasMore, home_of}
@@ -14,8 +15,8 @@ use Rattle.k_entry.specs.Slots.{at, row_at, bucket, buckets, walk_of, entered, P
 use Rattle.k_lists.proofs.Apart.{apart_in}
 use Rattle.k_entry.proofs.With.{IsWith, with_front, with_map, with_total, with_length}
 use Rattle.k_entry.proofs.Joined.{joined, joined_same, joined_with, map_same}
-use Rattle.k_entry.proofs.Counts.{name_is, bit, hits, hits_are, no_hits, more_new}
-use Rattle.k_entry.proofs.Items.{order_below, used_is}
+use Rattle.k_entry.proofs.Counts.{bit, hits, hits_are, no_hits, more_new}
+use Rattle.k_entry.proofs.Items.{order_below, used_is, entries_of}
 use Rattle.k_entry.proofs.Changes.{same_or_not, IsPut, put_here, put_there, put_old, put_new, put_cases, put_size}
 use Rattle.k_entry.proofs.Entered.{IsEntered, entered_of}
 
@@ -56,7 +57,7 @@ used_more p v t i slots chains segments walks k m =
 
 -- what stays of another slot
 stays : (p : Parts) (v : ListsValue) (t : Name) (i : ℕ) (slots : List Item) (s j : ℕ) → AreKept p → GivesSlot p.slots slots p.segments v (length p.homes) i (fresh t) → s < length p.homes → is_in (members p.segments s) j ≡ true → at slots j ≡ at p.slots j
-stays p v t i slots s j k g within there = g.others j (other_slot p v slots (fresh t) i s j g within there) (k.below s j there)
+stays p v t i slots s j k g within there = g.others j (other_slot p v slots (fresh t) i s j g within there)
 
 pub items_more : (p : Parts) (v : ListsValue) (t : Name) (i : ℕ) (slots : List Item) (chains segments walks : ListsValue) → AreKept p → IsMore p v t i slots chains segments walks → IsWith (record { object = t; count = 1 }) (shown p).items (shown (moved p slots chains segments walks)).items
 items_more p v t i slots chains segments walks k m =
@@ -167,7 +168,7 @@ kept_more p v t i slots chains segments walks k m =
 
     by_test : (n : Name) (b : Bool) → name_eq t n ≡ b → count_by (λ (item : Counted). name_eq item.object n) (shown (moved p slots chains segments walks)).items ≤ 1
     by_test n true is =
-        let none : total (hits n) (shown p).items ≡ 0 = ap (λ (x : Name). total (hits x) (shown p).items) (sym (name_is t n is)) ∙ m.none in
+        let none : total (hits n) (shown p).items ≡ 0 = ap (λ (x : Name). total (hits x) (shown p).items) (sym (name_eq-true t n is)) ∙ m.none in
         let one : hits n (record { object = t; count = 1 }) ≡ 1 = ap bit is in
         omega (arith, one, none, hits_are (shown (moved p slots chains segments walks)).items n, with_total (hits n) (record { object = t; count = 1 }) (shown p).items (shown (moved p slots chains segments walks)).items (items_more p v t i slots chains segments walks k m))
     by_test n false off =
@@ -176,7 +177,7 @@ kept_more p v t i slots chains segments walks k m =
 
 pub has_more : (p : Parts) (v : ListsValue) (t : Name) (i : ℕ) (slots : List Item) (chains segments walks : ListsValue) → AreKept p → IsMore p v t i slots chains segments walks → HasMore (shown p) (shown (moved p slots chains segments walks)) t
 has_more p v t i slots chains segments walks k m =
-    more_new (record { object = t; count = 1 }) (shown p) (shown (moved p slots chains segments walks)) t (items_more p v t i slots chains segments walks k m) refl refl (no_hits (shown p).items t m.none) refl refl
+    more_new (record { object = t; count = 1 }) (shown p) (shown (moved p slots chains segments walks)) t (items_more p v t i slots chains segments walks k m) refl refl (no_hits (shown p).items t m.none) refl refl (entries_of (moved p slots chains segments walks) (kept_more p v t i slots chains segments walks k m))
 
 -- what the calls tell
 pub more_by : (p : Parts) (v : ListsValue) (t : Name) (i free chain walk : ℕ) (slots : List Item) (chains segments walks : ListsValue) → AreKept p → t.seg.0 < length p.homes → length (shown p).items < p.room → total (hits t) (shown p).items ≡ 0 → free ≡ length p.homes → chain ≡ bucket p.room t → chain < buckets p.room → walk ≡ walk_of (length p.homes) (home_of p.homes t.seg.0) → walk ≤ length p.homes → GivesSlot p.slots slots p.segments v free i (fresh t) → chains ≡ record p.chains { lists = set p.chains.lists chain (i ∷ members p.chains chain) } → segments ≡ record v { lists = set v.lists t.seg.0 (i ∷ members v t.seg.0) } → walks ≡ entered p.walks walk t.seg.0 (members v t.seg.0) → AreApart segments → AreApart walks → IsMore p v t i slots chains segments walks

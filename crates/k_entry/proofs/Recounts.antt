@@ -11,7 +11,7 @@ use Rattle.k_entry.specs.Slots.{at, row_of, row_at, blank, bucket, Parts, used, 
 use Rattle.k_entry.proofs.With.{IsWith, with_map}
 use Rattle.k_entry.proofs.Joined.{map_same, off_members}
 use Rattle.k_entry.proofs.Counts.{hits, hits_are, more_there, less_there}
-use Rattle.k_entry.proofs.Items.{once_hit, read_at, IsFound}
+use Rattle.k_entry.proofs.Items.{once_hit, read_at, entries_of, IsFound}
 use Rattle.k_entry.proofs.Changes.{same_or_not}
 use Rattle.k_entry.proofs.More.{moved}
 
@@ -107,9 +107,9 @@ items_recount p t after i n f r =
 pub more_recount : (p : Parts) (t : Name) (after : List Item) (i n : ℕ) → AreKept p → IsFound p t i → IsRecount p.slots after i n → n ≡ (at p.slots i).count + 1 → HasMore (shown p) (shown (with_slots p after)) t
 more_recount p t after i n k f r more =
     let a = items_recount p t after i n f r in
-    more_there (row_at p.slots i) (record { object = (at p.slots i).target; count = n }) a.rest (shown p) (shown (with_slots p after)) t a.was a.is (once_hit p t k) f.positive f.target f.hit refl more refl refl
+    more_there (row_at p.slots i) (record { object = (at p.slots i).target; count = n }) a.rest (shown p) (shown (with_slots p after)) t a.was a.is (once_hit p t k) f.positive f.target f.hit refl more refl refl (entries_of (with_slots p after) (kept_recount p after i n k r (omega (arith, more))))
 
 pub less_recount : (p : Parts) (t : Name) (after : List Item) (i n : ℕ) → AreKept p → IsFound p t i → IsRecount p.slots after i n → (at p.slots i).count ≢ 1 → n + 1 ≡ (at p.slots i).count → HasLess (shown p) (shown (with_slots p after)) t
 less_recount p t after i n k f r some less =
     let a = items_recount p t after i n f r in
-    less_there (row_at p.slots i) (record { object = (at p.slots i).target; count = n }) a.rest (shown p) (shown (with_slots p after)) t a.was a.is (once_hit p t k) some f.target f.hit refl less refl refl
+    less_there (row_at p.slots i) (record { object = (at p.slots i).target; count = n }) a.rest (shown p) (shown (with_slots p after)) t a.was a.is (once_hit p t k) (λ e. some e) f.target f.hit refl less refl refl (entries_of (with_slots p after) (kept_recount p after i n k r (let more = f.positive in omega (arith, less, more, some))))

@@ -4,7 +4,9 @@ use Rattle.std.specs.List.{concat}
 use Rattle.std.specs.List.Sorted.{IsPermutation}
 use Rattle.std.proofs.lemmas.List.Sorted.{IsPermutation-refl, IsPermutation-sym, IsPermutation-trans, IsPermutation-append_comm, IsPermutation-append_left, IsPermutation-map, sum_by-IsPermutation, length_permutation}
 use Rattle.k_types.specs.Totals.{total}
+use Rattle.k_types.specs.declared.names.Name.{Name}
 use Rattle.k_types.specs.declared.names.Heap.{Heap}
+use Rattle.k_types.specs.Counted.{Counted, counted}
 use Rattle.k_types.specs.declared.names.Heap.TheVariants.{Kernel}
 use Rattle.k_lists.specs.Lists.{ListsValue, AreApart, members, is_in}
 use Rattle.k_entry.specs.Entries.{home_of}
@@ -14,7 +16,7 @@ use Rattle.k_lists.proofs.Members.{in_head}
 use Rattle.k_entry.proofs.Members.{in_within}
 use Rattle.k_entry.proofs.With.{IsWith}
 use Rattle.k_entry.proofs.Joined.{joined, joined_append}
-use Rattle.k_entry.proofs.Counts.{hits, hits_are, total_is}
+use Rattle.k_entry.proofs.Counts.{adds, hits, hits_are, total_is}
 use Rattle.k_entry.proofs.Changes.{same_or_not, IsPut, put_old, put_new, put_cases, put_size, put_joined, IsOut, out_old, out_other, out_gone, out_size, out_joined}
 
 -- the table where the segment has that home
@@ -81,6 +83,10 @@ rehomed_full p v walks s to k within some there out put apart =
 
 pub items_rehomed : (p : Parts) (walks : ListsValue) (s : ℕ) (to : Heap) → AreRehomed p walks s to → IsPermutation (shown p).items (shown (rehomed p walks s to)).items
 items_rehomed p walks s to r = IsPermutation-map (row_at p.slots) (used p) (joined (members p.segments) (concat walks.lists)) r.permuted
+
+-- a permutation counts the same
+pub counted_same : (xs ys : List Counted) (n : Name) → IsPermutation xs ys → counted ys n ≡ counted xs n
+counted_same xs ys n same = total_is (adds n) ys ∙ sum_by-IsPermutation (adds n) xs ys same ∙ sym (total_is (adds n) xs)
 
 home_here : (p : Parts) (s : ℕ) (to : Heap) → s < length p.homes → home_of (set p.homes s to) s ≡ to
 home_here p s to within = get_or-set_same p.homes s to Kernel within

@@ -1,5 +1,5 @@
 -- What a contract sees of the counted objects.
-use Rattle.std.specs.Prelude.{◌≡◌, ℕ, ◌+◌, ◌<◌, ◌≤◌, ◌==◌, Bool, List, [], ◌∷◌, filter, length, count_by, slice_get, slice_index_or, Option, Some, None, if◌then◌else◌}
+use Rattle.std.specs.Prelude.{◌≡◌, ℕ, zero, suc, ◌+◌, ◌<◌, ◌≤◌, ◌==◌, Bool, List, [], ◌∷◌, map, filter, length, count_by, slice_get, slice_index_or, Option, Some, None, if◌then◌else◌}
 use Rattle.k_types.specs.declared.names.Name.{Name}
 use Rattle.k_types.specs.declared.names.Heap.{Heap}
 use Rattle.k_types.specs.declared.names.Heap.TheVariants.{Kernel}
@@ -24,6 +24,9 @@ is_at_home homes h item = heap_eq (home_of homes item.object.seg.0) h
 abbrev pub items_of : EntryValue → Heap → List Counted
 items_of v h = filter (is_at_home v.homes h) v.items
 
+abbrev pub objects : List Counted → List Name
+objects items = map (λ item. item.object) items
+
 abbrev pub first_object : List Counted → Option Name
 first_object [] = None
 first_object (item ∷ items) = Some item.object
@@ -32,6 +35,12 @@ first_object (item ∷ items) = Some item.object
 abbrev pub object_after : List Counted → Name → Option Name
 object_after [] t = None
 object_after (item ∷ items) t = if name_eq item.object t then first_object items else object_after items t
+
+-- the objects that a walk passes from one on, so many at most
+unfoldable pub passed : List Counted → ℕ → Option Name → List Name
+passed items zero from = []
+passed items (suc n) None = []
+passed items (suc n) (Some t) = t ∷ passed items n (object_after items t)
 
 -- each object stands there once, with a count above 0 and in a segment that has a home, and all have room
 pub record AreEntries (v : EntryValue) : Type 0 where
@@ -46,6 +55,7 @@ pub record HasMore (old new : EntryValue) (t : Name) : Type 0 where
   pub items : length new.items ≡ length old.items + (if counted old.items t == 0 then 1 else 0)
   pub homes : new.homes ≡ old.homes
   pub room : new.room ≡ old.room
+  pub entries : AreEntries new
 
 -- that object is counted once less, its item is gone where that was all, and all else stays; the order of the items is free
 pub record HasLess (old new : EntryValue) (t : Name) : Type 0 where
@@ -53,3 +63,4 @@ pub record HasLess (old new : EntryValue) (t : Name) : Type 0 where
   pub items : length new.items + (if counted old.items t == 1 then 1 else 0) ≡ length old.items
   pub homes : new.homes ≡ old.homes
   pub room : new.room ≡ old.room
+  pub entries : AreEntries new

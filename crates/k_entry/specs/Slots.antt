@@ -72,7 +72,7 @@ onward xs (Some i) = since i xs
 -- a slot that was in the list of free ones, or a new one, has the item and is in no list; other slots and lists stay
 pub record GivesSlot (slots given : List Item) (lists after : ListsValue) (free i : ℕ) (item : Item) : Type 0 where
   pub here : at given i ≡ item
-  pub others : (j : ℕ) → (j ≡ i → ⊥) → j < length slots → at given j ≡ at slots j
+  pub others : (j : ℕ) → (j ≡ i → ⊥) → at given j ≡ at slots j
   pub within : i < length given
   pub grows : length slots ≤ length given
   pub by_one : length given ≤ length slots + 1
@@ -134,3 +134,7 @@ pub record AreKept (p : Parts) : Type 0 where
   pub walked : (s i : ℕ) → s < length p.homes → IsTrue (is_in (members p.segments s) i) → IsTrue (is_in (members p.walks (walk_of (length p.homes) (home_of p.homes s))) s)
   pub live : (walk s : ℕ) → IsTrue (is_in (members p.walks walk) s) → (walk ≡ walk_of (length p.homes) (home_of p.homes s)) × (0 < length (members p.segments s))
   pub full : length (used p) + length (members p.segments (length p.homes)) ≡ length p.slots
+
+-- each slot with a count above 0 is in the chain of its object; a free slot has a count of 0
+abbrev pub AreKnown : Parts → Type 0
+AreKnown p = (i : ℕ) → 0 < (at p.slots i).count → IsTrue (is_in (members p.chains (bucket p.room (at p.slots i).target)) i)

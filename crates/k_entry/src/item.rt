@@ -65,6 +65,31 @@ pub(crate) fn find(slots: &[Item], chains: &Lists, chain: usize, target: Name) -
     None
 }
 
+/// The slot of the object of a reference: the one that the reference names, where it is right, else
+/// the one that is found in the object's chain.
+pub(crate) fn slot_of(slots: &[Item], chains: &Lists, room: u32, link: Link) -> Option<u32>
+    requires chains { length chains.now.lists ≡ buckets room }
+    requires slots { (chain i : ℕ) → IsTrue (is_in (members chains.now chain) i) → i < length slots.now }
+    requires small { length slots.now < 2 ^ 32 }
+    requires known { (i : ℕ) → 0 < (at slots.now i).count → IsTrue (is_in (members chains.now (bucket room (at slots.now i).target)) i) }
+    ensures there { IfSome result (λ i. IsTrue (is_in (members chains.now (bucket room (name_of link))) i)) }
+    ensures target { IfSome result (λ i. (at slots.now i).target ≡ name_of link) }
+    ensures none { IfNone result ((i : ℕ) → IsTrue (is_in (members chains.now (bucket room (name_of link))) i) → IsFalse (name_eq (at slots.now i).target (name_of link))) }
+{
+    let target = link.name();
+    if holds(slots, link.slot.0, target) {
+        return Some(link.slot.0 as u32);
+    }
+    find(slots, chains, chain_of(target, room), target)
+}
+
+/// Whether an item of that object is in the slot.
+fn holds(slots: &[Item], i: usize, target: Name) -> bool
+    ensures { IsTrue result → (0 < (at slots.now i).count) × ((at slots.now i).target ≡ target) }
+{
+    i < slots.len() && slots[i].count > 0 && slots[i].is_of(target)
+}
+
 /// Writes the item into a slot that is in no list: one from the list of free slots, else a new one.
 pub(crate) fn take_slot(slots: &mut Vec<Item>, segments: &mut Lists, free: usize, item: Item) -> u32
     requires list { free < length segments.old.lists }
@@ -91,7 +116,7 @@ pub(crate) fn take_slot(slots: &mut Vec<Item>, segments: &mut Lists, free: usize
     }
 }
 
-/// A reference to the object in the slot. The slot of the reference, a hint, is 0.
+/// A reference to the object in the slot, which it names.
 pub(crate) fn link_at(slots: &[Item], i: u32) -> Link
     requires { i < length slots.now }
     ensures { name_of result ≡ (at slots.now i).target }
@@ -99,7 +124,7 @@ pub(crate) fn link_at(slots: &[Item], i: u32) -> Link
     let target = slots[i as usize].target;
     Link {
         seg: target.seg,
-        slot: Slot(0),
+        slot: Slot(i as usize),
         serial: target.serial,
     }
 }

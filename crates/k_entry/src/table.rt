@@ -1,14 +1,15 @@
-ghost use Rattle.std.specs.Prelude.{◌≡◌, ◌+◌, ◌-◌, ◌<◌, ◌≤◌, ◌^◌, [], ℕ, Some, None, IfOk, IfSome, IfNone, length, option_map, slice_set};
+ghost use Rattle.std.specs.Prelude.{◌≡◌, ◌+◌, ◌-◌, ◌<◌, ◌≤◌, ◌^◌, [], ℕ, Some, None, IfOk, IfSome, IfNone, length, option_map, slice_set, vec_capacity};
 ghost use Rattle.std.specs.List.Sorted.{IsPermutation};
+ghost use Rattle.k_types.specs.declared.names.Name.{Name as Named};
 ghost use Rattle.k_types.specs.Names.{name_of};
 ghost use Rattle.k_types.specs.Counted.{counted};
 ghost use Rattle.k_entry.specs.Entries.{AreEntries, HasMore, HasLess, first_object, object_after, items_of, home_of};
 
-use crate::item::{Item, chain_count, chain_of, find, link_at, take_slot};
+use crate::item::{Item, chain_count, chain_of, find, link_at, slot_of, take_slot};
 use crate::walks::{change_walk, first_from, put_in, take_out, walk_number};
 use k_io::NoMemory;
 use k_lists::Lists;
-use k_types::{Heap, Link, Name, Seg};
+use k_types::{Heap, Link, Name, Seg, Slot};
 use std::alloc::Global;
 use std::marker::Model;
 
@@ -16,6 +17,7 @@ use std::marker::Model;
 /// whose counts say how many heaps refer to an object from outside; the lists are own.
 #[derive(Drop)]
 pub struct EntryTable {
+    // A slot with a count of 0 is free.
     slots: Vec<Item>,
     // The slots of each hash chain.
     chains: Lists,
@@ -32,15 +34,29 @@ impl Model for EntryTable {
 
     ghost Value = { EntryValue };
 
-    ghost use Rattle.std.specs.Prelude.{vec_capacity, ◌≤◌};
-    ghost use Rattle.k_entry.specs.Slots.{shown, AreKept};
+    ghost use Rattle.std.specs.Prelude.{length, vec_capacity, ◌≡◌};
+    ghost use Rattle.k_entry.specs.Slots.{shown, AreKept, AreKnown};
 
     ghost view = { λ t. shown (record { slots = t.slots.items; chains = t.chains; segments = t.segments; walks = t.walks; homes = t.homes.items; room = t.room }) };
 
     ghost invariant = { λ t. record {
-      reserved : t.room ≤ vec_capacity t.slots;
+      reserved : vec_capacity t.slots ≡ t.room;
+      homes_reserved : vec_capacity t.homes ≡ length t.homes.items;
       kept : AreKept (record { slots = t.slots.items; chains = t.chains; segments = t.segments; walks = t.walks; homes = t.homes.items; room = t.room });
+      known : AreKnown (record { slots = t.slots.items; chains = t.chains; segments = t.segments; walks = t.walks; homes = t.homes.items; room = t.room });
     } };
+}
+
+/// The same homes, with memory for no more.
+fn copied(alloc: Global, homes: &[Heap]) -> Result<Vec<Heap>, NoMemory>
+    ensures items { IfOk result (λ copy. copy.items ≡ homes.now) }
+    ensures capacity { IfOk result (λ copy. vec_capacity copy ≡ length homes.now) }
+{
+    let mut copy = Vec::with_capacity(alloc, homes.len())?;
+    for home in homes {
+        copy.push_reserved(*home);
+    }
+    Ok(copy)
 }
 
 impl EntryTable {
@@ -48,13 +64,14 @@ impl EntryTable {
     /// segments, since lists number segments by 32 bits.
     pub fn make(alloc: Global, homes: &[Heap], room: u32) -> Result<EntryTable, NoMemory>
         requires { length homes.now < 2 ^ 32 - 1 }
-        ensures { IfOk result (λ t. t ≡ record { items = []; homes = homes.now; room = room }) }
+        ensures made { IfOk result (λ t. t ≡ record { items = []; homes = homes.now; room = room }) }
+        ensures entries { IfOk result (λ t. AreEntries t) }
     {
         let slots = Vec::with_capacity(alloc, room as usize)?;
         let chains = Lists::make(alloc, chain_count(room), room)?;
         let segments = Lists::make(alloc, homes.len() + 1, room)?;
         let walks = Lists::make(alloc, homes.len() + 1, homes.len() as u32)?;
-        let homes = homes.to_vec(alloc)?;
+        let homes = copied(alloc, homes)?;
         Ok(EntryTable {
             slots,
             chains,
@@ -65,7 +82,7 @@ impl EntryTable {
         })
     }
 
-    /// How often the object is counted; 0 where it isn't there. It passes one hash chain at most. Source: own.
+    /// How often the object is counted; 0 where it isn't there. It passes one hash chain at most.
     pub fn count(&self, target: Name) -> u32
         ensures count { result ≡ counted self.now.items target }
         ensures entries { AreEntries self.now }
@@ -81,7 +98,7 @@ impl EntryTable {
         }
     }
 
-    /// Counts the object once more. It passes one hash chain at most. Source: own.
+    /// Counts the object once more. It passes one hash chain at most.
     pub fn up(&mut self, target: Link)
         requires home { target.seg.0 < length self.old.homes }
         requires room { counted self.old.items (name_of target) ≡ 0 → length self.old.items < self.old.room }
@@ -109,7 +126,7 @@ impl EntryTable {
     }
 
     /// Counts the object once less, and removes its item at zero. It passes one hash chain at most.
-    /// Source: own.
+    ///
     pub fn down(&mut self, target: Name)
         requires { 0 < counted self.old.items target }
         ensures { HasLess self.old self.new target }
@@ -124,15 +141,16 @@ impl EntryTable {
             self.chains.remove(chain, i);
             take_out(&mut self.segments, &mut self.walks, walk, target.seg, i);
             self.segments.push_front(self.homes.len(), i);
+            self.slots[i as usize] = item.with_count(0);
         } else {
             self.slots[i as usize] = item.with_count(item.count - 1);
         }
     }
 
-    /// The first object on the walk of that home; its slot, a hint, is 0. It passes by no segment without an
-    /// item. Source: own.
+    /// The first object on the walk of that home. It passes by no segment without an item.
     pub fn first_of(&self, heap: Heap) -> Option<Link>
-        ensures { option_map name_of result ≡ first_object (items_of self.now heap) }
+        ensures first { option_map name_of result ≡ first_object (items_of self.now heap) }
+        ensures entries { AreEntries self.now }
     {
         let first = self.walks.first(walk_number(heap, self.homes.len()));
         match first_from(&self.segments, &self.walks, &self.homes, heap, first) {
@@ -141,18 +159,28 @@ impl EntryTable {
         }
     }
 
-    /// The object after that one on the walk of its home; its slot, a hint, is 0. It finds that one by its
-    /// hash chain, and passes by no segment without an item. Source: own.
+    /// The object after that one on the walk of its home. It finds that one by its hash chain, and
+    /// passes by no segment without an item.
     pub fn next(&self, target: Name) -> Option<Link>
         requires { 0 < counted self.now.items target }
-        ensures { option_map name_of result ≡ object_after (items_of self.now (home_of self.now.homes target.seg.0)) target }
+        ensures next { option_map name_of result ≡ object_after (items_of self.now (home_of self.now.homes target.seg.0)) target }
+        ensures entries { AreEntries self.now }
     {
-        let Some(i) = find(
-            &self.slots,
-            &self.chains,
-            chain_of(target, self.room),
-            target,
-        ) else {
+        self.next_at(Link {
+            seg: target.seg,
+            slot: Slot(0),
+            serial: target.serial,
+        })
+    }
+
+    /// The same as `next` after an object that the walk gave. It finds that one at once where the table
+    /// has not changed since then.
+    pub fn next_at(&self, target: Link) -> Option<Link>
+        requires { 0 < counted self.now.items (name_of target) }
+        ensures next { option_map name_of result ≡ object_after (items_of self.now (home_of self.now.homes target.seg.0)) (name_of target) }
+        ensures entries { AreEntries self.now }
+    {
+        let Some(i) = slot_of(&self.slots, &self.chains, self.room, target) else {
             unreachable!()
         };
         if let Some(j) = self.segments.next(i) {
@@ -167,11 +195,13 @@ impl EntryTable {
     }
 
     /// Changes the home of a segment, and with it the walks on which its objects are. It takes constant time,
-    /// however many they are. Source: own.
+    /// however many they are.
     pub fn rehome(&mut self, seg: Seg, to: Heap)
         requires { seg.0 < length self.old.homes }
         ensures homes { self.new.homes ≡ slice_set self.old.homes seg.0 to }
         ensures items { IsPermutation self.old.items self.new.items }
+        ensures counts { (n : Named) → counted self.new.items n ≡ counted self.old.items n }
+        ensures entries { AreEntries self.new }
         ensures room { self.new.room ≡ self.old.room }
     {
         let from = walk_number(self.homes[seg.0 as usize], self.homes.len());
@@ -180,10 +210,11 @@ impl EntryTable {
         self.homes[seg.0 as usize] = to;
     }
 
-    /// The home of a segment. Source: own.
+    /// The home of a segment.
     pub fn home(&self, seg: Seg) -> Heap
         requires { seg.0 < length self.now.homes }
-        ensures { result ≡ home_of self.now.homes seg.0 }
+        ensures home { result ≡ home_of self.now.homes seg.0 }
+        ensures entries { AreEntries self.now }
     {
         self.homes[seg.0 as usize]
     }

@@ -57,10 +57,40 @@ fn a_walk_goes_through_each_segment_of_its_home(rt: HostRuntime) -> Result<(), F
         if let Some(at) = next {
             serials[i] = at.serial.0;
             assert!(rt; table.count(at.name()) == 1);
-            next = table.next(at.name());
+            next = table.next_at(at);
         }
     }
     assert!(rt; next.is_none());
     assert!(rt; serials == [9, 7, 0] || serials == [7, 9, 0]);
+    Ok(())
+}
+
+// A hint that has become wrong is not trusted: the object is found again in the slot that it has now.
+#[test]
+fn a_walk_goes_on_where_its_hint_is_stale(rt: HostRuntime) -> Result<(), Fail> {
+    let homes = vec![in rt.alloc(); Heap::Kernel]?;
+    let mut table = EntryTable::make(rt.alloc(), &homes, 2)?;
+    table.up(link(0, 1));
+    table.up(link(0, 2));
+    let first = table.first_of(Heap::Kernel).ok_or("an object")?;
+    assert_eq!(rt; first.serial.0, 2);
+    table.down(name(0, 2));
+    table.down(name(0, 1));
+    table.up(link(0, 2));
+    table.up(link(0, 1));
+    assert_eq!(rt; table.count(first.name()), 1);
+    assert!(rt; table.next_at(first).is_none());
+    Ok(())
+}
+
+// A table is made for no object, and for more than 65,536 objects and segments.
+#[test]
+fn tables_are_made_for_none_and_for_many(rt: HostRuntime) -> Result<(), Fail> {
+    let none = EntryTable::make(rt.alloc(), &[], 0)?;
+    assert!(rt; none.first_of(Heap::Kernel).is_none());
+    let homes = vec![in rt.alloc(); Heap::Kernel; 70_000]?;
+    let many = EntryTable::make(rt.alloc(), &homes, 70_000)?;
+    assert_eq!(rt; many.count(name(69_999, 1)), 0);
+    assert!(rt; many.first_of(Heap::Kernel).is_none());
     Ok(())
 }

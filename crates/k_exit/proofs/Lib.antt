@@ -1,7 +1,7 @@
-pub mod Names
 pub mod Last
 pub mod Links
 pub mod Relinks
 pub mod Removes
 pub mod Lists
+pub mod Takes
 pub mod Order

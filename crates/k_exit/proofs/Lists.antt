@@ -20,7 +20,7 @@ use Rattle.k_exit.specs.Chains.{rows_without, unmarked_item}
 use Rattle.k_exit.proofs.Relinks.{any_default}
 use Rattle.k_exit.proofs.Removes.{map_len, front_at, front_len}
 use Rattle.k_exit.proofs.Last.{last_same}
-use Rattle.k_exit.proofs.Names.{name_eq-true, name_same}
+use Rattle.k_base.proofs.NameTests.{name_eq-true, name_eq-same}
 
 abbrev bit : Bool → ℕ
 bit b = cond b 1 0
@@ -28,7 +28,7 @@ bit b = cond b 1 0
 -- whether a target is there, by the place that was found
 has_there : (items : List Item) (i : ℕ) (t : Name) → i < length items → (at items i).target ≡ t → has_target (map row_of items) t ≡ true
 has_there [] i t within e = absurd (omega (arith, within))
-has_there (x ∷ xs) zero t within e = or_left (name_eq x.target t) (has_target (map row_of xs) t) (name_same x.target t e)
+has_there (x ∷ xs) zero t within e = or_left (name_eq x.target t) (has_target (map row_of xs) t) (name_eq-same x.target t e)
 has_there (x ∷ xs) (suc i) t within e = or_right (name_eq x.target t) (has_target (map row_of xs) t) (has_there xs i t (omega (arith, within)) e)
 
 has_none : (items : List Item) (t : Name) → ((i : ℕ) → i < length items → (at items i).target ≢ t) → has_target (map row_of items) t ≡ false

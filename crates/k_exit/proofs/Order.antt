@@ -11,7 +11,7 @@ use Rattle.k_types.specs.Names.{name_eq, name_lt}
 use Rattle.k_exit.specs.declared.chains.Item.{Item}
 use Rattle.k_exit.specs.Chains.{row_of, blank}
 use Rattle.k_exit.specs.Exits.{ExitRow, AreDistinct}
-use Rattle.k_exit.proofs.Names.{name_same}
+use Rattle.k_base.proofs.NameTests.{name_eq-same}
 use Rattle.k_exit.proofs.Lists.{count-cons, once}
 
 less : (a b : ℕ) → a < b → nat_lt a b ≡ true
@@ -49,7 +49,7 @@ apart_next [] i x y distinct a b e = cc
 apart_next (r ∷ rs) zero x y distinct a b e =
     let same : r ≡ x = cc in
     let on : bit (name_eq r.target y.target) ≡ 1 = ap (λ (s : ExitRow). bit (name_eq s.target y.target)) same ∙ ap bit e in
-    omega (arith, count-cons y.target r rs, on, once rs zero y y.target b (name_same y.target y.target refl), distinct y.target)
+    omega (arith, count-cons y.target r rs, on, once rs zero y y.target b (name_eq-same y.target y.target refl), distinct y.target)
   where
     bit : Bool → ℕ
     bit b = cond b 1 0

@@ -1,5 +1,5 @@
 -- What a contract sees of the exit items of a heap.
-use Rattle.std.specs.Prelude.{◌≡◌, ℕ, ◌+◌, ◌≤◌, ◌==◌, ◌&&◌, ◌||◌, Bool, false, List, [], ◌∷◌, ◌++◌, map, slice_get, count_by, Some, if◌then◌else◌, IsTrue}
+use Rattle.std.specs.Prelude.{◌≡◌, ℕ, ◌+◌, ◌≤◌, ◌==◌, ◌&&◌, ◌||◌, not, Bool, false, List, [], ◌∷◌, ◌++◌, length, map, slice_get, count_by, Some, if◌then◌else◌, IsTrue}
 use Rattle.std.specs.List.{list_any}
 use Rattle.std.specs.List.Sorted.{IsPermutation}
 use Rattle.k_types.specs.declared.names.Name.{Name}
@@ -52,10 +52,13 @@ unmarked e = record e { items = map unmarked_row e.items }
 abbrev pub leads_into : List ExitRow → ℕ → Bool
 leads_into items seg = list_any (λ e. e.target.seg.0 == seg) items
 
--- that item is gone, and no other; the order of the others is free
+-- that item is gone, and no other; what is left stays marked or not as it was, in any order
 pub record IsTaken (old new : ExitList) (link : Link) (row : ExitRow) : Type 0 where
   pub target : row.target ≡ name_of link
   pub taken : IsPermutation old.items (row ∷ new.items)
+  pub left : (n : Name) → has_target new.items n ≡ (has_target old.items n && not (name_eq row.target n))
+  pub marks : (n : Name) → target_marked new.items n ≡ (target_marked old.items n && not (name_eq row.target n))
+  pub fewer : length new.items + 1 ≡ length old.items
   pub room : new.room ≡ old.room
   pub distinct : AreDistinct new.items
 

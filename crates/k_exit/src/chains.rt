@@ -1,9 +1,11 @@
-ghost use Rattle.std.specs.Prelude.{◌≡◌, ◌<◌, ◌≤◌, ◌^◌, ◌≢◌, IsTrue, IsFalse, Some, None, IfSome, IfNone, length, map, ℕ, slice_set, vec_capacity};
+ghost use Rattle.std.specs.Prelude.{◌≡◌, ◌<◌, ◌≤◌, ◌^◌, ◌≢◌, IsTrue, IsFalse, Some, None, IfOk, IfSome, IfNone, length, map, replicate, ℕ, slice_set, vec_capacity};
 ghost use Rattle.k_hash.specs.Hash.{bucket};
 ghost use Rattle.k_exit.specs.Chains.{IsChained, IsLinked, IsLinkedAbove, IsNextAbove, HasNoneAbove, at, row_of, rows_without, with_next};
 
 use k_hash::chain_of;
+use k_io::NoMemory;
 use k_types::Name;
+use std::alloc::Global;
 
 /// A target, and the next item of its chain.
 #[derive(Clone, Copy)]
@@ -12,6 +14,18 @@ pub(crate) struct Item {
     pub(crate) marked: bool,
     // One more than the place of the next item; 0 at the end.
     pub(crate) next: u32,
+}
+
+/// The heads of so many empty chains, with memory for no more.
+pub(crate) fn empty_heads(alloc: Global, chains: u32) -> Result<Vec<u32>, NoMemory>
+    ensures items { IfOk result (λ heads. heads.items ≡ replicate chains 0) }
+    ensures capacity { IfOk result (λ heads. vec_capacity heads ≡ chains) }
+{
+    let mut heads = Vec::with_capacity(alloc, chains as usize)?;
+    for i in 0..chains {
+        heads.push_reserved(0);
+    }
+    Ok(heads)
 }
 
 /// The place of the target, if it is there.
@@ -24,7 +38,19 @@ pub(crate) fn find(items: &[Item], heads: &[u32], target: Name) -> Option<usize>
     if heads.is_empty() {
         return None;
     }
-    let mut next = heads[chain_of(heads.len(), target)];
+    find_in(items, heads, chain_of(heads.len(), target), target)
+}
+
+/// The place of the target, if it is in its chain.
+pub(crate) fn find_in(items: &[Item], heads: &[u32], chain: usize, target: Name) -> Option<usize>
+    requires linked { IsChained items.now heads.now }
+    requires chain { chain ≡ bucket (length heads.now) target }
+    requires within { chain < length heads.now }
+    ensures within { IfSome result (λ i. i < length items.now) }
+    ensures there { IfSome result (λ i. (at items.now i).target ≡ target) }
+    ensures none { IfNone result ((i : ℕ) → i < length items.now → (at items.now i).target ≢ target) }
+{
+    let mut next = heads[chain];
     while next != 0 {
         let i = (next - 1) as usize;
         if items[i].target == target {
@@ -69,6 +95,7 @@ fn unlink(items: &mut Vec<Item>, heads: &mut Vec<u32>, i: usize)
     ensures rows { map row_of items.new.items ≡ map row_of items.old.items }
     ensures capacity { vec_capacity items.new ≡ vec_capacity items.old }
     ensures room { length heads.new.items ≡ length heads.old.items }
+    ensures heads_capacity { vec_capacity heads.new ≡ vec_capacity heads.old }
 {
     let next = items[i].next;
     let chain = chain_of(heads.len(), items[i].target);
@@ -80,15 +107,37 @@ fn unlink(items: &mut Vec<Item>, heads: &mut Vec<u32>, i: usize)
 
 /// Puts the item at `i`, which is the only one of the first `end` that is in no chain, into its
 /// chain.
-pub(crate) fn link(items: &mut Vec<Item>, heads: &mut Vec<u32>, end: usize, i: usize)
+fn link(items: &mut Vec<Item>, heads: &mut Vec<u32>, end: usize, i: usize)
     requires place { i < end }
     requires linked { IsLinked items.old.items heads.old.items end i }
     ensures linked { IsLinked items.new.items heads.new.items end end }
     ensures rows { map row_of items.new.items ≡ map row_of items.old.items }
     ensures capacity { vec_capacity items.new ≡ vec_capacity items.old }
     ensures room { length heads.new.items ≡ length heads.old.items }
+    ensures heads_capacity { vec_capacity heads.new ≡ vec_capacity heads.old }
 {
     let chain = chain_of(heads.len(), items[i].target);
+    link_in(items, heads, chain, end, i);
+}
+
+/// The same where the number of the chain is known.
+pub(crate) fn link_in(
+    items: &mut Vec<Item>,
+    heads: &mut Vec<u32>,
+    chain: usize,
+    end: usize,
+    i: usize,
+)
+    requires place { i < end }
+    requires linked { IsLinked items.old.items heads.old.items end i }
+    requires chain { chain ≡ bucket (length heads.old.items) (at items.old.items i).target }
+    requires within { chain < length heads.old.items }
+    ensures linked { IsLinked items.new.items heads.new.items end end }
+    ensures rows { map row_of items.new.items ≡ map row_of items.old.items }
+    ensures capacity { vec_capacity items.new ≡ vec_capacity items.old }
+    ensures room { length heads.new.items ≡ length heads.old.items }
+    ensures heads_capacity { vec_capacity heads.new ≡ vec_capacity heads.old }
+{
     match above(items, heads, end, chain, i) {
         Some(p) => {
             let next = items[p].next;
@@ -112,6 +161,7 @@ pub(crate) fn remove(items: &mut Vec<Item>, heads: &mut Vec<u32>, i: usize) -> N
     ensures rows { map row_of items.new.items ≡ rows_without (map row_of items.old.items) i }
     ensures capacity { vec_capacity items.new ≡ vec_capacity items.old }
     ensures room { length heads.new.items ≡ length heads.old.items }
+    ensures heads_capacity { vec_capacity heads.new ≡ vec_capacity heads.old }
 {
     let target = items[i].target;
     let last = items.len() - 1;
@@ -132,6 +182,7 @@ fn replace(items: &mut Vec<Item>, heads: &mut Vec<u32>, i: usize, moved: Item)
     ensures rows { map row_of items.new.items ≡ slice_set (map row_of items.old.items) i (row_of moved) }
     ensures capacity { vec_capacity items.new ≡ vec_capacity items.old }
     ensures room { length heads.new.items ≡ length heads.old.items }
+    ensures heads_capacity { vec_capacity heads.new ≡ vec_capacity heads.old }
 {
     unlink(items, heads, i);
     items[i] = moved;
@@ -146,6 +197,7 @@ pub(crate) fn relink(items: &mut Vec<Item>, heads: &mut Vec<u32>)
     ensures rows { map row_of items.new.items ≡ map row_of items.old.items }
     ensures capacity { vec_capacity items.new ≡ vec_capacity items.old }
     ensures room { length heads.new.items ≡ length heads.old.items }
+    ensures heads_capacity { vec_capacity heads.new ≡ vec_capacity heads.old }
 {
     heads.fill(0);
     let len = items.len();

@@ -1,11 +1,14 @@
 ghost use Rattle.std.specs.Prelude.{◌≡◌, ◌<◌, ◌≤◌, ◌⊎◌, not, [], ℕ, IsTrue, IsFalse, Some, None, IfOk, IfSome, IfNone, length, map, slice_get, vec_capacity, ◌==◌};
 ghost use Rattle.std.specs.List.{list_any};
 ghost use Rattle.std.specs.List.Sorted.{IsPermutation};
+ghost use Rattle.k_types.specs.declared.names.Name.{Name};
 ghost use Rattle.k_types.specs.Names.{name_of};
-ghost use Rattle.k_exit.specs.Exits.{ExitRow, ExitList, AreDistinct, AreInOrder, IsTaken, has_target, with_target, with_marked, unmarked, unmarked_row, leads_into};
+ghost use Rattle.k_exit.specs.Exits.{ExitRow, ExitList, AreDistinct, AreInOrder, IsTaken, has_target, target_marked, with_target, with_marked, unmarked, unmarked_row, leads_into};
+ghost use Rattle.k_hash.specs.Hash.{bucket};
 ghost use Rattle.k_exit.specs.Chains.{row_of, is_wanted, unmarked_item, IsLastWanted, HasNoneWanted, HasPassed};
 
-use crate::chains::{Item, find, link, relink, remove};
+use crate::chains::{Item, empty_heads, find, find_in, link_in, relink, remove};
+use k_hash::chain_of;
 use k_io::NoMemory;
 use k_types::{Link, Name, Seg, Slot};
 use std::alloc::Global;
@@ -35,15 +38,17 @@ impl Model for ExitTable {
 
     ghost Value = { ExitList };
 
-    ghost use Rattle.std.specs.Prelude.{length, map, vec_capacity, ◌≤◌};
+    ghost use Rattle.std.specs.Prelude.{length, map, vec_capacity, ◌≡◌};
     ghost use Rattle.k_exit.specs.Exits.{AreDistinct};
+    ghost use Rattle.k_hash.specs.Hash.{bucket};
     ghost use Rattle.k_exit.specs.Chains.{row_of, IsChained, HasPassed};
 
     ghost view = { λ t. record { items = map row_of t.items.items; room = length t.heads.items } };
 
     ghost invariant = { λ t. record {
       chained : IsChained t.items.items t.heads.items;
-      reserved : length t.heads.items ≤ vec_capacity t.items;
+      reserved : vec_capacity t.items ≡ length t.heads.items;
+      heads_reserved : vec_capacity t.heads ≡ length t.heads.items;
       distinct : AreDistinct (map row_of t.items.items);
       passed : HasPassed (map row_of t.items.items) t.wanted t.from;
     } };
@@ -107,12 +112,12 @@ impl Wanted {
 
 impl ExitTable {
     /// A table with no target, and room for so many. It takes the memory for all of them at once;
-    /// `NoMemory` comes where there is none. Source: own.
+    /// `NoMemory` comes where there is none.
     pub fn make(alloc: Global, room: u32) -> Result<ExitTable, NoMemory>
         ensures { IfOk result (λ t. t ≡ record { items = []; room = room }) }
     {
         let items = Vec::with_capacity(alloc, room as usize)?;
-        let heads = vec![in alloc; 0u32; room as usize]?;
+        let heads = empty_heads(alloc, room)?;
         Ok(ExitTable {
             items,
             heads,
@@ -121,7 +126,7 @@ impl ExitTable {
         })
     }
 
-    /// The number of targets. They are distinct, and as many as the room at most. Source: own.
+    /// The number of targets. They are distinct, and as many as the room at most.
     pub fn len(&self) -> u32
         ensures len { result ≡ length self.now.items }
         ensures distinct { AreDistinct self.now.items }
@@ -130,21 +135,21 @@ impl ExitTable {
         self.items.len() as u32
     }
 
-    /// Whether the target is there. It passes one chain at most. Source: own.
+    /// Whether the target is there. It passes one chain at most.
     pub fn has(&self, target: Name) -> bool
         ensures { result ≡ has_target self.now.items target }
     {
         find(&self.items, &self.heads, target).is_some()
     }
 
-    /// Whether some target lies in that segment. It looks through the list. Source: own.
+    /// Whether some target lies in that segment. It passes each item until it finds one.
     pub fn leads_into(&self, seg: Seg) -> bool
         ensures { result ≡ leads_into self.now.items seg.0 }
     {
         some_in(&self.items, seg)
     }
 
-    /// The target at place `i` of the list, counted from 0. Constant time. Source: own.
+    /// The target at place `i` of the list, counted from 0. Constant time.
     pub fn target(&self, i: u32) -> Name
         requires { i < length self.now.items }
         ensures { (row : ExitRow) → slice_get self.now.items i ≡ Some row → result ≡ row.target }
@@ -152,15 +157,19 @@ impl ExitTable {
         self.items[i as usize].target
     }
 
-    /// Adds the target, unmarked, where it is new, and says whether it was. It comes last. It passes one
-    /// chain at most, and takes no memory. Source: own.
+    /// Adds the target, unmarked, where it is new, and says whether it was. It comes last. It hashes the
+    /// target once, passes one chain at most, and takes no memory.
     pub fn add(&mut self, target: Link) -> bool
         requires { IsTrue (has_target self.old.items (name_of target)) ⊎ (length self.old.items < self.old.room) }
         ensures value { result ≡ not (has_target self.old.items (name_of target)) }
         ensures added { self.new ≡ with_target self.old (name_of target) }
     {
         let name = target.name();
-        if self.has(name) {
+        if self.heads.is_empty() {
+            unreachable!()
+        }
+        let chain = chain_of(self.heads.len(), name);
+        if self.has_in(chain, name) {
             return false;
         }
         let i = self.items.len();
@@ -169,12 +178,12 @@ impl ExitTable {
             marked: false,
             next: 0,
         });
-        link(&mut self.items, &mut self.heads, i + 1, i);
+        link_in(&mut self.items, &mut self.heads, chain, i + 1, i);
         self.from = i + 1;
         true
     }
 
-    /// Marks the target. It passes one chain at most. Source: own.
+    /// Marks the target. It passes one chain at most.
     pub fn mark(&mut self, target: Name)
         requires { IsTrue (has_target self.old.items target) }
         ensures { self.new ≡ with_marked self.old target }
@@ -185,7 +194,7 @@ impl ExitTable {
         self.items[i].marked = true;
     }
 
-    /// Takes all marks away. It passes each item. Source: own.
+    /// Takes all marks away. It passes each item.
     pub fn unmark_all(&mut self)
         ensures { self.new ≡ unmarked self.old }
     {
@@ -193,10 +202,13 @@ impl ExitTable {
         self.from = self.items.len();
     }
 
-    /// Puts the list in order of segment and serial. It sorts in place, and takes no memory. Source: own.
+    /// Puts the list in order of segment and serial. It sorts in place, and takes no memory.
     pub fn arrange(&mut self)
         ensures items { IsPermutation self.old.items self.new.items }
         ensures order { AreInOrder self.new.items }
+        ensures targets { (n : Name) → has_target self.new.items n ≡ has_target self.old.items n }
+        ensures marks { (n : Name) → target_marked self.new.items n ≡ target_marked self.old.items n }
+        ensures distinct { AreDistinct self.new.items }
         ensures room { self.new.room ≡ self.old.room }
     {
         self.items.sort_unstable_by_key(|item| item.target);
@@ -204,8 +216,7 @@ impl ExitTable {
         self.from = self.items.len();
     }
 
-    /// Removes a target that isn't marked. The slot of a link that a table gives is 0. Calls until there
-    /// is none pass each item once. Source: own.
+    /// Removes a target that isn't marked. Calls until there is none pass each item once.
     pub fn take_unmarked(&mut self) -> Option<Link>
         ensures some { IfSome result (λ link. (row : ExitRow) × IsTaken self.old self.new link row × IsFalse row.marked) }
         ensures none { IfNone result ((i : ℕ) (row : ExitRow) → slice_get self.old.items i ≡ Some row → IsTrue row.marked) }
@@ -215,7 +226,7 @@ impl ExitTable {
     }
 
     /// Removes a target that lies in that segment. Calls for one segment until there is none pass each
-    /// item once. Source: own.
+    /// item once.
     pub fn take_into(&mut self, seg: Seg) -> Option<Link>
         ensures some { IfSome result (λ link. (row : ExitRow) × IsTaken self.old self.new link row × (row.target.seg.0 ≡ seg.0)) }
         ensures none { IfNone result (IsFalse (leads_into self.old.items seg.0)) }
@@ -224,13 +235,22 @@ impl ExitTable {
         self.take(Wanted::Into(seg))
     }
 
-    /// Removes some target. Constant time. Source: own.
+    /// Removes some target. Constant time.
     pub fn take_first(&mut self) -> Option<Link>
         ensures some { IfSome result (λ link. (row : ExitRow) × IsTaken self.old self.new link row) }
         ensures none { IfNone result (self.old.items ≡ []) }
         ensures kept { IfNone result (self.new ≡ self.old) }
     {
         self.take(Wanted::Any)
+    }
+
+    /// Whether the target is there, by the number of its chain.
+    fn has_in(&self, chain: usize, target: Name) -> bool
+        requires chain { chain ≡ bucket self.now.room target }
+        requires within { chain < self.now.room }
+        ensures { result ≡ has_target self.now.items target }
+    {
+        find_in(&self.items, &self.heads, chain, target).is_some()
     }
 
     /// From where on no item is wanted.

@@ -48,3 +48,36 @@ fn arranged_targets_rise_by_segment_and_serial(rt: HostRuntime) -> Result<(), Fa
     assert_eq!(rt; (table.target(2).seg.0, table.target(2).serial.0), (2, 1));
     Ok(())
 }
+
+// Whatever is left goes by `take_first`, marked or not, and each target once.
+#[test]
+fn all_targets_can_be_taken(rt: HostRuntime) -> Result<(), Fail> {
+    let mut table = ExitTable::make(rt.alloc(), 2)?;
+    let marked = link(1, 4);
+    table.add(marked);
+    table.add(link(3, 6));
+    assert!(rt; table.has(marked.name()));
+    table.mark(marked.name());
+    let one = table.take_first().ok_or("a target")?;
+    assert!(rt; !table.has(one.name()));
+    assert_eq!(rt; table.len(), 1);
+    let other = table.take_first().ok_or("another target")?;
+    assert!(rt; one.name() != other.name());
+    assert!(rt; table.take_first().is_none());
+    Ok(())
+}
+
+// A table is made for no target, for one, and for more than 65,536.
+#[test]
+fn tables_are_made_for_none_and_for_many(rt: HostRuntime) -> Result<(), Fail> {
+    let mut none = ExitTable::make(rt.alloc(), 0)?;
+    assert!(rt; !none.leads_into(Seg(0)));
+    assert!(rt; none.take_first().is_none());
+    for room in [1, 70_000] {
+        let mut table = ExitTable::make(rt.alloc(), room)?;
+        assert!(rt; table.len() < room);
+        assert!(rt; table.add(link(0, 1)));
+        assert_eq!(rt; table.len(), 1);
+    }
+    Ok(())
+}

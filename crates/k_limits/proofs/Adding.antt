@@ -5,7 +5,6 @@ use Rattle.k_types.specs.declared.setup.LimitRow.{LimitRow}
 use Rattle.k_limits.specs.Limits.{ChargedLimits, charged_limits, is_full_at}
 use Rattle.k_limits.specs.Rows.{AreRows, is_refused}
 use Rattle.k_limits.specs.Paths.{InRows, is_over, path_from, reserved_from, times_on, AreUses}
-use Rattle.k_limits.proofs.Uses.{sum_small}
 use Rattle.k_limits.proofs.Reserves.{reserved_in, max_small, raise_small_from, found_from, refused_is, added}
 
 pub rows_in : (limits seen : ChargedLimits) (row : LimitRow) → limits ≡ seen → AreRows (seen.rows ++ row ∷ []) → AreRows (limits.rows ++ row ∷ [])
@@ -23,11 +22,6 @@ module _ (limits : ChargedLimits) (uses : List ℕ) (kept : AreUses limits uses)
     (er : rows' ≡ limits.rows) (eu : uses' ≡ uses) (ef : from ≡ reserved_from row) where
   pub from_in : InRows rows' from
   from_in = subst (λ (p : List LimitRow × Option LimitId). InRows p.0 p.1) (λ i. (sym er i, sym ef i)) (reserved_in limits.rows row fine.tree)
-
-  pub sum_small_row : (m : ℕ) → m < length rows' → slice_index uses' m + row.max < 2 ^ 64
-  sum_small_row =
-      subst (λ (p : List LimitRow × List ℕ). (m : ℕ) → m < length p.0 → slice_index p.1 m + row.max < 2 ^ 64) (λ i. (sym er i, sym eu i))
-      (sum_small limits uses kept row.max (max_small limits uses kept row fine))
 
   pub raise_small_row : (m : ℕ) → m < length rows' → slice_index uses' m + row.max * times_on (path_from rows' from) m < 2 ^ 64
   raise_small_row =

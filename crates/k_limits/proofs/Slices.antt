@@ -2,23 +2,19 @@
 use Rattle.std.proofs.Common.{◌≡◌, ℕ, ◌+◌, ◌-◌, ◌*◌, ◌^◌, ◌<◌, ◌≤◌, ap, ◌∙◌, sym, subst, List, length, find, slice_index, slice_index_or, slice_set, Option, None, Fits, w64, arith}
 use Rattle.std.proofs.lemmas.List.{get_or_default}
 use Rattle.k_types.specs.declared.setup.LimitRow.{LimitRow}
-use Rattle.k_types.specs.Limits.{path_of}
+use Rattle.k_types.specs.Limits.{max_of, path_of}
 use Rattle.k_limits.specs.Limits.{ChargedLimits, charged_limits, full_at}
 use Rattle.k_limits.specs.Paths.{is_over, times_on, AreUses}
-use Rattle.k_limits.proofs.Uses.{found_full, sum_small, raise_small, lower_enough, direct_le, charged, credited}
+use Rattle.k_limits.proofs.Uses.{found_full, uses_fit, charge_small, lower_enough, direct_small, charged, credited}
 
 -- the value that the code sees is that of the fields
 pub there_in : (limits seen : ChargedLimits) (at : ℕ) → limits ≡ seen → at < length seen.rows → at < length limits.rows
 there_in limits seen at same there = subst (λ (l : ChargedLimits). at < length l.rows) (sym same) there
 
 module _ (limits : ChargedLimits) (uses : List ℕ) (kept : AreUses limits uses) (at : ℕ) (known : at < length limits.rows) (rows' : List LimitRow) (uses' : List ℕ) (er : rows' ≡ limits.rows) (eu : uses' ≡ uses) where
-  pub sum_small_read : (n : ℕ) → n < 2 ^ 40 → (m : ℕ) → m < length rows' → slice_index uses' m + n < 2 ^ 64
-  sum_small_read n small =
-      subst (λ (p : List LimitRow × List ℕ). (m : ℕ) → m < length p.0 → slice_index p.1 m + n < 2 ^ 64) (λ i. (sym er i, sym eu i)) (sum_small limits uses kept n small)
-
-  pub raise_small_read : (n : ℕ) → n < 2 ^ 40 → (m : ℕ) → m < length rows' → slice_index uses' m + n * times_on (path_of rows' at) m < 2 ^ 64
-  raise_small_read n small =
-      subst (λ (p : List LimitRow × List ℕ). (m : ℕ) → m < length p.0 → slice_index p.1 m + n * times_on (path_of p.0 at) m < 2 ^ 64) (λ i. (sym er i, sym eu i)) (raise_small limits uses kept at known n small)
+  pub charge_small_read : (n : ℕ) → full_at limits at n ≡ None → (m : ℕ) → m < length rows' → slice_index uses' m + n * times_on (path_of rows' at) m < 2 ^ 64
+  charge_small_read n none =
+      subst (λ (p : List LimitRow × List ℕ). (m : ℕ) → m < length p.0 → slice_index p.1 m + n * times_on (path_of p.0 at) m < 2 ^ 64) (λ i. (sym er i, sym eu i)) (charge_small limits uses kept at known n none)
 
   pub lower_enough_read : (n : ℕ) → n ≤ slice_index limits.direct at → (m : ℕ) → m < length rows' → n * times_on (path_of rows' at) m ≤ slice_index uses' m
   lower_enough_read n enough =
@@ -43,9 +39,12 @@ module _ (limits : ChargedLimits) (uses : List ℕ) (kept : AreUses limits uses)
       credited limits uses kept at known n after enough (same ∙ ap length eu)
       (subst (λ (p : List LimitRow × List ℕ). (m : ℕ) → m < length p.0 → slice_index after m + n * times_on (path_of p.0 at) m ≡ slice_index p.1 m) (λ i. (er i, eu i)) lowered)
 
-pub direct_fits : (limits : ChargedLimits) (uses : List ℕ) → AreUses limits uses → (at : ℕ) → at < length limits.rows → (n x : ℕ) → n < 2 ^ 40 → x ≡ slice_index limits.direct at → Fits w64 (x + n)
-direct_fits limits uses kept at known n x small is =
-    let le = direct_le limits uses kept at known in let fit = kept.fit at known in let max = kept.rows.small at known in omega (arith, small, is, le, fit, max)
+pub direct_fits : (limits : ChargedLimits) (uses : List ℕ) → AreUses limits uses → (at : ℕ) → at < length limits.rows → (n x : ℕ) → full_at limits at n ≡ None → x ≡ slice_index limits.direct at → Fits w64 (x + n)
+direct_fits limits uses kept at known n x none is = omega (arith, direct_small limits uses kept at known n none, is)
+
+pub uses_fit_read : (limits : ChargedLimits) (uses : List ℕ) → AreUses limits uses → (rows' : List LimitRow) (uses' : List ℕ) → rows' ≡ limits.rows → uses' ≡ uses → (m : ℕ) → m < length rows' → slice_index uses' m ≤ max_of rows' m
+uses_fit_read limits uses kept rows' uses' er eu =
+    subst (λ (p : List LimitRow × List ℕ). (m : ℕ) → m < length p.0 → slice_index p.1 m ≤ max_of p.0 m) (λ i. (sym er i, sym eu i)) (uses_fit limits uses kept)
 
 -- a number as the code reads it
 pub item_read : (xs : List ℕ) (i d x : ℕ) → i < length xs → x ≡ slice_index_or xs i d → x ≡ slice_index xs i

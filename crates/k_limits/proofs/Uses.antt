@@ -122,16 +122,13 @@ module _ (limits : ChargedLimits) (uses : List ℕ) (kept : AreUses limits uses)
   pub use_small : (m : ℕ) → m < length limits.rows → slice_index uses m < 2 ^ 40
   use_small m inside = omega (arith, kept.each m inside, kept.fit m inside, kept.rows.small m inside)
 
-  pub sum_small : (n : ℕ) → n < 2 ^ 40 → (m : ℕ) → m < length limits.rows → slice_index uses m + n < 2 ^ 64
-  sum_small n small m inside = omega (arith, use_small m inside, small)
+  pub uses_fit : (m : ℕ) → m < length limits.rows → slice_index uses m ≤ max_of limits.rows m
+  uses_fit m inside = omega (arith, kept.each m inside, kept.fit m inside)
 
 module _ (limits : ChargedLimits) (uses : List ℕ) (kept : AreUses limits uses) (at : ℕ) (known : at < length limits.rows) where
   -- the search by the running uses is that by the definitions
   pub found_full : (n : ℕ) → find (is_over limits.rows uses n) (path_of limits.rows at) ≡ full_at limits at n
   found_full n = find_same (is_over limits.rows uses n) (is_full_at limits n) (path_of limits.rows at) (λ m there. ap (λ used. nat_lt (max_of limits.rows m) (used + n)) (kept.each m (on_path_in limits kept.rows.tree at known m there)))
-
-  pub direct_le : slice_index limits.direct at ≤ use_at limits at
-  direct_le = direct_within limits.rows (slice_index limits.direct) (length limits.rows) at (omega (arith, known))
 
   pub raise_small : (n : ℕ) → n < 2 ^ 40 → (m : ℕ) → m < length limits.rows → slice_index uses m + n * times_on (path_of limits.rows at) m < 2 ^ 64
   raise_small n small m inside = omega (arith, use_small limits uses kept m inside, small, times_bound n (times_on (path_of limits.rows at) m) (path_once limits.rows kept.rows.tree (length limits.rows) at m known))
@@ -144,6 +141,16 @@ module _ (limits : ChargedLimits) (uses : List ℕ) (kept : AreUses limits uses)
       use_at limits m ≡ use_at (charged_limits limits.rows (slice_set limits.direct at (slice_index limits.direct at - n))) m + n * times_on (path_of limits.rows at) m
   use_after_credit n enough m =
       use_charged limits.rows kept.rows.tree at known (slice_index (slice_set limits.direct at (slice_index limits.direct at - n))) (slice_index limits.direct) n (charged_less limits.direct at n (omega (arith, known, kept.charges)) enough) m
+
+  -- what is charged where it fits stays below every maximum
+  pub charge_small : (n : ℕ) → full_at limits at n ≡ None → (m : ℕ) → m < length limits.rows → slice_index uses m + n * times_on (path_of limits.rows at) m < 2 ^ 64
+  charge_small n none m inside = omega (arith, kept.each m inside, room_for limits kept.rows.tree at known kept.fit n none m inside, kept.rows.small m inside)
+
+  pub direct_small : (n : ℕ) → full_at limits at n ≡ None → slice_index limits.direct at + n < 2 ^ 64
+  direct_small n none =
+      let here = get_or-set_same limits.direct at (slice_index limits.direct at + n) 0 (omega (arith, known, kept.charges)) in
+      let part = direct_within limits.rows (slice_index (slice_set limits.direct at (slice_index limits.direct at + n))) (length limits.rows) at (omega (arith, known)) in
+      omega (arith, here, part, use_after_charge n at, room_for limits kept.rows.tree at known kept.fit n none at known, kept.rows.small at known)
 
   pub charged : (n : ℕ) (uses' : List ℕ) → full_at limits at n ≡ None → length uses' ≡ length uses
       → ((m : ℕ) → m < length limits.rows → slice_index uses' m ≡ slice_index uses m + n * times_on (path_of limits.rows at) m)

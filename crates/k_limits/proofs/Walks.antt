@@ -255,15 +255,15 @@ module _ (rows : List LimitRow) (tree : IsTree rows) (next : Option LimitId) (li
         ]
 
 -- the code's test of a limit, and that of the definitions
-pub over : (rows : List LimitRow) (uses : List ℕ) (n m : ℕ) (d : LimitRow) → m < length rows → (slice_index_or rows m d).max < slice_index uses m + n → is_over rows uses n m ≡ true
-over rows uses n m d known test =
+pub over : (rows : List LimitRow) (uses : List ℕ) (n m : ℕ) (d : LimitRow) → m < length rows → slice_index uses m ≤ max_of rows m → (slice_index_or rows m d).max - slice_index uses m < n → is_over rows uses n m ≡ true
+over rows uses n m d known fit test =
     let e : (slice_index_or rows m d).max ≡ max_of rows m = ap (λ (row : LimitRow). row.max) (row_at rows m d known) in
-    lt-ltb (max_of rows m) (slice_index uses m + n) (omega (arith, e, test))
+    lt-ltb (max_of rows m) (slice_index uses m + n) (omega (arith, e, fit, test))
 
-pub not_over : (rows : List LimitRow) (uses : List ℕ) (n m : ℕ) (d : LimitRow) → m < length rows → slice_index uses m + n ≤ (slice_index_or rows m d).max → is_over rows uses n m ≡ false
-not_over rows uses n m d known test =
+pub not_over : (rows : List LimitRow) (uses : List ℕ) (n m : ℕ) (d : LimitRow) → m < length rows → slice_index uses m ≤ max_of rows m → n ≤ (slice_index_or rows m d).max - slice_index uses m → is_over rows uses n m ≡ false
+not_over rows uses n m d known fit test =
     let e : (slice_index_or rows m d).max ≡ max_of rows m = ap (λ (row : LimitRow). row.max) (row_at rows m d known) in
-    le-ltb (max_of rows m) (slice_index uses m + n) (omega (arith, e, test))
+    le-ltb (max_of rows m) (slice_index uses m + n) (omega (arith, e, fit, test))
 
 -- the search for an ancestor begins at the parent
 pub first_up : (rows : List LimitRow) → IsTree rows → (m : ℕ) (d : LimitRow) → m < length rows → (upper : ℕ) →

@@ -22,7 +22,7 @@ pub(crate) fn reserved_from(row: &LimitRow) -> Option<LimitId>
     if row.hard { row.parent } else { None }
 }
 
-/// The first limit on the path from `from` where `n` more bytes don't fit.
+/// The first limit on the path from `from` where `n` more bytes, however many, don't fit.
 pub(crate) fn first_full(
     rows: &[LimitRow],
     uses: &[u64],
@@ -32,13 +32,13 @@ pub(crate) fn first_full(
     requires tree { IsTree rows.now }
     requires there { InRows rows.now from }
     requires all { length uses.now ≡ length rows.now }
-    requires small { (m : ℕ) → m < length rows.now → slice_index uses.now m + n < 2 ^ 64 }
+    requires fit { (m : ℕ) → m < length rows.now → slice_index uses.now m ≤ max_of rows.now m }
     ensures { option_map (λ m. m.0) result ≡ find (is_over rows.now uses.now n) (path_from rows.now from) }
 {
     let mut next = from;
     while let Some(limit) = next {
         let row = &rows[limit.0 as usize];
-        if row.max < uses[limit.0 as usize] + n {
+        if row.max - uses[limit.0 as usize] < n {
             return Some(limit);
         }
         next = passed_to(row);

@@ -55,6 +55,7 @@ fn a_hard_limit_is_full_at_its_maximum(rt: HostRuntime) -> Result<(), Fail> {
     assert!(rt; tree.charge(A, 40).is_ok());
     assert!(rt; tree.charge(A, 40).is_ok());
     assert_eq!(rt; tree.charge(A, 40), Err(A));
+    assert_eq!(rt; tree.charge(A, u64::MAX), Err(A));
     assert_eq!(rt; (tree.use_of(A), tree.use_of(ROOT)), (120, 120));
     Ok(())
 }

@@ -81,11 +81,10 @@ impl LimitTree {
         Ok(LimitTree { rows, direct, uses })
     }
 
-    /// Charges `n` bytes at the limit. The error is the first limit on its path, from the limit upwards, where they don't
+    /// Charges `n` bytes, however many, at the limit. The error is the first limit on its path, from the limit upwards, where they don't
     /// fit; then nothing is charged.
     pub fn charge(&mut self, at: LimitId, n: u64) -> Result<(), LimitId>
-        requires there { at.0 < length self.old.rows }
-        requires small { n < 2 ^ 40 }
+        requires { at.0 < length self.old.rows }
         ensures charged { IfOk result (λ _. (self.new ≡ record self.old { direct = slice_set self.old.direct at.0 (slice_index self.old.direct at.0 + n) }) × (full_at self.old at.0 n ≡ None)) }
         ensures full { IfErr result (λ m. (self.new ≡ self.old) × (full_at self.old at.0 n ≡ Some m.0)) }
     {

@@ -16,3 +16,15 @@ fn a_number_goes_from_one_list_to_the_other(rt: HostRuntime) -> Result<(), Fail>
     assert!(rt; lists.next(1).is_none());
     Ok(())
 }
+
+// Lists are made for no number and none, and for more than 65,536.
+#[test]
+fn lists_are_made_for_none_and_for_many(rt: HostRuntime) -> Result<(), Fail> {
+    let none = Lists::make(rt.alloc(), 1, 0)?;
+    assert!(rt; none.first(0).is_none());
+    Lists::make(rt.alloc(), 0, 0)?;
+    let many = Lists::make(rt.alloc(), 70_000, 70_000)?;
+    assert!(rt; many.first(69_999).is_none());
+    assert!(rt; many.next(69_999).is_none());
+    Ok(())
+}

@@ -100,6 +100,20 @@ impl JournalSeat {
         Note { seat: given }
     }
 
+    /// The same as `touch` for a note that stays in its place.
+    pub fn touch_in_place(&mut self, tie: &Tie, note: &mut Note)
+        requires { (self.old.table ≡ tie.now) × (note.old.table ≡ tie.now) }
+        ensures seat { self.new ≡ record self.old { touches = note.old.cell ∷ self.old.touches } }
+        ensures note { note.new ≡ record note.old { share = note.old.share + 1 } }
+    {
+        let shared = &tie.table.shared;
+        let spare = shared.split_seat::<GiveNote>(&mut self.seat);
+        let seat = replace(&mut note.seat, spare);
+        shared.join_seat::<TakeNote>(&mut self.seat, seat);
+        shared.load::<ReadCells>(&mut self.seat, 0);
+        note.seat = shared.split_seat::<GiveTouchedNote>(&mut self.seat);
+    }
+
     /// Tells that two notes have different cells, and gives both back as they were.
     pub fn apart(&mut self, tie: &Tie, a: Note, b: Note) -> (Note, Note)
         requires { (self.old.table ≡ tie.now) × (a.table ≡ tie.now) × (b.table ≡ tie.now) }
@@ -116,5 +130,23 @@ impl JournalSeat {
         let one = shared.split_seat::<GiveNote>(&mut self.seat);
         let two = shared.split_seat::<GiveNote>(&mut self.seat);
         (Note { seat: one }, Note { seat: two })
+    }
+    /// The same as `apart` for two notes that stay in their places.
+    pub fn apart_in_place(&mut self, tie: &Tie, a: &mut Note, b: &mut Note)
+        requires { (self.old.table ≡ tie.now) × (a.old.table ≡ tie.now) × (b.old.table ≡ tie.now) }
+        ensures seat { self.new ≡ self.old }
+        ensures notes { (a.new ≡ a.old) × (b.new ≡ b.old) }
+        ensures apart { a.old.cell ≢ b.old.cell }
+    {
+        let shared = &tie.table.shared;
+        let one = shared.split_seat::<GiveNote>(&mut self.seat);
+        let two = shared.split_seat::<GiveNote>(&mut self.seat);
+        let seat_b = replace(&mut b.seat, one);
+        let seat_a = replace(&mut a.seat, two);
+        shared.join_seat::<TakeNote>(&mut self.seat, seat_b);
+        shared.join_seat::<TakeNote>(&mut self.seat, seat_a);
+        shared.load::<ReadCells>(&mut self.seat, 0);
+        a.seat = shared.split_seat::<GiveNote>(&mut self.seat);
+        b.seat = shared.split_seat::<GiveNote>(&mut self.seat);
     }
 }

@@ -49,17 +49,17 @@ impl<W: TableName> Desk<W> {
         let mut note = self.journal.meet(&self.tie, note);
         if self.events.len() < 100 && self.events.push(event).is_ok() {
             self.journal.append(&self.tie, &event);
-            note = self.journal.touch(&self.tie, note);
+            self.journal.touch_in_place(&self.tie, &mut note);
         }
         self.journal.meet_in_place(&self.tie, &mut note);
         note
     }
 
-    fn tell_apart(&mut self, one: Note, other: Note)
-        requires { (one.table ≡ W.table) × (other.table ≡ W.table) }
-        ensures { one.cell ≢ other.cell }
+    fn tell_apart(&mut self, one: &mut Note, other: &mut Note)
+        requires { (one.old.table ≡ W.table) × (other.old.table ≡ W.table) }
+        ensures { one.old.cell ≢ other.old.cell }
     {
-        let _ = self.journal.apart(&self.tie, one, other);
+        self.journal.apart_in_place(&self.tie, one, other);
     }
 }
 
@@ -89,13 +89,13 @@ fn add_from_threads<W: TableName + Send + Sync, R: Threads + Wait + Sync>(
     requires { (first.table ≡ W.table) × (second.table ≡ W.table) }
 {
     let desk = Mutex::new(desk);
-    let (first, second) = thread::join(
+    let (mut first, mut second) = thread::join(
         rt,
         || add_three(rt, &desk, first, 1),
         || add_three(rt, &desk, second, 2),
     );
     let mut desk = desk.into_inner();
-    desk.tell_apart(first, second);
+    desk.tell_apart(&mut first, &mut second);
     let Desk {
         tie: _,
         journal: _,

@@ -12,6 +12,7 @@ loop-i-init c =
       rows = refl;
       capacity = refl;
       room = len;
+      heads_capacity = c.fill.ensures.capacity;
       len = omega (arith, c.len-len.ensures, c.args.items.now.ok.0);
     }
 

@@ -8,5 +8,6 @@ invariant-loop-i l = record {
   rows : map row_of l.items.items ≡ map row_of l.fn.items.items;
   capacity : vec_capacity l.items ≡ vec_capacity l.fn.items;
   room : length l.heads.items ≡ length l.fn.heads.items;
+  heads_capacity : vec_capacity l.heads ≡ vec_capacity l.fn.heads;
   len : length l.items.items ≡ l.len;
 }

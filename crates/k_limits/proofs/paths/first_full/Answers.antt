@@ -5,7 +5,7 @@ pub returns-then-row-uses : goal.returns-then-row-uses
 returns-then-row-uses c =
     let i = c.loop-next.invariant in
     let inside = walk_in c.args.rows.now c.requires.tree _ c.in-Some.limit c.in-Some.is i.0 in
-    found_here c.args.rows.now c.requires.tree _ c.in-Some.limit c.in-Some.is i.0 _ _ i.1 (over c.args.rows.now c.args.uses.now c.args.n c.in-Some.limit.0 _ inside c.if-row-uses.true)
+    found_here c.args.rows.now c.requires.tree _ c.in-Some.limit c.in-Some.is i.0 _ _ i.1 (over c.args.rows.now c.args.uses.now c.args.n c.in-Some.limit.0 _ inside (c.requires.fit c.in-Some.limit.0 inside) c.if-row-uses.true)
 
 pub loop-next-smaller : goal.loop-next-smaller
 loop-next-smaller c =
@@ -19,5 +19,5 @@ loop-next-preserved c =
     let inside = walk_in c.args.rows.now c.requires.tree _ c.in-Some.limit c.in-Some.is i.0 in
     let goes = goes_at c.args.rows.now c.requires.tree _ c.in-Some.limit c.in-Some.is i.0 _ _ c.passed_to-next.ensures in (
       next_in c.args.rows.now c.requires.tree _ c.in-Some.limit c.in-Some.is i.0 _ goes,
-      found_later c.args.rows.now c.requires.tree _ c.in-Some.limit c.in-Some.is i.0 _ _ _ goes i.1 (not_over c.args.rows.now c.args.uses.now c.args.n c.in-Some.limit.0 _ inside c.if-row-uses.false),
+      found_later c.args.rows.now c.requires.tree _ c.in-Some.limit c.in-Some.is i.0 _ _ _ goes i.1 (not_over c.args.rows.now c.args.uses.now c.args.n c.in-Some.limit.0 _ inside (c.requires.fit c.in-Some.limit.0 inside) c.if-row-uses.false),
     )

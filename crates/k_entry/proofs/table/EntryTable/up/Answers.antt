@@ -13,6 +13,7 @@ use Rattle.k_entry.proofs.Counts.{hits, no_hits}
 use Rattle.k_entry.proofs.Items.{found_by, none_by, read_at, walk_read}
 use Rattle.k_entry.proofs.Recounts.{recount_by, kept_recount, more_recount}
 use Rattle.k_entry.proofs.More.{more_by, kept_more, has_more, slots_fit, moved, fresh}
+use Rattle.k_entry.proofs.Known.{known_recount, known_more}
 use Rattle.k_entry.proofs.table.EntryTable.up.Goals as goal
 
 pub overflow_add-item : goal.overflow_add-item
@@ -30,6 +31,8 @@ invariant_of-self c =
     let r = recount_by c.self.inside.slots.items c.in-Some.i (c.index-item.result.now.count + 1) c.index-item.result.now c.with_count.result f.within c.index-item.ensures c.with_count.ensures in
     record {
       reserved = c.self.invariant.reserved;
+      homes_reserved = c.self.invariant.homes_reserved;
+      known = known_recount p c.name-name.result (set c.self.inside.slots.items c.in-Some.i c.with_count.result) c.in-Some.i (c.index-item.result.now.count + 1) c.self.invariant.kept c.self.invariant.known f r;
       kept = kept_recount p (set c.self.inside.slots.items c.in-Some.i c.with_count.result) c.in-Some.i (c.index-item.result.now.count + 1) c.self.invariant.kept r (omega arith);
     }
 
@@ -95,6 +98,8 @@ invariant_of-self-in-None c =
     c.push_front.ensures.pushed c.put_in.ensures.segments c.put_in.ensures.walks c.put_in.ensures.segments_apart c.put_in.ensures.walks_apart in
     record {
       reserved = omega (arith, c.take_slot-i.ensures.capacity, c.self.invariant.reserved);
+      homes_reserved = c.self.invariant.homes_reserved;
+      known = known_more p c.take_slot-i.new.segments c.name-name.result c.take_slot-i.result c.take_slot-i.new.slots.items c.push_front.new.self c.put_in.new.segments c.put_in.new.walks c.self.invariant.known m;
       kept = kept_more p c.take_slot-i.new.segments c.name-name.result c.take_slot-i.result c.take_slot-i.new.slots.items c.push_front.new.self c.put_in.new.segments c.put_in.new.walks c.self.invariant.kept m;
     }
 

@@ -28,11 +28,11 @@ room_left e items heads t is (inr room) none =
     let b : length heads ≡ e.room = ap (λ (x : ExitList). x.room) is in
     omega (arith, a, b, room, map_len row_of items)
 
-pub link-requires-clause-linked : goal.link-requires-clause-linked
-link-requires-clause-linked c =
+pub link_in-requires-clause-linked : goal.link_in-requires-clause-linked
+link_in-requires-clause-linked c =
     let items = c.self.inside.items.items in
     let len : c.len-i.result ≡ length items = c.len-i.ensures ∙ c.self.inside.items.ok.0 in
-    let none : has_target c.args.self.now.items (name_of c.args.target) ≡ false = ap (has_target c.args.self.now.items) (sym c.name-name.ensures) ∙ sym c.has.ensures ∙ c.if-has.false in
+    let none : has_target c.args.self.now.items (name_of c.args.target) ≡ false = ap (has_target c.args.self.now.items) (sym c.name-name.ensures) ∙ sym c.has_in.ensures ∙ c.if-has_in.false in
     let room = room_left c.args.self.now items c.self.inside.heads.items (name_of c.args.target) c.self.view_is c.requires none in
     let one : suc (length items) ≡ c.len-i.result + 1 = omega (arith, len) in
     subst (λ (xs : List Item). IsLinked xs c.self.inside.heads.items (c.len-i.result + 1) c.len-i.result) (sym c.push_reserved.ensures.items)
@@ -44,17 +44,18 @@ pub invariant_of-self : goal.invariant_of-self
 invariant_of-self c =
     let items = c.self.inside.items.items in
     let new : Item = record { target = c.name-name.result; marked = false; next = 0 } in
-    let none : has_target c.args.self.now.items c.name-name.result ≡ false = sym c.has.ensures ∙ c.if-has.false in
-    let rows : map row_of c.link.new.items.items ≡ map row_of items ++ row_of new ∷ [] =
-    c.link.ensures.rows ∙ ap (λ (xs : List Item). map row_of xs) c.push_reserved.ensures.items ∙ map-append row_of items (record { target = c.name-name.result; marked = false; next = 0 } ∷ []) in
+    let none : has_target c.args.self.now.items c.name-name.result ≡ false = sym c.has_in.ensures ∙ c.if-has_in.false in
+    let rows : map row_of c.link_in.new.items.items ≡ map row_of items ++ row_of new ∷ [] =
+    c.link_in.ensures.rows ∙ ap (λ (xs : List Item). map row_of xs) c.push_reserved.ensures.items ∙ map-append row_of items (record { target = c.name-name.result; marked = false; next = 0 } ∷ []) in
     let len : c.len-i.result ≡ length items = c.len-i.ensures ∙ c.self.inside.items.ok.0 in
-    let more : length c.link.new.items.items ≡ length items + 1 =
-    same_len c.link.new.items.items c.push_reserved.new.self.items c.link.ensures.rows ∙ ap (λ (xs : List Item). length xs) c.push_reserved.ensures.items ∙ length-append items (record { target = c.name-name.result; marked = false; next = 0 } ∷ []) in
-    let all : c.len-i.result + 1 ≡ length c.link.new.items.items = omega (arith, len, more) in
+    let more : length c.link_in.new.items.items ≡ length items + 1 =
+    same_len c.link_in.new.items.items c.push_reserved.new.self.items c.link_in.ensures.rows ∙ ap (λ (xs : List Item). length xs) c.push_reserved.ensures.items ∙ length-append items (record { target = c.name-name.result; marked = false; next = 0 } ∷ []) in
+    let all : c.len-i.result + 1 ≡ length c.link_in.new.items.items = omega (arith, len, more) in
     let had : has_target (map row_of items) c.name-name.result ≡ false = ap (λ (e : ExitList). has_target e.items c.name-name.result) c.self.view_is ∙ none in
     record {
-      chained = subst (λ n. IsLinked c.link.new.items.items c.link.new.heads.items n n) all c.link.ensures.linked;
-      reserved = omega (arith, c.link.ensures.capacity, c.link.ensures.room, c.push_reserved.ensures.capacity, c.self.invariant.reserved);
+      chained = subst (λ n. IsLinked c.link_in.new.items.items c.link_in.new.heads.items n n) all c.link_in.ensures.linked;
+      reserved = omega (arith, c.link_in.ensures.capacity, c.link_in.ensures.room, c.push_reserved.ensures.capacity, c.self.invariant.reserved);
+      heads_reserved = omega (arith, c.link_in.ensures.heads_capacity, c.link_in.ensures.room, c.self.invariant.heads_reserved);
       distinct = subst (λ (rs : List ExitRow). AreDistinct rs) (sym rows) (distinct_push (map row_of items) (row_of new) c.self.invariant.distinct had);
-      passed = passed_end (map row_of c.link.new.items.items) c.self.inside.wanted (c.len-i.result + 1) (all ∙ sym (map_len row_of c.link.new.items.items));
+      passed = passed_end (map row_of c.link_in.new.items.items) c.self.inside.wanted (c.len-i.result + 1) (all ∙ sym (map_len row_of c.link_in.new.items.items));
     }

@@ -1,11 +1,12 @@
-use Rattle.std.proofs.Common.{◌≡◌, ◌+◌, List, Some, map, slice_get, sym, ap, ap₂, subst, is_lt, nat_cmp, add-one, ◌∙◌, arith, rules}
+use Rattle.std.proofs.Common.{◌≡◌, ◌+◌, ◌&&◌, List, Some, map, slice_get, sym, ap, ap₂, subst, is_lt, nat_cmp, add-one, ◌∙◌, arith, rules}
 use Rattle.std.specs.List.Sorted.{IsPermutation}
-use Rattle.std.proofs.lemmas.List.Sorted.{IsPermutation-map}
+use Rattle.std.proofs.lemmas.List.Sorted.{IsPermutation-map, list_any-IsPermutation}
 use Rattle.std.proofs.lemmas.List.Sorted.{answers_always}
 use Rattle.k_types.specs.declared.names.Name.{Name}
+use Rattle.k_types.specs.Names.{name_eq}
 use Rattle.k_exit.specs.declared.chains.Item.{Item}
 use Rattle.k_exit.specs.Chains.{row_of, blank}
-use Rattle.k_exit.specs.Exits.{ExitRow, ExitList}
+use Rattle.k_exit.specs.Exits.{ExitRow, ExitList, AreDistinct}
 use Rattle.std.specs.Ordering.{ordering_then}
 use Rattle.std.proofs.lemmas.Option.{slice_get_within}
 use Rattle.k_exit.proofs.Order.{comes_first, apart_next, key_at}
@@ -21,6 +22,7 @@ invariant_of-self c =
     record {
       chained = c.relink.ensures.linked;
       reserved = omega (arith, c.relink.ensures.capacity, c.relink.ensures.room, c.sort_unstable_by_key.ensures.capacity, c.self.invariant.reserved);
+      heads_reserved = omega (arith, c.relink.ensures.heads_capacity, c.relink.ensures.room, c.self.invariant.heads_reserved);
       distinct = distinct_same (map row_of items) (map row_of c.relink.new.items.items) same c.self.invariant.distinct;
       passed = passed_end (map row_of c.relink.new.items.items) c.self.inside.wanted c.len-self-inside.result (c.len-self-inside.ensures ∙ c.relink.new.items.ok.0 ∙ sym (map_len row_of c.relink.new.items.items));
     }
@@ -30,6 +32,17 @@ returns-clause-items c =
     let items = c.self.inside.items.items in
     subst (λ (e : ExitList). IsPermutation e.items (map row_of c.relink.new.items.items)) c.self.view_is
     (subst (λ (rs : List ExitRow). IsPermutation (map row_of items) rs) (sym c.relink.ensures.rows) (IsPermutation-map row_of items c.sort_unstable_by_key.new.self.items c.sort_unstable_by_key.ensures.permutation))
+
+pub returns-clause-targets : goal.returns-clause-targets
+returns-clause-targets c = λ n. sym (list_any-IsPermutation (λ (x : ExitRow). name_eq x.target n) c.args.self.now.items (map row_of c.relink.new.items.items) (returns-clause-items c))
+
+pub returns-clause-marks : goal.returns-clause-marks
+returns-clause-marks c = λ n. sym (list_any-IsPermutation (λ (x : ExitRow). name_eq x.target n && x.marked) c.args.self.now.items (map row_of c.relink.new.items.items) (returns-clause-items c))
+
+pub returns-clause-distinct : goal.returns-clause-distinct
+returns-clause-distinct c =
+    let old : AreDistinct c.args.self.now.items = subst (λ (e : ExitList). AreDistinct e.items) c.self.view_is c.self.invariant.distinct in
+    distinct_same c.args.self.now.items (map row_of c.relink.new.items.items) (returns-clause-items c) old
 
 pub returns-clause-order : goal.returns-clause-order
 returns-clause-order c = λ i x y at next.

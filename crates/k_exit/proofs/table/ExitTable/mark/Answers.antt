@@ -6,7 +6,7 @@ use Rattle.std.proofs.lemmas.Option.{slice_get-get_or}
 use Rattle.k_exit.specs.declared.chains.Item.{Item}
 use Rattle.k_exit.specs.Chains.{HasPassed, row_of, at, blank}
 use Rattle.k_exit.specs.Exits.{ExitRow, ExitList, AreDistinct, has_target, marked_if, with_marked}
-use Rattle.k_exit.proofs.Names.{name_same}
+use Rattle.k_base.proofs.NameTests.{name_eq-same}
 use Rattle.k_exit.proofs.Relinks.{read_at}
 use Rattle.k_exit.proofs.Removes.{map_len}
 use Rattle.k_exit.proofs.Lists.{has_by, marked_set, linked_marks, distinct_marked, passed_marked, mark_same}
@@ -29,7 +29,7 @@ rows c =
     map-set row_of items c.in-Some.i (record { target = c.index_mut.result.now.target; marked = true; next = c.index_mut.result.now.next })
     ∙ marked_set (map row_of items) c.in-Some.i (row_of c.index_mut.result.now) c.args.target c.self.invariant.distinct
     (slice_get-get_or (map row_of items) c.in-Some.i (row_of blank) (omega (arith, within, map_len row_of items)) ∙ ap Some (get_or-map row_of items c.in-Some.i blank ∙ ap row_of (sym x)))
-    (name_same c.index_mut.result.now.target c.args.target (ap (λ (y : Item). y.target) x ∙ target))
+    (name_eq-same c.index_mut.result.now.target c.args.target (ap (λ (y : Item). y.target) x ∙ target))
 
 pub invariant_of-self : goal.invariant_of-self
 invariant_of-self c =
@@ -42,6 +42,7 @@ invariant_of-self c =
           (λ j. mark_same (λ (y : Item). y.target) items c.in-Some.i c.index_mut.result.now (λ y. refl) within x j)
           (λ j. mark_same (λ (y : Item). y.next) items c.in-Some.i c.index_mut.result.now (λ y. refl) within x j);
       reserved = c.self.invariant.reserved;
+      heads_reserved = c.self.invariant.heads_reserved;
       distinct = subst (λ (rs : List ExitRow). AreDistinct rs) (sym (rows c)) (distinct_marked (map row_of items) c.args.target c.self.invariant.distinct);
       passed = subst (λ (rs : List ExitRow). HasPassed rs c.self.inside.wanted c.self.inside.from) (sym (rows c)) (passed_marked (map row_of items) c.self.inside.wanted c.self.inside.from c.args.target c.self.invariant.passed);
     }

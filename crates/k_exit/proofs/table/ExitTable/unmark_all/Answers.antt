@@ -16,6 +16,7 @@ invariant_of-self c =
           (linked_marks items (map unmarked_item items) c.self.inside.heads.items c.self.invariant.chained (map_len unmarked_item items)
           (λ j. ap (λ (x : Item). x.target) (get_or-map unmarked_item items j blank)) (λ j. ap (λ (x : Item). x.next) (get_or-map unmarked_item items j blank)));
       reserved = omega (arith, c.unmark.ensures.capacity, c.self.invariant.reserved);
+      heads_reserved = c.self.invariant.heads_reserved;
       distinct = subst (λ (rs : List ExitRow). AreDistinct rs) (sym rows) (distinct_unmarked (map row_of items) c.self.invariant.distinct);
       passed = passed_end (map row_of c.unmark.new.items.items) c.self.inside.wanted c.len-self-inside.result (c.len-self-inside.ensures ∙ c.unmark.new.items.ok.0 ∙ sym (map_len row_of c.unmark.new.items.items));
     }

@@ -1,7 +1,8 @@
 use Rattle.std.proofs.Common.{◌≡◌, ◌<◌, ◌^◌, ◌+◌, ◌++◌, ◌∷◌, [], length, sym, ap, ◌∙◌}
 use Rattle.std.proofs.lemmas.List.{with_items_is}
 use Rattle.k_limits.specs.Limits.{ChargedLimits}
-use Rattle.k_limits.proofs.Adding.{rows_in, from_in, sum_small_row, raise_small_row, refused_row, added_row, few_rows}
+use Rattle.k_limits.proofs.Adding.{rows_in, from_in, raise_small_row, refused_row, added_row, few_rows}
+use Rattle.k_limits.proofs.Slices.{uses_fit_read}
 use Rattle.k_limits.proofs.tree.LimitTree.with_row.Goals as goal
 
 pub first_full-requires-clause-there : goal.first_full-requires-clause-there
@@ -9,10 +10,8 @@ first_full-requires-clause-there c =
     let fine = rows_in _ _ _ c.self.view_is c.requires.rows in
     from_in _ _ c.self.invariant _ fine _ _ _ c.deref.ensures.value c.deref-2.ensures.value c.reserved_from-parent.ensures
 
-pub first_full-requires-clause-small : goal.first_full-requires-clause-small
-first_full-requires-clause-small c =
-    let fine = rows_in _ _ _ c.self.view_is c.requires.rows in
-    sum_small_row _ _ c.self.invariant _ fine _ _ _ c.deref.ensures.value c.deref-2.ensures.value c.reserved_from-parent.ensures
+pub first_full-requires-clause-fit : goal.first_full-requires-clause-fit
+first_full-requires-clause-fit c = uses_fit_read _ _ c.self.invariant _ _ c.deref.ensures.value c.deref-2.ensures.value
 
 pub returns-then-is_some-clause-refused : goal.returns-then-is_some-clause-refused
 returns-then-is_some-clause-refused c =

@@ -12,5 +12,5 @@ returns-clause-value c =
     let heads = c.self.inside.heads.items in
     let within : c.args.list < length heads = omega (arith, c.requires, lists_length links heads c.args.self.now c.self.view_is) in
     led_from c.checked_sub.result c.index.result.now c.checked_sub.ensures ∙ ap led_to (c.index.ensures ∙ get_or_default heads c.args.list c.index.result.now 0 within)
-    ∙ first_is links 0 _ (members (lists_of links heads) c.args.list) (c.self.invariant.linked c.args.list within)
+    ∙ first_is links 0 _ (members (lists_of links heads) c.args.list) (c.self.invariant.linked.linked c.args.list within)
     ∙ ap (λ (w : ListsValue). slice_get (members w c.args.list) 0) c.self.view_is

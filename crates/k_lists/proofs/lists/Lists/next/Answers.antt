@@ -17,5 +17,5 @@ returns-clause-value c list place here =
     led_from c.checked_sub.result c.index.result.now.next c.checked_sub.ensures
     ∙ ap (λ (y : Links). led_to y.next) (c.index.ensures ∙ get_or_default links c.args.i c.index.result.now blank within)
     ∙ next_is links 0 _ (members (lists_of links heads) list) place c.args.i
-    (c.self.invariant.linked list (member_list links heads list c.args.i (in_at (members (lists_of links heads) list) place c.args.i there))) there
+    (c.self.invariant.linked.linked list (member_list links heads list c.args.i (in_at (members (lists_of links heads) list) place c.args.i there))) there
     ∙ ap (slice_get (members (lists_of links heads) list)) (sym (add-one place)) ∙ ap (λ (w : ListsValue). slice_get (members w list) (place + 1)) c.self.view_is

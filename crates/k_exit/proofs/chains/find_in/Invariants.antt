@@ -1,5 +1,5 @@
 use Rattle.k_exit.proofs.Links.{IsWalk}
-use Rattle.k_exit.proofs.chains.find.Given as goal
+use Rattle.k_exit.proofs.chains.find_in.Given as goal
 
 abbrev pub invariant-loop-next : goal.invariant-loop-next
 invariant-loop-next l = IsWalk l.items l.heads l.target l.next
