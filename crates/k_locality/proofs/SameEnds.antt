@@ -33,7 +33,7 @@ use Rattle.k_types.specs.TraceRules.{AreLimits}
 use Rattle.k_locality.proofs.SamePossible.{scan_same, scanned_same, done_possible, absorbed_possible, closing_possible}
 
 -- a count is a sum
-counted : {A : Type 0} (p : A → Bool) (xs : List A) → count_by p xs ≡ total (λ x. bit (p x)) xs
+pub counted : {A : Type 0} (p : A → Bool) (xs : List A) → count_by p xs ≡ total (λ x. bit (p x)) xs
 counted p xs = sym (is_count_by (total (λ x. bit (p x))) p refl (λ x xs. elim (p x) as (λ b. bit b + total (λ x. bit (p x)) xs ≡ cond b (1 + total (λ x. bit (p x)) xs) (total (λ x. bit (p x)) xs)) [ true ↦ omega arith | false ↦ omega arith ]) xs)
 
 -- what passes both tests

@@ -1,0 +1,6 @@
+pub mod Answering
+pub mod Charging
+pub mod EndNumbers
+pub mod FrozenSizes
+pub mod Owning
+pub mod Serials
