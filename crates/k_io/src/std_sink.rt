@@ -1,5 +1,7 @@
+//! A sink over a writer of the standard library.
 ghost use Rattle.std.specs.Prelude.{◌≡◌};
 
+use crate::adapted::write_answer;
 use crate::{Sink, WriteFailed};
 use std::io::Write;
 
@@ -29,12 +31,6 @@ impl<W: Write> Sink for StdSink<W> {
     ghost faults = { λ s. s.faults };
 
     fn write(&mut self, piece: &[u8]) -> Result<usize, WriteFailed> {
-        match self.inner.write(piece) {
-            Ok(0) | Err(_) => {
-                self.faults = self.faults.saturating_add(1);
-                Err(WriteFailed)
-            }
-            Ok(count) => Ok(count),
-        }
+        write_answer(self.inner.write(piece), &mut self.faults)
     }
 }

@@ -1,5 +1,7 @@
+//! A source over a reader of the standard library.
 ghost use Rattle.std.specs.Prelude.{◌≡◌};
 
+use crate::adapted::read_answer;
 use crate::{ReadFailed, Source};
 use std::io::Read;
 
@@ -27,12 +29,6 @@ impl<R: Read> Source for StdSource<R> {
     ghost faults = { λ s. s.faults };
 
     fn read(&mut self, into: &mut [u8]) -> Result<usize, ReadFailed> {
-        match self.inner.read(into) {
-            Ok(count) => Ok(count),
-            Err(_) => {
-                self.faults = self.faults.saturating_add(1);
-                Err(ReadFailed)
-            }
-        }
+        read_answer(self.inner.read(into), &mut self.faults)
     }
 }

@@ -1,6 +1,6 @@
 use crate::{
-    MemSink, MemSource, ReadAllError, ReadFailed, Sink, Source, StdSink, StdSource, WriteFailed,
-    read_all, write_all,
+    DripSink, DripSource, MemSink, MemSource, ReadAllError, ReadFailed, Sink, Source, StdSink,
+    StdSource, WriteFailed, read_all, write_all,
 };
 use std::io;
 use std::io::{Read, Write};
@@ -48,6 +48,50 @@ impl Write for TwoTaken {
     fn flush(&mut self) -> io::Result<()> {
         Ok(())
     }
+}
+
+/// Gives and takes all that it is asked for.
+#[derive(Drop)]
+struct Wide;
+
+impl Read for Wide {
+    fn read(&mut self, into: &mut [u8]) -> io::Result<usize> {
+        Ok(into.len())
+    }
+}
+
+impl Write for Wide {
+    fn write(&mut self, piece: &[u8]) -> io::Result<usize> {
+        Ok(piece.len())
+    }
+
+    fn flush(&mut self) -> io::Result<()> {
+        Ok(())
+    }
+}
+
+#[test]
+fn wide_pieces_pass_whole(rt: HostRuntime) -> Result<(), Fail> {
+    let mut bytes = vec![in rt.alloc(); 7u8; 5000]?;
+    let mut source = StdSource::of(Wide);
+    assert_eq!(rt; source.read(&mut bytes), Ok(5000));
+    let mut sink = StdSink::of(Wide);
+    assert_eq!(rt; sink.write(&bytes), Ok(5000));
+    Ok(())
+}
+
+#[test]
+fn drips_give_and_take_one_byte_a_call(rt: HostRuntime) -> Result<(), Fail> {
+    let bytes = Vec::from_slice(rt.alloc(), b"cells")?;
+    let mut source = DripSource::of(bytes, Vec::new(rt.alloc()));
+    assert_eq!(rt;
+        read_all(rt.alloc(), &mut source, 9).map(|all| all.len()),
+        Ok(5)
+    );
+    let mut sink = DripSink::make(rt.alloc(), 8, vec![in rt.alloc(); 4]?)?;
+    assert_eq!(rt; write_all(&mut sink, b"three"), Err(WriteFailed));
+    assert_eq!(rt; sink.bytes(), b"thr".as_slice());
+    Ok(())
 }
 
 #[test]
