@@ -25,8 +25,6 @@ ghost use Rattle.k_types.specs.declared.names.Name.{Name};
 
 /// All exit items together are at most the stores of the history. Those of a user heap are at most the stores of its process,
 /// and those of a shared heap at most the stores of one process that took it.
-///
-/// Source: own.
 pub fn exit_items_are_at_most_the_stores()
     ensures all { (trace : Trace) (history : List Event) → length (state_after trace history).exits ≤ store_count history }
     ensures user { (trace : Trace) (p : ℕ) (history : List Event) → IsLegalHistory trace history →
@@ -37,8 +35,6 @@ pub fn exit_items_are_at_most_the_stores()
 {}
 
 /// The serials that a segment has given are at most its allocations, and in the kernel's segment one more for the directory.
-///
-/// Source: own.
 pub fn serials_are_at_most_the_allocations()
     ensures { (trace : Trace) (history : List Event) (seg : ℕ) →
         slice_index_or (state_after trace history).made seg 0 ≤ one_if (seg == 0) + allocation_count trace seg history }
@@ -51,16 +47,12 @@ pub fn objects_are_at_most_the_allocations()
 {}
 
 /// Of the collections that were begun, by a process or by the closing, each has ended once or is still open.
-///
-/// Source: own.
 pub fn collections_end_once()
     ensures { (trace : Trace) (history : List Event) → AreLimits trace → IsLegalHistory trace history →
         ended_count history + length (state_after trace history).scans ≡ begun_count history }
 {}
 
 /// Each shared heap is absorbed at most once, and there is at most one closing.
-///
-/// Source: own.
 pub fn heaps_are_absorbed_once()
     ensures absorbed { (trace : Trace) (history : List Event) → IsLegalHistory trace history →
         absorbed_count history ≤ trace.shared_heaps }
@@ -69,24 +61,18 @@ pub fn heaps_are_absorbed_once()
 {}
 
 /// A history has at most two events for each operation, one for each shared heap, and two more.
-///
-/// Source: own.
 pub fn histories_are_short()
     ensures { (trace : Trace) (history : List Event) → AreLimits trace → IsLegalHistory trace history →
         length history ≤ 2 * operation_count history + trace.shared_heaps + 2 }
 {}
 
 /// A process has done as many operations as the history has of it.
-///
-/// Source: own.
 pub fn operations_done_are_those_of_the_history()
     ensures { (trace : Trace) (p : ℕ) (history : List Event) → IsLegalHistory trace history →
         slice_index_or (state_after trace history).done p 0 ≡ length (done_by p history) }
 {}
 
 /// The pins of distinct objects are together at most 16 for each process, and their entries at most the exit items.
-///
-/// Source: own.
 pub fn pins_are_at_most_the_registers()
     ensures pins { (trace : Trace) (history : List Event) (names : List Name) → AreDistinctNames names →
         total (pins trace (state_after trace history)) names ≤ 16 * process_count trace }

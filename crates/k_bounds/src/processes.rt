@@ -13,8 +13,6 @@ use k_types::Op;
 
 /// What a legal history counts is the sum of what the operations of each process count: its stores, its operations, and its
 /// allocations in a segment. With the next law this bounds them by the operations of the trace.
-///
-/// Source: own.
 pub fn histories_count_by_process()
     ensures stores { (trace : Trace) (history : List Event) → IsLegalHistory trace history →
         store_count history ≡ total (λ p. stores_by p history) (numbers_below (process_count trace)) }
@@ -26,16 +24,12 @@ pub fn histories_count_by_process()
 {}
 
 /// Of the first operations of a list no more is counted than of all.
-///
-/// Source: own.
 pub fn first_operations_count_less()
     ensures { (f : Op → ℕ) (first all : List Op) → IsPrefixOf first all → total f first ≤ total f all }
 {}
 
 /// The operations that a legal history has done for a process stand first among the trace's exactly where they are the trace's
 /// up to the number done. So what the book knows of the journal and what a cell knows of its process say the same.
-///
-/// Source: own.
 pub fn first_operations_are_those_up_to_done()
     ensures { (trace : Trace) (p : ℕ) (history : List Event) → IsLegalHistory trace history →
         IsPrefixOf (done_by p history) (operations_of trace p) ↔ FollowsOwn trace p history }

@@ -9,8 +9,6 @@ ghost use Rattle.k_types.specs.declared.names.Name.{Name};
 
 /// Distinct names that are the targets of a heap's exit items, in whatever order, give the same sums as the items: the same
 /// length, the same number that pass a test.
-///
-/// Source: own.
 pub fn targets_sum_as_the_items()
     ensures { (f : Name → ℕ) (h : Heap) (exits : List ExitItem) (names : List Name) → AreDistinctExits exits →
         AreDistinctNames names → ((n : Name) → name_among n names ≡ has_exit exits h n) →

@@ -13,8 +13,6 @@ ghost use Rattle.k_types.specs.declared.names.Heap.TheVariants.{Kernel};
 ghost use Rattle.k_types.specs.declared.names.Name.{Name};
 
 /// What a living process is charged is told by its cell's part and the book's.
-///
-/// Source: own.
 pub fn the_charge_is_told()
     ensures { (trace : Trace) (st : State) (p : ℕ) → IsSound trace st → IsFalse (among p st.ended) →
         charge_of trace st p ≡ charge_in trace (book_part trace st) (part trace st (user p)) p }
@@ -22,8 +20,6 @@ pub fn the_charge_is_told()
 
 /// In the book the end of a collection drops the entries of the exit items that go. For a user heap it drops also the shares
 /// without a way into the shared heap, and credits their bytes and those of the freed objects at the process's limit.
-///
-/// Source: own.
 pub fn what_the_end_of_a_collection_changes_in_the_book()
     ensures kernel { (trace : Trace) (st : State) → IsSound trace st →
         book_part trace (after_ended trace Kernel st) ≡ without_entries (drops (part trace st Kernel)) (book_part trace st) }
@@ -35,8 +31,6 @@ pub fn what_the_end_of_a_collection_changes_in_the_book()
 
 /// In the book the end of a process drops its shares, its pins and the entries of the exit items that go, and credits its whole
 /// charge.
-///
-/// Source: own.
 pub fn what_the_end_of_a_process_changes_in_the_book()
     ensures { (trace : Trace) (st : State) (p : ℕ) → AreLimits trace → IsSound trace st → MayExit trace st p →
         book_part trace (after_end_of trace p st)
@@ -45,8 +39,6 @@ pub fn what_the_end_of_a_process_changes_in_the_book()
 
 /// In the book an absorption sets the phase, leaves the shared heap no bytes, and drops the entries of the exit items between it
 /// and the kernel. No charge changes.
-///
-/// Source: own.
 pub fn what_absorption_changes_in_the_book()
     ensures { (trace : Trace) (st : State) (s : ℕ) → IsSound trace st → MayAbsorb trace st s →
         book_part trace (after_absorbed trace s st)

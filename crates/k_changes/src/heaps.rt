@@ -14,8 +14,6 @@ ghost use Rattle.k_types.specs.declared.names.Heap.TheVariants.{Kernel};
 ghost use Rattle.k_types.specs.declared.names.Name.{Name};
 
 /// A collection that begins shows in its heap's cell alone.
-///
-/// Source: own.
 pub fn what_the_beginning_of_a_collection_changes()
     ensures cell { (trace : Trace) (st : State) (h : Heap) (roots : List Name) →
         part trace (open_scan h roots st) h ≡ with_scan roots (part trace st h) }
@@ -26,8 +24,6 @@ pub fn what_the_beginning_of_a_collection_changes()
 {}
 
 /// The end of a collection goes by its heap's cell alone, and leaves the other cells.
-///
-/// Source: own.
 pub fn what_the_end_of_a_collection_changes_in_its_cell()
     ensures cell { (trace : Trace) (st : State) (h : Heap) → part trace (after_ended trace h st) h ≡ collected (part trace st h) }
     ensures others { (trace : Trace) (st : State) (c : Cell) (h : Heap) → IsFalse (heap_eq h c) →
@@ -35,8 +31,6 @@ pub fn what_the_end_of_a_collection_changes_in_its_cell()
 {}
 
 /// The end of a process empties its cell, and the kernel takes in what was there. No other cell changes.
-///
-/// Source: own.
 pub fn what_the_end_of_a_process_changes_in_cells()
     ensures cell { (trace : Trace) (st : State) (p : ℕ) → IsSound trace st → MayExit trace st p →
         part trace (after_end_of trace p st) (user p) ≡ at_its_end (part trace st (user p)) }
@@ -48,8 +42,6 @@ pub fn what_the_end_of_a_process_changes_in_cells()
 {}
 
 /// An absorption empties the shared heap's cell, and the kernel takes in what was there. No other cell changes.
-///
-/// Source: own.
 pub fn what_absorption_changes_in_cells()
     ensures cell { (trace : Trace) (st : State) (s : ℕ) → IsSound trace st → MayAbsorb trace st s →
         part trace (after_absorbed trace s st) (shared s) ≡ when_absorbed (part trace st (shared s)) }

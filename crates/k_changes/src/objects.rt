@@ -18,8 +18,6 @@ ghost use Rattle.k_types.specs.declared.names.Pid.{Pid};
 ghost use Rattle.k_types.specs.declared.names.TypeId.{TypeId};
 
 /// A field that is written shows in the cell of the object's owner, and nowhere else.
-///
-/// Source: own.
 pub fn what_a_write_changes()
     ensures cell { (trace : Trace) (st : State) (c : Cell) (x : Name) (i : ℕ) (content : Content) →
         part trace (write x i content st) c ≡ with_written x i content (part trace st c) }
@@ -30,8 +28,6 @@ pub fn what_a_write_changes()
 {}
 
 /// An object that is made shows in the cell of its segment's owner alone.
-///
-/// Source: own.
 pub fn what_a_new_object_changes_in_its_cell()
     ensures cell { (trace : Trace) (st : State) (c : Cell) (seg : ℕ) (ty : TypeId) (kinds : List Field) →
         owner_of trace st seg ≡ c → seg < length st.made → IsOrdered st.objects →
@@ -42,8 +38,6 @@ pub fn what_a_new_object_changes_in_its_cell()
 
 /// In the book an object that a process makes is charged at the process's limit, whether it is in its own heap or in the shared
 /// heap that it populates, whose bytes rise too; one in the kernel's heap is not seen there.
-///
-/// Source: own.
 pub fn what_a_new_object_changes_in_the_book()
     ensures own { (trace : Trace) (st : State) (p : ℕ) (ty : TypeId) → AreLimits trace → IsSound trace st →
         p < process_count trace → IsFalse (among p st.ended) →
@@ -59,8 +53,6 @@ pub fn what_a_new_object_changes_in_the_book()
 {}
 
 /// An exit item that is added shows in its heap's cell, and in the book's entries where it is new.
-///
-/// Source: own.
 pub fn what_a_new_exit_item_changes()
     ensures cell { (trace : Trace) (st : State) (h : Heap) (y : Name) →
         part trace (add_exit h y st) h ≡ with_exit_to y (part trace st h) }

@@ -11,15 +11,11 @@ ghost use Rattle.k_types.specs.Updates.{count_done, set_register};
 ghost use Rattle.k_types.specs.declared.names.Name.{Name};
 
 /// The book's part tells who owns each segment.
-///
-/// Source: own.
 pub fn the_book_tells_the_owners()
     ensures { (trace : Trace) (st : State) → owner_in trace (book_part trace st) ≡ owner_of trace st }
 {}
 
 /// One more operation done shows in the process's cell alone.
-///
-/// Source: own.
 pub fn what_a_counted_operation_changes()
     ensures cell { (trace : Trace) (st : State) (p : ℕ) → p < length st.done →
         part trace (count_done p st) (user p) ≡ with_done (part trace st (user p)) }
@@ -29,8 +25,6 @@ pub fn what_a_counted_operation_changes()
 {}
 
 /// A register that is set shows in the process's cell, and in the book's pins of what it held and what it holds now.
-///
-/// Source: own.
 pub fn what_a_register_changes()
     ensures cell { (trace : Trace) (st : State) (p r : ℕ) (v : Option Name) →
         part trace (set_register p r v st) (user p) ≡ with_register r v (part trace st (user p)) }

@@ -11,8 +11,6 @@ ghost use Rattle.k_types.specs.Updates.{add_share, close, set_phase};
 ghost use Rattle.k_types.specs.declared.names.Phase.{Phase};
 
 /// A phase that is set, and makes the heap neither absorbed nor unabsorbed, shows in the shared heap's cell and in the book.
-///
-/// Source: own.
 pub fn what_a_phase_changes()
     ensures cell { (trace : Trace) (st : State) (s : ℕ) (phase : Phase) → s < length st.phases →
         is_absorbed phase ≡ is_absorbed (phase_of st.phases s) →
@@ -26,8 +24,6 @@ pub fn what_a_phase_changes()
 
 /// A share shows in the book alone: a new one charges all bytes of the heap at the process's limit, one that is there already
 /// changes nothing.
-///
-/// Source: own.
 pub fn what_a_new_share_changes()
     ensures cells { (trace : Trace) (st : State) (c : Cell) (p s : ℕ) → part trace (add_share p s st) c ≡ part trace st c }
     ensures book { (trace : Trace) (st : State) (p s : ℕ) → AreLimits trace → p < process_count trace →
@@ -38,8 +34,6 @@ pub fn what_a_new_share_changes()
 {}
 
 /// The closing shows in the book alone, but for the collection that it begins.
-///
-/// Source: own.
 pub fn what_closing_changes()
     ensures cells { (trace : Trace) (st : State) (c : Cell) → part trace (close st) c ≡ part trace st c }
     ensures book { (trace : Trace) (st : State) → book_part trace (close st) ≡ when_closed (book_part trace st) }

@@ -14,8 +14,6 @@ ghost use Rattle.k_types.specs.declared.names.Name.{Name};
 
 /// A cell tells what an operation reads of its heap: the objects, and so their fields; the registers of its process; the name of
 /// the next object of a segment; the heap's bytes.
-///
-/// Source: own.
 pub fn cells_tell_what_is_read_of_them()
     ensures objects { (trace : Trace) (st : State) (c : Cell) (x : Name) → owner_of trace st x.seg.0 ≡ c →
         object_at (part trace st c).objects x ≡ object_at st.objects x }
@@ -27,8 +25,6 @@ pub fn cells_tell_what_is_read_of_them()
 {}
 
 /// The book tells the bytes of each shared heap, and for each limit and size the first limit on the path that is full.
-///
-/// Source: own.
 pub fn the_book_tells_what_fits()
     ensures shared { (trace : Trace) (st : State) (s : ℕ) → s < trace.shared_heaps →
         slice_index_or (book_part trace st).shared_bytes s 0 ≡ bytes_of trace st (shared s) }

@@ -11,8 +11,6 @@ ghost use Rattle.k_types.specs.declared.event.Event.{Event};
 /// The frame: a step leaves the part of each cell that it does not touch as it was, and its count of touches, and raises the count of
 /// each cell that it touches by 1. So a cell whose
 /// count of touches is still the same has the same part.
-///
-/// Source: own.
 pub fn steps_leave_other_cells()
     ensures part { (trace : Trace) (st : State) (event : Event) (c : Cell) →
         IsPossible trace st event → IsFalse (touches trace st event c) →
@@ -29,8 +27,6 @@ pub fn steps_leave_other_cells()
 {}
 
 /// A process whose cell the later events do not touch has done no operation since.
-///
-/// Source: own.
 pub fn untouched_processes_do_nothing()
     ensures { (trace : Trace) (p : ℕ) (known rest : List Event) →
         touch_count trace (user p) (known ++ rest) ≡ touch_count trace (user p) known →
@@ -38,8 +34,6 @@ pub fn untouched_processes_do_nothing()
 {}
 
 /// The lists of a state are as long as the trace says, whatever the events.
-///
-/// Source: own.
 pub fn lists_keep_their_lengths()
     ensures { (trace : Trace) (history : List Event) → IsSized trace (state_after trace history) }
 {}

@@ -18,8 +18,6 @@ ghost use Rattle.k_types.specs.declared.op.Op.{Op};
 
 /// A local operation goes by its process's cell alone: in two states where that cell's part is the same it is local in both,
 /// is answered the same, is possible in both and leaves the same part. It leaves the book's part, and touches no other cell.
-///
-/// Source: own.
 pub fn local_operations_go_by_their_cell()
     ensures local { (trace : Trace) (p : ℕ) (st su : State) (op : Op) → Alike trace p st su → IsTrue (is_local st p op) →
         IsTrue (is_local su p op) }
@@ -38,8 +36,6 @@ pub fn local_operations_go_by_their_cell()
 
 /// The law on tails: what a process does inside its heap after some events it does in the same way after more events that do
 /// not touch its heap's cell, which is seen by equal counts of touches. So a tail may be published later than it was done.
-///
-/// Source: own.
 pub fn tails_follow()
     ensures { (trace : Trace) (p : ℕ) (known rest tail : List Event) →
         IsLegalHistory trace (known ++ rest) → IsLegalHistory trace (known ++ tail) →

@@ -56,8 +56,6 @@ pub fn nobody_raises_the_charge_of_another()
 {}
 
 /// After a legal history the use of each limit is at most its maximum.
-///
-/// Source: own.
 pub fn uses_fit()
     ensures { (trace : Trace) (history : List Event) (m : ℕ) → AreLimits trace → IsLegalHistory trace history →
         m < length trace.limits →

@@ -26,8 +26,6 @@ pub fn collections_free_nothing_live()
 /// Exact survivors: the end of a collection of a heap frees exactly the objects of the heap that the recorded roots do not
 /// reach inside it. Its exit items are then exactly the targets outside the heap of its objects' fields, and the shares of its
 /// process that are left are exactly those into whose heap the process still has a way, or which it populates.
-///
-/// Source: own.
 pub fn collections_keep_exactly_the_survivors()
     ensures { (trace : Trace) (st : State) (h : Heap) (objects bytes exits shares : ℕ) → IsSound trace st →
         IsPossible trace st (Ended h objects bytes exits shares) →

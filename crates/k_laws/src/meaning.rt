@@ -13,8 +13,6 @@ ghost use Rattle.k_types.specs.declared.names.Heap.{Heap};
 ghost use Rattle.k_types.specs.declared.names.Name.{Name};
 
 /// A collection reaches what it reaches among its heap's own objects, in as many folds as these are.
-///
-/// Source: own.
 pub fn a_collection_reaches_within_its_heap()
     ensures { (trace : Trace) (st : State) (h : Heap) (rs : List Name) →
         reach_in trace st h rs ≡ reach_among (objects_of (owner_of trace st) h st.objects) rs }
@@ -22,8 +20,6 @@ pub fn a_collection_reaches_within_its_heap()
 
 /// The entries of an object are the heaps with an exit item to it, and an object is entered exactly where its entries or its pins
 /// are above 0.
-///
-/// Source: own.
 pub fn entered_objects_are_counted()
     ensures entries { (trace : Trace) (st : State) (n : Name) → IsSound trace st →
         entries st n ≡ total (λ h. if has_exit st.exits h n then 1 else 0) (heaps_of trace) }
@@ -32,8 +28,6 @@ pub fn entered_objects_are_counted()
 {}
 
 /// The heap of a living process owns the process's segment and no other.
-///
-/// Source: own.
 pub fn a_living_process_owns_its_segment_alone()
     ensures { (trace : Trace) (st : State) (p : ℕ) (n : Name) → p < process_count trace → IsFalse (among p st.ended) →
         (IsTrue (is_own p (Some n)) ↔ (owner_of trace st n.seg.0 ≡ user p)) }

@@ -8,8 +8,6 @@ ghost use Rattle.k_types.specs.Trace.{Trace};
 
 /// The book's part tells the uses. The parts of all cells and of the book determine a sound state, but for the order of the
 /// lists of exit items, shares, ended processes and scans.
-///
-/// Source: own.
 pub fn parts_determine_the_state()
     ensures uses { (trace : Trace) (st : State) (m : ℕ) → m < length trace.limits → use_shown trace (book_part trace st) m ≡ use_of trace st m }
     ensures all { (trace : Trace) (st su : State) → IsSound trace st → IsSound trace su → SameParts trace st su → SameState st su }

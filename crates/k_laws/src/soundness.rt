@@ -8,23 +8,17 @@ ghost use Rattle.k_types.specs.TraceRules.{AreLimits};
 ghost use Rattle.k_types.specs.declared.event.Event.{Event};
 
 /// The opening state of a trace is sound.
-///
-/// Source: own.
 pub fn opening_is_sound()
     ensures { (trace : Trace) → AreLimits trace → IsSound trace (opening trace) }
 {}
 
 /// Each step from a sound state leads to a sound state, whatever the event.
-///
-/// Source: own.
 pub fn steps_are_sound()
     ensures { (trace : Trace) → AreLimits trace → (st : State) → IsSound trace st → (event : Event) →
         IsPossible trace st event → IsSound trace (step trace st event) }
 {}
 
 /// Every state of a legal history is sound.
-///
-/// Source: own.
 pub fn states_are_sound()
     ensures { (trace : Trace) (history : List Event) → AreLimits trace → IsLegalHistory trace history →
         IsSound trace (state_after trace history) }

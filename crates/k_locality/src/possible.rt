@@ -16,8 +16,6 @@ ghost use Rattle.k_types.specs.declared.op.Op.{Op};
 /// Whether an event is possible is told by the parts of the cells that it touches and of the book: for an operation with its
 /// reply, for an absorption and for the closing in all states, and for the end of a collection with its numbers in sound ones.
 /// So in the states after two legal histories, whatever the event.
-///
-/// Source: own.
 pub fn possible_events_go_by_the_parts()
     ensures operations { (trace : Trace) (st su : State) (pid : Pid) (op : Op) (said : Reply) → AreLimits trace →
         SameToEvent trace st su (Done pid op said) → IsPossible trace st (Done pid op said) → IsPossible trace su (Done pid op said) }

@@ -15,8 +15,6 @@ ghost use Rattle.k_types.specs.declared.op.Op.{Op};
 
 /// Which cells an event touches is told by the parts of these cells and of the book, so that it is the same in both states, and
 /// the second finds the same as the first.
-///
-/// Source: own.
 pub fn touched_cells_go_by_the_parts()
     ensures touched { (trace : Trace) (st su : State) (event : Event) → SameToEvent trace st su event →
         cells_touched trace st event ≡ cells_touched trace su event }
@@ -26,8 +24,6 @@ pub fn touched_cells_go_by_the_parts()
 
 /// What an operation of a living process is answered is told by the parts of the cells that it touches and of the book. The
 /// states need not be sound; the limits of the trace are a tree.
-///
-/// Source: own.
 pub fn replies_go_by_the_parts()
     ensures { (trace : Trace) (st su : State) (pid : Pid) (op : Op) (said : Reply) → AreLimits trace →
         pid.0 < process_count trace → IsFalse (among pid.0 st.ended) → IsTrue (in_range trace op) →
