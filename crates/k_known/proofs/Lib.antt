@@ -1,0 +1,6 @@
+pub mod Bounded
+pub mod Counted
+pub mod Fields
+pub mod Fitting
+pub mod KnownEvents
+pub mod Replied
