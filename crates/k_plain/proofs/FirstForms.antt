@@ -16,7 +16,7 @@ use Rattle.k_types.specs.State.{State}
 use Rattle.k_types.specs.TraceRules.{KeepsRules}
 use Rattle.k_types.specs.FileOrder.{file_order, next_operation}
 use Rattle.k_types.specs.Steps.{in_range, state_after}
-use Rattle.k_trace.specs.FirstForm.{IsFirstForm, is_first_op}
+use Rattle.k_plain.specs.FirstForm.{IsFirstForm, is_first_op, is_first_ref}
 use Rattle.k_plain.specs.Built.{AreBuilt, is_built}
 use Rattle.k_plain.specs.Machines.{AreSetupRules, Machine, setup_of}
 use Rattle.k_plain.specs.Runs.{IsFiled, Run}
@@ -25,6 +25,11 @@ use Rattle.k_base.proofs.Numbered.{all_at}
 use Rattle.k_plain.proofs.Quiet.{IsQuiet}
 use Rattle.k_plain.proofs.Follows.{Follows, follows_end}
 use Rattle.k_plain.proofs.Unread.{in_range_unread}
+
+-- where there is no type there is no such field
+pub no_first_ref : (types : List (List Field)) (field : ℕ) → length types ≡ 0 → is_first_ref types field ≡ false
+no_first_ref [] field e = refl
+no_first_ref (t ∷ types) field e = absurd cc
 
 first_built : (types : List (List Field)) (op : Op) → is_first_op types op ≡ true → is_built op ≡ true
 first_built types (New r ty) first = refl

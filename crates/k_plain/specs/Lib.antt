@@ -1,3 +1,4 @@
+pub mod FirstForm
 pub mod Contents
 pub mod Machines
 pub mod Accesses

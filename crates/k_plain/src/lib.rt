@@ -12,6 +12,7 @@ mod allocation;
 mod bytes;
 mod ending;
 mod exits;
+mod first_form;
 mod items;
 mod limits;
 mod lists;
@@ -29,5 +30,6 @@ mod tests;
 mod viewing;
 
 pub use ending::PlainEnd;
+pub use first_form::is_first_form;
 pub use running::solo;
 pub use state::PlainState;

@@ -1,6 +1,6 @@
 ghost use Rattle.std.specs.Prelude.{◌≡◌, ◌<◌, [], IfOk, List, map, option_copied, slice_get, slice_index_or};
 ghost use Rattle.k_plain.specs.Runs.{IsFiled};
-ghost use Rattle.k_trace.specs.FirstForm.{IsFirstForm};
+ghost use Rattle.k_plain.specs.FirstForm.{IsFirstForm};
 ghost use Rattle.k_trace.specs.Meaning.{meaning_of};
 ghost use Rattle.k_types.specs.TraceRules.{KeepsRules};
 ghost use Rattle.k_types.specs.declared.op.Op.{Op};

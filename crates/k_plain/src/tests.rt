@@ -1,4 +1,4 @@
-use crate::{PlainState, solo};
+use crate::{PlainState, is_first_form, solo};
 use k_text::View;
 use k_trace::read_trace;
 use k_types::{Event, Fault, Heap, LimitId, Name, Pid, Reply, Seg, Serial};
@@ -28,6 +28,7 @@ fn object(serial: u32) -> Name {
 #[test]
 fn runs_a_trace_to_its_limit(rt: HostRuntime) -> Result<(), Fail> {
     let trace = read_trace(rt.alloc(), FIRST)?;
+    assert!(rt; is_first_form(&trace));
     let end = solo(rt.alloc(), &trace)?;
     let want = [
         Reply::Made(object(1)),

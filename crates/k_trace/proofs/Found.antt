@@ -23,6 +23,8 @@ use Rattle.k_trace.specs.Judgement.{SoFar, Judged, begins, version_line, kernel_
 use Rattle.k_trace.proofs.Readers.{demands_ok, ok_is}
 use Rattle.k_trace.proofs.OpForms.{two, three, five, number_below, AreNamed, IsFound, op_found}
 use Rattle.k_trace.proofs.Steps.{at_place, version_words, kernel_words, root_row, limit_row, VersionStep, KernelStep, TypeStep, RootStep, LimitStep, ProcStep, SharedStep, OperationStep, Step, OfVersion, OfKernel, OfType, OfRoot, OfLimit, OfProc, OfShared, OfOperation}
+use Rattle.k_trace.specs.declared.reasons.Reason.{Reason}
+use Rattle.k_trace.specs.declared.reasons.Reason.TheVariants.{NoForm}
 
 pub not_true : (b : Bool) → not b ≡ true → b ≡ false
 not_true true e = absurd cc
@@ -245,7 +247,7 @@ process_found c d ws op named at read e =
       after = sym (ok_is (at_place Operations (with_op c.said p op)) d g.1);
     })
 
-operation_cases : (c d : SoFar) (ws : List Text) (r : Result Op ℕ) → op_of c.said.names (drop 1 ws) ≡ r → AreNamed c.said → has_process c.place ≡ true
+operation_cases : (c d : SoFar) (ws : List Text) (r : Result Op Reason) → op_of c.said.names (drop 1 ws) ≡ r → AreNamed c.said → has_process c.place ≡ true
     → process_line_of c.said (word_at ws 0) r ≡ Ok d → Step c ws d
 operation_cases c d ws (Err reason) read named at e = absurd cc
 operation_cases c d ws (Ok op) read named at e = process_found c d ws op named at read e
@@ -259,7 +261,7 @@ branch : (c d : SoFar) (ws : List Text) (test : Bool) (a b : Judged) → (test �
 branch c d ws true a b f g e = f refl e
 branch c d ws false a b f g e = g e
 
-nothing : (c d : SoFar) (ws : List Text) → (let r : Judged = Err 4 in r) ≡ Ok d → Step c ws d
+nothing : (c d : SoFar) (ws : List Text) → (let r : Judged = Err NoForm in r) ≡ Ok d → Step c ws d
 nothing c d ws e = absurd cc
 
 later_found : (c d : SoFar) (ws : List Text) → AreNamed c.said → (c.place ≡ Procs) ⊎ (c.place ≡ Shared) → has_process c.place ≡ true → later_line c.said ws ≡ Ok d → Step c ws d

@@ -82,7 +82,7 @@ row_last : (rows : List LimitRow) (row : LimitRow) (m : ℕ) → m ≡ length ro
 row_last rows row m e = rw e (get_or-append_seam rows row [] no_row)
 
 -- what holds of each row and of one more holds of all
-each_row : (P : ℕ → LimitRow → Type 0) (rows : List LimitRow) (row : LimitRow) → ((m : ℕ) → m < length rows → P m (row_of rows m)) → P (length rows) row
+pub each_row : (P : ℕ → LimitRow → Type 0) (rows : List LimitRow) (row : LimitRow) → ((m : ℕ) → m < length rows → P m (row_of rows m)) → P (length rows) row
     → (m : ℕ) → m < length (rows ++ row ∷ []) → P m (row_of (rows ++ row ∷ []) m)
 each_row P rows row old last m lt = elim (cases_lt m (length rows)) [
   | inl below ↦ subst (P m) (sym (row_before rows row m below)) (old m below)

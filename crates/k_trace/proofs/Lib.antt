@@ -1,7 +1,5 @@
 pub mod Short
 pub mod Exits
-pub mod Readers
-pub mod Judging
 pub mod OpForms
 pub mod OpAgain
 pub mod Steps
@@ -13,6 +11,10 @@ pub mod OpRules
 pub mod Reserved
 pub mod Kept
 pub mod Keeps
+pub mod Reservations
+pub mod Readers
+pub mod Judging
+pub mod Refused
 pub mod Sound
 pub mod Tidy
 pub mod Judged
@@ -20,6 +22,4 @@ pub mod Runs
 pub mod LaterRuns
 pub mod OpRuns
 pub mod Whole
-pub mod Grows
-pub mod FirstForms
 pub mod Exact

@@ -17,6 +17,8 @@ use Rattle.k_trace.specs.Spelling.{op_words}
 use Rattle.k_trace.specs.Demands.{demands}
 use Rattle.k_trace.specs.Forms.{form, new_form, knew_form, snew_form, store_form, load_form, move_form, drop_form, dir_form, put_form, get_form, share_form, freeze_form, attach_form, bare_form, has_verb, reg, type_of, shared_of, sharing_op, bare_op, register_op, op_of}
 use Rattle.k_trace.proofs.Readers.{demands_ok, ok_is}
+use Rattle.k_trace.specs.declared.reasons.Reason.{Reason}
+use Rattle.k_trace.specs.declared.reasons.Reason.TheVariants.{NoForm, NoNumber, Undeclared}
 
 pub one : (ws : List Text) → length ws ≡ 1 → ws ≡ word_at ws 0 ∷ []
 one (a ∷ []) e = refl
@@ -46,9 +48,9 @@ pub record IsMet (ws : List Text) (count : ℕ) (fits known : Bool) : Type 0 whe
 
 pub form_met : (ws : List Text) (count : ℕ) (fits known : Bool) (made op : Op) → form ws count fits known made ≡ Ok op → IsMet ws count fits known × (made ≡ op)
 form_met ws count fits known made op e =
-    let a = demands_ok 4 (eqb (length ws) count) (demands 5 fits (demands 8 known (Ok made))) op e in
-    let b = demands_ok 5 fits (demands 8 known (Ok made)) op a.1 in
-    let c = demands_ok 8 known (Ok made) op b.1 in
+    let a = demands_ok NoForm (eqb (length ws) count) (demands NoNumber fits (demands Undeclared known (Ok made))) op e in
+    let b = demands_ok NoNumber fits (demands Undeclared known (Ok made)) op a.1 in
+    let c = demands_ok Undeclared known (Ok made) op b.1 in
     (record { counted = eqb-true _ _ a.0; in_form = b.0; declared = c.0 }, ok_is made op c.1)
 
 -- the operation is spelled so, and names what is declared
@@ -62,7 +64,7 @@ pub record AreNamed (t : NamedTrace) : Type 0 where
   pub types : length t.names.types ≡ length t.trace.types
   pub shared : length t.names.shared ≡ t.trace.shared_heaps
 
-abbrev pub Finds : NamedTrace → List Text → Result Op ℕ → Type 0
+abbrev pub Finds : NamedTrace → List Text → Result Op Reason → Type 0
 Finds t ws found = (op : Op) → found ≡ Ok op → IsFound t ws op
 
 number_below_cons : (t : Bool) (w n : Text) (names : List Text) → bytes_eq w n ≡ t → declares (n ∷ names) w ≡ true → (declares names w ≡ true → number_of names w < length names)
@@ -235,11 +237,11 @@ bare_found t ws made verb spelled ranged fit has op e =
     subst (IsFound t ws) m.1 (record { words = spelled ∙ ap (λ (w : Text). w ∷ []) (sym (verb_is ws verb has)) ∙ sym (one ws m.0.counted); in_range = ranged; spelled = fit })
 
 -- one of two forms was met
-either : (t : NamedTrace) (ws : List Text) (test : Bool) (a b : Result Op ℕ) → (test ≡ true → Finds t ws a) → Finds t ws b → Finds t ws (cond test a b)
+either : (t : NamedTrace) (ws : List Text) (test : Bool) (a b : Result Op Reason) → (test ≡ true → Finds t ws a) → Finds t ws b → Finds t ws (cond test a b)
 either t ws true a b f g = f refl
 either t ws false a b f g = g
 
-none_found : (t : NamedTrace) (ws : List Text) → Finds t ws (Err 4)
+none_found : (t : NamedTrace) (ws : List Text) → Finds t ws (Err NoForm)
 none_found t ws op e = absurd cc
 
 sharing_found : (t : NamedTrace) (ws : List Text) → AreNamed t → Finds t ws (sharing_op t.names ws)

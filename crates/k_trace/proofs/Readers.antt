@@ -12,12 +12,11 @@ use Rattle.k_trace.specs.Named.{NamedTrace}
 use Rattle.k_trace.specs.Forms.{op_of, register_op, bare_op, sharing_op}
 use Rattle.k_types.specs.declared.op.Op.{Op}
 use Rattle.k_types.specs.declared.setup.LimitRow.{LimitRow}
-use Rattle.k_trace.specs.declared.place.Place.TheVariants.{Limits}
-use Rattle.k_trace.specs.Grown.{with_limit}
 use Rattle.k_words.specs.Numbers.{value}
 use Rattle.k_trace.specs.Demands.{demands}
-use Rattle.k_trace.specs.Judgement.{SoFar, Judged, limit_line, line_of_limits, limit_of_name, operation_line, process_line}
-use Rattle.k_trace.specs.Outcome.{HasLaterLimit}
+use Rattle.k_trace.specs.Judgement.{operation_line, process_line}
+use Rattle.k_trace.specs.declared.reasons.Reason.{Reason}
+use Rattle.k_trace.specs.declared.reasons.Reason.TheVariants.{NoForm}
 
 few_push : (rows : List (List Field)) (row : List Field) → HaveFewFields rows → length row ≤ 16 → HaveFewFields (rows ++ row ∷ [])
 few_push rows row few le ty = grind (arith, common_steps, few ty)
@@ -27,36 +26,16 @@ pub few_fields_push : (rows : List (Vec Field)) (v : Vec Field) → HaveFewField
 few_fields_push rows v few le = rw (map-append (λ (r : Vec Field). r.items) rows (v ∷ [])) (few_push (map (λ r. r.items) rows) v.items few le)
 
 -- a good line that demands were made of
-pub demands_ok : {A : Type 0} (reason : ℕ) (test : Bool) (next : Result A ℕ) (d : A) → demands reason test next ≡ Ok d → (test ≡ true) × (next ≡ Ok d)
+pub demands_ok : {A : Type 0} (reason : Reason) (test : Bool) (next : Result A Reason) (d : A) → demands reason test next ≡ Ok d → (test ≡ true) × (next ≡ Ok d)
 unfolding demands
 demands_ok reason true next d e = (refl, e)
 demands_ok reason false next d e = absurd cc
 
-pub ok_is : {A : Type 0} (c d : A) → (let r : Result A ℕ = Ok c in r) ≡ Ok d → c ≡ d
+pub ok_is : {A : Type 0} (c d : A) → (let r : Result A Reason = Ok c in r) ≡ Ok d → c ≡ d
 ok_is c d e = cc
 
-limits_grow : (rows : List LimitRow) (row : LimitRow) → 0 < length rows → 2 ≤ length (rows ++ row ∷ [])
-limits_grow rows row lt = omega (arith, length-append rows (row ∷ []))
-
--- a good line of a limit below another leaves two limits at least
-pub later_limit : (t : NamedTrace) (ws : List Text) → 0 < length t.trace.limits → HasLaterLimit (limit_line t ws)
-unfolding limit_line
-later_limit t ws lt d e =
-    let a = demands_ok _ _ _ d e in
-    let b = demands_ok _ _ _ d a.1 in
-    let g = demands_ok _ _ _ d b.1 in
-    let h = demands_ok _ _ _ d g.1 in
-    let i = demands_ok _ _ _ d h.1 in
-    let j = demands_ok _ _ _ d i.1 in
-    let k = demands_ok _ _ _ d j.1 in
-    subst (λ (x : SoFar). 2 ≤ length x.said.trace.limits) (ok_is (record { place = Limits; said = with_limit t (word_at ws 1) (record { parent = Some (limit_of_name t (word_at ws 2)); hard = bytes_eq (word_at ws 3) (codes "hard"); max = value (word_at ws 4) }) }) d k.1) (limits_grow t.trace.limits (record { parent = Some (limit_of_name t (word_at ws 2)); hard = bytes_eq (word_at ws 3) (codes "hard"); max = value (word_at ws 4) }) lt)
-
-pub later_limit_in : (t : NamedTrace) (ws : List Text) → bytes_eq (word_at ws 0) (codes "limit") ≡ true → 0 < length t.trace.limits → HasLaterLimit (line_of_limits t ws)
-unfolding line_of_limits
-later_limit_in t ws e lt = rw e (later_limit t ws lt)
-
 -- an operation that isn't one
-pub bad_operation : (t : NamedTrace) (ws rest : List Text) (w : Text) (reason : ℕ) → ws ≡ w ∷ rest → Err reason ≡ op_of t.names rest → operation_line t ws ≡ Err reason
+pub bad_operation : (t : NamedTrace) (ws rest : List Text) (w : Text) (reason : Reason) → ws ≡ w ∷ rest → Err reason ≡ op_of t.names rest → operation_line t ws ≡ Err reason
 unfolding operation_line
 bad_operation t ws rest w reason e bad = rw (e, ← bad) refl
 
@@ -65,6 +44,6 @@ unfolding operation_line
 good_operation t ws rest w op e good = rw (e, ← good) refl
 
 -- a line of one word
-pub no_operation : (t : NamedTrace) (ws : List Text) (w : Text) → ws ≡ w ∷ [] → operation_line t ws ≡ Err 4
+pub no_operation : (t : NamedTrace) (ws : List Text) (w : Text) → ws ≡ w ∷ [] → operation_line t ws ≡ Err NoForm
 unfolding operation_line op_of register_op bare_op sharing_op
 no_operation t ws w e = rw e refl

@@ -33,7 +33,7 @@ fit_root max m lt = omega arith
 abbrev over : List LimitRow → ℕ → ℕ → Bool
 over rows n q = ltb (max_of rows q) (use_within rows (λ m. 0) (length rows) q + n)
 
-maxima_same : (rows : List LimitRow) → with_maxima rows (map (λ row. row.max) rows) ≡ rows
+pub maxima_same : (rows : List LimitRow) → with_maxima rows (map (λ row. row.max) rows) ≡ rows
 maxima_same [] = refl
 maxima_same (row ∷ rows) = ap (λ (rs : List LimitRow). row ∷ rs) (maxima_same rows)
 

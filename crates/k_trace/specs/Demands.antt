@@ -1,6 +1,7 @@
 -- What is demanded of a line, in the order of the reasons.
-use Rattle.std.specs.Prelude.{ℕ, Bool, Result, Err, if◌then◌else◌}
+use Rattle.std.specs.Prelude.{Bool, Result, Err, if◌then◌else◌}
+use Rattle.k_trace.specs.declared.reasons.Reason.{Reason}
 
 -- where the test fails the reason applies
-unfoldable pub demands : {A : Type 0} → ℕ → Bool → Result A ℕ → Result A ℕ
+unfoldable pub demands : {A : Type 0} → Reason → Bool → Result A Reason → Result A Reason
 demands reason test next = if test then next else Err reason

@@ -11,6 +11,8 @@ use Rattle.k_words.specs.Numbers.{is_below, value, is_register, register}
 use Rattle.k_words.specs.Names.{declares, number_of}
 use Rattle.k_trace.specs.Named.{DeclaredNames}
 use Rattle.k_trace.specs.Demands.{demands}
+use Rattle.k_trace.specs.declared.reasons.Reason.{Reason}
+use Rattle.k_trace.specs.declared.reasons.Reason.TheVariants.{NoForm, NoNumber, Undeclared}
 
 -- the register that the word is
 abbrev pub reg : Text → Reg
@@ -25,64 +27,64 @@ abbrev pub shared_of : DeclaredNames → Text → SharedId
 shared_of names w = record { 0 = number_of names.shared w }
 
 -- an operation of so many words, whose numbers and registers are in range and whose names are declared
-abbrev pub form : List Text → ℕ → Bool → Bool → Op → Result Op ℕ
-form ws count fits known op = demands 4 (length ws == count) (demands 5 fits (demands 8 known (Ok op)))
+abbrev pub form : List Text → ℕ → Bool → Bool → Op → Result Op Reason
+form ws count fits known op = demands NoForm (length ws == count) (demands NoNumber fits (demands Undeclared known (Ok op)))
 
-unfoldable pub new_form : DeclaredNames → List Text → Result Op ℕ
+unfoldable pub new_form : DeclaredNames → List Text → Result Op Reason
 new_form names ws =
     form ws 3 (is_register (word_at ws 1)) (declares names.types (word_at ws 2)) (New (reg (word_at ws 1)) (type_of names (word_at ws 2)))
 
-unfoldable pub knew_form : DeclaredNames → List Text → Result Op ℕ
+unfoldable pub knew_form : DeclaredNames → List Text → Result Op Reason
 knew_form names ws =
     form ws 3 (is_register (word_at ws 1)) (declares names.types (word_at ws 2)) (KNew (reg (word_at ws 1)) (type_of names (word_at ws 2)))
 
-unfoldable pub snew_form : DeclaredNames → List Text → Result Op ℕ
+unfoldable pub snew_form : DeclaredNames → List Text → Result Op Reason
 snew_form names ws =
     form ws 4 (is_register (word_at ws 1)) (declares names.shared (word_at ws 2) && declares names.types (word_at ws 3))
     (SNew (reg (word_at ws 1)) (shared_of names (word_at ws 2)) (type_of names (word_at ws 3)))
 
-unfoldable pub store_form : List Text → Result Op ℕ
+unfoldable pub store_form : List Text → Result Op Reason
 store_form ws =
     form ws 4 (is_register (word_at ws 1) && is_below 16 (word_at ws 2) && is_register (word_at ws 3)) true
     (Store (reg (word_at ws 1)) (value (word_at ws 2)) (reg (word_at ws 3)))
 
-unfoldable pub load_form : List Text → Result Op ℕ
+unfoldable pub load_form : List Text → Result Op Reason
 load_form ws =
     form ws 4 (is_register (word_at ws 1) && is_register (word_at ws 2) && is_below 16 (word_at ws 3)) true
     (Load (reg (word_at ws 1)) (reg (word_at ws 2)) (value (word_at ws 3)))
 
-unfoldable pub move_form : List Text → Result Op ℕ
+unfoldable pub move_form : List Text → Result Op Reason
 move_form ws =
     form ws 3 (is_register (word_at ws 1) && is_register (word_at ws 2)) true (Move (reg (word_at ws 1)) (reg (word_at ws 2)))
 
-unfoldable pub drop_form : List Text → Result Op ℕ
+unfoldable pub drop_form : List Text → Result Op Reason
 drop_form ws = form ws 2 (is_register (word_at ws 1)) true (Clear (reg (word_at ws 1)))
 
-unfoldable pub dir_form : List Text → Result Op ℕ
+unfoldable pub dir_form : List Text → Result Op Reason
 dir_form ws = form ws 2 (is_register (word_at ws 1)) true (Dir (reg (word_at ws 1)))
 
-unfoldable pub put_form : List Text → Result Op ℕ
+unfoldable pub put_form : List Text → Result Op Reason
 put_form ws =
     form ws 4 (is_register (word_at ws 1) && is_below 16 (word_at ws 2) && is_below (2 ^ 64) (word_at ws 3)) true
     (Put (reg (word_at ws 1)) (value (word_at ws 2)) (value (word_at ws 3)))
 
-unfoldable pub get_form : List Text → Result Op ℕ
+unfoldable pub get_form : List Text → Result Op Reason
 get_form ws =
     form ws 3 (is_register (word_at ws 1) && is_below 16 (word_at ws 2)) true (Get (reg (word_at ws 1)) (value (word_at ws 2)))
 
-unfoldable pub share_form : DeclaredNames → List Text → Result Op ℕ
+unfoldable pub share_form : DeclaredNames → List Text → Result Op Reason
 share_form names ws = form ws 2 true (declares names.shared (word_at ws 1)) (Share (shared_of names (word_at ws 1)))
 
-unfoldable pub freeze_form : DeclaredNames → List Text → Result Op ℕ
+unfoldable pub freeze_form : DeclaredNames → List Text → Result Op Reason
 freeze_form names ws =
     form ws 3 (is_register (word_at ws 2)) (declares names.shared (word_at ws 1)) (Freeze (shared_of names (word_at ws 1)) (reg (word_at ws 2)))
 
-unfoldable pub attach_form : DeclaredNames → List Text → Result Op ℕ
+unfoldable pub attach_form : DeclaredNames → List Text → Result Op Reason
 attach_form names ws =
     form ws 3 (is_register (word_at ws 1)) (declares names.shared (word_at ws 2)) (Attach (reg (word_at ws 1)) (shared_of names (word_at ws 2)))
 
 -- an operation of its verb alone
-abbrev pub bare_form : List Text → Op → Result Op ℕ
+abbrev pub bare_form : List Text → Op → Result Op Reason
 bare_form ws op = form ws 1 true true op
 
 -- the word at the verb's place is that verb
@@ -90,16 +92,16 @@ abbrev pub has_verb : List Text → Text → Bool
 has_verb ws verb = bytes_eq (word_at ws 0) verb
 
 -- the operations on shared heaps
-unfoldable pub sharing_op : DeclaredNames → List Text → Result Op ℕ
+unfoldable pub sharing_op : DeclaredNames → List Text → Result Op Reason
 sharing_op names ws =
     if has_verb ws (codes "snew") then snew_form names ws
     else if has_verb ws (codes "share") then share_form names ws
     else if has_verb ws (codes "freeze") then freeze_form names ws
     else if has_verb ws (codes "attach") then attach_form names ws
-    else Err 4
+    else Err NoForm
 
 -- the operations of collections and of the end
-unfoldable pub bare_op : DeclaredNames → List Text → Result Op ℕ
+unfoldable pub bare_op : DeclaredNames → List Text → Result Op Reason
 bare_op names ws =
     if has_verb ws (codes "collect") then bare_form ws Collect
     else if has_verb ws (codes "kcollect") then bare_form ws KCollect
@@ -107,7 +109,7 @@ bare_op names ws =
     else sharing_op names ws
 
 -- the operations on integer fields and registers
-unfoldable pub register_op : DeclaredNames → List Text → Result Op ℕ
+unfoldable pub register_op : DeclaredNames → List Text → Result Op Reason
 register_op names ws =
     if has_verb ws (codes "move") then move_form ws
     else if has_verb ws (codes "drop") then drop_form ws
@@ -116,9 +118,9 @@ register_op names ws =
     else if has_verb ws (codes "get") then get_form ws
     else bare_op names ws
 
--- the operation that the words are, or the lowest reason why they are none: 4 the verb or the number of words, 5 a number or
--- a register, 8 a name
-unfoldable pub op_of : DeclaredNames → List Text → Result Op ℕ
+-- the operation that the words are, or the lowest reason why they are none: NoForm where the verb or the number of words is wrong,
+-- NoNumber where a number or a register is, Undeclared where a name is
+unfoldable pub op_of : DeclaredNames → List Text → Result Op Reason
 op_of names ws =
     if has_verb ws (codes "new") then new_form names ws
     else if has_verb ws (codes "knew") then knew_form names ws

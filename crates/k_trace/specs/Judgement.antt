@@ -6,6 +6,7 @@ use Rattle.k_types.specs.declared.names.Field.{Field}
 use Rattle.k_types.specs.declared.names.Field.TheVariants.{Ref, Int}
 use Rattle.k_types.specs.declared.names.LimitId.{LimitId}
 use Rattle.k_types.specs.declared.op.Op.{Op}
+use Rattle.k_types.specs.Bounds.{most_types, most_limits, most_processes, most_shared_heaps, most_operations, most_line_bytes, most_words, most_trace_bytes, maximum_below}
 use Rattle.k_types.specs.Trace.{operations_of}
 use Rattle.k_words.specs.Words.{Text, lines_of, words_of, are_words, word_at, is_printable}
 use Rattle.k_words.specs.Numbers.{is_below, value}
@@ -13,9 +14,12 @@ use Rattle.k_words.specs.Names.{is_name, is_keyword, declares, number_of}
 use Rattle.k_trace.specs.declared.place.Place.{Place}
 use Rattle.k_trace.specs.declared.place.Place.TheVariants.{Version, Kernel, Types, Limits, Procs, Shared, Operations}
 use Rattle.k_trace.specs.Named.{NamedTrace}
+use Rattle.k_trace.specs.Reasons.{reason_number}
 use Rattle.k_trace.specs.Demands.{demands}
 use Rattle.k_trace.specs.Forms.{op_of}
 use Rattle.k_trace.specs.Grown.{blank, fits, with_kernel, with_type, with_limit, with_proc, with_shared, with_op, has_exit}
+use Rattle.k_trace.specs.declared.reasons.Reason.{Reason}
+use Rattle.k_trace.specs.declared.reasons.Reason.TheVariants.{TooManyBytes, LongLine, Unprintable, NoForm, NoNumber, NoName, NameTaken, Undeclared, TooMany, NoRoom, AfterExit, CutOff}
 
 -- what the lines so far say, and where the next one stands
 pub record SoFar : Type 0 where
@@ -27,7 +31,7 @@ start = record { place = Version; said = blank }
 
 -- what the lines say with one more, or the lowest reason that applies to it
 abbrev pub Judged : Type 0
-Judged = Result SoFar ℕ
+Judged = Result SoFar Reason
 
 -- the line is good, and leads there
 abbrev pub leads : Place → NamedTrace → Judged
@@ -38,13 +42,13 @@ abbrev pub begins : List Text → ℕ → Text → Bool
 begins ws count keyword = (length ws == count) && bytes_eq (word_at ws 0) keyword
 
 unfoldable pub version_line : NamedTrace → List Text → Judged
-version_line t ws = demands 4 (begins ws 2 (codes "kaffe") && bytes_eq (word_at ws 1) (codes "1")) (leads Kernel t)
+version_line t ws = demands NoForm (begins ws 2 (codes "kaffe") && bytes_eq (word_at ws 1) (codes "1")) (leads Kernel t)
 
 unfoldable pub kernel_line : NamedTrace → List Text → Judged
 kernel_line t ws =
-    demands 4 (begins ws 3 (codes "kernel"))
-    (demands 5 (is_below (2 ^ 40) (word_at ws 1) && is_below 17 (word_at ws 2))
-    (demands 10 (nat_le (16 + 8 * value (word_at ws 2)) (value (word_at ws 1)))
+    demands NoForm (begins ws 3 (codes "kernel"))
+    (demands NoNumber (is_below maximum_below (word_at ws 1) && is_below 17 (word_at ws 2))
+    (demands NoRoom (nat_le (16 + 8 * value (word_at ws 2)) (value (word_at ws 1)))
     (leads Types (with_kernel t (value (word_at ws 1)) (value (word_at ws 2))))))
 
 abbrev pub is_field : Text → Bool
@@ -55,19 +59,19 @@ field_of w = if bytes_eq w (codes "ref") then Ref else Int
 
 unfoldable pub type_line : NamedTrace → List Text → Judged
 type_line t ws =
-    demands 4 (nat_le 2 (length ws) && list_all is_field (drop 2 ws))
-    (demands 6 (is_name (word_at ws 1))
-    (demands 7 (not (declares t.names.types (word_at ws 1)))
-    (demands 9 (nat_le (length ws) 18 && nat_lt (length t.names.types) 256)
+    demands NoForm (nat_le 2 (length ws) && list_all is_field (drop 2 ws))
+    (demands NoName (is_name (word_at ws 1))
+    (demands NameTaken (not (declares t.names.types (word_at ws 1)))
+    (demands TooMany (nat_le (length ws) most_words && nat_lt (length t.names.types) most_types)
     (leads Types (with_type t (word_at ws 1) (map field_of (drop 2 ws)))))))
 
 unfoldable pub root_line : NamedTrace → List Text → Judged
 root_line t ws =
-    demands 4 (length ws == 3)
-    (demands 5 (is_below (2 ^ 40) (word_at ws 2))
-    (demands 6 (is_name (word_at ws 1))
-    (demands 7 (not (declares t.names.limits (word_at ws 1)))
-    (demands 9 (nat_lt (length t.names.limits) 128)
+    demands NoForm (length ws == 3)
+    (demands NoNumber (is_below maximum_below (word_at ws 2))
+    (demands NoName (is_name (word_at ws 1))
+    (demands NameTaken (not (declares t.names.limits (word_at ws 1)))
+    (demands TooMany (nat_lt (length t.names.limits) most_limits)
     (leads Limits (with_limit t (word_at ws 1) (record { parent = None; hard = true; max = value (word_at ws 2) })))))))
 
 -- the limit of that name
@@ -77,41 +81,41 @@ limit_of_name t name = record { 0 = number_of t.names.limits name }
 unfoldable pub limit_line : NamedTrace → List Text → Judged
 limit_line t ws =
     let hard = bytes_eq (word_at ws 3) (codes "hard") in
-    demands 4 ((length ws == 5) && (hard || bytes_eq (word_at ws 3) (codes "soft")))
-    (demands 5 (is_below (2 ^ 40) (word_at ws 4))
-    (demands 6 (is_name (word_at ws 1))
-    (demands 7 (not (declares t.names.limits (word_at ws 1)))
-    (demands 8 (declares t.names.limits (word_at ws 2))
-    (demands 9 (nat_lt (length t.names.limits) 128)
-    (demands 10 (not hard || fits t.trace.limits (number_of t.names.limits (word_at ws 2)) (value (word_at ws 4)))
+    demands NoForm ((length ws == 5) && (hard || bytes_eq (word_at ws 3) (codes "soft")))
+    (demands NoNumber (is_below maximum_below (word_at ws 4))
+    (demands NoName (is_name (word_at ws 1))
+    (demands NameTaken (not (declares t.names.limits (word_at ws 1)))
+    (demands Undeclared (declares t.names.limits (word_at ws 2))
+    (demands TooMany (nat_lt (length t.names.limits) most_limits)
+    (demands NoRoom (not hard || fits t.trace.limits (number_of t.names.limits (word_at ws 2)) (value (word_at ws 4)))
     (leads Limits (with_limit t (word_at ws 1) (record { parent = Some (limit_of_name t (word_at ws 2)); hard = hard; max = value (word_at ws 4) })))))))))
 
 unfoldable pub proc_line : NamedTrace → List Text → Judged
 proc_line t ws =
-    demands 4 (length ws == 3)
-    (demands 6 (is_name (word_at ws 1))
-    (demands 7 (not (declares t.names.procs (word_at ws 1)))
-    (demands 8 (declares t.names.limits (word_at ws 2))
-    (demands 9 (nat_lt (length t.names.procs) 64)
+    demands NoForm (length ws == 3)
+    (demands NoName (is_name (word_at ws 1))
+    (demands NameTaken (not (declares t.names.procs (word_at ws 1)))
+    (demands Undeclared (declares t.names.limits (word_at ws 2))
+    (demands TooMany (nat_lt (length t.names.procs) most_processes)
     (leads Procs (with_proc t (word_at ws 1) (limit_of_name t (word_at ws 2))))))))
 
 unfoldable pub shared_line : NamedTrace → List Text → Judged
 shared_line t ws =
-    demands 4 (length ws == 2)
-    (demands 6 (is_name (word_at ws 1))
-    (demands 7 (not (declares t.names.procs (word_at ws 1) || declares t.names.shared (word_at ws 1)))
-    (demands 9 (nat_lt (length t.names.shared) 64)
+    demands NoForm (length ws == 2)
+    (demands NoName (is_name (word_at ws 1))
+    (demands NameTaken (not (declares t.names.procs (word_at ws 1) || declares t.names.shared (word_at ws 1)))
+    (demands TooMany (nat_lt (length t.names.shared) most_shared_heaps)
     (leads Shared (with_shared t (word_at ws 1))))))
 
 -- Whatever its operation, a line names a declared process that goes on, and there is room for it.
 unfoldable pub process_line : NamedTrace → Text → Op → Judged
 process_line t name op =
-    demands 8 (declares t.names.procs name)
-    (demands 9 (nat_lt (length t.trace.order) 200000)
-    (demands 11 (not (has_exit (operations_of t.trace (number_of t.names.procs name))))
+    demands Undeclared (declares t.names.procs name)
+    (demands TooMany (nat_lt (length t.trace.order) most_operations)
+    (demands AfterExit (not (has_exit (operations_of t.trace (number_of t.names.procs name))))
     (leads Operations (with_op t (number_of t.names.procs name) op))))
 
-abbrev pub process_line_of : NamedTrace → Text → Result Op ℕ → Judged
+abbrev pub process_line_of : NamedTrace → Text → Result Op Reason → Judged
 process_line_of t name (Err reason) = Err reason
 process_line_of t name (Ok op) = process_line t name op
 
@@ -122,20 +126,20 @@ operation_line t ws = process_line_of t (word_at ws 0) (op_of t.names (drop 1 ws
 unfoldable pub later_line : NamedTrace → List Text → Judged
 later_line t ws =
     if bytes_eq (word_at ws 0) (codes "shared") then shared_line t ws
-    else if is_keyword (word_at ws 0) then Err 4
+    else if is_keyword (word_at ws 0) then Err NoForm
     else operation_line t ws
 
 unfoldable pub line_of_types : NamedTrace → List Text → Judged
 line_of_types t ws =
     if bytes_eq (word_at ws 0) (codes "type") then type_line t ws
     else if bytes_eq (word_at ws 0) (codes "limit") then root_line t ws
-    else Err 4
+    else Err NoForm
 
 unfoldable pub line_of_limits : NamedTrace → List Text → Judged
 line_of_limits t ws =
     if bytes_eq (word_at ws 0) (codes "limit") then limit_line t ws
     else if bytes_eq (word_at ws 0) (codes "proc") then proc_line t ws
-    else Err 4
+    else Err NoForm
 
 unfoldable pub line_of_procs : NamedTrace → List Text → Judged
 line_of_procs t ws = if bytes_eq (word_at ws 0) (codes "proc") then proc_line t ws else later_line t ws
@@ -151,19 +155,19 @@ line_in Operations t ws = operation_line t ws
 
 unfoldable pub judged_line : SoFar → Text → Judged
 judged_line c line =
-    demands 2 (nat_le (length line) 4096)
-    (demands 3 (list_all is_printable line)
-    (demands 4 (are_words (words_of line))
+    demands LongLine (nat_le (length line) most_line_bytes)
+    (demands Unprintable (list_all is_printable line)
+    (demands NoForm (are_words (words_of line))
     (line_in c.place c.said (words_of line))))
 
--- the first bad line, counted from 1, and its reason
+-- the first bad line, counted from 1, and the number of its reason
 pub record BadLine : Type 0 where
   pub line : ℕ
   pub reason : ℕ
 
 abbrev pub then_lines : (SoFar → Result SoFar BadLine) → ℕ → Judged → Result SoFar BadLine
 then_lines next n (Ok c) = next c
-then_lines next n (Err reason) = Err (record { line = n; reason = reason })
+then_lines next n (Err reason) = Err (record { line = n; reason = reason_number reason })
 
 -- what lines say, the first of which has the number n
 unfoldable pub judged_lines : ℕ → SoFar → List Text → Result SoFar BadLine
@@ -180,14 +184,14 @@ has_process _ = false
 -- the lines end, and the next one would have the number n
 abbrev pub at_end : ℕ → Result SoFar BadLine → Result NamedTrace BadLine
 at_end n (Err bad) = Err bad
-at_end n (Ok c) = if has_process c.place then Ok c.said else Err (record { line = n; reason = 12 })
+at_end n (Ok c) = if has_process c.place then Ok c.said else Err (record { line = n; reason = reason_number CutOff })
 
 -- the trace that the bytes are, or their first bad line with its lowest reason
 unfoldable pub judgement : Text → Result NamedTrace BadLine
 judgement bytes =
-    if nat_le (length bytes) 16777216
+    if nat_le (length bytes) most_trace_bytes
     then at_end (length (lines_of bytes) + 1) (judged_lines 1 start (lines_of bytes))
-    else Err (record { line = 0; reason = 1 })
+    else Err (record { line = 0; reason = reason_number TooManyBytes })
 
 -- the line of that number is the first bad one, and that is the lowest reason that applies to it
 abbrev pub IsBad : Text → ℕ → ℕ → Type 0

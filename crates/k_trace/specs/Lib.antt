@@ -3,10 +3,10 @@ pub mod Numbered
 pub mod Spelling
 pub mod Rules
 pub mod Meaning
-pub mod FirstForm
 pub use Rattle.k_words.specs.Words
 pub use Rattle.k_words.specs.Numbers
 pub use Rattle.k_words.specs.Names
+pub mod Reasons
 pub mod Demands
 pub mod Forms
 pub mod Grown

@@ -1,15 +1,16 @@
 //! Why a line, or the whole text of a trace, isn't read.
 ghost use Rattle.std.specs.Prelude.{◌≡◌};
 
+use crate::reasons::Reason;
 use k_io::NoMemory;
 
-/// Why a line isn't taken: memory ran out, the line is bad by this reason, or it is a line below
-/// the root limit, which isn't read yet.
+/// Why a line isn't taken: memory ran out, or the line is bad by this reason.
 #[derive(Debug, Drop)]
 pub enum LineError {
+    /// Memory ran out.
     NoMemory(NoMemory),
-    Bad(u32),
-    LaterLimit,
+    /// The lowest reason that applies to the line.
+    Bad(Reason),
 }
 
 impl From<NoMemory> for LineError {
@@ -22,25 +23,6 @@ impl From<NoMemory> for LineError {
     }
 }
 
-/// Why bytes aren't read: memory ran out, that is the first bad line with its lowest reason, or
-/// there is a limit below the root.
-#[derive(Debug, Drop)]
-pub enum ReadError {
-    NoMemory(NoMemory),
-    Bad { line: u32, reason: u32 },
-    LaterLimit,
-}
-
-impl From<NoMemory> for ReadError {
-    ghost use Rattle.k_trace.specs.declared.errors.ReadError.TheVariants as read_errors;
-
-    ghost from_gives = { λ refused e. e ≡ read_errors.NoMemory refused };
-
-    fn from(refused: NoMemory) -> ReadError {
-        ReadError::NoMemory(refused)
-    }
-}
-
 /// Why bytes are no trace that can be read.
 #[derive(Debug, Drop)]
 pub enum TraceError {
@@ -48,4 +30,14 @@ pub enum TraceError {
     NoMemory(NoMemory),
     /// The number of the line, counted from 1, and the number of the reason.
     Bad { line: u32, reason: u32 },
+}
+
+impl From<NoMemory> for TraceError {
+    ghost use Rattle.k_trace.specs.declared.errors.TraceError.TheVariants as trace_errors;
+
+    ghost from_gives = { λ refused e. e ≡ trace_errors.NoMemory refused };
+
+    fn from(refused: NoMemory) -> TraceError {
+        TraceError::NoMemory(refused)
+    }
 }

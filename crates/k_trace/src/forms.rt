@@ -3,56 +3,57 @@ ghost use Rattle.k_words.specs.Words.{words_of};
 ghost use Rattle.k_trace.specs.Forms.{new_form, knew_form, snew_form, store_form, load_form, move_form, drop_form, dir_form, put_form, get_form, share_form, freeze_form, attach_form, bare_form, sharing_op, bare_op, register_op, op_of};
 
 use crate::names::Names;
+use crate::reasons::Reason;
 use k_types::{Op, Reg};
 use k_words::{is, number, register, word, word_count};
 
 #[tactic(auto, unfolding(crate::specs::Forms::new_form, crate::specs::Demands::demands))]
-fn new_form(names: &Names, line: &[u8]) -> Result<Op, u32>
+fn new_form(names: &Names, line: &[u8]) -> Result<Op, Reason>
     ensures { result ≡ new_form names.now (words_of line.now) }
 {
     if word_count(line) != 3 {
-        return Err(4);
+        return Err(Reason::NoForm);
     }
     let Some(reg) = register(word(line, 1)) else {
-        return Err(5);
+        return Err(Reason::NoNumber);
     };
     let Some(ty) = names.type_named(word(line, 2)) else {
-        return Err(8);
+        return Err(Reason::Undeclared);
     };
     Ok(Op::New { reg: Reg(reg), ty })
 }
 
 #[tactic(auto, unfolding(crate::specs::Forms::knew_form, crate::specs::Demands::demands))]
-fn knew_form(names: &Names, line: &[u8]) -> Result<Op, u32>
+fn knew_form(names: &Names, line: &[u8]) -> Result<Op, Reason>
     ensures { result ≡ knew_form names.now (words_of line.now) }
 {
     if word_count(line) != 3 {
-        return Err(4);
+        return Err(Reason::NoForm);
     }
     let Some(reg) = register(word(line, 1)) else {
-        return Err(5);
+        return Err(Reason::NoNumber);
     };
     let Some(ty) = names.type_named(word(line, 2)) else {
-        return Err(8);
+        return Err(Reason::Undeclared);
     };
     Ok(Op::KNew { reg: Reg(reg), ty })
 }
 
 #[tactic(auto, unfolding(crate::specs::Forms::snew_form, crate::specs::Demands::demands))]
-fn snew_form(names: &Names, line: &[u8]) -> Result<Op, u32>
+fn snew_form(names: &Names, line: &[u8]) -> Result<Op, Reason>
     ensures { result ≡ snew_form names.now (words_of line.now) }
 {
     if word_count(line) != 4 {
-        return Err(4);
+        return Err(Reason::NoForm);
     }
     let Some(reg) = register(word(line, 1)) else {
-        return Err(5);
+        return Err(Reason::NoNumber);
     };
     let Some(shared) = names.shared_named(word(line, 2)) else {
-        return Err(8);
+        return Err(Reason::Undeclared);
     };
     let Some(ty) = names.type_named(word(line, 3)) else {
-        return Err(8);
+        return Err(Reason::Undeclared);
     };
     Ok(Op::SNew {
         reg: Reg(reg),
@@ -62,20 +63,20 @@ fn snew_form(names: &Names, line: &[u8]) -> Result<Op, u32>
 }
 
 #[tactic(auto, unfolding(crate::specs::Forms::store_form, crate::specs::Demands::demands))]
-fn store_form(line: &[u8]) -> Result<Op, u32>
+fn store_form(line: &[u8]) -> Result<Op, Reason>
     ensures { result ≡ store_form (words_of line.now) }
 {
     if word_count(line) != 4 {
-        return Err(4);
+        return Err(Reason::NoForm);
     }
     let Some(base) = register(word(line, 1)) else {
-        return Err(5);
+        return Err(Reason::NoNumber);
     };
     let Some(field) = number(word(line, 2), 16) else {
-        return Err(5);
+        return Err(Reason::NoNumber);
     };
     let Some(value) = register(word(line, 3)) else {
-        return Err(5);
+        return Err(Reason::NoNumber);
     };
     let field = field as u32;
     Ok(Op::Store {
@@ -86,20 +87,20 @@ fn store_form(line: &[u8]) -> Result<Op, u32>
 }
 
 #[tactic(auto, unfolding(crate::specs::Forms::load_form, crate::specs::Demands::demands))]
-fn load_form(line: &[u8]) -> Result<Op, u32>
+fn load_form(line: &[u8]) -> Result<Op, Reason>
     ensures { result ≡ load_form (words_of line.now) }
 {
     if word_count(line) != 4 {
-        return Err(4);
+        return Err(Reason::NoForm);
     }
     let Some(reg) = register(word(line, 1)) else {
-        return Err(5);
+        return Err(Reason::NoNumber);
     };
     let Some(base) = register(word(line, 2)) else {
-        return Err(5);
+        return Err(Reason::NoNumber);
     };
     let Some(field) = number(word(line, 3), 16) else {
-        return Err(5);
+        return Err(Reason::NoNumber);
     };
     let field = field as u32;
     Ok(Op::Load {
@@ -110,17 +111,17 @@ fn load_form(line: &[u8]) -> Result<Op, u32>
 }
 
 #[tactic(auto, unfolding(crate::specs::Forms::move_form, crate::specs::Demands::demands))]
-fn move_form(line: &[u8]) -> Result<Op, u32>
+fn move_form(line: &[u8]) -> Result<Op, Reason>
     ensures { result ≡ move_form (words_of line.now) }
 {
     if word_count(line) != 3 {
-        return Err(4);
+        return Err(Reason::NoForm);
     }
     let Some(reg) = register(word(line, 1)) else {
-        return Err(5);
+        return Err(Reason::NoNumber);
     };
     let Some(from) = register(word(line, 2)) else {
-        return Err(5);
+        return Err(Reason::NoNumber);
     };
     Ok(Op::Move {
         reg: Reg(reg),
@@ -129,46 +130,46 @@ fn move_form(line: &[u8]) -> Result<Op, u32>
 }
 
 #[tactic(auto, unfolding(crate::specs::Forms::drop_form, crate::specs::Demands::demands))]
-fn drop_form(line: &[u8]) -> Result<Op, u32>
+fn drop_form(line: &[u8]) -> Result<Op, Reason>
     ensures { result ≡ drop_form (words_of line.now) }
 {
     if word_count(line) != 2 {
-        return Err(4);
+        return Err(Reason::NoForm);
     }
     let Some(reg) = register(word(line, 1)) else {
-        return Err(5);
+        return Err(Reason::NoNumber);
     };
     Ok(Op::Clear { reg: Reg(reg) })
 }
 
 #[tactic(auto, unfolding(crate::specs::Forms::dir_form, crate::specs::Demands::demands))]
-fn dir_form(line: &[u8]) -> Result<Op, u32>
+fn dir_form(line: &[u8]) -> Result<Op, Reason>
     ensures { result ≡ dir_form (words_of line.now) }
 {
     if word_count(line) != 2 {
-        return Err(4);
+        return Err(Reason::NoForm);
     }
     let Some(reg) = register(word(line, 1)) else {
-        return Err(5);
+        return Err(Reason::NoNumber);
     };
     Ok(Op::Dir { reg: Reg(reg) })
 }
 
 #[tactic(auto, unfolding(crate::specs::Forms::put_form, crate::specs::Demands::demands))]
-fn put_form(line: &[u8]) -> Result<Op, u32>
+fn put_form(line: &[u8]) -> Result<Op, Reason>
     ensures { result ≡ put_form (words_of line.now) }
 {
     if word_count(line) != 4 {
-        return Err(4);
+        return Err(Reason::NoForm);
     }
     let Some(base) = register(word(line, 1)) else {
-        return Err(5);
+        return Err(Reason::NoNumber);
     };
     let Some(field) = number(word(line, 2), 16) else {
-        return Err(5);
+        return Err(Reason::NoNumber);
     };
     let Some(value) = number(word(line, 3), 1 << 64) else {
-        return Err(5);
+        return Err(Reason::NoNumber);
     };
     let field = field as u32;
     Ok(Op::Put {
@@ -179,17 +180,17 @@ fn put_form(line: &[u8]) -> Result<Op, u32>
 }
 
 #[tactic(auto, unfolding(crate::specs::Forms::get_form, crate::specs::Demands::demands))]
-fn get_form(line: &[u8]) -> Result<Op, u32>
+fn get_form(line: &[u8]) -> Result<Op, Reason>
     ensures { result ≡ get_form (words_of line.now) }
 {
     if word_count(line) != 3 {
-        return Err(4);
+        return Err(Reason::NoForm);
     }
     let Some(base) = register(word(line, 1)) else {
-        return Err(5);
+        return Err(Reason::NoNumber);
     };
     let Some(field) = number(word(line, 2), 16) else {
-        return Err(5);
+        return Err(Reason::NoNumber);
     };
     let field = field as u32;
     Ok(Op::Get {
@@ -199,30 +200,30 @@ fn get_form(line: &[u8]) -> Result<Op, u32>
 }
 
 #[tactic(auto, unfolding(crate::specs::Forms::share_form, crate::specs::Demands::demands))]
-fn share_form(names: &Names, line: &[u8]) -> Result<Op, u32>
+fn share_form(names: &Names, line: &[u8]) -> Result<Op, Reason>
     ensures { result ≡ share_form names.now (words_of line.now) }
 {
     if word_count(line) != 2 {
-        return Err(4);
+        return Err(Reason::NoForm);
     }
     let Some(shared) = names.shared_named(word(line, 1)) else {
-        return Err(8);
+        return Err(Reason::Undeclared);
     };
     Ok(Op::Share { shared })
 }
 
 #[tactic(auto, unfolding(crate::specs::Forms::freeze_form, crate::specs::Demands::demands))]
-fn freeze_form(names: &Names, line: &[u8]) -> Result<Op, u32>
+fn freeze_form(names: &Names, line: &[u8]) -> Result<Op, Reason>
     ensures { result ≡ freeze_form names.now (words_of line.now) }
 {
     if word_count(line) != 3 {
-        return Err(4);
+        return Err(Reason::NoForm);
     }
     let Some(root) = register(word(line, 2)) else {
-        return Err(5);
+        return Err(Reason::NoNumber);
     };
     let Some(shared) = names.shared_named(word(line, 1)) else {
-        return Err(8);
+        return Err(Reason::Undeclared);
     };
     Ok(Op::Freeze {
         shared,
@@ -231,17 +232,17 @@ fn freeze_form(names: &Names, line: &[u8]) -> Result<Op, u32>
 }
 
 #[tactic(auto, unfolding(crate::specs::Forms::attach_form, crate::specs::Demands::demands))]
-fn attach_form(names: &Names, line: &[u8]) -> Result<Op, u32>
+fn attach_form(names: &Names, line: &[u8]) -> Result<Op, Reason>
     ensures { result ≡ attach_form names.now (words_of line.now) }
 {
     if word_count(line) != 3 {
-        return Err(4);
+        return Err(Reason::NoForm);
     }
     let Some(reg) = register(word(line, 1)) else {
-        return Err(5);
+        return Err(Reason::NoNumber);
     };
     let Some(shared) = names.shared_named(word(line, 2)) else {
-        return Err(8);
+        return Err(Reason::Undeclared);
     };
     Ok(Op::Attach {
         reg: Reg(reg),
@@ -250,17 +251,17 @@ fn attach_form(names: &Names, line: &[u8]) -> Result<Op, u32>
 }
 
 #[tactic(auto, unfolding(crate::specs::Demands::demands))]
-fn bare_form(line: &[u8], op: Op) -> Result<Op, u32>
+fn bare_form(line: &[u8], op: Op) -> Result<Op, Reason>
     ensures { result ≡ bare_form (words_of line.now) op }
 {
     if word_count(line) != 1 {
-        return Err(4);
+        return Err(Reason::NoForm);
     }
     Ok(op)
 }
 
 #[tactic(auto, unfolding(crate::specs::Forms::sharing_op, crate::specs::Demands::demands))]
-fn sharing_op(names: &Names, line: &[u8]) -> Result<Op, u32>
+fn sharing_op(names: &Names, line: &[u8]) -> Result<Op, Reason>
     ensures { result ≡ sharing_op names.now (words_of line.now) }
 {
     let verb = word(line, 0);
@@ -276,11 +277,11 @@ fn sharing_op(names: &Names, line: &[u8]) -> Result<Op, u32>
     if is(verb, b"attach") {
         return attach_form(names, line);
     }
-    Err(4)
+    Err(Reason::NoForm)
 }
 
 #[tactic(auto, unfolding(crate::specs::Forms::bare_op, crate::specs::Demands::demands))]
-fn bare_op(names: &Names, line: &[u8]) -> Result<Op, u32>
+fn bare_op(names: &Names, line: &[u8]) -> Result<Op, Reason>
     ensures { result ≡ bare_op names.now (words_of line.now) }
 {
     let verb = word(line, 0);
@@ -297,7 +298,7 @@ fn bare_op(names: &Names, line: &[u8]) -> Result<Op, u32>
 }
 
 #[tactic(auto, unfolding(crate::specs::Forms::register_op, crate::specs::Demands::demands))]
-fn register_op(names: &Names, line: &[u8]) -> Result<Op, u32>
+fn register_op(names: &Names, line: &[u8]) -> Result<Op, Reason>
     ensures { result ≡ register_op names.now (words_of line.now) }
 {
     let verb = word(line, 0);
@@ -320,9 +321,9 @@ fn register_op(names: &Names, line: &[u8]) -> Result<Op, u32>
 }
 
 /// The operation of a line that begins with the verb, over these names; or the lowest reason why it
-/// is none. Source: own.
+/// is none.
 #[tactic(auto, unfolding(crate::specs::Forms::op_of, crate::specs::Demands::demands))]
-pub fn read_op(names: &Names, line: &[u8]) -> Result<Op, u32>
+pub fn read_op(names: &Names, line: &[u8]) -> Result<Op, Reason>
     ensures { result ≡ op_of names.now (words_of line.now) }
 {
     let verb = word(line, 0);

@@ -6,7 +6,7 @@ ghost use Rattle.k_trace.specs.Rules.{Spells};
 ghost use Rattle.k_trace.specs.Judgement.{judgement, IsBad};
 
 /// Bytes are judged to be a trace exactly where they spell it. So they spell one trace, or have one
-/// first bad line with one lowest reason, and not both. Source: own.
+/// first bad line with one lowest reason, and not both.
 pub fn judged_as_spelled()
     ensures exact { (bytes : Text) (t : NamedTrace) → (judgement bytes ≡ Ok t) ↔ Spells bytes t }
     ensures one { (bytes : Text) (t u : NamedTrace) → Spells bytes t → Spells bytes u → t ≡ u }

@@ -7,7 +7,6 @@
 #![tactic(auto)]
 
 mod errors;
-mod first_form;
 mod forms;
 mod laws;
 mod names;
@@ -15,13 +14,16 @@ mod operations;
 mod place;
 mod reader;
 mod reading;
+mod reasons;
+mod rooms;
 mod trace;
 
 pub use errors::TraceError;
-pub use first_form::read_trace;
 pub use forms::read_op;
 pub use laws::judged_as_spelled;
 pub use names::Names;
+pub use reading::read_trace;
+pub use reasons::Reason;
 pub use trace::Trace;
 
 #[cfg(test)]

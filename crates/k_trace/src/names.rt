@@ -9,7 +9,7 @@ use k_words::NameList;
 use std::alloc::Global;
 use std::marker::Model;
 
-/// The names that a trace declares, by the numbers of what they name. Source: own.
+/// The names that a trace declares, by the numbers of what they name.
 ///
 /// Each name has at most 32 bytes.
 #[derive(Drop)]
@@ -87,7 +87,7 @@ impl Names {
         self.shared.declare(alloc, name)
     }
 
-    /// The name of a declared type. Source: own.
+    /// The name of a declared type.
     pub fn type_name(&self, ty: TypeId) -> &[u8]
         requires { ty.0 < length self.now.types }
         ensures name { result.now ≡ type_name self.now ty }
@@ -96,7 +96,7 @@ impl Names {
         self.types.name(ty.0 as usize)
     }
 
-    /// The name of a declared limit. Source: own.
+    /// The name of a declared limit.
     pub fn limit_name(&self, at: LimitId) -> &[u8]
         requires { at.0 < length self.now.limits }
         ensures name { result.now ≡ limit_name self.now at }
@@ -105,7 +105,7 @@ impl Names {
         self.limits.name(at.0 as usize)
     }
 
-    /// The name of a declared process. Source: own.
+    /// The name of a declared process.
     pub fn proc_name(&self, pid: Pid) -> &[u8]
         requires { pid.0 < length self.now.procs }
         ensures name { result.now ≡ proc_name self.now pid }
@@ -114,7 +114,7 @@ impl Names {
         self.procs.name(pid.0 as usize)
     }
 
-    /// The name of a declared shared heap. Source: own.
+    /// The name of a declared shared heap.
     pub fn shared_name(&self, shared: SharedId) -> &[u8]
         requires { shared.0 < length self.now.shared }
         ensures name { result.now ≡ shared_name self.now shared }
@@ -123,7 +123,7 @@ impl Names {
         self.shared.name(shared.0 as usize)
     }
 
-    /// The number of the type of that name; `None` where no type has it. Source: own.
+    /// The number of the type of that name; `None` where no type has it.
     pub fn type_named(&self, name: &[u8]) -> Option<TypeId>
         ensures number { result ≡ type_named self.now name.now }
         ensures declared { IfSome result (λ n. n.0 < length self.now.types) }
@@ -134,7 +134,7 @@ impl Names {
         }
     }
 
-    /// The number of the limit of that name; `None` where no limit has it. Source: own.
+    /// The number of the limit of that name; `None` where no limit has it.
     pub fn limit_named(&self, name: &[u8]) -> Option<LimitId>
         ensures number { result ≡ limit_named self.now name.now }
         ensures declared { IfSome result (λ n. n.0 < length self.now.limits) }
@@ -145,7 +145,7 @@ impl Names {
         }
     }
 
-    /// The number of the process of that name; `None` where no process has it. Source: own.
+    /// The number of the process of that name; `None` where no process has it.
     pub fn proc_named(&self, name: &[u8]) -> Option<Pid>
         ensures number { result ≡ proc_named self.now name.now }
         ensures declared { IfSome result (λ n. n.0 < length self.now.procs) }
@@ -157,7 +157,7 @@ impl Names {
         }
     }
 
-    /// The number of the shared heap of that name; `None` where no shared heap has it. Source: own.
+    /// The number of the shared heap of that name; `None` where no shared heap has it.
     pub fn shared_named(&self, name: &[u8]) -> Option<SharedId>
         ensures number { result ≡ shared_named self.now name.now }
         ensures declared { IfSome result (λ n. n.0 < length self.now.shared) }
@@ -168,7 +168,8 @@ impl Names {
         }
     }
 
-    pub(crate) fn type_count(&self) -> usize
+    /// How many types were declared.
+    pub fn type_count(&self) -> usize
         ensures { result ≡ length self.now.types }
     {
         self.types.len()
@@ -180,7 +181,8 @@ impl Names {
         self.types.declares(name)
     }
 
-    pub(crate) fn limit_count(&self) -> usize
+    /// How many limits were declared.
+    pub fn limit_count(&self) -> usize
         ensures { result ≡ length self.now.limits }
     {
         self.limits.len()
@@ -192,7 +194,8 @@ impl Names {
         self.limits.declares(name)
     }
 
-    pub(crate) fn proc_count(&self) -> usize
+    /// How many processes were declared.
+    pub fn proc_count(&self) -> usize
         ensures { result ≡ length self.now.procs }
     {
         self.procs.len()
@@ -204,7 +207,8 @@ impl Names {
         self.procs.declares(name)
     }
 
-    pub(crate) fn shared_count(&self) -> usize
+    /// How many shared heaps were declared.
+    pub fn shared_count(&self) -> usize
         ensures { result ≡ length self.now.shared }
     {
         self.shared.len()

@@ -1,17 +1,25 @@
-ghost use Rattle.std.specs.Prelude.{◌≡◌, ◌<◌, ◌≤◌, IfOk, drop, length, map, [], ◌+◌};
+ghost use Rattle.std.specs.Prelude.{◌≡◌, ◌<◌, ◌≤◌, IfOk, OnOk, OnErr, IsTrue, IsFalse, drop, length, map, [], ◌∷◌, ◌++◌, ◌+◌};
+ghost use Rattle.k_types.specs.Bounds.{most_limits};
 ghost use Rattle.std.specs.List.{list_all};
 ghost use Rattle.k_words.specs.Words.{words_of};
-ghost use Rattle.k_trace.specs.Judgement.{start, version_line, kernel_line, is_field, field_of, type_line, root_line, proc_line, shared_line, process_line, operation_line, later_line, line_of_types, line_of_limits, line_of_procs, line_in, judged_line, has_process};
-ghost use Rattle.k_trace.specs.Outcome.{IsJudged, Finishes};
+ghost use Rattle.k_trace.specs.Judgement.{start, version_line, kernel_line, is_field, field_of, type_line, root_line, limit_line, proc_line, shared_line, process_line, operation_line, later_line, line_of_types, line_of_limits, line_of_procs, line_in, judged_line, has_process};
+ghost use Rattle.k_trace.specs.Grown.{with_limit};
+ghost use Rattle.k_trace.specs.Outcome.{AreReserved, IsJudged, Finishes};
+ghost use Rattle.k_words.specs.Names.{declares, is_name};
 
 use crate::errors::LineError;
 use crate::forms::read_op;
 use crate::names::Names;
 use crate::operations::Operations;
 use crate::place::Place;
+use crate::reasons::Reason;
+use crate::rooms::has_room;
 use crate::trace::Trace;
 use k_io::{NoMemory, push};
-use k_types::{Field, LimitId, LimitRow, Op, Setup, TypeTable};
+use k_types::{
+    Field, LimitId, LimitRow, MAXIMUM_BELOW, MOST_LIMITS, MOST_LINE_BYTES, MOST_OPERATIONS,
+    MOST_PROCESSES, MOST_SHARED_HEAPS, MOST_TYPES, MOST_WORDS, Op, Setup, TypeTable,
+};
 use k_words::{
     after_word, are_words, is, is_keyword, is_name, is_printable, number, word, word_count,
 };
@@ -59,7 +67,7 @@ impl Model for Reader {
       };
     } };
 
-    ghost invariant = { λ r. IsReader r.place (map (λ row. row.items) r.types.items) (length r.limits.items) (length r.names.procs) (length r.operations.operations) };
+    ghost invariant = { λ r. IsReader (map (λ row. row.items) r.types.items) r.limits.items (length r.names.limits) (length r.names.procs) (length r.operations.operations) };
 }
 
 fn is_field(word: &[u8]) -> bool
@@ -121,7 +129,7 @@ impl Reader {
         ensures { IsJudged result self.new (version_line self.old.said (words_of line.now)) }
     {
         if word_count(line) != 2 || !is(word(line, 0), b"kaffe") || !is(word(line, 1), b"1") {
-            return Err(LineError::Bad(4));
+            return Err(LineError::Bad(Reason::NoForm));
         }
         self.place = Place::Kernel;
         Ok(())
@@ -132,16 +140,16 @@ impl Reader {
         ensures { IsJudged result self.new (kernel_line self.old.said (words_of line.now)) }
     {
         if word_count(line) != 3 || !is(word(line, 0), b"kernel") {
-            return Err(LineError::Bad(4));
+            return Err(LineError::Bad(Reason::NoForm));
         }
-        let Some(ceiling) = number(word(line, 1), 1 << 40) else {
-            return Err(LineError::Bad(5));
+        let Some(ceiling) = number(word(line, 1), MAXIMUM_BELOW as u128) else {
+            return Err(LineError::Bad(Reason::NoNumber));
         };
         let Some(dir_fields) = number(word(line, 2), 17) else {
-            return Err(LineError::Bad(5));
+            return Err(LineError::Bad(Reason::NoNumber));
         };
         if 16 + 8 * dir_fields > ceiling {
-            return Err(LineError::Bad(10));
+            return Err(LineError::Bad(Reason::NoRoom));
         }
         self.ceiling = ceiling;
         self.dir_fields = dir_fields as u32;
@@ -154,17 +162,17 @@ impl Reader {
         ensures { IsJudged result self.new (type_line self.old.said (words_of line.now)) }
     {
         if word_count(line) < 2 || !are_fields(line) {
-            return Err(LineError::Bad(4));
+            return Err(LineError::Bad(Reason::NoForm));
         }
         let name = word(line, 1);
         if !is_name(name) {
-            return Err(LineError::Bad(6));
+            return Err(LineError::Bad(Reason::NoName));
         }
         if self.names.has_type(name) {
-            return Err(LineError::Bad(7));
+            return Err(LineError::Bad(Reason::NameTaken));
         }
-        if word_count(line) > 18 || self.names.type_count() >= 256 {
-            return Err(LineError::Bad(9));
+        if word_count(line) > MOST_WORDS || self.names.type_count() >= MOST_TYPES {
+            return Err(LineError::Bad(Reason::TooMany));
         }
         let fields = fields_of(alloc, line)?;
         push(&mut self.types, fields)?;
@@ -173,34 +181,86 @@ impl Reader {
         Ok(())
     }
 
+    /// Adds a limit behind the others, or nothing where memory runs out.
+    fn add_limit(&mut self, alloc: Global, name: &[u8], row: LimitRow) -> Result<(), NoMemory>
+        requires new { IsFalse (declares self.old.said.names.limits name.now) }
+        requires name { IsTrue (is_name name.now) }
+        requires few { length self.old.said.names.limits < most_limits }
+        requires reserved { AreReserved (self.old.said.trace.limits ++ row ∷ []) }
+        ensures ok { OnOk result (self.new ≡ record { place = Place.Limits; said = with_limit self.old.said name.now row }) }
+        ensures unchanged { OnErr result (self.new ≡ self.old) }
+    {
+        push(&mut self.limits, row)?;
+        if let Err(refused) = self.names.declare_limit(alloc, name) {
+            let _row = self.limits.pop();
+            return Err(refused);
+        }
+        self.place = Place::Limits;
+        Ok(())
+    }
+
     #[tactic(auto, unfolding(crate::specs::Judgement::root_line, crate::specs::Demands::demands))]
     fn root_line(&mut self, alloc: Global, line: &[u8]) -> Result<(), LineError>
         ensures { IsJudged result self.new (root_line self.old.said (words_of line.now)) }
     {
         if word_count(line) != 3 {
-            return Err(LineError::Bad(4));
+            return Err(LineError::Bad(Reason::NoForm));
         }
-        let Some(max) = number(word(line, 2), 1 << 40) else {
-            return Err(LineError::Bad(5));
+        let Some(max) = number(word(line, 2), MAXIMUM_BELOW as u128) else {
+            return Err(LineError::Bad(Reason::NoNumber));
         };
         let name = word(line, 1);
         if !is_name(name) {
-            return Err(LineError::Bad(6));
+            return Err(LineError::Bad(Reason::NoName));
         }
         if self.names.has_limit(name) {
-            return Err(LineError::Bad(7));
+            return Err(LineError::Bad(Reason::NameTaken));
         }
-        if self.names.limit_count() >= 128 {
-            return Err(LineError::Bad(9));
+        if self.names.limit_count() >= MOST_LIMITS {
+            return Err(LineError::Bad(Reason::TooMany));
         }
         let root = LimitRow {
             parent: None,
             hard: true,
             max,
         };
-        push(&mut self.limits, root)?;
-        self.names.declare_limit(alloc, name)?;
-        self.place = Place::Limits;
+        self.add_limit(alloc, name, root)?;
+        Ok(())
+    }
+
+    #[tactic(auto, unfolding(crate::specs::Judgement::limit_line, crate::specs::Demands::demands))]
+    fn limit_line(&mut self, alloc: Global, line: &[u8]) -> Result<(), LineError>
+        ensures { IsJudged result self.new (limit_line self.old.said (words_of line.now)) }
+    {
+        let hard = is(word(line, 3), b"hard");
+        if word_count(line) != 5 || !(hard || is(word(line, 3), b"soft")) {
+            return Err(LineError::Bad(Reason::NoForm));
+        }
+        let Some(max) = number(word(line, 4), MAXIMUM_BELOW as u128) else {
+            return Err(LineError::Bad(Reason::NoNumber));
+        };
+        let name = word(line, 1);
+        if !is_name(name) {
+            return Err(LineError::Bad(Reason::NoName));
+        }
+        if self.names.has_limit(name) {
+            return Err(LineError::Bad(Reason::NameTaken));
+        }
+        let Some(parent) = self.names.limit_named(word(line, 2)) else {
+            return Err(LineError::Bad(Reason::Undeclared));
+        };
+        if self.names.limit_count() >= MOST_LIMITS {
+            return Err(LineError::Bad(Reason::TooMany));
+        }
+        if !has_room(alloc, &self.limits, parent, hard, max)? {
+            return Err(LineError::Bad(Reason::NoRoom));
+        }
+        let row = LimitRow {
+            parent: Some(parent),
+            hard,
+            max,
+        };
+        self.add_limit(alloc, name, row)?;
         Ok(())
     }
 
@@ -209,20 +269,20 @@ impl Reader {
         ensures { IsJudged result self.new (proc_line self.old.said (words_of line.now)) }
     {
         if word_count(line) != 3 {
-            return Err(LineError::Bad(4));
+            return Err(LineError::Bad(Reason::NoForm));
         }
         let name = word(line, 1);
         if !is_name(name) {
-            return Err(LineError::Bad(6));
+            return Err(LineError::Bad(Reason::NoName));
         }
         if self.names.has_proc(name) {
-            return Err(LineError::Bad(7));
+            return Err(LineError::Bad(Reason::NameTaken));
         }
         let Some(limit) = self.names.limit_named(word(line, 2)) else {
-            return Err(LineError::Bad(8));
+            return Err(LineError::Bad(Reason::Undeclared));
         };
-        if self.names.proc_count() >= 64 {
-            return Err(LineError::Bad(9));
+        if self.names.proc_count() >= MOST_PROCESSES {
+            return Err(LineError::Bad(Reason::TooMany));
         }
         self.operations.add_process(alloc)?;
         push(&mut self.procs, limit)?;
@@ -236,17 +296,17 @@ impl Reader {
         ensures { IsJudged result self.new (shared_line self.old.said (words_of line.now)) }
     {
         if word_count(line) != 2 {
-            return Err(LineError::Bad(4));
+            return Err(LineError::Bad(Reason::NoForm));
         }
         let name = word(line, 1);
         if !is_name(name) {
-            return Err(LineError::Bad(6));
+            return Err(LineError::Bad(Reason::NoName));
         }
         if self.names.has_proc(name) || self.names.has_shared(name) {
-            return Err(LineError::Bad(7));
+            return Err(LineError::Bad(Reason::NameTaken));
         }
-        if self.names.shared_count() >= 64 {
-            return Err(LineError::Bad(9));
+        if self.names.shared_count() >= MOST_SHARED_HEAPS {
+            return Err(LineError::Bad(Reason::TooMany));
         }
         self.names.declare_shared(alloc, name)?;
         self.place = Place::Shared;
@@ -258,13 +318,13 @@ impl Reader {
         ensures { IsJudged result self.new (process_line self.old.said name.now op) }
     {
         let Some(pid) = self.names.proc_named(name) else {
-            return Err(LineError::Bad(8));
+            return Err(LineError::Bad(Reason::Undeclared));
         };
-        if self.operations.len() >= 200_000 {
-            return Err(LineError::Bad(9));
+        if self.operations.len() >= MOST_OPERATIONS {
+            return Err(LineError::Bad(Reason::TooMany));
         }
         if self.operations.has_exit(pid) {
-            return Err(LineError::Bad(11));
+            return Err(LineError::Bad(Reason::AfterExit));
         }
         self.operations.push(pid, op)?;
         self.place = Place::Operations;
@@ -276,7 +336,7 @@ impl Reader {
         ensures { IsJudged result self.new (operation_line self.old.said (words_of line.now)) }
     {
         let Some(rest) = after_word(line) else {
-            return Err(LineError::Bad(4));
+            return Err(LineError::Bad(Reason::NoForm));
         };
         match read_op(&self.names, rest) {
             Ok(op) => self.process_line(word(line, 0), op),
@@ -293,7 +353,7 @@ impl Reader {
             return self.shared_line(alloc, line);
         }
         if is_keyword(first) {
-            return Err(LineError::Bad(4));
+            return Err(LineError::Bad(Reason::NoForm));
         }
         self.operation_line(line)
     }
@@ -309,23 +369,21 @@ impl Reader {
         if is(first, b"limit") {
             return self.root_line(alloc, line);
         }
-        Err(LineError::Bad(4))
+        Err(LineError::Bad(Reason::NoForm))
     }
 
     #[tactic(auto, unfolding(crate::specs::Judgement::line_of_limits, crate::specs::Demands::demands))]
     fn line_of_limits(&mut self, alloc: Global, line: &[u8]) -> Result<(), LineError>
-        requires { self.old.place ≡ Place.Limits }
         ensures { IsJudged result self.new (line_of_limits self.old.said (words_of line.now)) }
     {
-        let _ = &self.place;
         let first = word(line, 0);
         if is(first, b"limit") {
-            return Err(LineError::LaterLimit);
+            return self.limit_line(alloc, line);
         }
         if is(first, b"proc") {
             return self.proc_line(alloc, line);
         }
-        Err(LineError::Bad(4))
+        Err(LineError::Bad(Reason::NoForm))
     }
 
     #[tactic(auto, unfolding(crate::specs::Judgement::line_of_procs, crate::specs::Demands::demands))]
@@ -353,19 +411,19 @@ impl Reader {
         }
     }
 
-    /// Takes the next line. A line below the root limit isn't taken.
+    /// Takes the next line.
     #[tactic(auto, unfolding(crate::specs::Judgement::judged_line, crate::specs::Demands::demands))]
     pub fn take(&mut self, alloc: Global, line: &[u8]) -> Result<(), LineError>
         ensures { IsJudged result self.new (judged_line self.old line.now) }
     {
-        if line.len() > 4096 {
-            return Err(LineError::Bad(2));
+        if line.len() > MOST_LINE_BYTES {
+            return Err(LineError::Bad(Reason::LongLine));
         }
         if !is_printable(line) {
-            return Err(LineError::Bad(3));
+            return Err(LineError::Bad(Reason::Unprintable));
         }
         if !are_words(line) {
-            return Err(LineError::Bad(4));
+            return Err(LineError::Bad(Reason::NoForm));
         }
         self.line_in(alloc, line)
     }

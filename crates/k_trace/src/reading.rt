@@ -1,17 +1,24 @@
-ghost use Rattle.std.specs.Prelude.{◌≡◌, ◌≤◌, ◌+◌, length};
+//! A trace is read, line by line, from its bytes.
+ghost use Rattle.std.specs.Prelude.{◌≡◌, ◌≤◌, ◌+◌, length, IfOk, IfErr};
+ghost use Rattle.k_types.specs.Bounds.{most_trace_bytes};
+ghost use Rattle.k_types.specs.TraceRules.{KeepsRules};
 ghost use Rattle.k_words.specs.Words.{lines_of};
-ghost use Rattle.k_trace.specs.Judgement.{judged_lines, judgement};
-ghost use Rattle.k_trace.specs.Reading.{ReadsLines, Reads};
+ghost use Rattle.k_trace.specs.Judgement.{judged_lines};
+ghost use Rattle.k_trace.specs.Meaning.{meaning_of};
+ghost use Rattle.k_trace.specs.Reading.{ReadsLines, IsRefused};
+ghost use Rattle.k_trace.specs.Rules.{Spells};
 
-use crate::errors::{LineError, ReadError};
+use crate::errors::{LineError, TraceError};
 use crate::reader::Reader;
+use crate::reasons::Reason;
 use crate::trace::Trace;
+use k_types::MOST_TRACE_BYTES;
 use k_words::next_line;
 use std::alloc::Global;
 
 /// Takes the lines one after the other. The answer is the number that the next line would have.
-fn read_lines(alloc: Global, reader: &mut Reader, bytes: &[u8]) -> Result<u32, ReadError>
-    requires { length bytes.now ≤ 16777216 }
+fn read_lines(alloc: Global, reader: &mut Reader, bytes: &[u8]) -> Result<u32, TraceError>
+    requires { length bytes.now ≤ most_trace_bytes }
     ensures { ReadsLines result reader.new (judged_lines 1 reader.old (lines_of bytes.now)) (length (lines_of bytes.now) + 1) }
 {
     let mut rest = bytes;
@@ -20,12 +27,11 @@ fn read_lines(alloc: Global, reader: &mut Reader, bytes: &[u8]) -> Result<u32, R
         let (line, after) = next_line(rest);
         match reader.take(alloc, line) {
             Ok(()) => {}
-            Err(LineError::NoMemory(refused)) => return Err(ReadError::NoMemory(refused)),
-            Err(LineError::LaterLimit) => return Err(ReadError::LaterLimit),
+            Err(LineError::NoMemory(refused)) => return Err(TraceError::NoMemory(refused)),
             Err(LineError::Bad(reason)) => {
-                return Err(ReadError::Bad {
+                return Err(TraceError::Bad {
                     line: number,
-                    reason,
+                    reason: reason.number(),
                 });
             }
         }
@@ -35,13 +41,22 @@ fn read_lines(alloc: Global, reader: &mut Reader, bytes: &[u8]) -> Result<u32, R
     Ok(number)
 }
 
-/// The trace that the bytes are, unless there is a limit below the root.
+/// The trace that the bytes spell. They are read in one pass, line by line.
+///
+/// `Bad` comes exactly where the bytes spell no trace, with the first bad line, counted from 1, and the
+/// lowest reason that applies to it; line 0 stands for bytes beyond the most of a trace. `NoMemory` comes
+/// where memory runs out. Time and memory go with the number of bytes.
 #[tactic(auto, unfolding(crate::specs::Judgement::judgement))]
-pub fn read_whole(alloc: Global, bytes: &[u8]) -> Result<Trace, ReadError>
-    ensures { Reads result (judgement bytes.now) }
+pub fn read_trace(alloc: Global, bytes: &[u8]) -> Result<Trace, TraceError>
+    ensures ok { IfOk result (λ t. Spells bytes.now (meaning_of t)) }
+    ensures rules { IfOk result (λ t. KeepsRules (meaning_of t).trace) }
+    ensures bad { IfErr result (λ e. IsRefused bytes.now e) }
 {
-    if bytes.len() > 16_777_216 {
-        return Err(ReadError::Bad { line: 0, reason: 1 });
+    if bytes.len() > MOST_TRACE_BYTES {
+        return Err(TraceError::Bad {
+            line: 0,
+            reason: Reason::TooManyBytes.number(),
+        });
     }
     let mut reader = Reader::new(alloc);
     let number = match read_lines(alloc, &mut reader, bytes) {
@@ -49,9 +64,9 @@ pub fn read_whole(alloc: Global, bytes: &[u8]) -> Result<Trace, ReadError>
         Err(error) => return Err(error),
     };
     if !reader.has_process() {
-        return Err(ReadError::Bad {
+        return Err(TraceError::Bad {
             line: number,
-            reason: 12,
+            reason: Reason::CutOff.number(),
         });
     }
     let trace = reader.finish(alloc)?;

@@ -1,5 +1,3 @@
-use crate::errors::ReadError;
-use crate::reading::read_whole;
 use crate::{Trace, TraceError, read_trace};
 use k_types::{LimitId, Op, Pid, TypeId};
 use std::alloc::Global;
@@ -46,26 +44,6 @@ fn with_header(alloc: Global, rest: &[u8]) -> Result<Vec<u8>, Fail> {
 }
 
 #[test]
-fn other_forms_are_refused(rt: HostRuntime) -> Result<(), Fail> {
-    for rest in [
-        b"proc p2 a\n".as_slice(),
-        b"shared s\n".as_slice(),
-        b"p1 collect\n".as_slice(),
-        b"p1 store r0 2 r1\n".as_slice(),
-        b"p1 load r0 r1 3\n".as_slice(),
-        b"p1 new r16 Node\n".as_slice(),
-        b"\n".as_slice(),
-    ] {
-        let bytes = with_header(rt.alloc(), rest)?;
-        match read_trace(rt.alloc(), &bytes) {
-            Err(TraceError::Bad { line, reason }) => assert_eq!(rt; (line, reason), (0, 13)),
-            _ => assert!(rt; false, "{rest:?}"),
-        }
-    }
-    Ok(())
-}
-
-#[test]
 fn lines_are_judged_by_the_lowest_reason(rt: HostRuntime) -> Result<(), Fail> {
     for (bytes, want) in [
         (b"".as_slice(), (1, 12)),
@@ -109,9 +87,45 @@ fn operations_are_judged_by_the_lowest_reason(rt: HostRuntime) -> Result<(), Fai
     Ok(())
 }
 
+const TREE: &[u8] =
+    b"kaffe 1\nkernel 32 2\nlimit root 1000\nlimit a root hard 120\nlimit b root soft 400\nlimit c b hard 300\n";
+
+#[test]
+fn limits_below_the_root_are_read(rt: HostRuntime) -> Result<(), Fail> {
+    let mut bytes = Vec::from_slice(rt.alloc(), TREE)?;
+    bytes.extend_from_slice(b"limit d b hard 100\nproc p1 d\nshared s\np1 share s\n")?;
+    let trace = read_trace(rt.alloc(), &bytes)?;
+    assert_eq!(rt; trace.setup.limits.len(), 5);
+    assert!(rt; trace.setup.limits[2].parent == Some(LimitId(0)) && !trace.setup.limits[2].hard);
+    assert!(rt; trace.setup.limits[4].parent == Some(LimitId(2)) && trace.setup.limits[4].hard);
+    assert_eq!(rt; trace.setup.limits[4].max, 100);
+    assert_eq!(rt; trace.setup.shared, 1);
+    Ok(())
+}
+
+#[test]
+fn limits_are_judged_by_the_lowest_reason(rt: HostRuntime) -> Result<(), Fail> {
+    for (rest, want) in [
+        (b"limit d b hard 101\n".as_slice(), (7, 10)),
+        (b"limit d root hard 881\n".as_slice(), (7, 10)),
+        (b"limit d nobody hard 881\n".as_slice(), (7, 8)),
+        (b"limit c b hard 101\n".as_slice(), (7, 7)),
+        (b"limit end b hard 101\n".as_slice(), (7, 6)),
+        (b"limit d b soft 1099511627776\n".as_slice(), (7, 5)),
+        (b"limit d b firm 1\n".as_slice(), (7, 4)),
+        (b"limit d 1\n".as_slice(), (7, 4)),
+        (b"limit d b soft 5000\n".as_slice(), (8, 12)),
+    ] {
+        let mut bytes = Vec::from_slice(rt.alloc(), TREE)?;
+        bytes.extend_from_slice(rest)?;
+        assert_bad(&rt, rt.alloc(), &bytes, want);
+    }
+    Ok(())
+}
+
 fn assert_bad(rt: &impl Abort, alloc: Global, bytes: &[u8], want: (u32, u32)) {
-    match read_whole(alloc, bytes) {
-        Err(ReadError::Bad { line, reason }) => assert_eq!(rt; (line, reason), want),
+    match read_trace(alloc, bytes) {
+        Err(TraceError::Bad { line, reason }) => assert_eq!(rt; (line, reason), want),
         _ => assert!(rt; false, "{bytes:?}"),
     }
 }

@@ -1,7 +1,7 @@
 use crate::names::Names;
 use k_types::{Op, Pid, Setup};
 
-/// What a text of a trace says. Source: own.
+/// What a text of a trace says.
 #[derive(Drop)]
 pub struct Trace {
     pub setup: Setup,

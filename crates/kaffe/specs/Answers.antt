@@ -9,7 +9,7 @@ use Rattle.k_types.specs.Complete.{IsComplete}
 use Rattle.k_words.specs.Words.{Text}
 use Rattle.k_trace.specs.Named.{NamedTrace}
 use Rattle.k_trace.specs.Rules.{Spells}
-use Rattle.k_trace.specs.FirstForm.{IsFirstForm}
+use Rattle.k_plain.specs.FirstForm.{IsFirstForm}
 use Rattle.k_text.specs.Report.{report_text}
 use Rattle.kaffe.specs.declared.status.Status.{Status}
 use Rattle.kaffe.specs.declared.status.Status.TheVariants.{Good, BadTrace, Usage, WantOfMemory, ReadFault, WriteFault, Refused}

@@ -1,6 +1,6 @@
 ghost use Rattle.std.specs.Prelude.{◌≡◌, codes, [], ◌∷◌};
 ghost use Rattle.k_types.specs.FileOrder.{file_order};
-ghost use Rattle.k_trace.specs.FirstForm.{IsFirstForm};
+ghost use Rattle.k_plain.specs.FirstForm.{IsFirstForm};
 ghost use Rattle.k_trace.specs.Meaning.{meaning_of};
 ghost use Rattle.k_trace.specs.Rules.{IsTrace};
 ghost use Rattle.k_text.specs.Report.{report_text};
@@ -11,13 +11,16 @@ ghost use Rattle.kaffe.specs.Parts.{TellsOfInput, TellsOfTrace};
 use crate::status::{Status, want_of_memory};
 use crate::texts::{after_writing, write_bad_trace};
 use k_io::{ReadAllError, Sink, Source, read_all};
-use k_plain::{PlainEnd, solo};
+use k_plain::{PlainEnd, is_first_form, solo};
 use k_text::report;
 use k_trace::{Trace, TraceError, read_trace};
 use std::alloc::Global;
 
 /// The most bytes of a trace. Source: own.
 const TRACE_LIMIT: usize = 16_777_216;
+
+/// The reason of an input that is no trace of the form that is run so far.
+const NOT_BUILT: u32 = 13;
 
 /// The command `run`: reads a trace from the source, runs it, and writes its report. It reads one byte
 /// past the most bytes of a trace at most. Source: own.
@@ -39,9 +42,15 @@ fn run_input<K: Sink>(alloc: Global, bytes: &[u8], out: &mut K) -> Status
     ensures unwritten { IsUnwritten result → out.new ≡ out.old }
 {
     match read_trace(alloc, bytes) {
-        Ok(trace) => run_trace(alloc, &trace, out),
+        Ok(trace) => {
+            if is_first_form(&trace) {
+                run_trace(alloc, &trace, out)
+            } else {
+                write_bad_trace(out, 0, NOT_BUILT)
+            }
+        }
         Err(TraceError::NoMemory(refused)) => want_of_memory(refused),
-        Err(TraceError::Bad { line, reason }) => write_bad_trace(out, line, reason),
+        Err(TraceError::Bad { .. }) => write_bad_trace(out, 0, NOT_BUILT),
     }
 }
 

@@ -1,13 +1,12 @@
 use Rattle.std.proofs.Common.{◌≡◌, arith, ◌∙◌, sym, ap, length}
 use Rattle.std.proofs.lemmas.Bool.{eqb-true}
-use Rattle.k_trace.proofs.Grows.{later_limit_left}
 use Rattle.k_trace.proofs.Judging.{one_more, bad_line, none_left, no_lines}
 use Rattle.k_trace.proofs.reading.read_lines.Goals as goal
 
 pub returns-in-Err-Bad : goal.returns-in-Err-Bad
 returns-in-Err-Bad c =
     let bad = rw c.in-Err-Bad.field-0-is at c.in-Err-Bad.ensures in
-    rw c.in-Err-Bad.reason-is (c.loop-rest.invariant.judged ∙ bad_line c.loop-rest.number c.in-Err-Bad.reason _ _ _ _ c.next_line.ensures.lines bad)
+    rw (c.number.ensures, c.in-Err-Bad.reason-is) (c.loop-rest.invariant.judged ∙ bad_line c.loop-rest.number c.in-Err-Bad.reason _ _ _ _ c.next_line.ensures.lines bad)
 
 pub loop-rest-preserved : goal.loop-rest-preserved
 loop-rest-preserved c = record {
@@ -20,8 +19,3 @@ pub returns : goal.returns
 returns c =
     let none : length c.loop-rest.rest.now ≡ 0 = eqb-true _ _ (sym c.loop-rest-test.ensures) in
     (c.loop-rest.invariant.judged ∙ none_left c.loop-rest.number _ c.loop-rest.rest.now none, omega (arith, no_lines c.loop-rest.rest.now none))
-
-pub returns-in-Err-LaterLimit : goal.returns-in-Err-LaterLimit
-returns-in-Err-LaterLimit c =
-    let later = rw c.in-Err-LaterLimit.field-0-is at c.in-Err-LaterLimit.ensures in
-    λ d e. later_limit_left c.loop-rest.number _ _ _ _ c.next_line.ensures.lines later d (sym c.loop-rest.invariant.judged ∙ e)

@@ -1,4 +1,4 @@
--- The traces that are read so far.
+-- The traces that are run so far.
 use Rattle.std.specs.Prelude.{◌≡◌, ℕ, ◌≤◌, Bool, true, false, IsTrue, List, length, slice_get, Option, Some, None}
 use Rattle.std.specs.List.{list_all}
 use Rattle.k_types.specs.declared.names.Field.{Field}
@@ -7,11 +7,6 @@ use Rattle.k_types.specs.declared.op.Op.{Op}
 use Rattle.k_types.specs.declared.op.Op.TheVariants.{New, Store, Load}
 use Rattle.k_types.specs.Types.{type_row}
 use Rattle.k_types.specs.Trace.{Trace, operations_of}
-use Rattle.k_words.specs.Words.{Text}
-use Rattle.k_trace.specs.declared.errors.TraceError.{TraceError}
-use Rattle.k_trace.specs.declared.errors.TraceError.TheVariants.{NoMemory, Bad}
-use Rattle.k_trace.specs.Named.{NamedTrace}
-use Rattle.k_trace.specs.Rules.{Spells}
 
 abbrev pub is_ref : Option Field → Bool
 is_ref None = false
@@ -36,8 +31,3 @@ pub record IsFirstForm (trace : Trace) : Type 0 where
   pub no_shared : trace.shared_heaps ≡ 0
   pub one_type : length trace.types ≤ 1
   pub operations : IsTrue (list_all (is_first_op trace.types) (operations_of trace 0))
-
--- no trace of this form is spelled, and the answer says so by line 0 and reason 13; or memory ran out
-abbrev pub IsRefused : Text → TraceError → Type 0
-IsRefused bytes (NoMemory refused) = Unit {0}
-IsRefused bytes (Bad line reason) = (line ≡ 0) × (reason ≡ 13) × ((t : NamedTrace) → Spells bytes t → ¬ IsFirstForm t.trace)

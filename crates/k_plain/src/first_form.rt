@@ -1,15 +1,11 @@
-ghost use Rattle.std.specs.Prelude.{◌≡◌, ◌↔◌, IsTrue, length, IfOk, IfErr};
+//! The form of the traces that are run so far.
+ghost use Rattle.std.specs.Prelude.{◌≡◌, ◌↔◌, IsTrue, length};
 ghost use Rattle.std.specs.List.{list_all};
-ghost use Rattle.k_types.specs.TraceRules.{KeepsRules};
 ghost use Rattle.k_trace.specs.Meaning.{meaning_of};
-ghost use Rattle.k_trace.specs.Rules.{Spells};
-ghost use Rattle.k_trace.specs.FirstForm.{is_first_ref, is_first_op, IsFirstForm, IsRefused};
+ghost use Rattle.k_plain.specs.FirstForm.{is_first_ref, is_first_op, IsFirstForm};
 
-use crate::errors::{ReadError, TraceError};
-use crate::reading::read_whole;
-use crate::trace::Trace;
+use k_trace::Trace;
 use k_types::{Field, Op, TypeId};
-use std::alloc::Global;
 
 /// Whether the field is a reference field of the first type.
 #[tactic(auto, using(crate::proofs::FirstForms::no_first_ref))]
@@ -50,8 +46,10 @@ fn are_first_ops(trace: &Trace, ops: &[Op]) -> bool
     true
 }
 
-/// Whether the trace is of the form that is read so far.
-fn is_first_form(trace: &Trace) -> bool
+/// Whether the trace is of the form that is run so far: one limit, one process, no shared heap, at most
+/// one type, and only `new`, `store` and `load` with reference fields of that type. The time goes with
+/// the number of operations.
+pub fn is_first_form(trace: &Trace) -> bool
     requires named { length trace.now.names.types ≡ length trace.now.setup.types }
     requires listed { length trace.now.ops.items ≡ length trace.now.setup.procs.items }
     ensures { IsTrue result ↔ IsFirstForm (meaning_of trace.now).trace }
@@ -63,37 +61,4 @@ fn is_first_form(trace: &Trace) -> bool
         return false;
     }
     are_first_ops(trace, &trace.ops[0])
-}
-
-/// Reads a trace of the form that is built so far: one limit, one process, no shared heap, at most
-/// one type, and only `new`, `store` and `load` with reference fields of that type.
-///
-/// `Bad` with line 0 and reason 13 comes exactly where the bytes spell no such trace; `NoMemory`
-/// where memory runs out. The time goes with the number of bytes. Source: own.
-pub fn read_trace(alloc: Global, bytes: &[u8]) -> Result<Trace, TraceError>
-    ensures ok { IfOk result (λ t. Spells bytes.now (meaning_of t) × IsFirstForm (meaning_of t).trace) }
-    ensures rules { IfOk result (λ t. KeepsRules (meaning_of t).trace) }
-    ensures refused { IfErr result (λ e. IsRefused bytes.now e) }
-{
-    match read_whole(alloc, bytes) {
-        Ok(trace) => {
-            if is_first_form(&trace) {
-                Ok(trace)
-            } else {
-                Err(TraceError::Bad {
-                    line: 0,
-                    reason: 13,
-                })
-            }
-        }
-        Err(ReadError::NoMemory(refused)) => Err(TraceError::NoMemory(refused)),
-        Err(ReadError::Bad { .. }) => Err(TraceError::Bad {
-            line: 0,
-            reason: 13,
-        }),
-        Err(ReadError::LaterLimit) => Err(TraceError::Bad {
-            line: 0,
-            reason: 13,
-        }),
-    }
 }
