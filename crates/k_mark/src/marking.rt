@@ -15,7 +15,8 @@ use k_types::{Link, Name};
 use std::marker::Brand;
 use std::sync::ledger::{Blank, Ledger};
 
-/// Takes all marks away, from objects and exit items. It passes the segments, and each exit item once.
+/// Takes all marks away, from objects and exit items. It passes the segments, and each exit item once, and no
+/// objects: a heap of few live objects costs as little after many that are gone.
 pub fn clear(area: &mut Area, exits: &mut ExitTable)
     ensures area { area.new ≡ unmarked area.old }
     ensures exits { exits.new ≡ unmarked_exits exits.old }
@@ -25,7 +26,7 @@ pub fn clear(area: &mut Area, exits: &mut ExitTable)
 }
 
 /// Makes a live object of the area gray, so that marking begins with it. A marked one stays as it is, and
-/// a name that is no live object of the area changes nothing. It looks through the segments.
+/// a name that is no live object of the area changes nothing. It costs as much as [`Area::get`].
 pub fn root(area: &mut Area, target: Link)
     requires { HasDistinct area.old.segments }
     ensures { area.new ≡ grayed area.old (name_of target) }
@@ -100,8 +101,9 @@ fn trace<L: Ledger>(
 
 /// Marks what is reached from the gray objects by references inside the area, and the exit items of
 /// foreign targets of marked objects. One step is one object taken from the gray ones, or one
-/// reference field looked at, and looks through the segments. Takes no memory. Source: KaffeOS paper, on
-/// the separate collection of heaps; the marks in three colors are own.
+/// reference field looked at: the cost is in proportion to the marked objects, their fields and the segments.
+/// Takes no memory. Source: KaffeOS paper, on the separate collection of heaps; the marks in three colors are
+/// own.
 pub fn mark<L: Ledger>(area: &mut Area, exits: &mut ExitTable, steps: &mut Steps<L>)
     requires distinct { HasDistinct area.old.segments }
     requires exits { (a n : Named) → IsTrue (refers_at area.old a n) → IsTrue (is_foreign area.old n) → IsTrue (has_target exits.old.items n) }

@@ -26,8 +26,8 @@ fn sweep_segment(segment: &mut Segment, from_dead: &mut Swept)
     }
 }
 
-/// Frees the objects that aren't marked, and adds their number and bytes. It looks at each live object
-/// once, and takes no memory. Source: KaffeOS paper, on the separate collection of heaps.
+/// Frees the objects that aren't marked, and adds their number and bytes. It looks once at each object that is
+/// live when it begins, at none that were freed before, and takes no memory. Source: KaffeOS paper, on the separate collection of heaps.
 pub fn sweep(area: &mut Area, from_dead: &mut Swept)
     requires distinct { HasDistinct area.old.segments }
     requires objects { from_dead.old.objects + dead_objects area.old < 2 ^ 32 }

@@ -7,6 +7,7 @@ pub mod ListedLemmas
 pub mod Freed
 pub mod AreaRows
 pub mod Segs
+pub mod Hinted
 pub mod Bytes
 pub mod Soundness
 pub mod Numbers

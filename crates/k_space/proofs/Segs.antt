@@ -1,5 +1,6 @@
 -- A segment that is put back as it was.
-use Rattle.std.proofs.Common.{◌≡◌, ℕ, Option, Some, None, List, ◌<◌, ◌≤◌, cond, ltb, false, arith, refl, sym, ap, ◌∙◌, get_or, set, slice_get, length}
+use Rattle.std.proofs.Common.{◌≡◌, ℕ, Option, Some, None, List, ◌<◌, ◌≤◌, cond, ltb, false, arith, refl, sym, ap, ap₂, ◌∙◌, get_or, set, slice_get, length}
+use Rattle.std.specs.Option.{IfNone}
 use Rattle.std.proofs.lemmas.Bool.Decides.{nat_tests}
 use Rattle.std.proofs.lemmas.List.{set-get_or}
 use Rattle.std.proofs.lemmas.Option.{get_or_from_slice_get}
@@ -32,6 +33,18 @@ grayed_in a n s t at some none = by_row (row_at s n.serial.0) refl
         ∙ ap (λ (o : Option SegmentValue). with_row_in a n (Some (record row { color = gray_or_black row.color })) o) at
         ∙ sym (ap (grayed_row a n) (there ∙ e))
 
+-- at its place in the list of an area
+pub grayed_at : (segments : List SegmentValue) (room at : ℕ) (a : AreaValue) (n : Name) (s t : SegmentValue) → record { segments = segments; room = room } ≡ a → at ≡ place_of a.segments n.seg.0 → slice_get segments at ≡ Some s →
+    ((row : Row) → row_at s n.serial.0 ≡ Some row → t ≡ with_row s n.serial.0 (Some (record row { color = gray_or_black row.color }))) →
+    (row_at s n.serial.0 ≡ None → t ≡ s) → record { segments = set segments at t; room = room } ≡ grayed a n
+grayed_at segments room at a n s t is place there some none =
+    ap₂ (λ (x : AreaValue) p. record x { segments = set x.segments p t }) is place
+    ∙ grayed_in a n s t (sym there ∙ ap₂ (λ (ss : List SegmentValue) p. slice_get ss p) (ap (λ (x : AreaValue). x.segments) is) place) some none
+
+-- an area without the segment of a name
+pub grayed_none : (a : AreaValue) (n : Name) → segment_at a.segments n.seg.0 ≡ None → grayed a n ≡ a
+grayed_none a n none = ap (λ (o : Option SegmentValue). grayed_row a n (row_in_segment o n.serial.0)) none
+
 -- a segment that is as it was
 pub as_before : (items segments : List SegmentValue) (i : ℕ) (x new : SegmentValue) → items ≡ segments → x ≡ get_or items i x → new ≡ x → set items i new ≡ segments
 as_before items segments i x new same read kept = ap (set items i) (kept ∙ read) ∙ set-get_or items i x ∙ same
@@ -42,3 +55,7 @@ no_grays segments n h = by_segment (segment_at segments n.seg.0) refl
     by_segment : (o : Option SegmentValue) → segment_at segments n.seg.0 ≡ o → some_gray (row_of_name segments n) ≡ false
     by_segment None e = ap (λ (x : Option SegmentValue). some_gray (row_in_segment x n.serial.0)) e
     by_segment (Some s) e = ap (λ (x : Option SegmentValue). some_gray (row_in_segment x n.serial.0)) e ∙ h (place_of segments n.seg.0) s (slice_get_within segments (place_of segments n.seg.0) s e) e n.serial.0
+
+pub if_none : {A : Type 0} {P Q : Type 0} (o : Option A) → (P → Q) → IfNone o P → IfNone o Q
+if_none None f p = f p
+if_none (Some x) f p = p

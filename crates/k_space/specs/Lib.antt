@@ -5,4 +5,5 @@ pub mod Places
 pub mod Stamps
 pub mod Listed
 pub mod Areas
+pub mod Hints
 pub mod AreaLends

@@ -1,8 +1,9 @@
-ghost use Rattle.std.specs.Prelude.{◌≡◌, ◌≢◌, ◌<◌, ◌+◌, ◌==◌, ◌++◌, ◌∷◌, [], ℕ, length, map, Some, None, IfOk, IfNone, IfSome, OnSome, slice_get, slice_set, slice_index_or, position, option_copied, not, IsFalse, IsTrue};
+ghost use Rattle.std.specs.Prelude.{◌≡◌, ◌≢◌, ◌<◌, ◌≤◌, ◌+◌, ◌==◌, ◌++◌, ◌∷◌, [], ℕ, length, map, Some, None, IfOk, IfNone, IfSome, OnSome, slice_get, slice_set, slice_index_or, position, option_copied, not, IsFalse, IsTrue};
 ghost use Rattle.std.specs.Option.{option_copied_mut};
 ghost use Rattle.std.specs.Borrow.{sem};
 ghost use Rattle.std.specs.List.{position_or_len};
 ghost use Rattle.k_space.specs.Segments.{SegmentValue, row_at, some_gray, unmarked_segment};
+ghost use Rattle.k_space.specs.Hints.{AreExact, numbers};
 ghost use Rattle.k_space.specs.Areas.{place_of, segment_at, row_of_name, with_row_of, HasDistinct, IsBlackened, is_foreign, gray_at, grayed, has_number, unmarked};
 
 use crate::segment::Segment;
@@ -16,7 +17,9 @@ use std::marker::Model;
 struct Hints {
     // Where the segment of each number below the room may stand.
     segments: Vec<usize>,
-    // Where a gray object was found last.
+    // Whether no segment stands elsewhere, so that a number whose hint fails has none.
+    exact: bool,
+    // Where an object was made gray last, or a gray one found.
     gray: usize,
 }
 
@@ -33,11 +36,16 @@ impl Model for Area {
 
     ghost Value = { AreaValue };
 
-    ghost use Rattle.std.specs.Prelude.{vec_capacity, ◌≡◌, length};
+    ghost use Rattle.std.specs.Prelude.{vec_capacity, ◌≡◌, length, IsTrue};
+    ghost use Rattle.k_space.specs.Hints.{AreExact, numbers};
 
     ghost view = { λ a. record { segments = a.segments.items; room = a.room } };
 
-    ghost invariant = { λ a. (vec_capacity a.segments ≡ a.room) × (length a.hints.segments.items ≡ a.room) };
+    ghost invariant = { λ a. record {
+      reserved : vec_capacity a.segments ≡ a.room;
+      hints : length a.hints.segments.items ≡ a.room;
+      exact : IsTrue a.hints.exact → AreExact (numbers a.segments.items) a.hints.segments.items;
+    } };
 }
 
 /// Whether the segment of that number stands there.
@@ -57,18 +65,35 @@ fn first(segments: &[Segment], seg: Seg) -> Option<usize>
 }
 
 /// Where the segment of that number stands; the number of segments where there is none.
-fn place(segments: &[Segment], hints: &[usize], seg: Seg) -> usize
-    requires { HasDistinct segments.now }
+fn place(segments: &[Segment], hints: &[usize], exact: bool, seg: Seg) -> usize
+    requires distinct { HasDistinct segments.now }
+    requires exact { IsTrue exact → AreExact (numbers segments.now) hints.now }
     ensures { result ≡ position_or_len (λ s. s.number == seg.0) segments.now }
 {
     if let Some(hint) = hints.get(seg.0 as usize) {
         if stands_at(segments, *hint, seg) {
             return *hint;
         }
+        if exact {
+            return segments.len();
+        }
     }
     match first(segments, seg) {
         Some(at) => at,
         None => segments.len(),
+    }
+}
+
+/// Notes where each segment stands.
+fn renew(segments: &[Segment], hints: &mut [usize])
+    ensures exact { AreExact (numbers segments.now) hints.new }
+    ensures len { length hints.new ≡ length hints.old }
+{
+    for (i, segment) in segments.iter().enumerate() {
+        let number = segment.number().0 as usize;
+        if number < hints.len() {
+            hints[number] = i;
+        }
     }
 }
 
@@ -94,6 +119,7 @@ impl Area {
             room,
             hints: Hints {
                 segments: vec![in alloc; 0usize; room as usize]?,
+                exact: false,
                 gray: 0,
             },
         })
@@ -124,16 +150,18 @@ impl Area {
     {
         let at = self.segments.len();
         self.hint(segment.number(), at);
+        self.hints.exact = false;
         self.segments.push_reserved(segment);
     }
 
-    /// The segment of that number. A number below the room is found at once where it is there; any other
-    /// costs a look through the numbers.
+    /// The segment of that number. A number below the room is found at once where it is there, and told not to
+    /// be there at once from when marks were taken away until a segment is added, taken or lent for writing; any
+    /// other costs a look through the numbers.
     pub fn get(&self, seg: Seg) -> Option<&Segment>
         requires { HasDistinct self.now.segments }
         ensures { option_copied result ≡ segment_at self.now.segments seg.0 }
     {
-        let at = place(&self.segments, &self.hints.segments, seg);
+        let at = self.place(seg);
         self.segments.get(at)
     }
 
@@ -143,7 +171,9 @@ impl Area {
         ensures* writes_back { sem 𝓛 (lends_segment self.entry seg.0 result) }
         ensures value { option_copied_mut result ≡ segment_at self.old.segments seg.0 }
     {
-        let at = place(&self.segments, &self.hints.segments, seg);
+        let at = self.place(seg);
+        // The caller may put another segment in its place.
+        self.hints.exact = false;
         self.segments.get_mut(at)
     }
 
@@ -159,11 +189,12 @@ impl Area {
         ensures fewer { OnSome result (length self.new.segments + 1 ≡ length self.old.segments) }
         ensures kept { IfNone result (self.new ≡ self.old) }
     {
-        let at = place(&self.segments, &self.hints.segments, seg);
+        let at = self.place(seg);
         if at < self.segments.len() {
             let last = self.segments.len() - 1;
             let moved = self.segments[last].number();
             self.hint(moved, at);
+            self.hints.exact = false;
             Some(self.segments.swap_remove(at))
         } else {
             None
@@ -186,28 +217,39 @@ impl Area {
         ensures own { result ≡ not (is_foreign self.old target) }
         ensures foreign { IsFalse result → self.new ≡ self.old }
     {
-        match self.get_mut(target.seg) {
-            Some(segment) => {
-                segment.make_gray(target.serial);
-                true
-            }
-            None => false,
+        let at = self.place(target.seg);
+        if at >= self.segments.len() {
+            return false;
         }
+        self.segments[at].make_gray(target.serial);
+        self.hints.gray = at;
+        true
     }
 
-    /// Takes a gray object, and makes it black. It looks first in the segment where it found the last one,
-    /// and then through the segments.
+    /// Takes a gray object, and makes it black. It looks first in the segment where one was made gray or found
+    /// last, and then through the others from there on.
     pub fn take_gray(&mut self) -> Option<Name>
         requires { HasDistinct self.old.segments }
         ensures some { IfSome result (λ n. IsBlackened self.old self.new n) }
         ensures none { IfNone result ((n : Name) → IsFalse (gray_at self.old n)) }
         ensures kept { IfNone result (self.new ≡ self.old) }
     {
-        if let Some(name) = self.take_gray_at(self.hints.gray) {
+        let len = self.segments.len();
+        let from = self.hints.gray.min(len);
+        if let Some(name) = self.take_gray_between(from, len) {
             return Some(name);
         }
-        let len = self.segments.len();
-        for i in 0..len {
+        self.take_gray_between(0, from)
+    }
+
+    /// Takes a gray object of the segments from the one place up to below the other.
+    fn take_gray_between(&mut self, from: usize, to: usize) -> Option<Name>
+        requires { HasDistinct self.old.segments }
+        ensures some { IfSome result (λ n. IsBlackened self.old self.new n) }
+        ensures none { IfNone result ((i : ℕ) (s : SegmentValue) (serial : ℕ) → from ≤ i → i < to → slice_get self.old.segments i ≡ Some s → IsFalse (some_gray (row_at s serial))) }
+        ensures kept { IfNone result (self.new ≡ self.old) }
+    {
+        for i in from..to {
             if let Some(name) = self.take_gray_at(i) {
                 self.hints.gray = i;
                 return Some(name);
@@ -237,13 +279,24 @@ impl Area {
     pub fn unmark_all(&mut self)
         ensures { self.new ≡ unmarked self.old }
     {
+        renew(&self.segments, &mut self.hints.segments);
         unmark(&mut self.segments);
+        self.hints.exact = true;
+    }
+
+    /// Where the segment of that number stands; the number of segments where there is none.
+    fn place(&self, seg: Seg) -> usize
+        requires { HasDistinct self.now.segments }
+        ensures { result ≡ place_of self.now.segments seg.0 }
+    {
+        place(&self.segments, &self.hints.segments, self.hints.exact, seg)
     }
 
     /// Notes where the segment of that number stands.
     fn hint(&mut self, seg: Seg, at: usize)
         ensures { self.new ≡ self.old }
     {
+        self.hints.exact = false;
         if let Some(hint) = self.hints.segments.get_mut(seg.0 as usize) {
             *hint = at;
         }

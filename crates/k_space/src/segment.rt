@@ -265,6 +265,7 @@ impl Segment {
     pub fn make_gray(&mut self, serial: Serial)
         ensures grayed { (row : Row) → row_at self.old serial.0 ≡ Some row → self.new ≡ with_row self.old serial.0 (Some (record row { color = gray_or_black row.color })) }
         ensures gone { row_at self.old serial.0 ≡ None → self.new ≡ self.old }
+        ensures number { self.new.number ≡ self.old.number }
     {
         let at = serial.0 as usize;
         if at >= self.places.len() {

@@ -4,6 +4,7 @@ use Rattle.std.proofs.lemmas.List.Sums.{prefix_len-le-length}
 use Rattle.k_space.specs.Segments.{SegmentValue}
 use Rattle.k_space.specs.Areas.{HasDistinct, has_number, place_of}
 use Rattle.k_space.proofs.Segs.{none_below}
+use Rattle.k_space.proofs.Hinted.{none_told}
 use Rattle.k_space.proofs.area.place.Goals as goal
 
 -- with distinct numbers a segment stands nowhere else than its number says
@@ -15,7 +16,11 @@ stands_first segments at number distinct e = by_segment (slice_get segments at) 
     by_segment (Some s) there e = sym (distinct at s there) ∙ ap (place_of segments) (eqb-true s.number number e)
 
 pub returns-then-stands_at : goal.returns-then-stands_at
-returns-then-stands_at c = stands_first c.args.segments.now c.in-Some.hint.now c.args.seg.0 c.requires (sym c.stands_at.ensures ∙ c.if-stands_at.true)
+returns-then-stands_at c = stands_first c.args.segments.now c.in-Some.hint.now c.args.seg.0 c.requires.distinct (sym c.stands_at.ensures ∙ c.if-stands_at.true)
 
 pub returns-in-None : goal.returns-in-None
 returns-in-None c = none_below (position_or_len (λ s. s.number == c.args.seg.0) c.args.segments.now) (length c.args.segments.now) (prefix_len-le-length _ _) (sym c.in-None.ensures)
+
+pub returns-then-exact : goal.returns-then-exact
+returns-then-exact c =
+    none_told c.args.segments.now c.args.hints.now c.args.seg.0 c.in-Some.hint.now _ (c.requires.exact c.if-exact.true) c.in-Some.ensures.lookup.0 c.in-Some.ensures.lookup.1 (sym c.stands_at.ensures ∙ c.if-stands_at.false)

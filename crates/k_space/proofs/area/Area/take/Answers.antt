@@ -39,7 +39,7 @@ placed : (segments looked : List SegmentValue) (place number : ℕ) → place �
 placed segments looked place number e f = e ∙ ap (λ (xs : List SegmentValue). place_of xs number) f
 
 at : (c : goal.After-swap_remove) → c.place-at.result ≡ place_of c.args.self.now.segments c.args.seg.0
-at c = placed c.args.self.now.segments c.deref.result.now c.place-at.result c.args.seg.0 c.place-at.ensures (c.deref.ensures.value ∙ same c)
+at c = c.place-at.ensures
 
 number : (c : goal.After-swap_remove) → (get_or c.args.self.now.segments c.place-at.result c.swap_remove.result).number ≡ c.args.seg.0
 number c = number_found c.args.self.now.segments c.args.seg.0 (get_or c.args.self.now.segments c.place-at.result c.swap_remove.result) (ap (slice_get c.args.self.now.segments) (sym (at c)) ∙ there c)
@@ -55,7 +55,7 @@ returns-then-at-len-clause-others c = λ k differs.
 none : (c : goal.Else-at-len) → segment_at c.args.self.now.segments c.args.seg.0 ≡ None
 none c =
     let segments : c.self.inside.segments.items ≡ c.args.self.now.segments = ap (λ (a : AreaValue). a.segments) c.self.view_is in
-    let at = placed c.args.self.now.segments c.deref.result.now c.place-at.result c.args.seg.0 c.place-at.ensures (c.deref.ensures.value ∙ segments) in
+    let at = c.place-at.ensures in
     let len : length c.args.self.now.segments ≡ c.self.inside.segments.len = ap (λ (xs : List SegmentValue). length xs) (sym segments) ∙ sym c.self.inside.segments.ok.0 in
     slice_get_past c.args.self.now.segments (place_of c.args.self.now.segments c.args.seg.0) (omega (arith, at, len, c.if-at-len.false, c.len.ensures))
 

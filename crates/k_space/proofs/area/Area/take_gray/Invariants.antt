@@ -1,9 +1,0 @@
-use Rattle.std.proofs.Common.{◌≡◌, ℕ, ◌<◌, slice_get, Some, false}
-use Rattle.k_space.specs.Segments.{SegmentValue, row_at, some_gray}
-use Rattle.k_space.proofs.area.Area.take_gray.Given as goal
-
-abbrev pub invariant-loop-i : goal.invariant-loop-i
-invariant-loop-i l = record {
-  same : l.self ≡ l.fn.self;
-  below : (k : ℕ) (s : SegmentValue) → k < l.i → slice_get l.fn.self.segments k ≡ Some s → (serial : ℕ) → some_gray (row_at s serial) ≡ false;
-}
