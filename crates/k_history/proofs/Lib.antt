@@ -1,0 +1,6 @@
+pub mod Parted
+pub mod Segments
+pub mod ReplyWords
+pub mod Lines
+pub mod DoneLines
+pub mod Compared

@@ -1,0 +1,4 @@
+pub mod Spelled
+pub mod Reading
+pub mod Histories
+pub mod Difference

@@ -1,0 +1,21 @@
+//! The reading of a report: its history, the first line that is wrong, and what a good report is.
+//!
+//! [`read_event`] and [`read_history`] read events exactly as the definitions say. A [`MatchSink`] compares what is
+//! written to it with a report that was given.
+//!
+//! Below stand `k_types` with the machine, `k_words` and `k_trace` with the words and names of the texts, `k_text` with
+//! what a report says, and `k_io` with sinks.
+#![tactic(auto)]
+
+mod errors;
+mod events;
+mod faults;
+mod histories;
+mod matching;
+mod replies;
+mod words;
+
+pub use errors::HistoryError;
+pub use events::read_event;
+pub use histories::read_history;
+pub use matching::MatchSink;
