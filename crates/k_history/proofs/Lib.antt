@@ -4,3 +4,5 @@ pub mod ReplyWords
 pub mod Lines
 pub mod DoneLines
 pub mod Compared
+pub mod Reader
+pub mod Readings

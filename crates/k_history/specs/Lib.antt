@@ -2,3 +2,4 @@ pub mod Spelled
 pub mod Reading
 pub mod Histories
 pub mod Difference
+pub mod Worked

@@ -14,8 +14,12 @@ mod histories;
 mod matching;
 mod replies;
 mod words;
+mod worked;
 
 pub use errors::HistoryError;
 pub use events::read_event;
 pub use histories::read_history;
 pub use matching::MatchSink;
+pub use worked::{
+    faults_are_read, histories_are_read, names_are_read, other_events_are_read, other_lines_are_none,
+};
