@@ -6,3 +6,7 @@ pub mod DoneLines
 pub mod Compared
 pub mod Reader
 pub mod Readings
+pub mod SpelledOps
+pub mod Options
+pub mod SpelledWords
+pub mod SpelledFaults

@@ -103,11 +103,11 @@ next_place p line at end next h e lt fails is =
       none = rw (further_words line at end h.behind, alone) (any_more p (words_behind line at) (take end (drop at line)) h.none fails);
     })
 
-no_cons : (p : Text → Bool) (t : Bool) (x : Text) (xs : List Text) → p x ≡ t → list_any p (x ∷ xs) ≡ false → (t ≡ false) × (list_any p xs ≡ false)
+no_cons : {A : Type 0} (p : A → Bool) (t : Bool) (x : A) (xs : List A) → p x ≡ t → list_any p (x ∷ xs) ≡ false → (t ≡ false) × (list_any p xs ≡ false)
 no_cons p true x xs e h = absurd (let f : true ≡ false = sym (rw e refl) ∙ h in cc)
 no_cons p false x xs e h = (refl, rw e at h)
 
-parted_cons : (p : Text → Bool) (t : Bool) (x : Text) (xs : List Text) (y : Text) (ys : List Text) → p x ≡ t → list_any p (x ∷ xs) ≡ false
+parted_cons : {A : Type 0} (p : A → Bool) (t : Bool) (x : A) (xs : List A) (y : A) (ys : List A) → p x ≡ t → list_any p (x ∷ xs) ≡ false
     → (list_any p xs ≡ false → (before_first p (xs ++ y ∷ ys) ≡ xs) × (after_first p (xs ++ y ∷ ys) ≡ ys))
     → (before_first p (x ∷ xs ++ y ∷ ys) ≡ x ∷ xs) × (after_first p (x ∷ xs ++ y ∷ ys) ≡ ys)
 parted_cons p t x xs y ys e h ih =
@@ -117,7 +117,7 @@ parted_cons p t x xs y ys e h ih =
     (rw (f, one-add) (rw r.0 refl), rw (f, one-add, add-one) (rw add-one at r.1))
 
 -- A list is parted at its first element that passes.
-pub parted_at : (p : Text → Bool) (xs : List Text) (y : Text) (ys : List Text) → list_any p xs ≡ false → p y ≡ true → (before_first p (xs ++ y ∷ ys) ≡ xs) × (after_first p (xs ++ y ∷ ys) ≡ ys)
+pub parted_at : {A : Type 0} (p : A → Bool) (xs : List A) (y : A) (ys : List A) → list_any p xs ≡ false → p y ≡ true → (before_first p (xs ++ y ∷ ys) ≡ xs) × (after_first p (xs ++ y ∷ ys) ≡ ys)
 parted_at p [] y ys h k = (rw k refl, rw k refl)
 parted_at p (x ∷ xs) y ys h k = parted_cons p (p x) x xs y ys refl h (λ none. parted_at p xs y ys none k)
 
@@ -148,10 +148,10 @@ record IsFirst (rest : Text) (end : ℕ) : Type 0 where
 first_of : (rest : Text) (end : ℕ) → end ≡ position_or_len is_space rest → IsFirst rest end
 first_of rest end e = elim (cases_lt end (length rest)) [
   | inl lt ↦ record {
-      others = words_of (take (length rest - (end + 1)) (drop (end + 1) rest));
-      words = word_before rest end e lt ∙ rw e refl;
-      last = λ le. absurd (omega arith);
-    }
+    others = words_of (take (length rest - (end + 1)) (drop (end + 1) rest));
+    words = word_before rest end e lt ∙ rw e refl;
+    last = λ le. absurd (omega arith);
+  }
   | inr le ↦ record { others = []; words = last_word rest end e le ∙ rw (take_all end rest le) refl; last = λ _. refl }
 ]
 

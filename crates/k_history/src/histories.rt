@@ -50,11 +50,7 @@ fn read_events(alloc: Global, names: &Names, bytes: &[u8]) -> Result<Vec<Event>,
 /// report's grammar, or, where there is no line `graph`, with the number of lines plus 1. `NoMemory` where the events find
 /// no room.
 #[tactic(auto, unfolding(crate::specs::Histories::history_of))]
-pub fn read_history(
-    alloc: Global,
-    names: &Names,
-    bytes: &[u8],
-) -> Result<Vec<Event>, HistoryError>
+pub fn read_history(alloc: Global, names: &Names, bytes: &[u8]) -> Result<Vec<Event>, HistoryError>
     requires few { length bytes.now < 2 ^ 32 - 1 }
     ensures { ReadsHistory result (history_of names.now bytes.now) }
 {

@@ -21,5 +21,6 @@ pub use events::read_event;
 pub use histories::read_history;
 pub use matching::MatchSink;
 pub use worked::{
-    faults_are_read, histories_are_read, names_are_read, other_events_are_read, other_lines_are_none,
+    faults_are_read, histories_are_read, names_are_read, other_events_are_read,
+    other_lines_are_none,
 };
