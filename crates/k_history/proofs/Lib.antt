@@ -10,3 +10,4 @@ pub mod SpelledOps
 pub mod Options
 pub mod SpelledWords
 pub mod SpelledFaults
+pub mod SpelledReplies
