@@ -13,7 +13,7 @@ either_none : {A : Type 0} (t : Bool) → (let r : Option A = None in r) ≡ con
 either_none true = refl
 either_none false = refl
 
-no_reply : {E : Type 0} (names : DeclaredNames) (name : Text) (r : Result Op E) → None ≡ done_with names name r []
+pub no_reply : {E : Type 0} (names : DeclaredNames) (name : Text) (r : Result Op E) → None ≡ done_with names name r []
 unfolding reply_of
 no_reply names name (Err reason) = refl
 no_reply names name (Ok op) = either_none (declares names.procs name)

@@ -11,3 +11,5 @@ pub mod Options
 pub mod SpelledWords
 pub mod SpelledFaults
 pub mod SpelledReplies
+pub mod OpWords
+pub mod SpelledEvents

@@ -129,6 +129,24 @@ none_behind p (x ∷ xs) h =
     let ih : after_first p xs ≡ [] = none_behind p xs out.1 in
     rw (out.0, one-add, add-one) (rw add-one at ih)
 
+before_cons : {A : Type 0} (p : A → Bool) (x : A) (xs : List A) → p x ≡ false → before_first p (x ∷ xs) ≡ x ∷ before_first p xs
+before_cons p x xs e = rw (e, one-add) refl
+
+after_cons : {A : Type 0} (p : A → Bool) (x : A) (xs : List A) → p x ≡ false → after_first p (x ∷ xs) ≡ after_first p xs
+after_cons p x xs e = rw e (simp (one-add, add-one) refl)
+
+split_cons : {A : Type 0} (p : A → Bool) (y : A) (t : Bool) (x : A) (xs : List A) → p x ≡ t → (t ≡ true → x ≡ y) → (0 < length (after_first p xs) → before_first p xs ++ y ∷ after_first p xs ≡ xs)
+    → 0 < length (after_first p (x ∷ xs)) → before_first p (x ∷ xs) ++ y ∷ after_first p (x ∷ xs) ≡ x ∷ xs
+split_cons p y true x xs e is ih some = rw (e, is refl) refl
+split_cons {A} p y false x xs e is ih some =
+    let less : 0 < length (after_first p xs) = subst (λ (v : List A). 0 < length v) (after_cons p x xs e) some in
+    ap (λ (v : List A). v ++ y ∷ after_first p (x ∷ xs)) (before_cons p x xs e) ∙ ap (λ (v : List A). x ∷ before_first p xs ++ y ∷ v) (after_cons p x xs e) ∙ ap (λ (v : List A). x ∷ v) (ih less)
+
+-- Where something stands behind the first element that passes, the list is parted there.
+pub split_first : {A : Type 0} (p : A → Bool) (y : A) → ((x : A) → p x ≡ true → x ≡ y) → (xs : List A) → 0 < length (after_first p xs) → before_first p xs ++ y ∷ after_first p xs ≡ xs
+split_first p y is [] some = absurd (omega arith)
+split_first {A} p y is (x ∷ xs) some = split_cons {A = A} p y (p x) x xs refl (is x) (split_first {A = A} p y is xs) some
+
 -- ---- as the code finds them
 
 -- A word ends within the line.

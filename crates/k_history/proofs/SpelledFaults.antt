@@ -85,7 +85,7 @@ read_fault_words names ws f e =
 
 -- ---- the other way
 
-shared_again : (names : DeclaredNames) (s : SharedId) → AreProper names → s.0 < length names.shared → shared_named names (word_at names.shared s.0) ≡ Some s
+pub shared_again : (names : DeclaredNames) (s : SharedId) → AreProper names → s.0 < length names.shared → shared_named names (word_at names.shared s.0) ≡ Some s
 shared_again names s proper lt =
     let shared = AreNames_back names.procs names.shared proper.heaps in
     rw (declares-at names.shared s.0 lt, number_of-at names.shared s.0 shared.apart lt) refl

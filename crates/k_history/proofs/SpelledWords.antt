@@ -31,7 +31,7 @@ use Rattle.k_text.specs.Named.{segment_names, name_word, heap_word, IsNamedHeap}
 use Rattle.k_history.specs.Spelled.{AreProper, IsSpelledName}
 use Rattle.k_history.specs.Reading.{segment_named, name_in, is_dot, name_of_word, heap_named}
 use Rattle.k_history.proofs.Options.{some_is, if_some, map_some, branch}
-use Rattle.k_history.proofs.Parted.{parted_at}
+use Rattle.k_history.proofs.Parted.{parted_at, split_first}
 use Rattle.k_history.proofs.Segments.{some_if}
 
 -- ---- words that differ
@@ -86,23 +86,9 @@ pub object_has_dot : (w rest : Text) → list_any is_dot (w ++ 46 ∷ rest) ≡ 
 object_has_dot [] rest = refl
 object_has_dot (b ∷ w) rest = or_true_right (is_dot b) (list_any is_dot (w ++ 46 ∷ rest)) (object_has_dot w rest)
 
-before_cons : (b : ℕ) (w : Text) → eqb b 46 ≡ false → before_first is_dot (b ∷ w) ≡ b ∷ before_first is_dot w
-before_cons b w e = rw (e, one-add) refl
-
-after_cons : (b : ℕ) (w : Text) → eqb b 46 ≡ false → after_first is_dot (b ∷ w) ≡ after_first is_dot w
-after_cons b w e = rw e (simp (one-add, add-one) refl)
-
-dot_cons : (t : Bool) (b : ℕ) (w : Text) → eqb b 46 ≡ t → (0 < length (after_first is_dot w) → before_first is_dot w ++ 46 ∷ after_first is_dot w ≡ w)
-    → 0 < length (after_first is_dot (b ∷ w)) → before_first is_dot (b ∷ w) ++ 46 ∷ after_first is_dot (b ∷ w) ≡ b ∷ w
-dot_cons true b w e ih some = rw (e, eqb-true b 46 e) refl
-dot_cons false b w e ih some =
-    let less : 0 < length (after_first is_dot w) = subst (λ (v : Text). 0 < length v) (after_cons b w e) some in
-    ap (λ (v : Text). v ++ 46 ∷ after_first is_dot (b ∷ w)) (before_cons b w e) ∙ ap (λ (v : Text). b ∷ before_first is_dot w ++ 46 ∷ v) (after_cons b w e) ∙ ap (λ (v : Text). b ∷ v) (ih less)
-
 -- Where something stands behind the first dot, the word is parted there.
 dot_split : (w : Text) → 0 < length (after_first is_dot w) → before_first is_dot w ++ 46 ∷ after_first is_dot w ≡ w
-dot_split [] some = absurd (omega arith)
-dot_split (b ∷ w) some = dot_cons (eqb b 46) b w refl (dot_split w) some
+dot_split w some = split_first is_dot 46 (λ b e. eqb-true b 46 e) w some
 
 -- ---- names of objects
 
