@@ -13,3 +13,8 @@ pub mod SpelledFaults
 pub mod SpelledReplies
 pub mod OpWords
 pub mod SpelledEvents
+pub mod Visible
+pub mod ReportLines
+pub mod Differences
+pub mod Begun
+pub mod Refusals

@@ -3,3 +3,4 @@ pub mod Reading
 pub mod Histories
 pub mod Difference
 pub mod Worked
+pub mod Good

@@ -11,6 +11,7 @@ mod errors;
 mod events;
 mod faults;
 mod histories;
+mod laws;
 mod matching;
 mod replies;
 mod words;
@@ -19,6 +20,10 @@ mod worked;
 pub use errors::HistoryError;
 pub use events::read_event;
 pub use histories::read_history;
+pub use laws::{
+    differences_are_counted_by_lines, events_are_read_as_spelled, reports_are_refused_at_one_line,
+    reports_tell_their_history,
+};
 pub use matching::MatchSink;
 pub use worked::{
     faults_are_read, histories_are_read, names_are_read, other_events_are_read,
