@@ -74,7 +74,7 @@ same_from t done (x ∷ xs) (y ∷ ys) ls ms proper e hx hy bx by sx sy =
     let first : done ++ x ∷ xs ≡ (done ++ x ∷ []) ++ xs = sym (append_assoc done (x ∷ []) xs) in
     let second : done ++ y ∷ ys ≡ (done ++ x ∷ []) ++ ys = ap (λ (z : Event). done ++ z ∷ ys) (sym one) ∙ sym (append_assoc done (x ∷ []) ys) in
     let r = same_from t (done ++ x ∷ []) xs ys ls ms proper (other_lines _ _ _ _ e) hx.1 hy.1 (subst (IsBegun t.trace) first bx) (subst (IsBegun t.trace) second by)
-      (subst (λ (zs : List Event). IsStop t zs ls) first sx) (subst (λ (zs : List Event). IsStop t zs ms) second sy) in
+    (subst (λ (zs : List Event). IsStop t zs ls) first sx) (subst (λ (zs : List Event). IsStop t zs ms) second sy) in
     (rw (one, r.0) refl, r.1)
 
 -- A report is read in one way.

@@ -44,7 +44,7 @@ read_word names op w reply e =
     (branch (SpellsReply names op (w ∷ [])) reply (is_below (2 ^ 64) w) _ _
     (λ is made. let n = number_word (2 ^ 64) w (omega arith) is in subst (SpellsReply names op (w ∷ [])) (some_is (Value (value w)) reply made) (n.1, ap (λ (v : Text). v ∷ []) n.0))
     (λ made. let m = map_some (reply_with op) (name_of_word names w) reply made in
-      subst (SpellsReply names op (w ∷ [])) m.made (name_reply names op w m.from (makes op) refl (read_name_word names w m.from m.is))))) e
+    subst (SpellsReply names op (w ∷ [])) m.made (name_reply names op w m.from (makes op) refl (read_name_word names w m.from m.is))))) e
 
 behind_fault : (names : DeclaredNames) (ws : List Text) (f : Fault) → bytes_eq (word_at ws 0) (codes "fault") ≡ true → fault_words names f ≡ drop 1 ws → codes "fault" ∷ fault_words names f ≡ ws
 behind_fault names [] f is e = absurd cc
@@ -56,8 +56,8 @@ unfolding reply_of reply_words
 read_reply_words names op ws reply e =
     branch (SpellsReply names op ws) reply (bytes_eq (word_at ws 0) (codes "fault")) _ _
     (λ is made. let m = map_some Refused (fault_of names (drop 1 ws)) reply made in
-      let f = read_fault_words names (drop 1 ws) m.from m.is in
-      subst (SpellsReply names op ws) m.made (f.0, behind_fault names ws m.from is f.1))
+    let f = read_fault_words names (drop 1 ws) m.from m.is in
+    subst (SpellsReply names op ws) m.made (f.0, behind_fault names ws m.from is f.1))
     (branch (SpellsReply names op ws) reply (eqb (length ws) 1) _ _
     (λ is made. subst (λ (us : List Text). SpellsReply names op us reply) (sym (one ws (eqb-true _ _ is))) (read_word names op (word_at ws 0) reply made))
     (nothing (SpellsReply names op ws) reply)) e
