@@ -18,3 +18,7 @@ pub mod ReportLines
 pub mod Differences
 pub mod Begun
 pub mod Refusals
+pub mod Codes
+pub mod Possible
+pub mod Completed
+pub mod Verdicts

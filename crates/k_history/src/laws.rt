@@ -1,5 +1,5 @@
 //! Laws of the definitions.
-ghost use Rattle.std.specs.Prelude.{◌≡◌, ◌↔◌, ◌∷◌, ◌++◌, ◌+◌, ◌==◌, ℕ, List, Some, None, Ok, count_by};
+ghost use Rattle.std.specs.Prelude.{◌≡◌, ◌↔◌, ◌⊎◌, ◌∷◌, ◌++◌, ◌+◌, ◌==◌, ℕ, List, Some, None, Ok, count_by};
 ghost use Rattle.std.specs.List.{AllByRecursion};
 ghost use Rattle.k_types.specs.declared.event.Event.{Event};
 ghost use Rattle.k_types.specs.Trace.{Trace};
@@ -36,9 +36,10 @@ pub fn differences_are_counted_by_lines()
     ensures pieces { (front text bytes : Text) → difference (front ++ text) (front ++ bytes) ≡ difference_from (1 + count_by (λ b. b == 10) front) text bytes }
 {}
 
-/// A report that is refused is refused at one line, and is not good. This stands where each event of a legal history is one
-/// that a line can spell.
-pub fn reports_are_refused_at_one_line()
+/// A report is good, or refused at a line; it is refused at one line alone. A good one is not refused, where each event of a
+/// history that is begun is one that a line can spell.
+pub fn reports_are_good_or_refused_at_one_line()
+    ensures either { (t : NamedTrace) (report : Text) → IsTrace t → IsGoodReport t report ⊎ ((n : ℕ) × IsRefusedAt t report n) }
     ensures one { (t : NamedTrace) (report : Text) (n m : ℕ) → IsTrace t → IsRefusedAt t report n → IsRefusedAt t report m → n ≡ m }
     ensures apart { (t : NamedTrace) (report : Text) (n : ℕ) → IsTrace t → AreAllSpelled t → IsGoodReport t report → ¬ IsRefusedAt t report n }
 {}
