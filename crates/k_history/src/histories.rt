@@ -1,22 +1,14 @@
-ghost use Rattle.std.specs.Prelude.{◌≡◌, ◌<◌, ◌+◌, ◌-◌, ◌^◌, ◌++◌, ◌∷◌, [], length, OnOk, OnErr};
+ghost use Rattle.std.specs.Prelude.{◌<◌, ◌-◌, ◌^◌, length};
 ghost use Rattle.k_words.specs.Words.{lines_of};
 ghost use Rattle.k_history.specs.Histories.{ReadsHistory, events_of_lines, history_of};
 
 use crate::errors::HistoryError;
 use crate::events::read_event;
-use k_io::NoMemory;
+use k_io::push;
 use k_trace::Names;
 use k_types::Event;
 use k_words::{is, next_line};
 use std::alloc::Global;
-
-/// Keeps one more event.
-fn keep(events: &mut Vec<Event>, event: Event) -> Result<(), NoMemory>
-    ensures { OnOk result (events.new.items ≡ events.old.items ++ event ∷ []) }
-{
-    events.push(event)?;
-    Ok(())
-}
 
 /// The events of the lines up to the line `graph`, the first of which is line 2.
 fn read_events(alloc: Global, names: &Names, bytes: &[u8]) -> Result<Vec<Event>, HistoryError>
@@ -34,7 +26,7 @@ fn read_events(alloc: Global, names: &Names, bytes: &[u8]) -> Result<Vec<Event>,
         let Some(event) = read_event(names, line) else {
             return Err(HistoryError::Bad(number));
         };
-        keep(&mut events, event)?;
+        push(&mut events, event)?;
         number += 1;
         rest = after;
     }

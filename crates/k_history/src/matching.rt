@@ -1,4 +1,4 @@
-ghost use Rattle.std.specs.Prelude.{◌≡◌, ◌<◌, ◌≤◌, ◌-◌, ◌^◌, ℕ, true, List, [], length, IfOk, Ok};
+ghost use Rattle.std.specs.Prelude.{◌≡◌, ◌<◌, ◌≤◌, ◌-◌, ◌^◌, ℕ, true, List, [], length, IfOk, OnOk, Ok};
 ghost use Rattle.k_io.specs.Causes.{HasCause};
 ghost use Rattle.k_io.specs.Taking.{WriteTakes};
 ghost use Rattle.k_history.specs.Difference.{Compares, compared, difference};
@@ -83,6 +83,7 @@ impl<'a> Sink for MatchSink<'a> {
         ensures bound { IfOk result (λ n. (0 < n) × (n ≤ length piece.now)) }
         ensures bytes { WriteTakes (λ given xs. Compares self.old given xs) (λ given xs. Compares self.new given xs) result piece.now }
         ensures cause { HasCause 0 0 result }
+        ensures steady { OnOk result (◌≡◌ {A = ℕ} 0 0) }
         ensures whole { result ≡ Ok (length piece.now) }
     {
         for byte in piece {

@@ -14,7 +14,7 @@ loop-rest-preserved c = record {
   same = refl;
   read = c.loop-rest.invariant.read
       ∙ one_more c.args.names.now c.loop-rest.number _ _ _ c.loop-rest.events.items c.in-Some.event c.next_line.ensures.lines (sym c.is.ensures ∙ c.if-is.false) (sym c.in-Some.is ∙ c.read_event.ensures)
-      ∙ rw c.in_ok-keep.ensures refl;
+      ∙ rw c.in_ok-push.ensures.stored refl;
   few = omega (arith, c.loop-rest.invariant.few, c.next_line.ensures.shorter);
 }
 
