@@ -5,3 +5,4 @@ pub mod Report
 pub mod Spaced
 pub mod Writing
 pub mod Worked
+pub mod WorkedHeaps

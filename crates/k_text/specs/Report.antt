@@ -23,18 +23,21 @@ use Rattle.k_text.specs.Shown.{exits_of}
 use Rattle.k_text.specs.EventLines.{event_lines}
 
 -- The word of a field: what it refers to, or its number.
-abbrev pub field_word : DeclaredNames → Content → Text
-field_word names (Refers r) = reference_word names r
-field_word names (Holds number) = decimal number
+abbrev pub content_word : DeclaredNames → Content → Text
+content_word names (Refers r) = reference_word names r
+content_word names (Holds number) = decimal number
 
--- The words of an object: its name, its owner, its type and its fields.
-unfoldable pub object_words : DeclaredNames → (ℕ → Heap) → Object → List Text
-object_words names own o =
-    name_word names o.name ∷ heap_word names (own o.name.seg.0) ∷ type_word names o.ty ∷ map (field_word names) o.fields
+-- The words of an object of that owner: its name, its owner, its type and its fields.
+abbrev pub object_words : DeclaredNames → Heap → Object → List Text
+object_words names owner o = name_word names o.name ∷ heap_word names owner ∷ type_word names o.ty ∷ map (content_word names) o.fields
+
+-- The line of an object, where the heaps own the segments so.
+unfoldable pub object_line : DeclaredNames → (ℕ → Heap) → Object → List Text
+object_line names own o = object_words names (own o.name.seg.0) o
 
 -- The lines of the graph, by rising segment and serial of the objects.
 unfoldable pub graph_lines : DeclaredNames → Trace → State → List (List Text)
-graph_lines names trace st = (codes "graph" ∷ []) ∷ map (object_words names (owner_of trace st)) st.objects
+graph_lines names trace st = (codes "graph" ∷ []) ∷ map (object_line names (owner_of trace st)) st.objects
 
 -- The line of a register; none where it is null.
 unfoldable pub root_lines : DeclaredNames → ℕ → ℕ → Option Name → List (List Text)
@@ -53,9 +56,13 @@ roots_of_process names st p = flat_map (λ r. root_lines names p r (register st.
 unfoldable pub roots_lines : DeclaredNames → Trace → State → List (List Text)
 roots_lines names trace st = (codes "roots" ∷ []) ∷ flat_map (roots_of_process names st) (numbers_below (process_count trace))
 
+-- The words of an exit item.
+abbrev pub exit_words : DeclaredNames → Heap → Name → List Text
+exit_words names h n = heap_word names h ∷ name_word names n ∷ []
+
 -- The lines of the exit items of a heap, by segment and serial of their targets.
 unfoldable pub exits_of_heap : DeclaredNames → State → Heap → List (List Text)
-exits_of_heap names st h = map (λ n. heap_word names h ∷ name_word names n ∷ []) (exits_of st.exits h)
+exits_of_heap names st h = map (exit_words names h) (exits_of st.exits h)
 
 -- The lines of the exit items: the kernel's, those of the processes, those of the shared heaps.
 unfoldable pub exits_lines : DeclaredNames → Trace → State → List (List Text)
@@ -90,18 +97,17 @@ fault_line names events p = word_at names.procs p ∷ decimal (count_by (is_faul
 unfoldable pub faults_lines : DeclaredNames → Trace → List Event → List (List Text)
 faults_lines names trace events = (codes "faults" ∷ []) ∷ map (fault_line names events) (numbers_below (process_count trace))
 
--- The line of the kernel's bytes and its ceiling.
-unfoldable pub kernel_line : Trace → State → List Text
-kernel_line trace st = codes "kernel" ∷ decimal (bytes_of trace st Kernel) ∷ codes "of" ∷ decimal trace.ceiling ∷ []
+-- The words of the kernel's bytes and its ceiling.
+abbrev pub kernel_charge_words : ℕ → ℕ → List Text
+kernel_charge_words bytes ceiling = codes "kernel" ∷ decimal bytes ∷ codes "of" ∷ decimal ceiling ∷ []
 
--- The line of the use of a limit and its maximum.
-unfoldable pub limit_line : DeclaredNames → Trace → State → ℕ → List Text
-limit_line names trace st m =
-    codes "limit" ∷ word_at names.limits m ∷ decimal (use_of trace st m) ∷ codes "of" ∷ decimal (max_of (limits_in trace st) m) ∷ []
+-- The words of the use of the limit of that name, and its maximum.
+abbrev pub limit_charge_words : Text → ℕ → ℕ → List Text
+limit_charge_words name used max = codes "limit" ∷ name ∷ decimal used ∷ codes "of" ∷ decimal max ∷ []
 
--- The line of the charge of a process.
-unfoldable pub process_line : DeclaredNames → Trace → State → ℕ → List Text
-process_line names trace st p = codes "process" ∷ word_at names.procs p ∷ decimal (charge_of trace st p) ∷ []
+-- The words of the charge of the process of that name.
+abbrev pub process_charge_words : Text → ℕ → List Text
+process_charge_words name charge = codes "process" ∷ name ∷ decimal charge ∷ []
 
 -- The words of the phase of a shared heap.
 unfoldable pub phase_words : DeclaredNames → Phase → List Text
@@ -110,19 +116,34 @@ phase_words names (Populating p) = codes "populating" ∷ proc_name names p ∷ 
 phase_words names (Frozen root) = codes "frozen" ∷ name_word names root ∷ []
 phase_words names Absorbed = codes "absorbed" ∷ []
 
+-- The words of the bytes and the phase of the shared heap of that name.
+abbrev pub shared_charge_words : DeclaredNames → Text → ℕ → Phase → List Text
+shared_charge_words names name bytes phase = codes "shared" ∷ name ∷ decimal bytes ∷ phase_words names phase
+
+-- The line of the kernel's bytes and its ceiling.
+unfoldable pub kernel_charge_line : Trace → State → List Text
+kernel_charge_line trace st = kernel_charge_words (bytes_of trace st Kernel) trace.ceiling
+
+-- The line of the use of a limit and its maximum.
+unfoldable pub limit_charge_line : DeclaredNames → Trace → State → ℕ → List Text
+limit_charge_line names trace st m = limit_charge_words (word_at names.limits m) (use_of trace st m) (max_of (limits_in trace st) m)
+
+-- The line of the charge of a process.
+unfoldable pub process_charge_line : DeclaredNames → Trace → State → ℕ → List Text
+process_charge_line names trace st p = process_charge_words (word_at names.procs p) (charge_of trace st p)
+
 -- The line of the bytes and the phase of a shared heap.
-unfoldable pub shared_line : DeclaredNames → Trace → State → ℕ → List Text
-shared_line names trace st s =
-    codes "shared" ∷ word_at names.shared s ∷ decimal (bytes_of trace st (shared s)) ∷ phase_words names (phase_of st.phases s)
+unfoldable pub shared_charge_line : DeclaredNames → Trace → State → ℕ → List Text
+shared_charge_line names trace st s = shared_charge_words names (word_at names.shared s) (bytes_of trace st (shared s)) (phase_of st.phases s)
 
 -- The lines of the charges: the kernel's, and those of the limits, the processes and the shared heaps.
 unfoldable pub charges_lines : DeclaredNames → Trace → State → List (List Text)
 charges_lines names trace st =
     (codes "charges" ∷ [])
-    ∷ kernel_line trace st
-    ∷ map (limit_line names trace st) (numbers_below (length trace.limits))
-    ++ map (process_line names trace st) (numbers_below (process_count trace))
-    ++ map (shared_line names trace st) (numbers_below trace.shared_heaps)
+    ∷ kernel_charge_line trace st
+    ∷ map (limit_charge_line names trace st) (numbers_below (length trace.limits))
+    ++ map (process_charge_line names trace st) (numbers_below (process_count trace))
+    ++ map (shared_charge_line names trace st) (numbers_below trace.shared_heaps)
 
 -- The lines of the report of a history and the state that it left.
 unfoldable pub report_lines : DeclaredNames → Trace → List Event → State → List (List Text)

@@ -7,7 +7,7 @@ ghost use Rattle.k_types.specs.Trace.{process_count, IsHeap};
 ghost use Rattle.k_text.specs.Named.{AreNamed, name_word, heap_word};
 ghost use Rattle.k_types.specs.Known.{IsKnownPhase};
 ghost use Rattle.k_text.specs.Spaced.{spaced};
-ghost use Rattle.k_text.specs.Report.{kernel_line, limit_line, process_line, shared_line, phase_words, charges_lines};
+ghost use Rattle.k_text.specs.Report.{kernel_charge_line, limit_charge_line, process_charge_line, shared_charge_line, phase_words, charges_lines};
 
 use crate::heading::heading;
 use crate::line::LineBuffer;
@@ -24,7 +24,7 @@ fn put_kernel<K: Sink, V: View>(
     view: &V,
 ) -> Result<(), WriteFailed>
     requires { line.old ≡ [] }
-    ensures written { Writes (K.Holds out.old) (K.Holds out.new) (K.faults out.old) (K.faults out.new) result (text_of (kernel_line (V.trace view.now) (V.state view.now) ∷ [])) }
+    ensures written { Writes (K.Holds out.old) (K.Holds out.new) (K.faults out.old) (K.faults out.new) result (text_of (kernel_charge_line (V.trace view.now) (V.state view.now) ∷ [])) }
     ensures empty { line.new ≡ [] }
 {
     line.push_text(b"kernel");
@@ -45,7 +45,7 @@ fn put_limit<K: Sink, V: View>(
     requires empty { line.old ≡ [] }
     requires named { AreNamed names.now (V.trace view.now) }
     requires limit { at.0 < length (V.trace view.now).limits }
-    ensures written { Writes (K.Holds out.old) (K.Holds out.new) (K.faults out.old) (K.faults out.new) result (text_of (limit_line names.now (V.trace view.now) (V.state view.now) at.0 ∷ [])) }
+    ensures written { Writes (K.Holds out.old) (K.Holds out.new) (K.faults out.old) (K.faults out.new) result (text_of (limit_charge_line names.now (V.trace view.now) (V.state view.now) at.0 ∷ [])) }
     ensures empty { line.new ≡ [] }
 {
     line.push_text(b"limit");
@@ -67,7 +67,7 @@ fn put_process<K: Sink, V: View>(
     requires empty { line.old ≡ [] }
     requires named { AreNamed names.now (V.trace view.now) }
     requires process { pid.0 < process_count (V.trace view.now) }
-    ensures written { Writes (K.Holds out.old) (K.Holds out.new) (K.faults out.old) (K.faults out.new) result (text_of (process_line names.now (V.trace view.now) (V.state view.now) pid.0 ∷ [])) }
+    ensures written { Writes (K.Holds out.old) (K.Holds out.new) (K.faults out.old) (K.faults out.new) result (text_of (process_charge_line names.now (V.trace view.now) (V.state view.now) pid.0 ∷ [])) }
     ensures empty { line.new ≡ [] }
 {
     line.push_text(b"process");
@@ -107,7 +107,7 @@ fn put_shared<K: Sink, V: View>(
     requires empty { line.old ≡ [] }
     requires named { AreNamed names.now (V.trace view.now) }
     requires heap { shared.0 < (V.trace view.now).shared_heaps }
-    ensures written { Writes (K.Holds out.old) (K.Holds out.new) (K.faults out.old) (K.faults out.new) result (text_of (shared_line names.now (V.trace view.now) (V.state view.now) shared.0 ∷ [])) }
+    ensures written { Writes (K.Holds out.old) (K.Holds out.new) (K.faults out.old) (K.faults out.new) result (text_of (shared_charge_line names.now (V.trace view.now) (V.state view.now) shared.0 ∷ [])) }
     ensures empty { line.new ≡ [] }
 {
     line.push_text(b"shared");
@@ -126,7 +126,7 @@ fn limits<K: Sink, V: View>(
 ) -> Result<(), WriteFailed>
     requires empty { line.old ≡ [] }
     requires named { AreNamed names.now (V.trace view.now) }
-    ensures written { Writes (K.Holds out.old) (K.Holds out.new) (K.faults out.old) (K.faults out.new) result (text_of (map (limit_line names.now (V.trace view.now) (V.state view.now)) (numbers_below (length (V.trace view.now).limits)))) }
+    ensures written { Writes (K.Holds out.old) (K.Holds out.new) (K.faults out.old) (K.faults out.new) result (text_of (map (limit_charge_line names.now (V.trace view.now) (V.state view.now)) (numbers_below (length (V.trace view.now).limits)))) }
     ensures empty { line.new ≡ [] }
 {
     for at in 0..view.limits() {
@@ -144,7 +144,7 @@ fn processes<K: Sink, V: View>(
 ) -> Result<(), WriteFailed>
     requires empty { line.old ≡ [] }
     requires named { AreNamed names.now (V.trace view.now) }
-    ensures written { Writes (K.Holds out.old) (K.Holds out.new) (K.faults out.old) (K.faults out.new) result (text_of (map (process_line names.now (V.trace view.now) (V.state view.now)) (numbers_below (process_count (V.trace view.now))))) }
+    ensures written { Writes (K.Holds out.old) (K.Holds out.new) (K.faults out.old) (K.faults out.new) result (text_of (map (process_charge_line names.now (V.trace view.now) (V.state view.now)) (numbers_below (process_count (V.trace view.now))))) }
     ensures empty { line.new ≡ [] }
 {
     for pid in 0..view.procs() {
@@ -162,7 +162,7 @@ fn shared_heaps<K: Sink, V: View>(
 ) -> Result<(), WriteFailed>
     requires empty { line.old ≡ [] }
     requires named { AreNamed names.now (V.trace view.now) }
-    ensures written { Writes (K.Holds out.old) (K.Holds out.new) (K.faults out.old) (K.faults out.new) result (text_of (map (shared_line names.now (V.trace view.now) (V.state view.now)) (numbers_below (V.trace view.now).shared_heaps))) }
+    ensures written { Writes (K.Holds out.old) (K.Holds out.new) (K.faults out.old) (K.faults out.new) result (text_of (map (shared_charge_line names.now (V.trace view.now) (V.state view.now)) (numbers_below (V.trace view.now).shared_heaps))) }
     ensures empty { line.new ≡ [] }
 {
     for id in 0..view.shared_heaps() {

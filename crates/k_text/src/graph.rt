@@ -11,7 +11,7 @@ ghost use Rattle.k_types.specs.Replies.{field_at, field_count};
 ghost use Rattle.k_text.specs.Shown.{shown_object};
 ghost use Rattle.k_types.specs.Known.{IsKnownName};
 ghost use Rattle.k_text.specs.Spaced.{spaced};
-ghost use Rattle.k_text.specs.Report.{field_word, object_words, graph_lines};
+ghost use Rattle.k_text.specs.Report.{content_word, object_line, graph_lines};
 
 use crate::heading::heading;
 use crate::line::LineBuffer;
@@ -27,7 +27,7 @@ fn push_field<V: View>(line: &mut LineBuffer, names: &Names, view: &V, name: Nam
     requires object { IsTrue (has (V.state view.now).objects name) }
     requires field { field < field_count (V.state view.now) name }
     requires room { length line.old + 54 ≤ 1024 }
-    ensures text { line.new ≡ line.old ++ 32 ∷ field_word names.now (field_at (V.state view.now) name field) }
+    ensures text { line.new ≡ line.old ++ 32 ∷ content_word names.now (field_at (V.state view.now) name field) }
     ensures short { length line.new ≤ length line.old + 54 }
 {
     match view.kind(name, field) {
@@ -41,7 +41,7 @@ fn push_fields<V: View>(line: &mut LineBuffer, names: &Names, view: &V, name: Na
     requires named { AreNamed names.now (V.trace view.now) }
     requires object { IsTrue (has (V.state view.now).objects name) }
     requires room { length line.old ≤ 120 }
-    ensures text { line.new ≡ line.old ++ spaced (map (field_word names.now) (shown_object (V.state view.now).objects name).fields) }
+    ensures text { line.new ≡ line.old ++ spaced (map (content_word names.now) (shown_object (V.state view.now).objects name).fields) }
     ensures short { length line.new < 1024 }
 {
     for field in 0..view.fields(name) {
@@ -61,7 +61,7 @@ fn put_object<K: Sink, V: View>(
     requires named { AreNamed names.now (V.trace view.now) }
     requires object { IsTrue (has (V.state view.now).objects name) }
     requires known { IsKnownName (V.trace view.now) name }
-    ensures written { Writes (K.Holds out.old) (K.Holds out.new) (K.faults out.old) (K.faults out.new) result (text_of (object_words names.now (owner_of (V.trace view.now) (V.state view.now)) (shown_object (V.state view.now).objects name) ∷ [])) }
+    ensures written { Writes (K.Holds out.old) (K.Holds out.new) (K.faults out.old) (K.faults out.new) result (text_of (object_line names.now (owner_of (V.trace view.now) (V.state view.now)) (shown_object (V.state view.now).objects name) ∷ [])) }
     ensures empty { line.new ≡ [] }
 {
     push_name(line, names, view, name);
@@ -80,7 +80,7 @@ fn objects<K: Sink, V: View>(
 ) -> Result<(), WriteFailed>
     requires empty { line.old ≡ [] }
     requires named { AreNamed names.now (V.trace view.now) }
-    ensures written { Writes (K.Holds out.old) (K.Holds out.new) (K.faults out.old) (K.faults out.new) result (text_of (map (object_words names.now (owner_of (V.trace view.now) (V.state view.now))) (V.state view.now).objects)) }
+    ensures written { Writes (K.Holds out.old) (K.Holds out.new) (K.faults out.old) (K.faults out.new) result (text_of (map (object_line names.now (owner_of (V.trace view.now) (V.state view.now))) (V.state view.now).objects)) }
     ensures empty { line.new ≡ [] }
 {
     let mut after = None;

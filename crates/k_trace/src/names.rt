@@ -161,6 +161,7 @@ impl Names {
     pub fn shared_named(&self, name: &[u8]) -> Option<SharedId>
         ensures number { result ≡ shared_named self.now name.now }
         ensures declared { IfSome result (λ n. n.0 < length self.now.shared) }
+        ensures few { IfSome result (λ n. n.0 < 64) }
     {
         match self.shared.number(name) {
             Some(number) => Some(SharedId(number as u32)),
@@ -194,9 +195,10 @@ impl Names {
         self.limits.declares(name)
     }
 
-    /// How many processes were declared.
+    /// How many processes are declared.
     pub fn proc_count(&self) -> usize
-        ensures { result ≡ length self.now.procs }
+        ensures count { result ≡ length self.now.procs }
+        ensures few { result ≤ 64 }
     {
         self.procs.len()
     }

@@ -136,7 +136,7 @@ AllProper (ws ∷ wss) = IsProper ws × AllProper wss
 abbrev pub joins : List (List Text) → List Text
 joins wss = map (λ ws. join_with_byte 32 ws) wss
 
-line_then : (l rest : Text) → list_all (λ b. not (eqb b 10)) l ≡ true → lines_of (l ++ 10 ∷ rest) ≡ l ∷ lines_of rest
+pub line_then : (l rest : Text) → list_all (λ b. not (eqb b 10)) l ≡ true → lines_of (l ++ 10 ∷ rest) ≡ l ∷ lines_of rest
 line_then [] rest h = refl
 line_then (b ∷ l) rest h =
     let p = both (not (eqb b 10)) (list_all (λ c. not (eqb c 10)) l) h in

@@ -4,7 +4,7 @@ ghost use Rattle.std.specs.Str.{bytes_eq};
 ghost use Rattle.k_words.specs.Words.{lines_of, words_of, are_words, word_at, is_printable};
 
 /// The first place that has the byte, or the length.
-fn find(bytes: &[u8], wanted: u8) -> usize
+pub fn find(bytes: &[u8], wanted: u8) -> usize
     ensures { result ≡ position_or_len (λ b. b == wanted) bytes.now }
 {
     for (i, b) in bytes.iter().enumerate() {

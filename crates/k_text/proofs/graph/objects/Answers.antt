@@ -1,7 +1,7 @@
 use Rattle.std.proofs.Common.{Some, sym, ◌∙◌}
 use Rattle.k_types.specs.Owners.{owner_of}
 use Rattle.k_text.specs.Shown.{shown_object}
-use Rattle.k_text.specs.Report.{object_words}
+use Rattle.k_text.specs.Report.{object_line}
 use Rattle.k_text.proofs.LineLemmas.{written_none, mapped_next, mapped_failed, mapped_all}
 use Rattle.k_text.proofs.Objects.{up_to_name, none_up_to, next_object, no_next_object, fewer_left}
 use Rattle.k_text.proofs.graph.objects.Goals as goal
@@ -16,7 +16,7 @@ put_object-requires-clause-object g c =
 pub returns-in_err-put_object-clause-written : goal.returns-in_err-put_object-clause-written
 returns-in_err-put_object-clause-written g c =
     let next = next_object c.loop-name.after (g.V.View.state c.args.view.now).objects c.in-Some.name c.in-Some.ensures.ordered (sym c.in-Some.ensures.next) in
-    mapped_failed (object_words c.args.names.now (owner_of (g.V.View.trace c.args.view.now) (g.V.View.state c.args.view.now)))
+    mapped_failed (object_line c.args.names.now (owner_of (g.V.View.trace c.args.view.now) (g.V.View.state c.args.view.now)))
     (up_to_name c.loop-name.after (g.V.View.state c.args.view.now).objects) (g.V.View.state c.args.view.now).objects next.rest
     (shown_object (g.V.View.state c.args.view.now).objects c.in-Some.name)
     _ _ _ _ _ _ c.from_residual.result _ c.from_residual.ensures.0 next.whole c.loop-name.invariant.written c.in_err-put_object.ensures.written
@@ -30,7 +30,7 @@ pub loop-name-preserved : goal.loop-name-preserved
 loop-name-preserved g c =
     let next = next_object c.loop-name.after (g.V.View.state c.args.view.now).objects c.in-Some.name c.in-Some.ensures.ordered (sym c.in-Some.ensures.next) in
     record {
-      written = mapped_next (object_words c.args.names.now (owner_of (g.V.View.trace c.args.view.now) (g.V.View.state c.args.view.now)))
+      written = mapped_next (object_line c.args.names.now (owner_of (g.V.View.trace c.args.view.now) (g.V.View.state c.args.view.now)))
           (up_to_name c.loop-name.after (g.V.View.state c.args.view.now).objects)
           (up_to_name (Some c.in-Some.name) (g.V.View.state c.args.view.now).objects)
           (shown_object (g.V.View.state c.args.view.now).objects c.in-Some.name)
@@ -40,6 +40,6 @@ loop-name-preserved g c =
 
 pub returns-clause-written : goal.returns-clause-written
 returns-clause-written g c =
-    mapped_all (object_words c.args.names.now (owner_of (g.V.View.trace c.args.view.now) (g.V.View.state c.args.view.now)))
+    mapped_all (object_line c.args.names.now (owner_of (g.V.View.trace c.args.view.now) (g.V.View.state c.args.view.now)))
     (up_to_name c.loop-name.after (g.V.View.state c.args.view.now).objects) (g.V.View.state c.args.view.now).objects
     _ _ _ _ _ (no_next_object c.loop-name.after (g.V.View.state c.args.view.now).objects (sym c.next_object.ensures.next ∙ c.in_default.is)) c.loop-name.invariant.written

@@ -2,7 +2,7 @@ use Rattle.std.proofs.Common.{map}
 use Rattle.k_types.specs.Owners.{owner_of}
 use Rattle.k_text.specs.Shown.{shown_object, type_at}
 use Rattle.k_text.specs.Named.{name_word, heap_word, type_word}
-use Rattle.k_text.specs.Report.{object_words, field_word}
+use Rattle.k_text.specs.Report.{object_line, content_word}
 use Rattle.k_text.proofs.Known.{known_owner, named_heap, named_type}
 use Rattle.k_text.proofs.LineLemmas.{writes_line, line_behind_three}
 use Rattle.k_text.proofs.graph.put_object.Goals as goal
@@ -16,14 +16,14 @@ pub type_label-requires : goal.type_label-requires
 type_label-requires g c = named_type _ (g.V.View.trace c.args.view.now) _ c.requires.named c.object_type.ensures.known
 
 pub returns-clause-written : goal.returns-clause-written
-unfolding object_words
+unfolding object_line
 returns-clause-written g c =
-    writes_line _ _ _ _ _ _ (object_words c.args.names.now (owner_of (g.V.View.trace c.args.view.now) (g.V.View.state c.args.view.now)) (shown_object (g.V.View.state c.args.view.now).objects c.args.name))
+    writes_line _ _ _ _ _ _ (object_line c.args.names.now (owner_of (g.V.View.trace c.args.view.now) (g.V.View.state c.args.view.now)) (shown_object (g.V.View.state c.args.view.now).objects c.args.name))
     (line_behind_three (name_word c.args.names.now c.args.name)
     (heap_word c.args.names.now (owner_of (g.V.View.trace c.args.view.now) (g.V.View.state c.args.view.now) c.args.name.seg.0))
     (type_word c.args.names.now (type_at (g.V.View.state c.args.view.now).objects c.args.name))
     _ _ _ _
-    (map (field_word c.args.names.now) (shown_object (g.V.View.state c.args.view.now).objects c.args.name).fields)
+    (map (content_word c.args.names.now) (shown_object (g.V.View.state c.args.view.now).objects c.args.name).fields)
     (rw c.requires.empty at c.push_name.ensures.text)
     (rw (c.heap_name.ensures.name, c.owner.ensures) at c.push_word.ensures)
     (rw (c.type_label.ensures.name, c.object_type.ensures.exact) at c.push_word-2.ensures)
