@@ -29,5 +29,7 @@ pub use line::LineBuffer;
 pub use reporting::report;
 pub use view::View;
 pub use worked::{
-    all_processes_end_row, barrier_row, ceiling_row, every_sharer_pays_row, exits_of_each_kind_row, first_run_row, heap_that_is_not_shared_row, no_operations_row, object_of_a_dead_process_row, order_of_faults_row, orphaned_and_absorbed_row, phases_of_a_shared_heap_row,
+    all_processes_end_row, barrier_row, ceiling_row, every_sharer_pays_row, exits_of_each_kind_row,
+    first_run_row, heap_that_is_not_shared_row, no_operations_row, object_of_a_dead_process_row,
+    order_of_faults_row, orphaned_and_absorbed_row, phases_of_a_shared_heap_row,
 };
