@@ -11,3 +11,4 @@ pub mod AbsorbedCounts
 pub mod Dones
 pub mod Distinct
 pub mod ByProcess
+pub mod Laws

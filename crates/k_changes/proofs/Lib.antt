@@ -13,3 +13,4 @@ pub mod WaysInto
 pub mod CollectedOnBook
 pub mod RootsTold
 pub mod ToldBy
+pub mod Laws

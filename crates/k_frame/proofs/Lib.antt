@@ -14,3 +14,4 @@ pub mod Tails
 pub mod Exact
 pub mod Bytes
 pub mod Untouched
+pub mod Laws

@@ -4,3 +4,4 @@ pub mod EndNumbers
 pub mod FrozenSizes
 pub mod Owning
 pub mod Serials
+pub mod Laws

@@ -4,3 +4,4 @@ pub mod Fields
 pub mod Fitting
 pub mod KnownEvents
 pub mod Replied
+pub mod Laws

@@ -3,6 +3,8 @@ use Rattle.std.proofs.Common.{◌≡◌, ◌≢◌, ℕ, ◌+◌, ◌*◌, ◌<�
 use Rattle.std.proofs.lemmas.Bool.{false≢true, cases_Bool, cases_eq, or_left, or_right, not_from_false, and_right, and_parts, not-true}
 use Rattle.std.proofs.lemmas.List.Folds.{list_any-append}
 use Rattle.k_types.specs.declared.names.Heap.{Heap}
+use Rattle.k_types.specs.declared.names.Pid.{Pid}
+use Rattle.k_types.specs.declared.event.Reply.{Reply}
 use Rattle.k_types.specs.declared.names.Heap.TheVariants.{Kernel}
 use Rattle.k_types.specs.declared.op.Op.{Op}
 use Rattle.k_types.specs.declared.op.Op.TheVariants.{Exit}
@@ -93,6 +95,17 @@ module _ (trace : Trace) (st : State) (p : ℕ) where
       and_true : (b : Bool) → (b && true) ≡ b
       and_true true = refl
       and_true false = refl
+
+-- an exit is never refused, and does what the end of its process does
+pub exit_event : (trace : Trace) (st : State) (pid : Pid) (said : Reply) → step trace st (Done pid Exit said) ≡ count_done pid.0 (after_end_of trace pid.0 st)
+unfolding step after_operation faults first_fault effect
+exit_event trace st pid said = refl
+
+pub exit_credits : (trace : Trace) (st : State) (pid : Pid) (said : Reply) → AreLimits trace → IsPossible trace st (Done pid Exit said) → CreditsTheCharge trace st pid.0 (step trace st (Done pid Exit said))
+unfolding step after_operation faults first_fault effect count_done
+exit_credits trace st pid said limits may =
+    let credit = credits trace st pid.0 limits may.known in
+    record { own = credit.own; others = credit.others; uses = credit.uses }
 
 -- no event but an operation of the process itself raises what it is charged
 pub others_never_raise : (trace : Trace) (st : State) (event : Event) (q : ℕ) → IsSound trace st → IsPossible trace st event → IsFalse (is_done_by event q) → charge_of trace (step trace st event) q ≤ charge_of trace st q

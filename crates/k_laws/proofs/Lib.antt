@@ -32,3 +32,4 @@ pub mod Turned
 pub mod UseShown
 pub mod UsesRaised
 pub mod Uses
+pub mod Laws

@@ -1,4 +1,4 @@
-ghost use Rattle.std.specs.Prelude.{IsTrue, List, [], ◌∷◌, ◌++◌, ℕ};
+ghost use Rattle.std.specs.Prelude.{IsTrue, List, ◌∷◌, ◌++◌, ℕ};
 ghost use Rattle.k_laws.specs.Survivors.{KeepsTheSurvivors};
 ghost use Rattle.k_types.specs.Effects.{step};
 ghost use Rattle.k_types.specs.Reach.{live_everywhere};
@@ -12,15 +12,15 @@ ghost use Rattle.k_types.specs.declared.event.Event.TheVariants.{Ended};
 ghost use Rattle.k_types.specs.declared.names.Heap.{Heap};
 ghost use Rattle.k_types.specs.declared.names.Name.{Name};
 
-/// No collection frees a live object: in a legal history each object that can still be used just before the end of a
-/// collection is there after it, whatever happened since the collection began.
+/// No collection frees a live object: wherever a collection ends in a legal history, each object that can still be used just before
+/// its end is there after it, whatever happened since the collection began.
 ///
 /// Source: KaffeOS paper, on the independent collection of heaps by entry and exit items.
 pub fn collections_free_nothing_live()
-    ensures { (trace : Trace) (history : List Event) (h : Heap) (objects bytes exits shares : ℕ) → AreLimits trace →
-        IsLegalHistory trace (history ++ Ended h objects bytes exits shares ∷ []) → (n : Name) →
-        IsTrue (has (live_everywhere trace (state_after trace history)) n) →
-        IsTrue (has (state_after trace (history ++ Ended h objects bytes exits shares ∷ [])).objects n) }
+    ensures { (trace : Trace) (before rest : List Event) (h : Heap) (objects bytes exits shares : ℕ) → AreLimits trace →
+        IsLegalHistory trace (before ++ Ended h objects bytes exits shares ∷ rest) → (n : Name) →
+        IsTrue (has (live_everywhere trace (state_after trace before)) n) →
+        IsTrue (has (step trace (state_after trace before) (Ended h objects bytes exits shares)).objects n) }
 {}
 
 /// Exact survivors: the end of a collection of a heap frees exactly the objects of the heap that the recorded roots do not

@@ -1,20 +1,28 @@
-ghost use Rattle.std.specs.Prelude.{IsTrue, ◌<◌, ◌↔◌, ℕ};
+ghost use Rattle.std.specs.Prelude.{IsTrue, ◌<◌, ◌↔◌, ◌≡◌, ℕ};
 ghost use Rattle.k_laws.specs.Termination.{CreditsTheCharge, LeavesTheRest, StaysOrPasses};
-ghost use Rattle.k_types.specs.Effects.{after_end_of};
+ghost use Rattle.k_types.specs.Effects.{after_end_of, step};
 ghost use Rattle.k_types.specs.Sound.{IsSound};
 ghost use Rattle.k_types.specs.State.{State, has_exit};
+ghost use Rattle.k_types.specs.Steps.{IsPossible};
 ghost use Rattle.k_types.specs.Trace.{Trace, process_count};
 ghost use Rattle.k_types.specs.TraceRules.{AreLimits};
+ghost use Rattle.k_types.specs.Updates.{count_done};
+ghost use Rattle.k_types.specs.declared.event.Event.TheVariants.{Done};
+ghost use Rattle.k_types.specs.declared.event.Reply.{Reply};
 ghost use Rattle.k_types.specs.declared.names.Heap.{Heap};
 ghost use Rattle.k_types.specs.declared.names.Name.{Name};
+ghost use Rattle.k_types.specs.declared.names.Pid.{Pid};
+ghost use Rattle.k_types.specs.declared.op.Op.TheVariants.{Exit};
 
-/// The end of a process credits its whole charge: the use of each limit on the path of its limit falls by what the process was
+/// The end of a process, so its `exit`, credits its whole charge: the use of each limit on the path of its limit falls by what the process was
 /// charged before, and every other limit's use, and what every other process is charged, stays.
 ///
 /// Source: KaffeOS paper, on the full reclamation of a process's memory.
 pub fn termination_credits_the_whole_charge()
-    ensures { (trace : Trace) (st : State) (p : ℕ) → AreLimits trace → p < process_count trace →
+    ensures end { (trace : Trace) (st : State) (p : ℕ) → AreLimits trace → p < process_count trace →
         CreditsTheCharge trace st p (after_end_of trace p st) }
+    ensures exit { (trace : Trace) (st : State) (pid : Pid) (said : Reply) → AreLimits trace →
+        IsPossible trace st (Done pid Exit said) → CreditsTheCharge trace st pid.0 (step trace st (Done pid Exit said)) }
 {}
 
 /// The end of a process takes nothing from others: every object and field stays, as do the registers and shares of all other
@@ -25,6 +33,8 @@ pub fn termination_credits_the_whole_charge()
 pub fn termination_leaves_the_rest()
     ensures rest { (trace : Trace) (st : State) (p : ℕ) → IsSound trace st → p < process_count trace →
         LeavesTheRest st p (after_end_of trace p st) }
+    ensures exit { (trace : Trace) (st : State) (pid : Pid) (said : Reply) →
+        step trace st (Done pid Exit said) ≡ count_done pid.0 (after_end_of trace pid.0 st) }
     ensures exits { (trace : Trace) (st : State) (p : ℕ) (h : Heap) (n : Name) → IsSound trace st →
         (IsTrue (has_exit (after_end_of trace p st).exits h n) ↔ StaysOrPasses trace st p h n) }
 {}

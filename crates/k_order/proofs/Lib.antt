@@ -4,3 +4,5 @@ pub mod Operating
 pub mod FileOrders
 pub mod Reclaiming
 pub mod LastCollection
+pub mod NothingWaits
+pub mod Laws

@@ -1,13 +1,11 @@
-use Rattle.k_bounds.proofs.AllExits.{exits_at_most_stores}
-use Rattle.k_bounds.proofs.ExitBounds.{user_exits}
-use Rattle.k_bounds.proofs.SharedBounds.{shared_exits}
+use Rattle.k_bounds.proofs.Laws.{exit_items_are_at_most_the_stores-all, exit_items_are_at_most_the_stores-user, exit_items_are_at_most_the_stores-shared}
 use Rattle.k_bounds.proofs.bounds.exit_items_are_at_most_the_stores.Goals as goal
 
 pub returns-clause-all : goal.returns-clause-all
-returns-clause-all c = exits_at_most_stores
+returns-clause-all c = exit_items_are_at_most_the_stores-all
 
 pub returns-clause-user : goal.returns-clause-user
-returns-clause-user c = user_exits
+returns-clause-user c = exit_items_are_at_most_the_stores-user
 
 pub returns-clause-shared : goal.returns-clause-shared
-returns-clause-shared c = λ trace s history keeps legal. shared_exits trace s keeps history legal
+returns-clause-shared c = exit_items_are_at_most_the_stores-shared

@@ -1,5 +1,5 @@
-use Rattle.k_bounds.proofs.Dones.{length_at_most}
+use Rattle.k_bounds.proofs.Laws.{histories_are_short}
 use Rattle.k_bounds.proofs.bounds.histories_are_short.Goals as goal
 
 pub returns : goal.returns
-returns c = λ trace history keeps legal. length_at_most trace keeps history legal
+returns c = histories_are_short

@@ -1,11 +1,11 @@
-use Rattle.k_bounds.proofs.ByProcess.{stores_by_process, operations_by_process, allocations_by_process}
+use Rattle.k_bounds.proofs.Laws.{histories_count_by_process-stores, histories_count_by_process-operations, histories_count_by_process-allocations}
 use Rattle.k_bounds.proofs.processes.histories_count_by_process.Goals as goal
 
 pub returns-clause-stores : goal.returns-clause-stores
-returns-clause-stores c = stores_by_process
+returns-clause-stores c = histories_count_by_process-stores
 
 pub returns-clause-operations : goal.returns-clause-operations
-returns-clause-operations c = operations_by_process
+returns-clause-operations c = histories_count_by_process-operations
 
 pub returns-clause-allocations : goal.returns-clause-allocations
-returns-clause-allocations c = allocations_by_process
+returns-clause-allocations c = histories_count_by_process-allocations

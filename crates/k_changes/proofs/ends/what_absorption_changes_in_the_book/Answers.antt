@@ -1,5 +1,5 @@
-use Rattle.k_changes.proofs.TakenOnBook.{taken_on_book}
+use Rattle.k_changes.proofs.Laws.{what_absorption_changes_in_the_book}
 use Rattle.k_changes.proofs.ends.what_absorption_changes_in_the_book.Goals as goal
 
 pub returns : goal.returns
-returns c = taken_on_book
+returns c = what_absorption_changes_in_the_book

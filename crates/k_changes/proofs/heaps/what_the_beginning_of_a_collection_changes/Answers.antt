@@ -1,13 +1,11 @@
-use Rattle.k_frame.proofs.Elsewhere.{open_scan_elsewhere}
-use Rattle.k_changes.proofs.OnCells.{open_scan_on_cell}
-use Rattle.k_changes.proofs.OnBook.{open_scan_on_book}
+use Rattle.k_changes.proofs.Laws.{what_the_beginning_of_a_collection_changes-cell, what_the_beginning_of_a_collection_changes-others, what_the_beginning_of_a_collection_changes-book}
 use Rattle.k_changes.proofs.heaps.what_the_beginning_of_a_collection_changes.Goals as goal
 
 pub returns-clause-cell : goal.returns-clause-cell
-returns-clause-cell c = open_scan_on_cell
+returns-clause-cell c = what_the_beginning_of_a_collection_changes-cell
 
 pub returns-clause-others : goal.returns-clause-others
-returns-clause-others c = λ trace st k h roots apart. open_scan_elsewhere trace st k h roots apart
+returns-clause-others c = what_the_beginning_of_a_collection_changes-others
 
 pub returns-clause-book : goal.returns-clause-book
-returns-clause-book c = open_scan_on_book
+returns-clause-book c = what_the_beginning_of_a_collection_changes-book

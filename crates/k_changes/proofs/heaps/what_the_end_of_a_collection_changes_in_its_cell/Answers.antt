@@ -1,9 +1,8 @@
-use Rattle.k_frame.proofs.ElsewhereOther.{collected_elsewhere}
-use Rattle.k_changes.proofs.Collected.{ended_on_cell}
+use Rattle.k_changes.proofs.Laws.{what_the_end_of_a_collection_changes_in_its_cell-cell, what_the_end_of_a_collection_changes_in_its_cell-others}
 use Rattle.k_changes.proofs.heaps.what_the_end_of_a_collection_changes_in_its_cell.Goals as goal
 
 pub returns-clause-cell : goal.returns-clause-cell
-returns-clause-cell c = ended_on_cell
+returns-clause-cell c = what_the_end_of_a_collection_changes_in_its_cell-cell
 
 pub returns-clause-others : goal.returns-clause-others
-returns-clause-others c = λ trace st k h apart. collected_elsewhere trace st k h apart
+returns-clause-others c = what_the_end_of_a_collection_changes_in_its_cell-others

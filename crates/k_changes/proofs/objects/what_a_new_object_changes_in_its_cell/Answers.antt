@@ -1,9 +1,8 @@
-use Rattle.k_frame.proofs.Elsewhere.{create_elsewhere}
-use Rattle.k_changes.proofs.OnCells.{create_on_cell}
+use Rattle.k_changes.proofs.Laws.{what_a_new_object_changes_in_its_cell-cell, what_a_new_object_changes_in_its_cell-others}
 use Rattle.k_changes.proofs.objects.what_a_new_object_changes_in_its_cell.Goals as goal
 
 pub returns-clause-cell : goal.returns-clause-cell
-returns-clause-cell c = λ trace st k seg ty kinds own inside ordered. create_on_cell trace st k seg ty kinds own inside ordered
+returns-clause-cell c = what_a_new_object_changes_in_its_cell-cell
 
 pub returns-clause-others : goal.returns-clause-others
-returns-clause-others c = λ trace st k seg ty kinds apart. create_elsewhere trace st k seg ty kinds apart
+returns-clause-others c = what_a_new_object_changes_in_its_cell-others

@@ -1,13 +1,11 @@
-use Rattle.k_frame.proofs.Elsewhere.{write_elsewhere}
-use Rattle.k_changes.proofs.OnCells.{write_on_cell}
-use Rattle.k_changes.proofs.OnBook.{write_on_book}
+use Rattle.k_changes.proofs.Laws.{what_a_write_changes-cell, what_a_write_changes-others, what_a_write_changes-book}
 use Rattle.k_changes.proofs.objects.what_a_write_changes.Goals as goal
 
 pub returns-clause-cell : goal.returns-clause-cell
-returns-clause-cell c = write_on_cell
+returns-clause-cell c = what_a_write_changes-cell
 
 pub returns-clause-others : goal.returns-clause-others
-returns-clause-others c = λ trace st k x i content apart. write_elsewhere trace st k x i content apart
+returns-clause-others c = what_a_write_changes-others
 
 pub returns-clause-book : goal.returns-clause-book
-returns-clause-book c = write_on_book
+returns-clause-book c = what_a_write_changes-book

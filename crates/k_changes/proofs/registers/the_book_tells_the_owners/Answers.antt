@@ -1,5 +1,5 @@
-use Rattle.k_changes.proofs.OnBook.{owner_told}
+use Rattle.k_changes.proofs.Laws.{the_book_tells_the_owners}
 use Rattle.k_changes.proofs.registers.the_book_tells_the_owners.Goals as goal
 
 pub returns : goal.returns
-returns c = owner_told
+returns c = the_book_tells_the_owners

@@ -1,14 +1,14 @@
-use Rattle.k_changes.proofs.ToldBy.{object_told, register_told, name_told, bytes_told}
+use Rattle.k_changes.proofs.Laws.{cells_tell_what_is_read_of_them-objects, cells_tell_what_is_read_of_them-registers, cells_tell_what_is_read_of_them-names, cells_tell_what_is_read_of_them-bytes}
 use Rattle.k_changes.proofs.told.cells_tell_what_is_read_of_them.Goals as goal
 
 pub returns-clause-objects : goal.returns-clause-objects
-returns-clause-objects c = object_told
+returns-clause-objects c = cells_tell_what_is_read_of_them-objects
 
 pub returns-clause-registers : goal.returns-clause-registers
-returns-clause-registers c = register_told
+returns-clause-registers c = cells_tell_what_is_read_of_them-registers
 
 pub returns-clause-names : goal.returns-clause-names
-returns-clause-names c = name_told
+returns-clause-names c = cells_tell_what_is_read_of_them-names
 
 pub returns-clause-bytes : goal.returns-clause-bytes
-returns-clause-bytes c = bytes_told
+returns-clause-bytes c = cells_tell_what_is_read_of_them-bytes

@@ -1,18 +1,14 @@
-use Rattle.k_types.specs.State.{opening}
-use Rattle.k_frame.proofs.Histories.{done_append, legal_append, legal_front, legal_rest, run_append, touches_append}
+use Rattle.k_frame.proofs.Laws.{histories_add_up-state, histories_add_up-legal, histories_add_up-touches, histories_add_up-done}
 use Rattle.k_frame.proofs.frame.histories_add_up.Goals as goal
 
 pub returns-clause-state : goal.returns-clause-state
-returns-clause-state c = λ trace known rest. run_append trace (opening trace) known rest
+returns-clause-state c = histories_add_up-state
 
 pub returns-clause-legal : goal.returns-clause-legal
-returns-clause-legal c = λ trace known rest. (
-  λ legal. (legal_front trace (opening trace) known rest legal, legal_rest trace (opening trace) known rest legal),
-  λ both. legal_append trace (opening trace) known rest both.0 both.1,
-)
+returns-clause-legal c = histories_add_up-legal
 
 pub returns-clause-touches : goal.returns-clause-touches
-returns-clause-touches c = λ trace cell known rest. touches_append trace (opening trace) cell known rest
+returns-clause-touches c = histories_add_up-touches
 
 pub returns-clause-done : goal.returns-clause-done
-returns-clause-done c = done_append
+returns-clause-done c = histories_add_up-done

@@ -1,5 +1,5 @@
-use Rattle.k_frame.proofs.Sizes.{history_sized}
+use Rattle.k_frame.proofs.Laws.{lists_keep_their_lengths}
 use Rattle.k_frame.proofs.frame.lists_keep_their_lengths.Goals as goal
 
 pub returns : goal.returns
-returns c = history_sized
+returns c = lists_keep_their_lengths

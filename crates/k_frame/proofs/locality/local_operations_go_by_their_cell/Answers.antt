@@ -1,22 +1,20 @@
-use Rattle.std.proofs.Common.{refl}
-use Rattle.k_frame.proofs.LocalSteps.{reply_same}
-use Rattle.k_frame.proofs.Tails.{local_same, possible_too, after_alike, book_after, local_touches}
+use Rattle.k_frame.proofs.Laws.{local_operations_go_by_their_cell-local, local_operations_go_by_their_cell-replies, local_operations_go_by_their_cell-possible, local_operations_go_by_their_cell-parts, local_operations_go_by_their_cell-book, local_operations_go_by_their_cell-touched}
 use Rattle.k_frame.proofs.locality.local_operations_go_by_their_cell.Goals as goal
 
 pub returns-clause-local : goal.returns-clause-local
-returns-clause-local c = λ trace p st su op alike local. local_same trace p st su op alike local
+returns-clause-local c = local_operations_go_by_their_cell-local
 
 pub returns-clause-replies : goal.returns-clause-replies
-returns-clause-replies c = λ trace p st su op alike local. reply_same trace p st su alike op local
+returns-clause-replies c = local_operations_go_by_their_cell-replies
 
 pub returns-clause-possible : goal.returns-clause-possible
-returns-clause-possible c = λ trace pid st su op said alike local may. possible_too trace pid.0 st su pid op said refl alike local may
+returns-clause-possible c = local_operations_go_by_their_cell-possible
 
 pub returns-clause-parts : goal.returns-clause-parts
-returns-clause-parts c = λ trace p st su op alike local. (after_alike trace p st su op alike local (local_same trace p st su op alike local)).same
+returns-clause-parts c = local_operations_go_by_their_cell-parts
 
 pub returns-clause-book : goal.returns-clause-book
-returns-clause-book c = λ trace p st op known lives local. book_after trace p st op known lives local
+returns-clause-book c = local_operations_go_by_their_cell-book
 
 pub returns-clause-touched : goal.returns-clause-touched
-returns-clause-touched c = local_touches
+returns-clause-touched c = local_operations_go_by_their_cell-touched

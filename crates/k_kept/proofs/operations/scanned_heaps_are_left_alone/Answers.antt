@@ -1,5 +1,5 @@
-use Rattle.k_kept.proofs.Answering.{left_alone}
+use Rattle.k_kept.proofs.Laws.{scanned_heaps_are_left_alone}
 use Rattle.k_kept.proofs.operations.scanned_heaps_are_left_alone.Goals as goal
 
 pub returns : goal.returns
-returns c = left_alone
+returns c = scanned_heaps_are_left_alone

@@ -1,5 +1,5 @@
-use Rattle.k_known.proofs.Fitting.{object_fits}
+use Rattle.k_known.proofs.Laws.{objects_fit_their_types}
 use Rattle.k_known.proofs.fits.objects_fit_their_types.Goals as goal
 
 pub returns : goal.returns
-returns c = object_fits
+returns c = objects_fit_their_types

@@ -1,5 +1,5 @@
-use Rattle.k_laws.proofs.SoundSteps.{legal_sound}
+use Rattle.k_laws.proofs.Laws.{uses_fit}
 use Rattle.k_laws.proofs.charges.uses_fit.Goals as goal
 
 pub returns : goal.returns
-returns c = λ trace history m keeps legal known. (legal_sound trace history keeps legal).uses m known
+returns c = uses_fit

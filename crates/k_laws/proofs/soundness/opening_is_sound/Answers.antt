@@ -1,5 +1,5 @@
-use Rattle.k_laws.proofs.SoundOpening.{opening_sound}
+use Rattle.k_laws.proofs.Laws.{opening_is_sound}
 use Rattle.k_laws.proofs.soundness.opening_is_sound.Goals as goal
 
 pub returns : goal.returns
-returns c = opening_sound
+returns c = opening_is_sound

@@ -1,5 +1,8 @@
-use Rattle.k_laws.proofs.Ending.{credits}
+use Rattle.k_laws.proofs.Laws.{termination_credits_the_whole_charge-end, termination_credits_the_whole_charge-exit}
 use Rattle.k_laws.proofs.termination.termination_credits_the_whole_charge.Goals as goal
 
-pub returns : goal.returns
-returns c = credits
+pub returns-clause-end : goal.returns-clause-end
+returns-clause-end c = termination_credits_the_whole_charge-end
+
+pub returns-clause-exit : goal.returns-clause-exit
+returns-clause-exit c = termination_credits_the_whole_charge-exit

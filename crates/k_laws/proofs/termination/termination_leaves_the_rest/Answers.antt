@@ -1,9 +1,11 @@
-use Rattle.k_laws.proofs.Ending.{leaves_rest}
-use Rattle.k_laws.proofs.Means.{exit_from, exit_comes}
+use Rattle.k_laws.proofs.Laws.{termination_leaves_the_rest-rest, termination_leaves_the_rest-exit, termination_leaves_the_rest-exits}
 use Rattle.k_laws.proofs.termination.termination_leaves_the_rest.Goals as goal
 
 pub returns-clause-rest : goal.returns-clause-rest
-returns-clause-rest c = λ trace st p sound known. leaves_rest trace st p (rw sound.shape.sized.registers known)
+returns-clause-rest c = termination_leaves_the_rest-rest
+
+pub returns-clause-exit : goal.returns-clause-exit
+returns-clause-exit c = termination_leaves_the_rest-exit
 
 pub returns-clause-exits : goal.returns-clause-exits
-returns-clause-exits c = λ trace st p h n sound. (exit_from trace st p sound h n, exit_comes trace st p sound h n)
+returns-clause-exits c = termination_leaves_the_rest-exits

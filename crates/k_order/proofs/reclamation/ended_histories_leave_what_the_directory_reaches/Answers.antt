@@ -1,5 +1,5 @@
-use Rattle.k_order.proofs.LastCollection.{reclaimed}
+use Rattle.k_order.proofs.Laws.{ended_histories_leave_what_the_directory_reaches}
 use Rattle.k_order.proofs.reclamation.ended_histories_leave_what_the_directory_reaches.Goals as goal
 
 pub returns : goal.returns
-returns c = λ trace history keeps legal complete over. reclaimed trace keeps history legal complete over
+returns c = ended_histories_leave_what_the_directory_reaches
