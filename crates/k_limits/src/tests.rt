@@ -129,8 +129,8 @@ fn of_a_chain_of_soft_limits_the_parent_is_full(rt: HostRuntime) -> Result<(), F
 }
 
 /// A tree of so many roots.
-fn make_roots(rt: &HostRuntime, count: usize) -> Result<LimitTree, Fail> {
-    let rows = vec![in rt.alloc(); root(5); count]?;
+fn make_roots(rt: &HostRuntime, count: u32) -> Result<LimitTree, Fail> {
+    let rows = vec![in rt.alloc(); root(5); count as usize]?;
     Ok(LimitTree::make(rt.alloc(), &rows)?)
 }
 
