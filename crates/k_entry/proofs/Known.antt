@@ -1,5 +1,5 @@
 -- Slots with a count above 0 are in the chains of their objects.
-use Rattle.std.proofs.Common.{◌≡◌, ◌≢◌, ℕ, ◌+◌, ◌<◌, true, refl, sym, ap, ap₂, subst, ◌∙◌, List, [], ◌∷◌, length, map, set, count_by, ◌≤◌, length-set, get_or-set_same, get_or-set_other, arith}
+use Rattle.std.proofs.Common.{◌≡◌, ◌≢◌, ℕ, ◌<◌, true, sym, ap, subst, ◌∙◌, List, [], length, set, count_by, ◌≤◌, length-set, get_or-set_same, get_or-set_other, arith}
 use Rattle.k_types.specs.declared.names.Name.{Name}
 use Rattle.k_types.specs.Names.{name_eq}
 use Rattle.k_types.specs.Counted.{Counted}
@@ -10,9 +10,9 @@ use Rattle.k_lists.proofs.Apart.{apart_one}
 use Rattle.k_entry.proofs.Joined.{map_same}
 use Rattle.k_entry.proofs.Items.{used_is, IsFound}
 use Rattle.k_entry.proofs.Changes.{same_or_not, put_old, put_new, out_other}
-use Rattle.k_entry.proofs.More.{moved, fresh, IsMore}
+use Rattle.k_entry.proofs.More.{moved, IsMore}
 use Rattle.k_entry.proofs.Less.{IsLess}
-use Rattle.k_entry.proofs.Recounts.{IsRecount, recounted, recount_here, recount_there, with_slots}
+use Rattle.k_entry.proofs.Recounts.{IsRecount, recount_here, recount_there, with_slots}
 
 -- a new table has no slot
 pub known_none : (p : Parts) → p.slots ≡ [] → AreKnown p

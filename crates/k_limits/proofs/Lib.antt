@@ -5,6 +5,7 @@ pub mod Uses
 pub mod Slices
 pub mod Reserves
 pub mod Adding
+pub mod Alike
 pub mod Making
 pub mod MachineUses
 pub mod Fits

@@ -1,5 +1,5 @@
 -- The machine's uses, and those over a list of what is charged directly.
-use Rattle.std.proofs.Common.{◌≡◌, ℕ, zero, suc, ◌+◌, ◌<◌, nat_lt, cond, refl, ap, ◌∙◌, sym, List, [], ◌∷◌, length, slice_index, arith}
+use Rattle.std.proofs.Common.{◌≡◌, ℕ, zero, suc, ◌+◌, ◌<◌, nat_lt, cond, refl, ap, ◌∙◌, sym, List, [], ◌∷◌, find, length, slice_index, arith}
 use Rattle.k_types.specs.Numbers.{numbers_below}
 use Rattle.k_types.specs.declared.setup.LimitRow.{LimitRow}
 use Rattle.k_types.specs.Trace.{Trace, row_of}
@@ -8,7 +8,8 @@ use Rattle.k_types.specs.State.{State}
 use Rattle.k_types.specs.Owners.{charge_of}
 use Rattle.k_types.specs.Limits.{max_of, is_parent, use_within, path_of, direct_by, with_maxima, limits_in, use_of, full_limit}
 use Rattle.k_limits.specs.Limits.{use_at, is_full_at, full_at}
-use Rattle.k_limits.specs.Laws.{limits_of, AreCharges}
+use Rattle.k_types.specs.Cells.{BookPart, use_shown}
+use Rattle.k_limits.specs.Laws.{limits_of, limits_by, AreCharges}
 use Rattle.k_limits.proofs.Sums.{total_filter, total_range}
 use Rattle.k_limits.proofs.Uses.{find_same, on_path_in}
 
@@ -62,3 +63,11 @@ machine_uses trace st direct charges = machine_use trace st direct charges
 
 pub machine_fulls : (trace : Trace) (st : State) (direct : List ℕ) → IsTree trace.limits → AreCharges trace st direct → (m n : ℕ) → m < length trace.limits → full_at (limits_of trace st direct) m n ≡ full_limit trace st m n
 machine_fulls trace st direct tree charges = machine_full trace st direct charges tree
+
+-- what the book's part shows
+pub shown_use : (trace : Trace) (book : BookPart) (m : ℕ) → use_at (limits_by trace book) m ≡ use_shown trace book m
+shown_use trace book m = ap (λ depth. use_within (with_maxima trace.limits book.maxima) (slice_index book.direct) depth m) (length_with trace.limits book.maxima)
+
+pub shown_full : (trace : Trace) (book : BookPart) (m n : ℕ) → full_at (limits_by trace book) m n ≡ find (λ q. nat_lt (max_of (limits_by trace book).rows q) (use_shown trace book q + n)) (path_of (limits_by trace book).rows m)
+shown_full trace book m n =
+    ap (λ depth. find (λ q. nat_lt (max_of (with_maxima trace.limits book.maxima) q) (use_within (with_maxima trace.limits book.maxima) (slice_index book.direct) depth q + n)) (path_of (with_maxima trace.limits book.maxima) m)) (length_with trace.limits book.maxima)

@@ -3,8 +3,9 @@ use Rattle.std.specs.Prelude.{◌≡◌, ℕ, ◌<◌, ◌≤◌, List, length, 
 use Rattle.k_types.specs.declared.setup.LimitRow.{LimitRow}
 use Rattle.k_types.specs.Trace.{Trace}
 use Rattle.k_types.specs.State.{State}
+use Rattle.k_types.specs.Cells.{BookPart}
 use Rattle.k_types.specs.Owners.{charge_of}
-use Rattle.k_types.specs.Limits.{max_of, direct_by, limits_in, use_within}
+use Rattle.k_types.specs.Limits.{max_of, direct_by, limits_in, use_within, with_maxima}
 use Rattle.k_limits.specs.Limits.{ChargedLimits, charged_limits}
 
 -- the limits as they are in the state, where so much is charged directly at each
@@ -18,3 +19,7 @@ AreCharges trace st direct = (m : ℕ) → m < length trace.limits → slice_ind
 -- with nothing charged, what is reserved at each limit fits into its maximum
 abbrev pub ReservesFit : List LimitRow → Type 0
 ReservesFit rows = (m : ℕ) → m < length rows → use_within rows (λ q. 0) (length rows) m ≤ max_of rows m
+
+-- the limits with the maxima and the charges that the book's part has
+abbrev pub limits_by : Trace → BookPart → ChargedLimits
+limits_by trace book = charged_limits (with_maxima trace.limits book.maxima) book.direct

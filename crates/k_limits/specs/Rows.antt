@@ -1,5 +1,5 @@
 -- How the rows of a tree are put into it one by one, where each hard one reserves its maximum.
-use Rattle.std.specs.Prelude.{◌≡◌, IsTrue, ℕ, zero, suc, ◌<◌, ◌^◌, ◌&&◌, Bool, false, List, [], ◌∷◌, length, take, find, replicate, Option, Some, None, is_some}
+use Rattle.std.specs.Prelude.{◌≡◌, IsTrue, ℕ, ◌<◌, ◌^◌, ◌&&◌, Bool, false, List, length, take, find, replicate, Option, Some, None, is_some}
 use Rattle.k_types.specs.declared.names.LimitId.{LimitId}
 use Rattle.k_types.specs.declared.setup.LimitRow.{LimitRow}
 use Rattle.k_types.specs.Numbers.{numbers_below}

@@ -16,5 +16,7 @@ mod tests;
 mod tree;
 
 pub use error::MakeError;
-pub use laws::{rows_that_fit_are_not_refused, uses_are_the_machines};
+pub use laws::{
+    rows_that_fit_are_not_refused, uses_are_the_machines, uses_are_those_of_the_books_part,
+};
 pub use tree::LimitTree;

@@ -127,3 +127,18 @@ fn of_a_chain_of_soft_limits_the_parent_is_full(rt: HostRuntime) -> Result<(), F
     );
     Ok(())
 }
+
+/// A tree of so many roots.
+fn make_roots(rt: &HostRuntime, count: u32) -> Result<LimitTree, Fail> {
+    let rows = vec![in rt.alloc(); root(5); count as usize]?;
+    Ok(LimitTree::make(rt.alloc(), &rows)?)
+}
+
+// A tree is made of no row, of one, and of more than 65,536.
+#[test]
+fn trees_are_made_of_none_and_of_many(rt: HostRuntime) -> Result<(), Fail> {
+    for count in [0, 1, 70_000] {
+        make_roots(&rt, count)?;
+    }
+    Ok(())
+}

@@ -152,3 +152,13 @@ fn two_threads_add_each_event_once_and_in_their_order(rt: HostRuntime) -> Result
     }
     Ok(())
 }
+
+// A tie is made with no cell, with one, and with more than 65,536.
+#[test]
+fn ties_are_made_for_none_and_for_many(rt: HostRuntime) -> Result<(), Fail> {
+    for cells in [0, 1, 70_000] {
+        let (_, _, notes) = Tie::make(rt.alloc(), cells)?;
+        assert_eq!(rt; notes.len(), cells as usize);
+    }
+    Ok(())
+}
