@@ -1,5 +1,5 @@
 -- Names that can be told apart, and events that a line of a report can spell.
-use Rattle.std.specs.Prelude.{ℕ, ◌<◌, ◌^◌, ◌++◌, Bool, true, false, IsTrue, IsFalse, List, length, Some, None}
+use Rattle.std.specs.Prelude.{◌<◌, ◌^◌, ◌++◌, Bool, true, false, IsTrue, IsFalse, length, Some, None}
 use Rattle.k_types.specs.declared.names.Name.{Name}
 use Rattle.k_types.specs.declared.op.Op.{Op}
 use Rattle.k_types.specs.declared.op.Op.TheVariants.{New, KNew, SNew, Store, Load, Move, Clear, Dir, Put, Get, Collect, KCollect, Share, Freeze, Attach, Exit}
