@@ -1,21 +1,17 @@
 -- Histories that are begun, and where their reading ends.
-use Rattle.std.proofs.Common.{◌≡◌, ◌≢◌, ◌∙◌, ℕ, ◌+◌, ◌<◌, Bool, true, false, List, [], ◌∷◌, ◌++◌, length, map, Option, Some, None, refl, sym, ap, subst, arith, codes, append_assoc}
+use Rattle.std.proofs.Common.{◌≡◌, ◌∙◌, true, false, List, [], ◌∷◌, ◌++◌, map, refl, sym, ap, subst, codes, append_assoc}
 use Rattle.std.specs.List.{AllByRecursion}
-use Rattle.std.specs.Str.{bytes_eq}
 use Rattle.std.proofs.lemmas.Slice.Eq.{bytes_eq-Decides}
 use Rattle.std.proofs.lemmas.List.{append-nil}
 use Rattle.k_types.specs.declared.event.Event.{Event}
-use Rattle.k_types.specs.Trace.{Trace, process_count, operations_of}
+use Rattle.k_types.specs.Trace.{Trace}
 use Rattle.k_types.specs.State.{opening}
 use Rattle.k_types.specs.Steps.{done_by}
-use Rattle.k_types.specs.Complete.{IsPrefixOf, IsComplete}
 use Rattle.k_frame.proofs.Histories.{legal_front, done_append}
-use Rattle.k_words.specs.Words.{Text, lines_of, words_of, word_at}
+use Rattle.k_words.specs.Words.{Text, words_of}
 use Rattle.k_trace.specs.Named.{DeclaredNames, NamedTrace}
-use Rattle.k_text.specs.Report.{report_text}
 use Rattle.k_history.specs.Spelled.{AreProper, IsSpelledEvent}
 use Rattle.k_history.specs.Reading.{event_of}
-use Rattle.k_history.specs.Difference.{difference}
 use Rattle.k_history.specs.Good.{event_line, IsBegun, IsReadUpTo, IsNoNextEvent}
 use Rattle.k_history.proofs.Options.{some_is}
 use Rattle.k_history.proofs.ReportLines.{not_graph, line_read}

@@ -1,9 +1,8 @@
 -- A history that is begun is complete, or not.
-use Rattle.std.proofs.Common.{◌≡◌, ◌∙◌, ◌⊎◌, ℕ, zero, suc, ◌+◌, ◌<◌, ◌≤◌, Bool, true, false, List, [], ◌∷◌, ◌++◌, length, refl, sym, ap, subst, arith, inl, inr, length-append}
-use Rattle.std.specs.Prelude.{IsTrue, IsFalse}
+use Rattle.std.proofs.Common.{◌≡◌, ◌∙◌, ℕ, zero, suc, ◌+◌, ◌<◌, Bool, true, false, List, [], ◌∷◌, ◌++◌, length, refl, sym, ap, subst, arith, inl, inr, length-append}
+use Rattle.std.specs.Prelude.{IsFalse}
 use Rattle.std.proofs.lemmas.Bool.{cases_lt}
 use Rattle.std.proofs.lemmas.List.{append-nil}
-use Rattle.k_types.specs.declared.names.Heap.{Heap}
 use Rattle.k_types.specs.declared.names.Heap.TheVariants.{Kernel, User, Shared}
 use Rattle.k_types.specs.declared.op.Op.{Op}
 use Rattle.k_types.specs.declared.event.Event.{Event}
@@ -12,7 +11,7 @@ use Rattle.k_types.specs.Names.{among}
 use Rattle.k_types.specs.Trace.{Trace, process_count, operations_of}
 use Rattle.k_types.specs.State.{Scan}
 use Rattle.k_types.specs.Steps.{state_after, done_by, no_orphan}
-use Rattle.k_types.specs.Complete.{IsPrefixOf, all_ended, EndsWithClosing, IsComplete}
+use Rattle.k_types.specs.Complete.{all_ended, EndsWithClosing, IsComplete}
 use Rattle.k_history.specs.Good.{IsBegun}
 use Rattle.k_history.proofs.Possible.{Decided, decide_true, decide_both, decide_as}
 

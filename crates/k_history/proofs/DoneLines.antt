@@ -1,9 +1,8 @@
 -- Lines that are no operation's.
-use Rattle.std.proofs.Common.{◌≡◌, ◌∙◌, ◌⊎◌, ℕ, Bool, true, false, cond, List, [], ◌∷◌, Option, Some, None, Result, Ok, Err, refl, sym, ap, inl, inr}
+use Rattle.std.proofs.Common.{◌≡◌, ◌∙◌, ◌⊎◌, Bool, true, false, cond, List, [], ◌∷◌, Option, None, Result, Ok, Err, refl, sym, inl, inr}
 use Rattle.std.specs.List.{before_first, after_first}
 use Rattle.k_types.specs.declared.op.Op.{Op}
-use Rattle.k_types.specs.declared.event.Event.{Event}
-use Rattle.k_words.specs.Words.{Text, word_at}
+use Rattle.k_words.specs.Words.{Text}
 use Rattle.k_words.specs.Names.{declares}
 use Rattle.k_trace.specs.Named.{DeclaredNames}
 use Rattle.k_trace.specs.Forms.{op_of, register_op, bare_op, sharing_op}

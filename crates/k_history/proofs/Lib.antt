@@ -22,3 +22,4 @@ pub mod Codes
 pub mod Possible
 pub mod Completed
 pub mod Verdicts
+pub mod KnownEvents

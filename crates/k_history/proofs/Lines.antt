@@ -1,12 +1,12 @@
 -- The events of lines, one line after the other.
-use Rattle.std.proofs.Common.{◌≡◌, ◌∙◌, ℕ, ◌+◌, Bool, true, false, List, [], ◌∷◌, ◌++◌, length, Option, Some, None, Result, Ok, Err, refl, sym, ap, arith, codes, append_assoc}
+use Rattle.std.proofs.Common.{◌≡◌, ℕ, ◌+◌, true, false, List, [], ◌∷◌, ◌++◌, length, Some, None, Result, Ok, Err, refl, sym, ap, codes, append_assoc}
 use Rattle.std.proofs.lemmas.List.{append-nil}
 use Rattle.std.specs.Str.{bytes_eq}
 use Rattle.k_types.specs.declared.event.Event.{Event}
 use Rattle.k_words.specs.Words.{Text, lines_of, words_of}
 use Rattle.k_trace.specs.Named.{DeclaredNames}
 use Rattle.k_history.specs.Reading.{event_of}
-use Rattle.k_history.specs.Histories.{onto, then_events, events_of_lines}
+use Rattle.k_history.specs.Histories.{onto, events_of_lines}
 
 -- The events before those that follow them.
 abbrev pub onto_all : List Event → Result (List Event) ℕ → Result (List Event) ℕ

@@ -1,5 +1,5 @@
 -- What holds of each kind of words holds of the words of an operation.
-use Rattle.std.proofs.Common.{◌≡◌, ◌∙◌, ℕ, ◌<◌, ◌^◌, Bool, true, false, not, ◌&&◌, ◌||◌, List, [], ◌∷◌, ◌++◌, length, refl, sym, ap, arith, codes, decimal, subst}
+use Rattle.std.proofs.Common.{◌≡◌, ◌∙◌, ℕ, ◌<◌, ◌^◌, Bool, true, false, not, List, [], ◌∷◌, length, refl, sym, arith, codes, decimal, subst}
 use Rattle.std.specs.List.{list_all, list_any}
 use Rattle.std.specs.Str.{bytes_eq}
 use Rattle.k_types.specs.declared.op.Op.{Op}
@@ -9,7 +9,6 @@ use Rattle.k_words.specs.Numbers.{register_word}
 use Rattle.k_words.specs.Names.{is_name, declares}
 use Rattle.k_words.proofs.Spelled.{both, same}
 use Rattle.k_trace.specs.Named.{DeclaredNames}
-use Rattle.k_trace.specs.Rules.{AreNames}
 use Rattle.k_trace.specs.Spelling.{op_words}
 use Rattle.k_trace.proofs.Pushed.{AreNames_front}
 use Rattle.k_trace.proofs.Tidy.{AreNames_back}

@@ -1,8 +1,8 @@
 -- Lines and words cut at a byte and at a word.
-use Rattle.std.proofs.Common.{◌≡◌, ◌∙◌, ◌⊎◌, ℕ, zero, suc, ◌+◌, ◌-◌, ◌<◌, ◌≤◌, Bool, true, false, cond, not, ◌||◌, eqb, List, [], ◌∷◌, ◌++◌, length, take, drop, get_or, refl, sym, ap, subst, arith, one-add, add-one, zero-add, inl, inr, append_assoc, length-append, length-drop}
-use Rattle.std.specs.List.{before_first, after_first, onto_first, position_or_len, slice_split, list_any}
+use Rattle.std.proofs.Common.{◌≡◌, ◌∙◌, ◌⊎◌, ℕ, zero, suc, ◌+◌, ◌-◌, ◌<◌, ◌≤◌, Bool, true, false, not, eqb, List, [], ◌∷◌, ◌++◌, length, take, drop, get_or, refl, sym, ap, subst, arith, one-add, add-one, zero-add, inl, inr, append_assoc, length-drop}
+use Rattle.std.specs.List.{before_first, after_first, onto_first, position_or_len, list_any}
 use Rattle.std.proofs.lemmas.Bool.{eqb-true, cases_lt}
-use Rattle.std.proofs.lemmas.List.{take-append-drop, take_all, take_rest, take_more, get_or-drop, drop-take, append-nil}
+use Rattle.std.proofs.lemmas.List.{take-append-drop, take_all, take_rest, take_more, get_or-drop}
 use Rattle.std.proofs.lemmas.List.Folds.{list_any-append}
 use Rattle.std.proofs.lemmas.List.Sums.{prefix_len-le-length}
 use Rattle.std.proofs.lemmas.List.Splits.{length-slice_split}

@@ -1,6 +1,5 @@
 -- An event is possible or not, and a history with one event more is begun or not.
-use Rattle.std.proofs.Common.{◌≡◌, ◌∙◌, ◌⊎◌, ℕ, zero, suc, ◌+◌, ◌<◌, ◌≤◌, Bool, true, false, cond, not, ◌||◌, eqb, List, [], ◌∷◌, ◌++◌, length, filter, refl, sym, ap, subst, arith, inl, inr, append_assoc}
-use Rattle.std.specs.Prelude.{count_by}
+use Rattle.std.proofs.Common.{◌≡◌, ◌∙◌, ◌⊎◌, ℕ, ◌<◌, Bool, true, false, cond, not, ◌||◌, eqb, List, [], ◌∷◌, ◌++◌, refl, sym, ap, subst, arith, inl, inr, append_assoc}
 use Rattle.std.specs.List.{list_all}
 use Rattle.std.proofs.lemmas.Bool.{cases_lt, eqb-true}
 use Rattle.std.proofs.lemmas.Bool.Decides.{nat_tests}
@@ -14,13 +13,10 @@ use Rattle.k_types.specs.declared.event.Event.TheVariants.{Done, Ended, Absorbed
 use Rattle.k_types.specs.Names.{among}
 use Rattle.k_types.specs.Trace.{Trace, process_count, operations_of}
 use Rattle.k_types.specs.Numbers.{numbers_below}
-use Rattle.k_types.specs.Totals.{total}
-use Rattle.k_types.specs.Owners.{object_bytes}
 use Rattle.k_types.specs.State.{State, opening, is_scanned}
 use Rattle.k_types.specs.Replies.{reply_to}
-use Rattle.k_types.specs.Effects.{step, survives, exit_stays, share_stays}
 use Rattle.k_types.specs.Cells.{Cell, cells_touched}
-use Rattle.k_types.specs.Steps.{in_range, is_orphan, no_orphan, waits_for_orphans, MayBeDone, MayEnd, MayBeAbsorbed, MayClose, IsPossible, IsRun, run, done_by}
+use Rattle.k_types.specs.Steps.{in_range, is_orphan, no_orphan, waits_for_orphans, MayBeDone, MayEnd, MayBeAbsorbed, MayClose, IsPossible, run, done_by}
 use Rattle.k_types.specs.Complete.{IsPrefixOf}
 use Rattle.k_frame.proofs.Histories.{legal_append, legal_rest, done_append}
 use Rattle.k_history.specs.Good.{IsBegun}

@@ -1,5 +1,5 @@
 -- A report is good, or refused at one line, and not both.
-use Rattle.std.proofs.Common.{◌≡◌, ◌≢◌, ◌∙◌, ℕ, ◌+◌, List, [], ◌∷◌, ◌++◌, length, map, Option, Some, None, refl, sym, ap, subst, arith, codes}
+use Rattle.std.proofs.Common.{◌≡◌, ◌≢◌, ◌∙◌, ℕ, ◌+◌, List, [], ◌∷◌, length, Some, None, refl, sym, ap, subst, codes}
 use Rattle.std.specs.List.{AllByRecursion}
 use Rattle.k_types.specs.declared.event.Event.{Event}
 use Rattle.k_types.specs.Steps.{state_after}
@@ -10,7 +10,7 @@ use Rattle.k_trace.specs.Rules.{IsTrace}
 use Rattle.k_text.specs.Report.{report_text}
 use Rattle.k_history.specs.Spelled.{AreProper, IsSpelledEvent}
 use Rattle.k_history.specs.Difference.{difference}
-use Rattle.k_history.specs.Good.{event_line, IsBegun, IsGoodReport, IsReadUpTo, IsNoNextEvent, AreAllSpelled, IsWrongFirst, IsWrongEvent, IsWithoutGraph, IsIncomplete, IsOtherReport, IsRefusedAt}
+use Rattle.k_history.specs.Good.{IsBegun, IsGoodReport, IsReadUpTo, AreAllSpelled, IsWrongFirst, IsRefusedAt}
 use Rattle.k_history.specs.Good.IsRefusedAt.{OfFirst, OfEvent, OfEnd, OfGraph, OfReport}
 use Rattle.k_history.proofs.Options.{some_is}
 use Rattle.k_history.proofs.Differences.{no_difference}

@@ -1,5 +1,5 @@
 -- Words that are no reply.
-use Rattle.std.proofs.Common.{◌≡◌, ◌∙◌, ℕ, ◌<◌, Bool, true, false, eqb, List, [], ◌∷◌, length, Option, None, refl, sym, ap, arith, codes}
+use Rattle.std.proofs.Common.{◌≡◌, ◌<◌, true, false, eqb, List, [], ◌∷◌, length, None, refl, ap, arith, codes}
 use Rattle.std.proofs.lemmas.Bool.{false_from_ne_true, eqb-true}
 use Rattle.std.specs.Str.{bytes_eq}
 use Rattle.k_types.specs.declared.op.Op.{Op}

@@ -1,26 +1,24 @@
 -- The history of a report's text is that history.
-use Rattle.std.proofs.Common.{◌≡◌, ◌∙◌, ℕ, ◌+◌, ◌<◌, Bool, true, false, not, eqb, List, [], ◌∷◌, ◌++◌, length, map, Option, Some, None, Result, Ok, Err, refl, sym, ap, arith, codes, append_assoc}
-use Rattle.std.specs.List.{AllByRecursion, join_with_byte, flat_map, list_all, before_first, after_first}
+use Rattle.std.proofs.Common.{◌≡◌, ◌∙◌, ℕ, ◌+◌, false, List, [], ◌∷◌, ◌++◌, map, Some, None, Ok, refl, sym, ap, codes, append_assoc}
+use Rattle.std.specs.List.{AllByRecursion}
 use Rattle.std.specs.Str.{bytes_eq}
 use Rattle.std.proofs.Common.{inr}
 use Rattle.std.proofs.lemmas.Bool.{false_from_ne_true}
-use Rattle.std.proofs.lemmas.List.{append-nil}
 use Rattle.std.proofs.lemmas.Grind.{flat_map-append}
 use Rattle.k_types.specs.declared.event.Event.{Event}
 use Rattle.k_types.specs.Trace.{Trace}
 use Rattle.k_types.specs.State.{State}
-use Rattle.k_types.specs.Steps.{state_after}
 use Rattle.k_words.specs.Words.{Text, lines_of, words_of, line_text, text_of}
-use Rattle.k_words.proofs.Spelled.{same, both}
+use Rattle.k_words.proofs.Spelled.{same}
 use Rattle.k_words.proofs.Proper.{line_then}
 use Rattle.k_trace.specs.Named.{DeclaredNames}
 use Rattle.k_text.specs.EventLines.{event_words, event_lines}
-use Rattle.k_text.specs.Report.{graph_lines, roots_lines, exits_lines, shares_lines, faults_lines, charges_lines, object_line, report_lines, text_over, report_text}
+use Rattle.k_text.specs.Report.{graph_lines, roots_lines, exits_lines, shares_lines, faults_lines, charges_lines, object_line, report_lines, text_over}
 use Rattle.k_types.specs.Owners.{owner_of}
 use Rattle.k_history.specs.Spelled.{AreProper, IsSpelledEvent}
-use Rattle.k_history.specs.Reading.{reply_of, is_equals, done_of, event_of}
-use Rattle.k_history.specs.Histories.{onto, then_events, events_of_lines, events_behind, history_of}
-use Rattle.k_history.proofs.Visible.{has_no_feed, event_no_feed, event_words_of}
+use Rattle.k_history.specs.Reading.{event_of}
+use Rattle.k_history.specs.Histories.{events_of_lines, events_behind, history_of}
+use Rattle.k_history.proofs.Visible.{event_no_feed, event_words_of}
 use Rattle.k_history.proofs.DoneLines.{one_sided}
 use Rattle.k_history.proofs.SpelledEvents.{event_words_read}
 use Rattle.k_history.specs.Good.{event_line}

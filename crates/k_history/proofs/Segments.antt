@@ -1,12 +1,11 @@
 -- The segment of a name.
-use Rattle.std.proofs.Common.{◌≡◌, ◌∙◌, ℕ, ◌+◌, Bool, true, false, cond, not, ◌||◌, List, [], ◌∷◌, ◌++◌, length, Option, Some, None, refl, sym, ap, arith, codes, one-add}
+use Rattle.std.proofs.Common.{◌≡◌, ◌∙◌, ℕ, ◌+◌, Bool, true, false, cond, List, [], ◌∷◌, ◌++◌, length, Option, Some, None, refl, sym, ap, arith, codes}
 use Rattle.std.specs.Str.{bytes_eq}
-use Rattle.std.specs.List.{list_any, position_or_len}
 use Rattle.std.proofs.lemmas.List.Folds.{list_any-append}
 use Rattle.k_types.specs.declared.names.Pid.{Pid}
 use Rattle.k_types.specs.declared.names.SharedId.{SharedId}
 use Rattle.k_words.specs.Words.{Text}
-use Rattle.k_words.specs.Names.{declares, number_of, numbered}
+use Rattle.k_words.specs.Names.{declares, number_of}
 use Rattle.k_trace.specs.Named.{DeclaredNames}
 use Rattle.k_trace.specs.Numbered.{proc_named, shared_named}
 use Rattle.k_history.specs.Reading.{segment_named}

@@ -1,5 +1,5 @@
 -- An event is read as it is spelled.
-use Rattle.std.proofs.Common.{◌≡◌, ◌∙◌, ℕ, ◌<◌, ◌^◌, Bool, true, false, cond, ◌&&◌, eqb, List, [], ◌∷◌, ◌++◌, length, drop, Option, Some, None, Result, Ok, Err, refl, sym, ap, subst, arith, codes, decimal}
+use Rattle.std.proofs.Common.{◌≡◌, ◌∙◌, ℕ, ◌<◌, ◌^◌, true, ◌&&◌, eqb, List, [], ◌∷◌, ◌++◌, length, drop, Some, None, Result, Ok, Err, refl, sym, ap, subst, arith, codes}
 use Rattle.std.specs.Prelude.{option_map}
 use Rattle.std.specs.List.{before_first, after_first}
 use Rattle.std.specs.Str.{bytes_eq}
@@ -18,11 +18,10 @@ use Rattle.k_words.proofs.Spelled.{both, same, name_at, number_word}
 use Rattle.k_words.proofs.Again.{number_of-at, declares-at, value-decimal, is_below-decimal}
 use Rattle.k_trace.specs.Named.{DeclaredNames}
 use Rattle.k_trace.specs.Numbered.{shared_named}
-use Rattle.k_trace.specs.Spelling.{op_words, line_words}
+use Rattle.k_trace.specs.Spelling.{op_words}
 use Rattle.k_trace.specs.Forms.{op_of, register_op, bare_op, sharing_op}
 use Rattle.k_trace.proofs.OpForms.{one, two, number_below}
 use Rattle.k_trace.proofs.Pushed.{AreNames_front}
-use Rattle.k_text.specs.Named.{heap_word}
 use Rattle.k_text.specs.EventLines.{event_words, reply_words}
 use Rattle.k_history.specs.Spelled.{AreProper, IsSpelledOp, IsSpelledEvent}
 use Rattle.k_history.specs.Reading.{heap_named, reply_of, ended_of, absorbed_of, closing_of, is_equals, done_with, done_of, event_of}

@@ -1,5 +1,5 @@
 -- A fault is read as it is spelled.
-use Rattle.std.proofs.Common.{◌≡◌, ◌∙◌, ℕ, ◌<◌, Bool, true, false, cond, eqb, List, [], ◌∷◌, length, Option, Some, None, refl, sym, ap, subst, codes}
+use Rattle.std.proofs.Common.{◌≡◌, ◌∙◌, ◌<◌, true, eqb, List, [], ◌∷◌, length, Option, Some, refl, sym, ap, subst, codes}
 use Rattle.std.specs.Prelude.{option_map}
 use Rattle.std.specs.Str.{bytes_eq}
 use Rattle.std.proofs.lemmas.Bool.{eqb-true}
@@ -10,7 +10,7 @@ use Rattle.k_types.specs.declared.event.Fault.TheVariants.{Null, Foreign, NotSha
 use Rattle.k_words.specs.Words.{Text, word_at}
 use Rattle.k_words.specs.Names.{declares, number_of}
 use Rattle.k_words.proofs.Spelled.{same, name_at}
-use Rattle.k_words.proofs.Again.{AreApart, number_of-at, declares-at}
+use Rattle.k_words.proofs.Again.{number_of-at, declares-at}
 use Rattle.k_trace.specs.Named.{DeclaredNames}
 use Rattle.k_trace.specs.Numbered.{limit_named, shared_named}
 use Rattle.k_trace.proofs.OpForms.{one, two, number_below}
@@ -19,7 +19,7 @@ use Rattle.k_text.specs.Named.{IsNamedFault}
 use Rattle.k_text.specs.EventLines.{fault_words}
 use Rattle.k_history.specs.Spelled.{AreProper}
 use Rattle.k_history.specs.Reading.{bare_fault, fault_at, fault_of}
-use Rattle.k_history.proofs.Options.{some_is, if_some, map_some, branch, nothing}
+use Rattle.k_history.proofs.Options.{some_is, map_some, branch, nothing}
 use Rattle.k_history.proofs.Segments.{some_if}
 use Rattle.k_history.proofs.SpelledWords.{read_shared}
 

@@ -1,26 +1,25 @@
 -- A reply is read as it is spelled.
-use Rattle.std.proofs.Common.{◌≡◌, ◌∙◌, ℕ, ◌<◌, ◌^◌, Bool, true, false, cond, not, ◌&&◌, ◌||◌, eqb, List, [], ◌∷◌, ◌++◌, length, drop, Option, Some, None, refl, sym, ap, subst, arith, codes, decimal}
-use Rattle.std.specs.Prelude.{option_map, IsTrue, IsFalse}
+use Rattle.std.proofs.Common.{◌≡◌, ◌∙◌, ℕ, ◌<◌, ◌^◌, Bool, true, false, cond, ◌&&◌, eqb, List, [], ◌∷◌, length, drop, Some, None, refl, sym, ap, subst, arith, codes, decimal}
 use Rattle.std.specs.Char.{is_ascii_digit}
 use Rattle.std.specs.List.{list_any, list_all}
 use Rattle.std.specs.Str.{bytes_eq}
-use Rattle.std.proofs.lemmas.Bool.{eqb-true, false_from_ne_true}
+use Rattle.std.proofs.lemmas.Bool.{eqb-true}
 use Rattle.k_types.specs.declared.names.Name.{Name}
 use Rattle.k_types.specs.declared.op.Op.{Op}
 use Rattle.k_types.specs.declared.event.Fault.{Fault}
 use Rattle.k_types.specs.declared.event.Reply.{Reply}
 use Rattle.k_types.specs.declared.event.Reply.TheVariants.{Done, Made, Loaded, Value, Refused}
 use Rattle.k_words.specs.Words.{Text, word_at}
-use Rattle.k_words.specs.Numbers.{is_number, is_below, value}
-use Rattle.k_words.proofs.Spelled.{both, same, number_word}
+use Rattle.k_words.specs.Numbers.{is_below, value}
+use Rattle.k_words.proofs.Spelled.{same, number_word}
 use Rattle.k_words.proofs.Again.{value-decimal, is_below-decimal}
 use Rattle.k_trace.specs.Named.{DeclaredNames}
 use Rattle.k_trace.proofs.OpForms.{one}
-use Rattle.k_text.specs.Named.{name_word, reference_word, segment_names}
+use Rattle.k_text.specs.Named.{name_word, segment_names}
 use Rattle.k_text.specs.EventLines.{reply_words, fault_words}
 use Rattle.k_history.specs.Spelled.{AreProper, IsSpelledName, IsSpelledReply, makes}
 use Rattle.k_history.specs.Reading.{is_dot, name_of_word, fault_of, reply_with, word_reply, reply_of}
-use Rattle.k_history.proofs.Options.{some_is, if_some, map_some, branch, nothing}
+use Rattle.k_history.proofs.Options.{some_is, map_some, branch, nothing}
 use Rattle.k_history.proofs.SpelledWords.{told_apart, decimal_is_not, object_has_dot, name_word_read, read_name_word}
 use Rattle.k_history.proofs.SpelledFaults.{read_fault_words, fault_words_read}
 

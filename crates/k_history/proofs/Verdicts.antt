@@ -1,12 +1,11 @@
 -- A report is good, or refused at a line.
-use Rattle.std.proofs.Common.{◌≡◌, ◌≢◌, ◌∙◌, ◌⊎◌, ℕ, ◌+◌, Bool, true, false, List, [], ◌∷◌, ◌++◌, length, map, Option, Some, None, refl, sym, ap, subst, arith, codes, inl, inr, append_assoc}
+use Rattle.std.proofs.Common.{◌≡◌, ◌≢◌, ◌∙◌, ◌⊎◌, ℕ, ◌+◌, Bool, true, false, List, [], ◌∷◌, ◌++◌, length, map, Option, Some, None, refl, sym, ap, subst, codes, inl, inr, append_assoc}
 use Rattle.std.specs.List.{AllByRecursion, join_with_byte}
 use Rattle.std.specs.Str.{bytes_eq}
 use Rattle.std.proofs.lemmas.Slice.Eq.{bytes_eq-Decides}
 use Rattle.std.proofs.lemmas.List.{map-append}
 use Rattle.std.proofs.lemmas.List.Splits.{join_with_byte-slice_split}
 use Rattle.k_types.specs.declared.event.Event.{Event}
-use Rattle.k_types.specs.State.{opening}
 use Rattle.k_types.specs.Complete.{IsComplete}
 use Rattle.k_words.specs.Words.{Text, lines_of, words_of, word_at}
 use Rattle.k_words.proofs.Spelled.{same}
@@ -21,7 +20,7 @@ use Rattle.k_history.proofs.Options.{some_is}
 use Rattle.k_history.proofs.Differences.{same_text}
 use Rattle.k_history.proofs.SpelledEvents.{read_event_words}
 use Rattle.k_history.proofs.ReportLines.{line_read}
-use Rattle.k_history.proofs.Possible.{Decided, decide_begun}
+use Rattle.k_history.proofs.Possible.{decide_begun}
 use Rattle.k_history.proofs.Completed.{decide_complete}
 
 -- What is found of a report.

@@ -1,5 +1,5 @@
 -- The words of an event are visible bytes, so that its line is read as these words.
-use Rattle.std.proofs.Common.{◌≡◌, ◌∙◌, ℕ, zero, suc, ◌<◌, ◌^◌, Bool, true, false, not, ◌&&◌, eqb, ltb, leb, List, [], ◌∷◌, ◌++◌, length, Option, Some, None, refl, sym, ap, arith, codes, decimal}
+use Rattle.std.proofs.Common.{◌≡◌, ◌∙◌, ℕ, zero, suc, ◌<◌, Bool, true, not, ◌&&◌, eqb, ltb, leb, List, [], ◌∷◌, ◌++◌, length, Some, None, refl, arith, codes, decimal}
 use Rattle.std.specs.List.{list_all, join_with_byte}
 use Rattle.std.proofs.lemmas.List.Folds.{list_all-append}
 use Rattle.std.proofs.lemmas.Bool.Decides.{nat_tests}
@@ -15,7 +15,6 @@ use Rattle.k_types.specs.declared.event.Event.{Event}
 use Rattle.k_types.specs.declared.event.Event.TheVariants.{Done, Ended, Absorbed, Closing}
 use Rattle.k_words.specs.Words.{Text, word_at, words_of}
 use Rattle.k_words.specs.Numbers.{register_word}
-use Rattle.k_words.specs.Names.{is_name}
 use Rattle.k_words.proofs.Spelled.{both}
 use Rattle.k_words.proofs.Again.{has_no_space, words_again}
 use Rattle.k_words.proofs.Proper.{is_visible, is_word, all_weaker, decimal_word, register_is_word, name_word as name_is_word}
@@ -26,7 +25,7 @@ use Rattle.k_trace.proofs.Pushed.{AreNames_front}
 use Rattle.k_trace.proofs.Tidy.{AreNames_back}
 use Rattle.k_text.specs.Named.{segment_names, name_word, heap_word, IsNamedHeap, IsNamedFault}
 use Rattle.k_text.specs.EventLines.{fault_words, reply_words, event_words}
-use Rattle.k_history.specs.Spelled.{AreProper, IsSpelledName, IsSpelledOp, IsSpelledReply, IsSpelledEvent}
+use Rattle.k_history.specs.Spelled.{AreProper, IsSpelledName, IsSpelledReply, IsSpelledEvent}
 use Rattle.k_history.proofs.OpWords.{PassesWords, op_words_pass}
 
 -- All bytes are visible.

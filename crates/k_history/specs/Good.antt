@@ -28,7 +28,7 @@ pub record IsGoodReport (t : NamedTrace) (report : Text) : Type 0 where
   pub complete : IsComplete t.trace history
   pub text : report ≡ report_text t.names t.trace history
 
--- The report's first line is `report 1`, the lines behind it are those of events that are begun, and those are left.
+-- The report's first line is `report 1`; then come the lines of a history that is begun, and then those that are left.
 pub record IsReadUpTo (t : NamedTrace) (report : Text) (history : List Event) (left : List Text) : Type 0 where
   pub lines : lines_of report ≡ codes "report 1" ∷ map (event_line t.names) history ++ left
   pub spelled : AllByRecursion (IsSpelledEvent t.names) history

@@ -1,5 +1,5 @@
 -- Names that can be told apart, and events that a line of a report can spell.
-use Rattle.std.specs.Prelude.{ℕ, ◌<◌, ◌^◌, ◌++◌, Bool, true, false, IsTrue, IsFalse, List, length, Some, None}
+use Rattle.std.specs.Prelude.{◌<◌, ◌^◌, ◌++◌, Bool, true, false, IsTrue, IsFalse, length, Some, None}
 use Rattle.k_types.specs.declared.names.Name.{Name}
 use Rattle.k_types.specs.declared.op.Op.{Op}
 use Rattle.k_types.specs.declared.op.Op.TheVariants.{New, KNew, SNew, Store, Load, Move, Clear, Dir, Put, Get, Collect, KCollect, Share, Freeze, Attach, Exit}
@@ -7,6 +7,7 @@ use Rattle.k_types.specs.declared.event.Reply.{Reply}
 use Rattle.k_types.specs.declared.event.Reply.TheVariants.{Done as DoneReply, Made, Loaded, Value, Refused}
 use Rattle.k_types.specs.declared.event.Event.{Event}
 use Rattle.k_types.specs.declared.event.Event.TheVariants.{Done, Ended, Absorbed, Closing}
+use Rattle.k_types.specs.TraceRules.{is_spelled}
 use Rattle.k_trace.specs.Named.{DeclaredNames}
 use Rattle.k_trace.specs.Rules.{AreNames}
 use Rattle.k_text.specs.Named.{IsNamedHeap, IsNamedFault, segment_names}
@@ -64,3 +65,20 @@ IsSpelledEvent names (Ended h objects bytes exits shares) =
     IsNamedHeap names h × (objects < 2 ^ 32) × (bytes < 2 ^ 64) × (exits < 2 ^ 32) × (shares < 2 ^ 32)
 IsSpelledEvent names (Absorbed s) = s.0 < length names.shared
 IsSpelledEvent names Closing = Unit {0}
+
+-- The reply's numbers are in range, and a name is that of an object made behind an operation that makes one, and one that was
+-- loaded behind any other.
+abbrev pub IsReplyInRange : Op → Reply → Type 0
+IsReplyInRange op DoneReply = Unit {0}
+IsReplyInRange op (Made n) = IsTrue (makes op) × (n.serial.0 < 2 ^ 32)
+IsReplyInRange op (Loaded None) = Unit {0}
+IsReplyInRange op (Loaded (Some n)) = IsFalse (makes op) × (n.serial.0 < 2 ^ 32)
+IsReplyInRange op (Value number) = number < 2 ^ 64
+IsReplyInRange op (Refused fault) = Unit {0}
+
+-- The event's numbers are in range, and its reply is of the right kind.
+abbrev pub IsInRange : Event → Type 0
+IsInRange (Done pid op reply) = IsTrue (is_spelled op) × IsReplyInRange op reply
+IsInRange (Ended h objects bytes exits shares) = (objects < 2 ^ 32) × (bytes < 2 ^ 64) × (exits < 2 ^ 32) × (shares < 2 ^ 32)
+IsInRange (Absorbed s) = Unit {0}
+IsInRange Closing = Unit {0}

@@ -1,15 +1,13 @@
 -- Worked lines and reports, read.
-use Rattle.std.specs.Prelude.{◌≡◌, ℕ, List, [], ◌∷◌, ◌++◌, Option, Some, None, Result, Ok, Err, codes}
+use Rattle.std.specs.Prelude.{◌≡◌, ℕ, List, [], ◌∷◌, ◌++◌, Option, Some, None, Ok, Err, codes}
 use Rattle.std.specs.List.{flat_map}
 use Rattle.k_types.specs.declared.names.Reg.{Reg}
 use Rattle.k_types.specs.declared.names.Name.{Name}
-use Rattle.k_types.specs.declared.names.Pid.{Pid}
-use Rattle.k_types.specs.declared.names.LimitId.{LimitId}
 use Rattle.k_types.specs.declared.names.TypeId.{TypeId}
 use Rattle.k_types.specs.declared.names.SharedId.{SharedId}
 use Rattle.k_types.specs.declared.names.Heap.TheVariants.{Kernel, User, Shared}
 use Rattle.k_types.specs.declared.op.Op.{Op}
-use Rattle.k_types.specs.declared.op.Op.TheVariants.{New, KNew, SNew, Store, Load, Move, Get, Collect, Share, Freeze, Exit}
+use Rattle.k_types.specs.declared.op.Op.TheVariants.{New, KNew, SNew, Load, Move, Get, Share, Exit}
 use Rattle.k_types.specs.declared.event.Fault.{Fault}
 use Rattle.k_types.specs.declared.event.Fault.TheVariants.{Null, Foreign, NotSharer, NoField, WrongKind, Frozen, Segv, NotPopulating, NotFrozen, Taken, LimitFull, KernelFull}
 use Rattle.k_types.specs.declared.event.Reply.{Reply}

@@ -1,3 +1,4 @@
+//! Why a report has no history.
 ghost use Rattle.std.specs.Prelude.{◌≡◌};
 ghost use Rattle.k_history.specs.declared.errors.HistoryError.TheVariants as errors;
 

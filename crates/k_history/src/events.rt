@@ -1,3 +1,4 @@
+//! The event that a line of a report is.
 ghost use Rattle.std.specs.Prelude.{◌≡◌};
 ghost use Rattle.k_words.specs.Words.{words_of};
 ghost use Rattle.k_history.specs.Reading.{heap_named, ended_of, absorbed_of, closing_of, done_of, event_of};

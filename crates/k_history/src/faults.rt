@@ -1,3 +1,4 @@
+//! The fault that the words of a reply say.
 ghost use Rattle.std.specs.Prelude.{◌≡◌};
 ghost use Rattle.k_words.specs.Words.{words_of};
 ghost use Rattle.k_history.specs.Reading.{bare_fault, fault_at, fault_of};

@@ -1,3 +1,4 @@
+//! The history that a report's bytes are.
 ghost use Rattle.std.specs.Prelude.{◌<◌, ◌-◌, ◌^◌, length};
 ghost use Rattle.k_words.specs.Words.{lines_of};
 ghost use Rattle.k_history.specs.Histories.{ReadsHistory, events_of_lines, history_of};

@@ -3,11 +3,12 @@ ghost use Rattle.std.specs.Prelude.{◌≡◌, ◌↔◌, ◌⊎◌, ◌∷◌, 
 ghost use Rattle.std.specs.List.{AllByRecursion};
 ghost use Rattle.k_types.specs.declared.event.Event.{Event};
 ghost use Rattle.k_types.specs.Trace.{Trace};
+ghost use Rattle.k_types.specs.Known.{IsKnownEvent};
 ghost use Rattle.k_words.specs.Words.{Text};
 ghost use Rattle.k_trace.specs.Named.{DeclaredNames, NamedTrace};
 ghost use Rattle.k_text.specs.EventLines.{event_words};
 ghost use Rattle.k_text.specs.Report.{report_text};
-ghost use Rattle.k_history.specs.Spelled.{AreProper, IsSpelledEvent};
+ghost use Rattle.k_history.specs.Spelled.{AreProper, IsSpelledEvent, IsInRange};
 ghost use Rattle.k_history.specs.Reading.{event_of};
 ghost use Rattle.k_history.specs.Histories.{history_of};
 ghost use Rattle.k_trace.specs.Rules.{IsTrace};
@@ -27,6 +28,12 @@ pub fn reports_tell_their_history()
         → history_of names (report_text names trace history) ≡ Ok history }
     ensures begun { (t : NamedTrace) (history : List Event) → IsTrace t → AreAllSpelled t → IsBegun t.trace history
         → history_of t.names (report_text t.names t.trace history) ≡ Ok history }
+{}
+
+/// An event that names what the trace declares, and whose numbers are in range, is one that a line can spell. Numbers are in
+/// range where serials and counts are below 2^32 and bytes and values below 2^64.
+pub fn known_events_can_be_spelled()
+    ensures { (t : NamedTrace) (e : Event) → IsTrace t → IsKnownEvent t.trace e → IsInRange e → IsSpelledEvent t.names e }
 {}
 
 /// Texts without a difference are the same. Where texts begin alike, the first line that differs is counted from the line

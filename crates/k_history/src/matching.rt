@@ -1,3 +1,4 @@
+//! A sink that compares.
 ghost use Rattle.std.specs.Prelude.{◌≡◌, ◌<◌, ◌≤◌, ◌-◌, ◌^◌, ℕ, true, List, [], length, IfOk, OnOk, Ok};
 ghost use Rattle.k_io.specs.Causes.{HasCause};
 ghost use Rattle.k_io.specs.Taking.{WriteTakes};

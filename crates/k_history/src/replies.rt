@@ -1,3 +1,4 @@
+//! The reply that stands behind the equals sign of a line.
 ghost use Rattle.std.specs.Prelude.{◌≡◌};
 ghost use Rattle.k_words.specs.Words.{words_of};
 ghost use Rattle.k_history.specs.Spelled.{makes};

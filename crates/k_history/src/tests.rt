@@ -1,3 +1,4 @@
+//! A history that is read, and texts that are compared.
 use crate::{HistoryError, MatchSink, read_event, read_history};
 use k_io::{Sink, write_all};
 use k_trace::read_trace;

@@ -1,3 +1,4 @@
+//! Bytes cut at a byte, and lines cut at a word.
 ghost use Rattle.std.specs.Prelude.{◌≡◌, ◌≤◌, ◌==◌, ◌⊎◌, [], length, IfSome, IfNone};
 ghost use Rattle.std.specs.List.{before_first, after_first, position_or_len};
 ghost use Rattle.std.specs.Str.{bytes_eq};

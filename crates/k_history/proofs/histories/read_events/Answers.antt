@@ -1,4 +1,4 @@
-use Rattle.std.proofs.Common.{◌≡◌, ◌∙◌, sym, ap, arith, length, refl}
+use Rattle.std.proofs.Common.{◌≡◌, ◌∙◌, sym, arith, length, refl}
 use Rattle.std.proofs.lemmas.Bool.{eqb-true}
 use Rattle.k_history.proofs.Lines.{one_more, bad_line, graph_line, no_line}
 use Rattle.k_history.proofs.histories.read_events.Goals as goal

@@ -1,5 +1,3 @@
-use Rattle.std.proofs.Common.{◌≡◌, ap}
-use Rattle.k_history.specs.Difference.{difference}
 use Rattle.k_history.proofs.Differences.{no_difference, same_text, behind_front}
 use Rattle.k_history.proofs.laws.differences_are_counted_by_lines.Goals as goal
 

@@ -1,5 +1,4 @@
-use Rattle.std.proofs.Common.{◌≡◌, ◌∙◌, sym, ap}
-use Rattle.std.specs.Str.{bytes_eq}
+use Rattle.std.proofs.Common.{◌∙◌, sym}
 use Rattle.k_history.proofs.ReplyWords.{several_words, bare_word}
 use Rattle.k_history.proofs.replies.read_reply.Goals as goal
 

@@ -1,4 +1,4 @@
-use Rattle.std.proofs.Common.{◌≡◌, ◌∙◌, sym, arith}
+use Rattle.std.proofs.Common.{◌∙◌, sym}
 use Rattle.k_history.proofs.Segments.{proc_segment, shared_segment}
 use Rattle.k_history.proofs.replies.segment_named.Goals as goal
 

@@ -1,5 +1,4 @@
-use Rattle.std.proofs.Common.{◌≡◌, ◌∙◌, ◌<◌, Bool, false, length, arith, sym, true}
-use Rattle.k_history.specs.Difference.{Compares}
+use Rattle.std.proofs.Common.{◌≡◌, ◌∙◌, false, arith, sym, true}
 use Rattle.k_history.proofs.Compared.{told_same, told_other}
 use Rattle.k_history.proofs.matching.MatchSink.first_difference.Goals.{else-self-via-then-self+else-self-2, else-self-via-else-self}
 use Rattle.k_history.proofs.matching.MatchSink.first_difference.Goals as goal

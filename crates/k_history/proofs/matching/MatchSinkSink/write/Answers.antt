@@ -1,6 +1,4 @@
-use Rattle.std.proofs.Common.{◌≡◌, ◌∙◌, ◌<◌, ◌++◌, ◌∷◌, [], List, ℕ, length, take, get_or, arith, sym, ap, append_assoc}
-use Rattle.std.proofs.lemmas.List.{take_more, take_all}
-use Rattle.k_history.specs.Difference.{Compares}
+use Rattle.std.proofs.Common.{◌≡◌, length, arith}
 use Rattle.k_history.proofs.Compared.{written_more}
 use Rattle.k_history.proofs.matching.MatchSinkSink.write.Goals as goal
 

@@ -1,4 +1,4 @@
-use Rattle.std.proofs.Common.{◌≡◌, List, ℕ, take, ◌++◌}
+use Rattle.std.proofs.Common.{List, ℕ, take, ◌++◌}
 use Rattle.k_history.specs.Difference.{Compares}
 use Rattle.k_history.proofs.matching.MatchSinkSink.write.Given as goal
 
