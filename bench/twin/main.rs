@@ -183,6 +183,39 @@ fn heap(watch: &mut Watch, size: u32, last: usize) -> String {
     )
 }
 
+/// Collects so many times, where of `size` objects that were made about `live` are reached.
+fn again(watch: &mut Watch, word: &str, size: u32, live: u32, rounds: u32) -> String {
+    let mut segment = Segment::make(SEG, size);
+    place(&mut segment, make(size));
+    link(&mut segment, live);
+    let mut exits = ExitTable::make(1);
+    let mut area = Area::of(segment);
+    let mut swept = Swept::default();
+    mark_from(&mut area, &mut exits, 1);
+    sweep(&mut area, &mut swept);
+    watch.lap("before");
+    for _ in 0..rounds {
+        clear(&mut area, &mut exits);
+    }
+    watch.lap("clears");
+    for _ in 0..rounds {
+        mark_from(&mut area, &mut exits, 1);
+    }
+    watch.lap("clears_marks");
+    for _ in 0..rounds {
+        mark_from(&mut area, &mut exits, 1);
+        sweep(&mut area, &mut Swept::default());
+    }
+    watch.lap("collections");
+    format!(
+        "{word} {size}: {} objects of {} bytes, {} freed of {} bytes",
+        size - swept.objects,
+        area.get(SEG).map_or(0, |segment| segment.bytes),
+        swept.objects,
+        swept.bytes
+    )
+}
+
 #[inline(never)]
 fn add_all(table: &mut ExitTable, targets: &[Name], room: u32) -> u32 {
     let mut new = 0;
@@ -276,6 +309,8 @@ fn main() {
         Some(last) => heap(&mut watch, size, last),
         None if word == "add" || word == "has" => exits(&mut watch, size, word == "has"),
         None if word == "up" || word == "down" => entries(&mut watch, size, word == "down"),
+        None if word == "again" => again(&mut watch, word, size, size / 10 * 3, 4_000),
+        None if word == "dead" => again(&mut watch, word, size, 10, 60_000),
         None => String::new(),
     };
     println!("{line}");
