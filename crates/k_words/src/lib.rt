@@ -13,7 +13,9 @@ mod words;
 pub use name_list::NameList;
 pub use names::{is_keyword, is_name};
 pub use numbers::{number, register};
-pub use words::{after_word, are_words, find, is, is_printable, next_line, word, word_count};
+pub use words::{
+    after_word, are_words, find, is, is_printable, next_line, split_at_line, word, word_count,
+};
 
 #[cfg(test)]
 mod tests;
