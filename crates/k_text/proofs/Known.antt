@@ -16,7 +16,8 @@ use Rattle.k_types.specs.Owners.{owner_of, owner_of_segment, owner_of_process, o
 use Rattle.k_types.specs.Steps.{in_range}
 use Rattle.k_trace.specs.Named.{DeclaredNames}
 use Rattle.k_types.specs.Known.{IsKnownFault}
-use Rattle.k_text.specs.Named.{AreNamed, IsNamedHeap, IsNamedOp, IsNamedFault}
+use Rattle.k_text.specs.Named.{AreNamed, IsNamedHeap, IsNamedFault}
+use Rattle.k_trace.specs.NamedOps.{IsNamedOp}
 use Rattle.std.proofs.lemmas.Grind.{common_steps}
 use Rattle.std.proofs.lemmas.Bool.Decides.{nat_tests}
 

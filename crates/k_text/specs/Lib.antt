@@ -2,7 +2,7 @@ pub mod Shown
 pub mod Named
 pub mod EventLines
 pub mod Report
-pub mod Spaced
+pub use Rattle.k_words.specs.Spaced
 pub mod Writing
 pub mod Worked
 pub mod WorkedHeaps

@@ -25,25 +25,6 @@ IsNamedHeap names Kernel = Unit {0}
 IsNamedHeap names (User p) = p.0 < length names.procs
 IsNamedHeap names (Shared s) = s.0 < length names.shared
 
--- The types and shared heaps of the operation have names.
-abbrev pub IsNamedOp : DeclaredNames → Op → Type 0
-IsNamedOp names (New r ty) = ty.0 < length names.types
-IsNamedOp names (KNew r ty) = ty.0 < length names.types
-IsNamedOp names (SNew r s ty) = (s.0 < length names.shared) × (ty.0 < length names.types)
-IsNamedOp names (Store base i value) = Unit {0}
-IsNamedOp names (Load r base i) = Unit {0}
-IsNamedOp names (Move r from) = Unit {0}
-IsNamedOp names (Clear r) = Unit {0}
-IsNamedOp names (Dir r) = Unit {0}
-IsNamedOp names (Put base i number) = Unit {0}
-IsNamedOp names (Get base i) = Unit {0}
-IsNamedOp names Collect = Unit {0}
-IsNamedOp names KCollect = Unit {0}
-IsNamedOp names (Share s) = s.0 < length names.shared
-IsNamedOp names (Freeze s root) = s.0 < length names.shared
-IsNamedOp names (Attach r s) = s.0 < length names.shared
-IsNamedOp names Exit = Unit {0}
-
 -- The shared heap or the limit of the fault has a name.
 abbrev pub IsNamedFault : DeclaredNames → Fault → Type 0
 IsNamedFault names Null = Unit {0}

@@ -10,12 +10,12 @@ ghost use Rattle.k_text.specs.Spaced.{spaced};
 ghost use Rattle.k_text.specs.Report.{kernel_charge_line, limit_charge_line, process_charge_line, shared_charge_line, phase_words, charges_lines};
 
 use crate::heading::heading;
-use crate::line::LineBuffer;
 use crate::view::View;
 use crate::words::push_name_word;
 use k_io::{Sink, WriteFailed};
 use k_trace::Names;
 use k_types::{Heap, LimitId, Phase, Pid, SharedId};
+use k_words::LineBuffer;
 
 /// Writes the line of the kernel's bytes.
 fn put_kernel<K: Sink, V: View>(

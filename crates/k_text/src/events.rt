@@ -7,13 +7,12 @@ ghost use Rattle.k_types.specs.Known.{IsKnownReply, IsKnownEvent};
 ghost use Rattle.k_text.specs.Spaced.{spaced};
 ghost use Rattle.k_text.specs.EventLines.{fault_words, reply_words, event_words, event_lines};
 
-use crate::line::LineBuffer;
-use crate::operations::push_op;
 use crate::view::View;
 use crate::words::{heap_name, push_reference};
 use k_io::{Sink, WriteFailed};
-use k_trace::Names;
+use k_trace::{Names, push_op};
 use k_types::{Event, Fault, Reply};
+use k_words::LineBuffer;
 
 /// Adds the words of a fault.
 #[tactic(auto, unfolding(crate::specs::EventLines::fault_words))]

@@ -12,12 +12,12 @@ ghost use Rattle.k_types.specs.Known.{IsKnownName};
 ghost use Rattle.k_text.specs.Report.{exits_of_heap, exits_lines};
 
 use crate::heading::heading;
-use crate::line::LineBuffer;
 use crate::view::View;
 use crate::words::{heap_name, push_name_word};
 use k_io::{Sink, WriteFailed};
 use k_trace::Names;
 use k_types::{Heap, Name, Pid, SharedId};
+use k_words::LineBuffer;
 
 /// Writes the line of an exit item.
 fn put_exit<K: Sink, V: View>(

@@ -9,11 +9,11 @@ ghost use Rattle.k_types.specs.declared.event.Event.{Event};
 ghost use Rattle.k_text.specs.Report.{is_fault_of, fault_line, faults_lines};
 
 use crate::heading::heading;
-use crate::line::LineBuffer;
 use crate::view::View;
 use k_io::{Sink, WriteFailed};
 use k_trace::Names;
 use k_types::{Event, Pid, Reply};
+use k_words::LineBuffer;
 
 /// Whether the event is an operation of the process that was answered by a fault.
 fn is_fault_of(event: &Event, pid: Pid) -> bool

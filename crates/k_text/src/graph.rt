@@ -14,12 +14,12 @@ ghost use Rattle.k_text.specs.Spaced.{spaced};
 ghost use Rattle.k_text.specs.Report.{content_word, object_line, graph_lines};
 
 use crate::heading::heading;
-use crate::line::LineBuffer;
 use crate::view::View;
 use crate::words::{heap_name, push_name, push_reference, type_label};
 use k_io::{Sink, WriteFailed};
 use k_trace::Names;
 use k_types::{Field, Name};
+use k_words::LineBuffer;
 
 /// Adds the word of a field.
 fn push_field<V: View>(line: &mut LineBuffer, names: &Names, view: &V, name: Name, field: u32)

@@ -1,8 +1,8 @@
 ghost use Rattle.std.specs.Prelude.{◌≡◌, ◌<◌, ◌++◌, ◌∷◌, [], length};
 ghost use Rattle.k_io.specs.Writing.{Writes};
 
-use crate::line::LineBuffer;
 use k_io::{Sink, WriteFailed};
+use k_words::LineBuffer;
 
 /// Writes a line that is known.
 pub fn heading<K: Sink>(out: &mut K, line: &mut LineBuffer, text: &[u8]) -> Result<(), WriteFailed>

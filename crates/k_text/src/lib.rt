@@ -15,8 +15,6 @@ mod faults;
 mod graph;
 mod heading;
 mod laws;
-mod line;
-mod operations;
 mod reporting;
 mod roots;
 mod shares;
@@ -25,7 +23,6 @@ mod words;
 mod worked;
 
 pub use laws::{exits_are_told_by_their_targets, reports_read_the_setup_alone};
-pub use line::LineBuffer;
 pub use reporting::report;
 pub use view::View;
 pub use worked::{

@@ -9,12 +9,12 @@ use crate::exits::exits;
 use crate::faults::faults;
 use crate::graph::graph;
 use crate::heading::heading;
-use crate::line::LineBuffer;
 use crate::roots::roots;
 use crate::shares::shares;
 use crate::view::View;
 use k_io::{Sink, WriteFailed};
 use k_trace::Names;
+use k_words::LineBuffer;
 
 /// Writes the report of what the view shows: the events of the journal, and then the state that
 /// they left. Source: own.

@@ -10,12 +10,12 @@ ghost use Rattle.k_types.specs.Known.{IsKnownName};
 ghost use Rattle.k_text.specs.Report.{root_lines, roots_of_process, roots_lines};
 
 use crate::heading::heading;
-use crate::line::LineBuffer;
 use crate::view::View;
-use crate::words::{push_name_word, push_register};
+use crate::words::push_name_word;
 use k_io::{Sink, WriteFailed};
-use k_trace::Names;
+use k_trace::{Names, push_register};
 use k_types::{Name, Pid, Reg};
+use k_words::LineBuffer;
 
 /// Writes the line of a register, where it is not null.
 fn put_root<K: Sink, V: View>(

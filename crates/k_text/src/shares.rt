@@ -8,11 +8,11 @@ ghost use Rattle.k_text.specs.Named.{AreNamed, name_word, heap_word};
 ghost use Rattle.k_text.specs.Report.{share_lines, shares_of_process, shares_lines};
 
 use crate::heading::heading;
-use crate::line::LineBuffer;
 use crate::view::View;
 use k_io::{Sink, WriteFailed};
 use k_trace::Names;
 use k_types::{Pid, SharedId};
+use k_words::LineBuffer;
 
 /// Writes the line of a share, where there is one.
 fn put_share<K: Sink>(

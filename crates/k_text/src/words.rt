@@ -1,14 +1,13 @@
 ghost use Rattle.std.specs.Prelude.{◌≡◌, ℕ, ◌<◌, ◌≤◌, ◌+◌, ◌++◌, ◌∷◌, [], List, length, IfSome};
 ghost use Rattle.k_types.specs.Trace.{segment_count};
 ghost use Rattle.k_words.specs.Words.{word_at};
-ghost use Rattle.k_words.specs.Numbers.{register_word};
 ghost use Rattle.k_text.specs.Named.{AreNamed, IsNamedHeap, segment_names, name_word, reference_word, heap_word, type_word};
 ghost use Rattle.k_types.specs.Known.{IsKnownName};
 
-use crate::line::LineBuffer;
 use crate::view::View;
 use k_trace::Names;
 use k_types::{Heap, Name, Pid, Reg, Seg, SharedId, TypeId};
+use k_words::LineBuffer;
 
 /// The name of a segment.
 fn segment_name<'a, V: View>(names: &'a Names, view: &V, seg: Seg) -> &'a [u8]
@@ -94,14 +93,4 @@ pub fn push_reference<V: View>(
         None => line.push_word(b"null"),
         Some(name) => push_name_word(line, names, view, name),
     }
-}
-
-/// Adds a space and a register.
-pub fn push_register(line: &mut LineBuffer, r: Reg)
-    requires room { length line.old + 22 ≤ 1024 }
-    ensures text { line.new ≡ line.old ++ 32 ∷ register_word r.0 }
-    ensures short { length line.new ≤ length line.old + 22 }
-{
-    line.push_text(b" r");
-    line.push_digits(u64::from(r.0));
 }

@@ -1,5 +1,6 @@
 pub mod Named
 pub mod Numbered
+pub mod NamedOps
 pub mod Spelling
 pub mod Rules
 pub mod Meaning

@@ -16,6 +16,7 @@ mod reader;
 mod reading;
 mod reasons;
 mod rooms;
+mod spelling;
 mod trace;
 
 pub use errors::TraceError;
@@ -24,6 +25,7 @@ pub use laws::judged_as_spelled;
 pub use names::Names;
 pub use reading::read_trace;
 pub use reasons::Reason;
+pub use spelling::{push_op, push_register};
 pub use trace::Trace;
 
 #[cfg(test)]

@@ -5,3 +5,4 @@ pub mod Spelled
 pub mod Again
 pub mod Feeds
 pub mod Proper
+pub mod Cuts

@@ -1,6 +1,7 @@
 -- Lines and words of a text.
-use Rattle.std.specs.Prelude.{◌≡◌, ◌⊎◌, ℕ, ◌==◌, ◌&&◌, not, nat_lt, nat_le, Bool, List, [], ◌∷◌, ◌++◌, length, slice_index_or, if◌then◌else◌}
-use Rattle.std.specs.List.{onto_first, slice_split, list_all, join_with_byte, flat_map}
+use Rattle.std.specs.Prelude.{◌≡◌, ◌⊎◌, ℕ, ◌==◌, ◌&&◌, not, nat_lt, nat_le, Bool, IsFalse, List, [], ◌∷◌, ◌++◌, length, slice_index_or, if◌then◌else◌}
+use Rattle.std.specs.List.{onto_first, slice_split, list_all, list_any, join_with_byte, flat_map}
+use Rattle.std.specs.Str.{bytes_eq}
 
 -- a text is the list of its bytes
 abbrev pub Text : Type 0
@@ -38,3 +39,15 @@ text_of lines = flat_map line_text lines
 -- the bytes are the text, but for its last line feed, which may be missing
 abbrev pub AreText : Text → Text → Type 0
 AreText bytes text = (bytes ≡ text) ⊎ (bytes ++ 10 ∷ [] ≡ text)
+
+-- the line, its line feed, and the rest; or the line alone, which is all
+abbrev pub IsFirstLine : Text → Text → Text → Type 0
+IsFirstLine bytes line rest = (bytes ≡ line ++ 10 ∷ rest) ⊎ ((bytes ≡ line) × (rest ≡ []))
+
+-- the front is all lines before the first one that is the wanted one, and the rest begins with that one; or the rest is
+-- nothing, and no line is the wanted one
+pub record IsSplitAt (wanted bytes front rest : Text) : Type 0 where
+  pub whole : bytes ≡ front ++ rest
+  pub lines : lines_of bytes ≡ lines_of front ++ lines_of rest
+  pub before : IsFalse (list_any (bytes_eq wanted) (lines_of front))
+  pub found : (rest ≡ []) ⊎ ((more : List Text) × (lines_of rest ≡ wanted ∷ more))

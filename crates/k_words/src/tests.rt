@@ -1,4 +1,4 @@
-use crate::{NameList, number, register};
+use crate::{NameList, number, register, split_at_line};
 use std::test::Fail;
 
 #[test]
@@ -22,4 +22,19 @@ fn numbers_have_one_spelling(rt: HostRuntime) {
     assert!(rt; number(b"007", 16).is_none());
     assert!(rt; register(b"r15") == Some(15));
     assert!(rt; register(b"r16").is_none());
+}
+
+#[test]
+fn a_text_is_split_at_the_first_such_line(rt: HostRuntime) {
+    for (text, front) in [
+        (b"a\nreport 1\nb\nreport 1\n".as_slice(), 2),
+        (b"report 1\n".as_slice(), 0),
+        (b"a\nreport 1".as_slice(), 2),
+        (b"a\nreport 12\n report 1\n".as_slice(), 22),
+        (b"".as_slice(), 0),
+    ] {
+        let (before, after) = split_at_line(text, b"report 1");
+        assert_eq!(rt; before.len(), front, "{text:?}");
+        assert_eq!(rt; before.len() + after.len(), text.len(), "{text:?}");
+    }
 }

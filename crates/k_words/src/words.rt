@@ -1,7 +1,7 @@
 ghost use Rattle.std.specs.Prelude.{◌≡◌, ◌<◌, ◌∷◌, ◌==◌, [], length, count_by, take, IfSome, IfNone};
 ghost use Rattle.std.specs.List.{list_all, position_or_len};
 ghost use Rattle.std.specs.Str.{bytes_eq};
-ghost use Rattle.k_words.specs.Words.{lines_of, words_of, are_words, word_at, is_printable};
+ghost use Rattle.k_words.specs.Words.{lines_of, words_of, are_words, word_at, is_printable, IsFirstLine, IsSplitAt};
 
 /// The first place that has the byte, or the length.
 pub fn find(bytes: &[u8], wanted: u8) -> usize
@@ -25,6 +25,7 @@ fn count(bytes: &[u8], wanted: u8) -> usize
 pub fn next_line(bytes: &[u8]) -> (&[u8], &[u8])
     requires { 0 < length bytes.now }
     ensures lines { lines_of bytes.now ≡ result.0.now ∷ lines_of result.1.now }
+    ensures bytes { IsFirstLine bytes.now result.0.now result.1.now }
     ensures shorter { length result.1.now < length bytes.now }
 {
     let end = find(bytes, b'\n');
@@ -33,6 +34,22 @@ pub fn next_line(bytes: &[u8]) -> (&[u8], &[u8])
     } else {
         (bytes, &[])
     }
+}
+
+/// The bytes before the first line that is the wanted one, and those from that line on. Where no line is the wanted one
+/// the second part is empty.
+pub fn split_at_line<'a>(bytes: &'a [u8], wanted: &[u8]) -> (&'a [u8], &'a [u8])
+    ensures { IsSplitAt wanted.now bytes.now result.0.now result.1.now }
+{
+    let mut rest = bytes;
+    while !rest.is_empty() {
+        let (line, after) = next_line(rest);
+        if is(line, wanted) {
+            return (&bytes[..bytes.len() - rest.len()], rest);
+        }
+        rest = after;
+    }
+    (bytes, &[])
 }
 
 /// How many words the line has.

@@ -5,7 +5,7 @@ ghost use Rattle.kaffe.specs.Texts.{usage_text, bad_trace_text};
 
 use crate::status::Status;
 use k_io::{Sink, WriteFailed, write_all};
-use k_text::LineBuffer;
+use k_words::LineBuffer;
 
 /// The status of a call whose text is written: the given one, unless the sink failed. Source: own.
 pub fn after_writing(status: Status, written: Result<(), WriteFailed>) -> Status

@@ -1,13 +1,23 @@
+//! The words of an operation, on its line of a trace and on its line of a report.
 ghost use Rattle.std.specs.Prelude.{◌≡◌, ℕ, ◌<◌, ◌≤◌, ◌+◌, ◌++◌, ◌∷◌, [], List, length, decimal};
 ghost use Rattle.k_words.specs.Numbers.{register_word};
 ghost use Rattle.k_trace.specs.Spelling.{op_words};
-ghost use Rattle.k_text.specs.Named.{IsNamedOp};
-ghost use Rattle.k_text.specs.Spaced.{spaced};
+ghost use Rattle.k_trace.specs.NamedOps.{IsNamedOp};
+ghost use Rattle.k_words.specs.Spaced.{spaced};
 
-use crate::line::LineBuffer;
-use crate::words::push_register;
-use k_trace::Names;
+use crate::names::Names;
 use k_types::{Op, Reg};
+use k_words::LineBuffer;
+
+/// Adds a space and a register.
+pub fn push_register(line: &mut LineBuffer, r: Reg)
+    requires room { length line.old + 22 ≤ 1024 }
+    ensures text { line.new ≡ line.old ++ 32 ∷ register_word r.0 }
+    ensures short { length line.new ≤ length line.old + 22 }
+{
+    line.push_text(b" r");
+    line.push_digits(u64::from(r.0));
+}
 
 /// Adds a word and a register.
 fn push_on(line: &mut LineBuffer, word: &[u8], r: Reg)
@@ -40,7 +50,7 @@ fn push_made(line: &mut LineBuffer, word: &[u8], r: Reg, name: &[u8])
 }
 
 /// Adds the words of an operation, each with a space before it.
-#[tactic(auto, unfolding(k_trace::specs::Spelling::op_words))]
+#[tactic(auto, unfolding(crate::specs::Spelling::op_words))]
 pub fn push_op(line: &mut LineBuffer, names: &Names, op: &Op)
     requires known { IsNamedOp names.now op.now }
     requires room { length line.old + 100 ≤ 1024 }
