@@ -6,9 +6,10 @@ ghost use Rattle.k_types.specs.Replies.{field_at, field_count, is_ref, number_in
 use k_state::{FieldValue, PlainLists};
 use k_types::Name;
 
-// How many fields the object has; 0 where there is no such object.
-pub(crate) fn field_count(lists: &PlainLists, x: Name) -> u32
-    ensures { result ≡ field_count lists.now.state x }
+/// How many fields the object has; 0 where there is no such object.
+pub fn field_count(lists: &PlainLists, x: Name) -> u32
+    ensures count { result ≡ field_count lists.now.state x }
+    ensures few { result ≤ 16 }
 {
     match lists.object(x) {
         Some(object) => object.count() as u32,
@@ -16,8 +17,8 @@ pub(crate) fn field_count(lists: &PlainLists, x: Name) -> u32
     }
 }
 
-// What the field of the object holds; the number 0 where there is no such object or no such field.
-pub(crate) fn field_at(lists: &PlainLists, x: Name, field: u32) -> FieldValue
+/// What the field of the object holds; the number 0 where there is no such object or no such field.
+pub fn field_at(lists: &PlainLists, x: Name, field: u32) -> FieldValue
     ensures { content result ≡ field_at lists.now.state x field }
 {
     match lists.object(x) {
@@ -33,8 +34,8 @@ pub(crate) fn is_ref(value: FieldValue) -> bool
     matches!(value, FieldValue::Reference(_))
 }
 
-// The reference that a field holds.
-pub(crate) fn reference(value: FieldValue) -> Option<Name>
+/// The reference that a field holds; null where it holds a number.
+pub fn reference(value: FieldValue) -> Option<Name>
     ensures { result ≡ reference (content value) }
 {
     match value {
@@ -43,8 +44,8 @@ pub(crate) fn reference(value: FieldValue) -> Option<Name>
     }
 }
 
-// The number that a field holds.
-pub(crate) fn number_in(value: FieldValue) -> u64
+/// The number that a field holds; 0 where it holds a reference.
+pub fn number_in(value: FieldValue) -> u64
     ensures { result ≡ number_in (content value) }
 {
     match value {

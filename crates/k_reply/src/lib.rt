@@ -13,5 +13,7 @@ mod possible;
 mod ranges;
 mod replies;
 
+pub use fields::{field_at, field_count, number_in, reference};
 pub use possible::{all_ended, is_orphan, may_be_absorbed, may_be_done, may_close, no_orphan};
-pub use replies::{first_fault, reply_to};
+pub use ranges::is_in_range;
+pub use replies::{DIRECTORY, answer, first_fault, loaded_reference, reply_to, root_of};

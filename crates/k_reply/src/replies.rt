@@ -28,7 +28,7 @@ use k_state::PlainLists;
 use k_types::{Fault, Heap, Name, Op, Phase, Pid, Reg, Reply, Seg, Serial, SharedId};
 
 /// The object from which every run begins.
-const DIRECTORY: Name = Name {
+pub const DIRECTORY: Name = Name {
     seg: Seg(0),
     serial: Serial(1),
 };
@@ -105,8 +105,8 @@ pub fn first_fault(lists: &PlainLists, pid: Pid, op: &Op) -> Option<Fault>
     }
 }
 
-// The reference in the field of what the register holds.
-pub(crate) fn loaded_reference(lists: &PlainLists, pid: Pid, base: Reg, field: u32) -> Option<Name>
+/// The reference in the field of what the register holds; null where the field is no reference, or there is none.
+pub fn loaded_reference(lists: &PlainLists, pid: Pid, base: Reg, field: u32) -> Option<Name>
     requires process { pid.0 < process_count lists.now.setup }
     requires base { base.0 < 16 }
     ensures { result ≡ loaded_reference lists.now.state pid.0 base.0 field }
@@ -129,8 +129,8 @@ fn loaded_number(lists: &PlainLists, pid: Pid, base: Reg, field: u32) -> u64
     }
 }
 
-// The root of the shared heap, where it is frozen.
-pub(crate) fn root_of(phase: Phase) -> Option<Name>
+/// The root of a shared heap of that phase, where it is frozen.
+pub fn root_of(phase: Phase) -> Option<Name>
     ensures { result ≡ root_of phase }
 {
     match phase {
@@ -148,9 +148,9 @@ fn next_name(lists: &PlainLists, heap: Heap) -> Name
     lists.next_name(lists.segment_of(heap))
 }
 
-// What the operation is answered where it is not refused.
+/// What the operation is answered where it is not refused.
 #[tactic(auto, using(std::proofs::lemmas::Bool::Decides::nat_tests), unfolding(k_types::specs::Replies::answer, k_types::specs::Steps::in_range))]
-fn answer(lists: &PlainLists, pid: Pid, op: &Op) -> Reply
+pub fn answer(lists: &PlainLists, pid: Pid, op: &Op) -> Reply
     requires process { pid.0 < process_count lists.now.setup }
     requires in_range { IsTrue (in_range lists.now.setup op.now) }
     requires room { HasRoom 1 lists.now.state }
