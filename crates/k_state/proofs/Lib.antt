@@ -1,0 +1,10 @@
+pub mod Changes
+pub mod Fields
+pub mod Openings
+pub mod Ordered
+pub mod Paths
+pub mod RoomLaws
+pub mod Rows
+pub mod Shapes
+pub mod Sums
+pub mod Uses

@@ -1,0 +1,45 @@
+-- The opening state has its shape.
+use Rattle.std.proofs.Common.{◌≡◌, ℕ, zero, suc, ◌+◌, ◌<◌, ◌≤◌, ◌^◌, lit≤, lit<, ap, length, map, replicate, get_or, slice_index_or, Option, None, List, [], ◌∷◌, arith, ◌∙◌, subst}
+use Rattle.std.proofs.lemmas.List.{length-replicate, get_or-replicate, length-map}
+use Rattle.std.specs.List.{AllByRecursion}
+use Rattle.k_types.specs.declared.names.Name.{Name}
+use Rattle.k_types.specs.declared.names.Phase.TheVariants.{Unmade}
+use Rattle.k_types.specs.declared.setup.LimitRow.{LimitRow}
+use Rattle.k_types.specs.Bounds.{maximum_below}
+use Rattle.k_types.specs.Known.{IsKnownPhase}
+use Rattle.k_types.specs.Limits.{max_of}
+use Rattle.k_types.specs.State.{opening}
+use Rattle.k_types.specs.Sound.{IsSized}
+use Rattle.k_types.specs.Trace.{Trace, process_count, segment_count}
+use Rattle.k_state.specs.Machines.{AreSetupRules, IsPlain}
+
+opening_is_sized : (setup : Trace) → IsSized setup (opening setup)
+opening_is_sized setup = record {
+  made = omega (arith, length-replicate {A = ℕ} (length setup.procs + setup.shared_heaps) 0);
+  registers = length-replicate (process_count setup) (replicate {A = Option Name} 16 None);
+  each = λ p known. ap length (get_or-replicate (process_count setup) p (replicate {A = Option Name} 16 None) [] known);
+  done = length-replicate {A = ℕ} (process_count setup) 0;
+  phases = length-replicate setup.shared_heaps _;
+  maxima = length-map setup.limits (λ (row : LimitRow). row.max);
+}
+
+unmade_known : (setup : Trace) (n : ℕ) → AllByRecursion (IsKnownPhase setup) (replicate n Unmade)
+unmade_known setup zero = tt
+unmade_known setup (suc n) = (tt, unmade_known setup n)
+
+small_maxima : (rows : List LimitRow) → ((m : ℕ) → m < length rows → max_of rows m < maximum_below) →
+    AllByRecursion (λ max. max < maximum_below) (map (λ (row : LimitRow). row.max) rows)
+small_maxima [] small = tt
+small_maxima (row ∷ rows) small = (small 0 (omega arith), small_maxima rows (λ m inside. small (suc m) (omega arith)))
+
+pub opening_is_plain : (setup : Trace) → AreSetupRules setup → IsPlain (record { setup = setup; state = opening setup })
+opening_is_plain setup rules = record {
+  setup = rules;
+  sized = opening_is_sized setup;
+  few = lit< tt;
+  few_exits = lit< tt;
+  ordered = tt;
+  declared = (record { ty = tt; seg = omega arith }, tt);
+  phases = unmade_known setup setup.shared_heaps;
+  maxima = small_maxima setup.limits rules.limits.small;
+}
