@@ -1,10 +1,12 @@
 pub mod Changes
 pub mod Fields
+pub mod Marked
 pub mod Openings
-pub mod Ordered
 pub mod Paths
+pub mod Placed
 pub mod RoomLaws
 pub mod Rows
 pub mod Shapes
 pub mod Sums
+pub mod Totals
 pub mod Uses

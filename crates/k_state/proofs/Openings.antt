@@ -1,15 +1,18 @@
 -- The opening state has its shape.
-use Rattle.std.proofs.Common.{◌≡◌, ℕ, zero, suc, ◌+◌, ◌<◌, ◌≤◌, ◌^◌, lit≤, lit<, ap, length, map, replicate, get_or, slice_index_or, Option, None, List, [], ◌∷◌, arith, ◌∙◌, subst}
+use Rattle.std.proofs.Common.{◌≡◌, ℕ, zero, suc, ◌+◌, ◌<◌, ◌≤◌, ◌^◌, lit≤, lit<, ap, length, map, replicate, get_or, slice_index_or, Option, None, List, [], ◌∷◌, arith, ◌∙◌, subst, false, inl, inr}
 use Rattle.std.proofs.lemmas.List.{length-replicate, get_or-replicate, length-map}
 use Rattle.std.specs.List.{AllByRecursion}
+use Rattle.std.proofs.lemmas.Bool.{false≢true, or_cases}
+use Rattle.k_types.specs.Names.{directory, name_eq}
+use Rattle.k_base.proofs.NameTests.{name_eq-true}
 use Rattle.k_types.specs.declared.names.Name.{Name}
 use Rattle.k_types.specs.declared.names.Phase.TheVariants.{Unmade}
 use Rattle.k_types.specs.declared.setup.LimitRow.{LimitRow}
 use Rattle.k_types.specs.Bounds.{maximum_below}
 use Rattle.k_types.specs.Known.{IsKnownPhase}
 use Rattle.k_types.specs.Limits.{max_of}
-use Rattle.k_types.specs.State.{opening}
-use Rattle.k_types.specs.Sound.{IsSized}
+use Rattle.k_types.specs.State.{Content, Refers, opening}
+use Rattle.k_types.specs.Sound.{AreNumbered, IsSized}
 use Rattle.k_types.specs.Trace.{Trace, process_count, segment_count}
 use Rattle.k_state.specs.Machines.{AreSetupRules, IsPlain}
 
@@ -32,14 +35,21 @@ small_maxima : (rows : List LimitRow) → ((m : ℕ) → m < length rows → max
 small_maxima [] small = tt
 small_maxima (row ∷ rows) small = (small 0 (omega arith), small_maxima rows (λ m inside. small (suc m) (omega arith)))
 
+opening_is_numbered : (setup : Trace) → AreNumbered (opening setup).objects (opening setup).made
+opening_is_numbered setup n there =
+    elim (or_cases (name_eq directory n) false there) [
+      | inl t ↦ let same = name_eq-true directory n t in rw (← same) (omega arith)
+      | inr t ↦ absurd (false≢true t)
+    ]
+
 pub opening_is_plain : (setup : Trace) → AreSetupRules setup → IsPlain (record { setup = setup; state = opening setup })
 opening_is_plain setup rules = record {
   setup = rules;
   sized = opening_is_sized setup;
   few = lit< tt;
   few_exits = lit< tt;
-  ordered = tt;
-  declared = (record { ty = tt; seg = omega arith }, tt);
+  names = record { ordered = tt; numbered = opening_is_numbered setup };
+  declared = (record { ty = tt; fields = let long = length-replicate {A = Content} setup.dir_fields (Refers None) in let few = rules.directory in omega arith; seg = omega arith }, tt);
   phases = unmade_known setup setup.shared_heaps;
   maxima = small_maxima setup.limits rules.limits.small;
 }

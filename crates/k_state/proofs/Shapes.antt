@@ -1,5 +1,5 @@
 -- What holds of each element of a list.
-use Rattle.std.proofs.Common.{◌≡◌, refl, subst, ℕ, zero, suc, cond, Bool, true, false, List, [], ◌∷◌, ◌++◌, map, insert, find, slice_get, Option, Some, None, arith}
+use Rattle.std.proofs.Common.{◌≡◌, refl, subst, ℕ, zero, suc, ◌<◌, length, get_or, cond, Bool, true, false, List, [], ◌∷◌, ◌++◌, map, insert, find, slice_get, Option, Some, None, arith}
 use Rattle.std.specs.List.{AllByRecursion}
 use Rattle.k_types.specs.declared.names.Name.{Name}
 use Rattle.k_types.specs.declared.names.Phase.{Phase}
@@ -29,3 +29,9 @@ all_found P test (y ∷ ys) x all found = go (test y) (all_found P test ys x all
 -- the phase that is found is known
 pub phase_known : (setup : Trace) (phases : List Phase) (i : ℕ) (phase : Phase) → AllByRecursion (IsKnownPhase setup) phases → slice_get phases i ≡ Some phase → IsKnownPhase setup phase
 phase_known setup phases i phase all found = all_got (IsKnownPhase setup) phases i phase all found
+
+-- what holds of each element holds of the one of that index
+pub all_at_index : {A : Type 0} (P : A → Type 0) (xs : List A) (i : ℕ) (d : A) → AllByRecursion P xs → i < length xs → P (get_or xs i d)
+all_at_index P [] i d all inside = absurd (omega arith)
+all_at_index P (x ∷ xs) zero d all inside = all.0
+all_at_index P (x ∷ xs) (suc i) d all inside = all_at_index P xs i d all.1 (omega arith)

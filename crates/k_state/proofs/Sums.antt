@@ -3,14 +3,11 @@ use Rattle.std.proofs.Common.{◌≡◌, ℕ, zero, suc, ◌+◌, ◌-◌, ◌<�
 use Rattle.std.proofs.lemmas.List.{drop_more, at_drop_all}
 use Rattle.std.proofs.lemmas.Grind.{common_steps}
 use Rattle.k_types.specs.Totals.{total}
-use Rattle.k_types.specs.declared.names.Heap.{Heap}
-use Rattle.k_types.specs.Names.{heap_eq}
-use Rattle.k_types.specs.State.{Object}
-use Rattle.k_types.specs.Owners.{bytes_by, object_bytes}
 use Rattle.k_types.specs.Numbers.{numbers_from, numbers_below}
 
-total-filter : {A : Type 0} (f : A → ℕ) (g : A → Bool) (x : A) (xs : List A) → total f (filter g (x ∷ xs)) ≡ cond (g x) (f x) 0 + total f (filter g xs)
-total-filter f g x xs =
+-- what one element adds
+pub total_filter : {A : Type 0} (f : A → ℕ) (g : A → Bool) (x : A) (xs : List A) → total f (filter g (x ∷ xs)) ≡ cond (g x) (f x) 0 + total f (filter g xs)
+total_filter f g x xs =
     elim (g x) as (λ b. total f (cond b (x ∷ filter g xs) (filter g xs)) ≡ cond b (f x) 0 + total f (filter g xs)) [
       | true ↦ refl
       | false ↦ omega arith
@@ -19,7 +16,7 @@ total-filter f g x xs =
 -- what is left to add of a list
 pub sum_left : {A : Type 0} (f : A → ℕ) (g : A → Bool) (xs : List A) (i : ℕ) (d : A) → i < length xs →
     total f (filter g (drop i xs)) ≡ cond (g (get_or xs i d)) (f (get_or xs i d)) 0 + total f (filter g (drop (i + 1) xs))
-sum_left f g xs i d inside = ap (λ ys. total f (filter g ys)) (drop_more xs i d inside) ∙ total-filter f g (get_or xs i d) (drop (i + 1) xs)
+sum_left f g xs i d inside = ap (λ ys. total f (filter g ys)) (drop_more xs i d inside) ∙ total_filter f g (get_or xs i d) (drop (i + 1) xs)
 
 pub sum_over : {A : Type 0} (f : A → ℕ) (g : A → Bool) (xs : List A) (i : ℕ) → length xs ≤ i → total f (filter g (drop i xs)) ≡ 0
 sum_over f g xs i past = at_drop_all (λ ys. total f (filter g ys)) xs i past
@@ -34,21 +31,9 @@ numbers_left i n inside =
 pub numbers_sum_left : (f : ℕ → ℕ) (g : ℕ → Bool) (i n : ℕ) → i < n →
     total f (filter g (numbers_from i (n - i))) ≡ cond (g i) (f i) 0 + total f (filter g (numbers_from (i + 1) (n - (i + 1))))
 numbers_sum_left f g i n inside =
-    ap (λ ys. total f (filter g ys)) (numbers_left i n inside) ∙ total-filter f g i (numbers_from (i + 1) (n - (i + 1)))
+    ap (λ ys. total f (filter g ys)) (numbers_left i n inside) ∙ total_filter f g i (numbers_from (i + 1) (n - (i + 1)))
 
 pub numbers_sum_over : (f : ℕ → ℕ) (g : ℕ → Bool) (i n : ℕ) → n ≤ i → total f (filter g (numbers_from i (n - i))) ≡ 0
 numbers_sum_over f g i n past =
     let none : n - i ≡ 0 = omega arith in
     ap (λ k. total f (filter g (numbers_from i k))) none
-
--- what is left to add of the bytes of a heap
-pub bytes_next : (own : ℕ → Heap) (h : Heap) (objects : List Object) (i : ℕ) (o : Object) → i < length objects → o ≡ get_or objects i o →
-    bytes_by own h (drop i objects) ≡ cond (heap_eq (own o.name.seg.0) h) (object_bytes o) 0 + bytes_by own h (drop (i + 1) objects)
-unfolding bytes_by
-bytes_next own h objects i o inside is =
-    sum_left object_bytes (λ (x : Object). heap_eq (own x.name.seg.0) h) objects i o inside
-    ∙ ap (λ (x : Object). cond (heap_eq (own x.name.seg.0) h) (object_bytes x) 0 + total object_bytes (filter (λ (y : Object). heap_eq (own y.name.seg.0) h) (drop (i + 1) objects))) (sym is)
-
-pub bytes_end : (own : ℕ → Heap) (h : Heap) (objects : List Object) (i : ℕ) → length objects ≤ i → bytes_by own h (drop i objects) ≡ 0
-unfolding bytes_by
-bytes_end own h objects i past = sum_over object_bytes (λ (x : Object). heap_eq (own x.name.seg.0) h) objects i past

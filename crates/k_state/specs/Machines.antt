@@ -4,11 +4,11 @@ use Rattle.k_types.specs.Totals.{total}
 use Rattle.k_types.specs.Trace.{Trace, process_count, segment_count}
 use Rattle.k_types.specs.Types.{HaveFewFields}
 use Rattle.k_types.specs.TraceRules.{AreLimits}
-use Rattle.k_types.specs.Bounds.{maximum_below}
+use Rattle.k_types.specs.Bounds.{maximum_below, most_fields}
 use Rattle.std.specs.List.{AllByRecursion}
 use Rattle.k_types.specs.Owners.{object_bytes}
 use Rattle.k_types.specs.State.{Object, State}
-use Rattle.k_types.specs.Sound.{IsOrdered, IsSized}
+use Rattle.k_types.specs.Sound.{AreNames, IsSized}
 use Rattle.k_types.specs.Known.{IsKnownPhase}
 
 -- What a trace says before its operations, and a state.
@@ -30,20 +30,21 @@ pub record AreSetupRules (setup : Trace) : Type 0 where
   pub shared : setup.shared_heaps ≤ 64
   pub limits : AreLimits setup
 
--- The type of the object is one of the setup's, and so is its segment. The directory has no type.
+-- The type of the object is one of the setup's, and so is its segment, and its fields are few. The directory has no type.
 pub record IsDeclared (setup : Trace) (o : Object) : Type 0 where
   pub ty : IfSome o.ty (λ ty. ty.0 < length setup.types)
+  pub fields : length o.fields ≤ most_fields
   pub seg : o.name.seg.0 < segment_count setup
 
 -- The setup keeps the rules, the lists are as long as it says, objects and exit items are no more than numbers of 32 bits,
--- objects stand in the order of their names, types, segments and phases are such as the setup declares, and each maximum is
+-- objects stand in the order of their names, which their segments have given, types, segments and phases are such as the setup declares, and each maximum is
 -- small.
 pub record IsPlain (machine : Machine) : Type 0 where
   pub setup : AreSetupRules machine.setup
   pub sized : IsSized machine.setup machine.state
   pub few : length machine.state.objects < 2 ^ 32
   pub few_exits : length machine.state.exits < 2 ^ 32
-  pub ordered : IsOrdered machine.state.objects
+  pub names : AreNames machine.state.objects machine.state.made
   pub declared : AllByRecursion (IsDeclared machine.setup) machine.state.objects
   pub phases : AllByRecursion (IsKnownPhase machine.setup) machine.state.phases
   pub maxima : AllByRecursion (λ max. max < maximum_below) machine.state.maxima
@@ -60,4 +61,4 @@ AreTotals objects totals = (seg : ℕ) → seg < length totals → slice_index_o
 pub record IsKept (machine : Machine) (totals : List ℕ) : Type 0 where
   pub plain : IsPlain machine
   pub counted : length totals ≡ segment_count machine.setup
-  pub totals : AreTotals machine.state.objects totals
+  pub bytes : AreTotals machine.state.objects totals

@@ -1,19 +1,17 @@
 //! Where a name stands among the objects in order, by halving.
-ghost use Rattle.std.specs.Prelude.{◌≡◌, ◌≤◌, IfNone, IfSome, IsFalse, length, option_copied, insert};
-ghost use Rattle.k_state.specs.Places.{IsNamedAt};
+ghost use Rattle.std.specs.Prelude.{◌≡◌, IfNone, IfSome, IsFalse, option_copied};
+ghost use Rattle.k_state.specs.Places.{IsNamedAt, IsPlace};
 ghost use Rattle.k_types.specs.Sound.{IsOrdered};
-ghost use Rattle.k_types.specs.State.{Object, has, object_at};
-ghost use Rattle.k_types.specs.Updates.{with_object};
+ghost use Rattle.k_types.specs.State.{has, object_at};
 
 use crate::names::{is_before, is_same_name};
 use crate::objects::PlainObject;
 use k_types::Name;
 
-// The place of an object of that name among the objects in order: as many as come before it.
+// The place of an object of that name among the objects in order: how many come before it.
 pub(crate) fn place_of(objects: &[PlainObject], name: Name) -> usize
     requires { IsOrdered objects.now }
-    ensures within { result ≤ length objects.now }
-    ensures place { (o : Object) → o.name ≡ name → with_object o objects.now ≡ insert objects.now result o }
+    ensures { IsPlace objects.now name result }
 {
     let mut low = 0;
     let mut high = objects.len();

@@ -29,7 +29,7 @@ loop-c-preserved t c =
     let inside : k < length rows = omega arith in
     let next = uses_next rows direct (c.args.depth - 1) c.args.limit k inside in
     let row = c.row-row.result in
-    let is : row ≡ row_of rows k = c.row-row.ensures in
+    let is : row ≡ row_of rows k = c.row-row.ensures.row in
     let deeper = use_within rows direct (c.args.depth - 1) k in
     let child : child_use rows direct (c.args.depth - 1) k ≡ cond row.hard row.max deeper
     = ap (λ (r : LimitRow). cond r.hard r.max deeper) (sym is) in

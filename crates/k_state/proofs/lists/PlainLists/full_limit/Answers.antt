@@ -25,39 +25,39 @@ loop-init c =
     let shown = ap (λ (n : Machine). length n.setup.limits) c.self.view_is in
     let all : c.len-end.result ≡ length rows = omega arith in
     let begin : c.len-end.result - 0 ≡ length rows = omega arith in
-    record { known = c.requires.limit; all = all; found = ap (λ n. find (is_full m c.args.size) (path_within rows n c.args.limit)) begin }
+    record { known = c.requires.limit; all = all; found = ap (λ n. find (is_full m c.args.size) (path_within rows n c.args.limit.0)) begin }
 
 pub returns-then-is_full : goal.returns-then-is_full
 returns-then-is_full c =
     let m = c.args.self.now in
-    let test = tested m c.args.size c.loop.at c.row-row.result c.is_full.result c.row-row.ensures (c.is_full.ensures (use_of m.setup m.state c.loop.at) c.use_capped.ensures) in
-    sym (path_here (limits_in m.setup m.state) (is_full m c.args.size) (c.len-end.result - c.loop.counter) c.loop.at (omega arith) (test ∙ c.if-is_full.true))
+    let test = tested m c.args.size c.loop.at.0 c.row-row.result c.is_full.result c.row-row.ensures.row (c.is_full.ensures (use_of m.setup m.state c.loop.at.0) c.use_of.ensures) in
+    sym (path_here (limits_in m.setup m.state) (is_full m c.args.size) (c.len-end.result - c.loop.counter) c.loop.at.0 (omega arith) (test ∙ c.if-is_full.true))
     ∙ c.loop.invariant.found
 
 pub returns-then-row : goal.returns-then-row
 returns-then-row c =
     let m = c.args.self.now in
-    let test = tested m c.args.size c.loop.at c.row-row.result c.is_full.result c.row-row.ensures (c.is_full.ensures (use_of m.setup m.state c.loop.at) c.use_capped.ensures) in
-    sym (path_hard (limits_in m.setup m.state) (is_full m c.args.size) (c.len-end.result - c.loop.counter) c.loop.at c.row-row.result (omega arith) (test ∙ c.if-is_full.false) c.row-row.ensures c.if-row.true)
+    let test = tested m c.args.size c.loop.at.0 c.row-row.result c.is_full.result c.row-row.ensures.row (c.is_full.ensures (use_of m.setup m.state c.loop.at.0) c.use_of.ensures) in
+    sym (path_hard (limits_in m.setup m.state) (is_full m c.args.size) (c.len-end.result - c.loop.counter) c.loop.at.0 c.row-row.result (omega arith) (test ∙ c.if-is_full.false) c.row-row.ensures.row c.if-row.true)
     ∙ c.loop.invariant.found
 
 pub returns-in-None : goal.returns-in-None
 returns-in-None c =
     let m = c.args.self.now in
-    let test = tested m c.args.size c.loop.at c.row-row.result c.is_full.result c.row-row.ensures (c.is_full.ensures (use_of m.setup m.state c.loop.at) c.use_capped.ensures) in
-    sym (path_root (limits_in m.setup m.state) (is_full m c.args.size) (c.len-end.result - c.loop.counter) c.loop.at c.row-row.result (omega arith) (test ∙ c.if-is_full.false) c.row-row.ensures c.in-None.is)
+    let test = tested m c.args.size c.loop.at.0 c.row-row.result c.is_full.result c.row-row.ensures.row (c.is_full.ensures (use_of m.setup m.state c.loop.at.0) c.use_of.ensures) in
+    sym (path_root (limits_in m.setup m.state) (is_full m c.args.size) (c.len-end.result - c.loop.counter) c.loop.at.0 c.row-row.result (omega arith) (test ∙ c.if-is_full.false) c.row-row.ensures.row c.in-None.is)
     ∙ c.loop.invariant.found
 
 pub loop-preserved : goal.loop-preserved
 loop-preserved c =
     let m = c.args.self.now in
     let rows = limits_in m.setup m.state in
-    let plain : IsPlain m = subst IsPlain c.self.view_is c.self.invariant in
-    let test = tested m c.args.size c.loop.at c.row-row.result c.is_full.result c.row-row.ensures (c.is_full.ensures (use_of m.setup m.state c.loop.at) c.use_capped.ensures) in
-    let up = path_up rows (is_full m c.args.size) (c.len-end.result - c.loop.counter) c.loop.at c.row-row.result c.in-Some.parent (omega arith) (test ∙ c.if-is_full.false) c.row-row.ensures c.if-row.false c.in-Some.is in
+    let plain : IsPlain m = subst IsPlain c.self.view_is c.self.invariant.plain in
+    let test = tested m c.args.size c.loop.at.0 c.row-row.result c.is_full.result c.row-row.ensures.row (c.is_full.ensures (use_of m.setup m.state c.loop.at.0) c.use_of.ensures) in
+    let up = path_up rows (is_full m c.args.size) (c.len-end.result - c.loop.counter) c.loop.at.0 c.row-row.result c.in-Some.parent (omega arith) (test ∙ c.if-is_full.false) c.row-row.ensures.row c.if-row.false c.in-Some.is in
     let next : c.len-end.result - (c.loop.counter + 1) ≡ c.len-end.result - c.loop.counter - 1 = omega arith in
     record {
-      known = parent_known m.setup.limits m.state.maxima c.loop.at c.row-row.result c.in-Some.parent plain.setup.limits.tree c.loop.invariant.known plain.sized.maxima c.row-row.ensures c.in-Some.is;
+      known = parent_known m.setup.limits m.state.maxima c.loop.at.0 c.row-row.result c.in-Some.parent plain.setup.limits.tree c.loop.invariant.known plain.sized.maxima c.row-row.ensures.row c.in-Some.is;
       all = c.loop.invariant.all;
       found = ap (λ n. find (is_full m c.args.size) (path_within rows n c.in-Some.parent.0)) next ∙ sym up ∙ c.loop.invariant.found;
     }
@@ -66,4 +66,4 @@ pub returns : goal.returns
 returns c =
     let m = c.args.self.now in
     let none : c.len-end.result - c.loop.counter ≡ 0 = omega arith in
-    sym (path_none (limits_in m.setup m.state) (is_full m c.args.size) (c.len-end.result - c.loop.counter) c.loop.at none) ∙ c.loop.invariant.found
+    sym (path_none (limits_in m.setup m.state) (is_full m c.args.size) (c.len-end.result - c.loop.counter) c.loop.at.0 none) ∙ c.loop.invariant.found

@@ -4,8 +4,8 @@ use Rattle.k_state.proofs.lists.PlainLists.full_limit.Given as goal
 
 abbrev pub invariant-loop : goal.invariant-loop
 invariant-loop l = record {
-  known : l.at < length l.self.setup.limits;
+  known : l.at.0 < length l.self.setup.limits;
   all : l.end ≡ length (limits_in l.self.setup l.self.state);
-  found : find (λ q. nat_lt (max_of (limits_in l.self.setup l.self.state) q) (use_of l.self.setup l.self.state q + l.size)) (path_within (limits_in l.self.setup l.self.state) (l.end - l.counter) l.at)
-      ≡ full_limit l.self.setup l.self.state l.limit l.size;
+  found : find (λ q. nat_lt (max_of (limits_in l.self.setup l.self.state) q) (use_of l.self.setup l.self.state q + l.size)) (path_within (limits_in l.self.setup l.self.state) (l.end - l.counter) l.at.0)
+      ≡ full_limit l.self.setup l.self.state l.fn.limit.0 l.size;
 }

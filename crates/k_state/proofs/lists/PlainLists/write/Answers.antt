@@ -6,7 +6,7 @@ use Rattle.k_types.specs.Updates.{object_after_write, write}
 use Rattle.k_state.specs.Contents.{content}
 use Rattle.k_state.specs.Machines.{Machine}
 use Rattle.k_state.specs.Places.{IsNamedAt}
-use Rattle.k_state.proofs.Ordered.{written_none, written_once}
+use Rattle.k_state.proofs.Placed.{written_none, written_once}
 use Rattle.k_state.proofs.lists.PlainLists.write.Goals as goal
 
 pub returns-in-Some-clause-state : goal.returns-in-Some-clause-state
