@@ -1,5 +1,7 @@
 pub mod Changes
 pub mod Fields
+pub mod Heaps
+pub mod Kept
 pub mod Marked
 pub mod Openings
 pub mod Paths
@@ -10,3 +12,4 @@ pub mod Shapes
 pub mod Sums
 pub mod Totals
 pub mod Uses
+pub mod Views

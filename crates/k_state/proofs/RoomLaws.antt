@@ -1,5 +1,5 @@
 -- Room after a step.
-use Rattle.std.proofs.Common.{◌≡◌, ℕ, suc, ◌+◌, ◌<◌, ◌≤◌, ◌^◌, not, Bool, true, false, cond, refl, ap, inl, inr, List, [], ◌∷◌, ◌++◌, length, length-append, map, filter, filter_map, get_or, set, Option, Some, None, arith}
+use Rattle.std.proofs.Common.{◌≡◌, ℕ, suc, ◌+◌, ◌<◌, ◌≤◌, ◌^◌, ◌==◌, not, Bool, true, false, cond, refl, ap, inl, inr, List, [], ◌∷◌, ◌++◌, length, length-append, map, filter, filter_map, get_or, set, Option, Some, None, arith}
 use Rattle.std.proofs.lemmas.List.{length-map}
 use Rattle.std.proofs.lemmas.List.Filters.{length-filter_both}
 use Rattle.k_types.specs.declared.names.Heap.{Heap}
@@ -16,9 +16,9 @@ use Rattle.k_types.specs.Effects.{step, effect, effect_unless, after_new, after_
 use Rattle.k_types.specs.Names.{heap_eq, name_lt}
 use Rattle.k_types.specs.Owners.{owner_of}
 use Rattle.k_types.specs.Replies.{faults, first_fault}
-use Rattle.k_types.specs.State.{State, Object, Content, ExitItem, Sharing, Refers, Holds, has_exit, has_share, register}
-use Rattle.k_types.specs.Trace.{Trace}
-use Rattle.k_types.specs.Updates.{count_done, set_register, create, with_object, with_exit, write, object_after_write, add_exit, open_scan, set_phase, add_share, keep_objects, keep_exits, keep_shares, close_scan, clear_registers, end_process, turn_exits, close}
+use Rattle.k_types.specs.State.{State, Object, Content, Refers, Holds, fresh, has_exit, has_share}
+use Rattle.k_types.specs.Trace.{Trace, kinds_of}
+use Rattle.k_types.specs.Updates.{next_name, count_done, set_register, create, with_object, with_exit, write, object_after_write, add_exit, open_scan, set_phase, add_share, keep_objects, keep_exits, keep_shares, close_scan, clear_registers, end_process, turn_exits, close}
 use Rattle.k_base.proofs.Lists.{get_or-set_cases}
 use Rattle.k_state.specs.Rooms.{HasRoom}
 
@@ -85,7 +85,7 @@ module _ (trace : Trace) (st : State) (p : ℕ) where
   new_next : (r at : ℕ) (ty : TypeId) → IsNext st (after_new trace p r at ty st)
   unfolding set_register create
   new_next r at ty = record {
-    objects = omega (arith, placed_length _ st.objects);
+    objects = omega (arith, placed_length (record { name = next_name at st; ty = Some ty; fields = map fresh (kinds_of trace ty) }) st.objects);
     exits = omega arith;
     shares = omega arith;
     ended = omega arith;

@@ -25,28 +25,37 @@ loop-init c =
     let shown = ap (λ (n : Machine). length n.setup.limits) c.self.view_is in
     let all : c.len-end.result ≡ length rows = omega arith in
     let begin : c.len-end.result - 0 ≡ length rows = omega arith in
-    record { known = c.requires.limit; all = all; found = ap (λ n. find (is_full m c.args.size) (path_within rows n c.args.limit.0)) begin }
+    record { known = c.requires; all = all; found = ap (λ n. find (is_full m c.args.size) (path_within rows n c.args.limit.0)) begin }
 
 pub returns-then-is_full : goal.returns-then-is_full
 returns-then-is_full c =
     let m = c.args.self.now in
     let test = tested m c.args.size c.loop.at.0 c.row-row.result c.is_full.result c.row-row.ensures.row (c.is_full.ensures (use_of m.setup m.state c.loop.at.0) c.use_of.ensures) in
-    sym (path_here (limits_in m.setup m.state) (is_full m c.args.size) (c.len-end.result - c.loop.counter) c.loop.at.0 (omega arith) (test ∙ c.if-is_full.true))
-    ∙ c.loop.invariant.found
+    record {
+      full = sym (path_here (limits_in m.setup m.state) (is_full m c.args.size) (c.len-end.result - c.loop.counter) c.loop.at.0 (omega arith) (test ∙ c.if-is_full.true))
+          ∙ c.loop.invariant.found;
+      known = c.loop.invariant.known;
+    }
 
 pub returns-then-row : goal.returns-then-row
 returns-then-row c =
     let m = c.args.self.now in
     let test = tested m c.args.size c.loop.at.0 c.row-row.result c.is_full.result c.row-row.ensures.row (c.is_full.ensures (use_of m.setup m.state c.loop.at.0) c.use_of.ensures) in
-    sym (path_hard (limits_in m.setup m.state) (is_full m c.args.size) (c.len-end.result - c.loop.counter) c.loop.at.0 c.row-row.result (omega arith) (test ∙ c.if-is_full.false) c.row-row.ensures.row c.if-row.true)
-    ∙ c.loop.invariant.found
+    record {
+      full = sym (path_hard (limits_in m.setup m.state) (is_full m c.args.size) (c.len-end.result - c.loop.counter) c.loop.at.0 c.row-row.result (omega arith) (test ∙ c.if-is_full.false) c.row-row.ensures.row c.if-row.true)
+          ∙ c.loop.invariant.found;
+      known = tt;
+    }
 
 pub returns-in-None : goal.returns-in-None
 returns-in-None c =
     let m = c.args.self.now in
     let test = tested m c.args.size c.loop.at.0 c.row-row.result c.is_full.result c.row-row.ensures.row (c.is_full.ensures (use_of m.setup m.state c.loop.at.0) c.use_of.ensures) in
-    sym (path_root (limits_in m.setup m.state) (is_full m c.args.size) (c.len-end.result - c.loop.counter) c.loop.at.0 c.row-row.result (omega arith) (test ∙ c.if-is_full.false) c.row-row.ensures.row c.in-None.is)
-    ∙ c.loop.invariant.found
+    record {
+      full = sym (path_root (limits_in m.setup m.state) (is_full m c.args.size) (c.len-end.result - c.loop.counter) c.loop.at.0 c.row-row.result (omega arith) (test ∙ c.if-is_full.false) c.row-row.ensures.row c.in-None.is)
+          ∙ c.loop.invariant.found;
+      known = tt;
+    }
 
 pub loop-preserved : goal.loop-preserved
 loop-preserved c =
@@ -66,4 +75,7 @@ pub returns : goal.returns
 returns c =
     let m = c.args.self.now in
     let none : c.len-end.result - c.loop.counter ≡ 0 = omega arith in
-    sym (path_none (limits_in m.setup m.state) (is_full m c.args.size) (c.len-end.result - c.loop.counter) c.loop.at.0 none) ∙ c.loop.invariant.found
+    record {
+      full = sym (path_none (limits_in m.setup m.state) (is_full m c.args.size) (c.len-end.result - c.loop.counter) c.loop.at.0 none) ∙ c.loop.invariant.found;
+      known = tt;
+    }

@@ -17,7 +17,7 @@ returns-in-Some-clause-state c =
     let x = c.args.x in
     let held = content c.args.value in
     let d : Object = c.index_mut-object.result.now in
-    let ordered : IsOrdered objects = subst (λ (m : Machine). IsOrdered m.state.objects) (sym c.self.view_is) c.requires in
+    let ordered : IsOrdered objects = c.self.invariant.plain.names.ordered in
     let named : IsNamedAt objects c.in-Some.k x = subst (λ (xs : List Object). IsNamedAt xs c.in-Some.k x) c.deref.ensures.value c.in-Some.ensures.some in
     let wrote : c.write.new.self ≡ object_after_write x c.args.field held (get_or objects c.in-Some.k d)
     = c.write.ensures ∙ ap (object_after_write x c.args.field held) c.index_mut-object.ensures.value in
