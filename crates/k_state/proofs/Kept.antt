@@ -1,5 +1,5 @@
 -- The shape of the lists after a change.
-use Rattle.std.proofs.Common.{◌≡◌, ℕ, suc, ◌+◌, ◌*◌, ◌<◌, ◌≤◌, ◌^◌, true, false, cond, refl, ap, sym, ◌∙◌, inl, inr, Bool, List, [], ◌∷◌, length, length-set, map, get_or, get_or-set_same, set, Option, Some, None, arith}
+use Rattle.std.proofs.Common.{◌≡◌, ℕ, suc, ◌+◌, ◌*◌, ◌<◌, ◌≤◌, ◌^◌, true, false, cond, refl, ap, sym, ◌∙◌, inl, inr, Bool, List, [], ◌∷◌, length, length-set, map, get_or, get_or-set_same, set, Option, Some, None, subst, arith}
 use Rattle.std.specs.Prelude.{IsTrue, IsFalse}
 use Rattle.std.proofs.lemmas.Bool.{false_from_ne_true, or_cases}
 use Rattle.std.proofs.lemmas.List.{length-map}
@@ -71,9 +71,9 @@ kept_objects m totals totals' objects made kept few names declared long same are
   bytes = are;
 }
 
-pub kept_marked : (m : Machine) (totals totals' : List ℕ) (marks : List Bool) → IsKept m totals → length totals' ≡ length totals →
+marked_kept : (m : Machine) (totals totals' : List ℕ) (marks : List Bool) → IsKept m totals → length totals' ≡ length totals →
     AreTotals (marked marks m.state.objects) totals' → IsKept (record m { state = record m.state { objects = marked marks m.state.objects } }) totals'
-kept_marked m totals totals' marks kept same are =
+marked_kept m totals totals' marks kept same are =
     let xs = m.state.objects in
     kept_objects m totals totals' (marked marks xs) m.state.made kept
     (omega (arith, length_marked marks xs, kept.plain.few))
@@ -82,6 +82,13 @@ kept_marked m totals totals' marks kept same are =
       numbered = λ n there. kept.plain.names.numbered n (has_marked marks xs n there);
     })
     (all_marked (IsDeclared m.setup) marks xs kept.plain.declared) refl same are
+
+pub kept_marked : (m : Machine) (totals totals' : List ℕ) (objects : List Object) (marks : List Bool) → IsKept m totals →
+    objects ≡ marked marks m.state.objects → length totals' ≡ length totals → AreTotals objects totals' →
+    IsKept (record m { state = record m.state { objects = objects } }) totals'
+kept_marked m totals totals' objects marks kept is same are =
+    subst (λ xs. IsKept (record m { state = record m.state { objects = xs } }) totals') (sym is)
+    (marked_kept m totals totals' marks kept same (subst (λ xs. AreTotals xs totals') is are))
 
 written_declared : (setup : Trace) (n : Name) (i : ℕ) (c : Content) (o : Object) → IsDeclared setup o → IsDeclared setup (object_after_write n i c o)
 written_declared setup n i c o is =
@@ -95,9 +102,9 @@ declared_written : (setup : Trace) (n : Name) (i : ℕ) (c : Content) (xs : List
 declared_written setup n i c [] all = tt
 declared_written setup n i c (x ∷ xs) all = (written_declared setup n i c x all.0, declared_written setup n i c xs all.1)
 
-pub kept_written : (m : Machine) (totals : List ℕ) (n : Name) (i : ℕ) (c : Content) → IsKept m totals →
+written_kept : (m : Machine) (totals : List ℕ) (n : Name) (i : ℕ) (c : Content) → IsKept m totals →
     IsKept (record m { state = record m.state { objects = map (object_after_write n i c) m.state.objects } }) totals
-kept_written m totals n i c kept =
+written_kept m totals n i c kept =
     let xs = m.state.objects in
     kept_objects m totals totals (map (object_after_write n i c) xs) m.state.made kept
     (omega (arith, length-map xs (object_after_write n i c), kept.plain.few))
@@ -106,6 +113,11 @@ kept_written m totals n i c kept =
       numbered = λ y there. kept.plain.names.numbered y (sym (has-written n i c xs y) ∙ there);
     })
     (declared_written m.setup n i c xs kept.plain.declared) refl refl (totals_written n i c xs totals kept.bytes)
+
+pub kept_written : (m : Machine) (totals : List ℕ) (objects : List Object) (n : Name) (i : ℕ) (c : Content) → IsKept m totals →
+    objects ≡ map (object_after_write n i c) m.state.objects → IsKept (record m { state = record m.state { objects = objects } }) totals
+kept_written m totals objects n i c kept is =
+    subst (λ xs. IsKept (record m { state = record m.state { objects = xs } }) totals) (sym is) (written_kept m totals n i c kept)
 
 declared_placed : (setup : Trace) (o : Object) (xs : List Object) → IsDeclared setup o → AllByRecursion (IsDeclared setup) xs →
     AllByRecursion (IsDeclared setup) (with_object o xs)
@@ -148,7 +160,7 @@ numbered_placed o xs made numbered inside next n there =
           ]
     ]
 
-pub kept_placed : (m : Machine) (totals : List ℕ) (o : Object) (n : ℕ) → IsKept m totals → 1 + length m.state.objects < 2 ^ 32 → IsDeclared m.setup o →
+placed_kept : (m : Machine) (totals : List ℕ) (o : Object) (n : ℕ) → IsKept m totals → 1 + length m.state.objects < 2 ^ 32 → IsDeclared m.setup o →
     o.name.serial.0 ≡ get_or m.state.made o.name.seg.0 0 + 1 → n ≡ get_or totals o.name.seg.0 0 →
     IsKept (record m {
       state = record m.state {
@@ -156,7 +168,7 @@ pub kept_placed : (m : Machine) (totals : List ℕ) (o : Object) (n : ℕ) → I
         made = set m.state.made o.name.seg.0 (get_or m.state.made o.name.seg.0 0 + 1);
       };
     }) (set totals o.name.seg.0 (n + object_bytes o))
-kept_placed m totals o n kept room is next total =
+placed_kept m totals o n kept room is next total =
     let xs = m.state.objects in
     let made = m.state.made in
     let seg = o.name.seg.0 in
@@ -170,3 +182,15 @@ kept_placed m totals o n kept room is next total =
     (length-set made seg (get_or made seg 0 + 1))
     (length-set totals seg (n + object_bytes o))
     (totals_placed o xs totals n kept.bytes total)
+
+pub kept_placed : (m : Machine) (totals totals' : List ℕ) (o : Object) (objects : List Object) (made : List ℕ) (n : ℕ) → IsKept m totals →
+    1 + length m.state.objects < 2 ^ 32 → IsDeclared m.setup o → o.name.serial.0 ≡ get_or m.state.made o.name.seg.0 0 + 1 →
+    n ≡ get_or totals o.name.seg.0 0 → objects ≡ with_object o m.state.objects →
+    made ≡ set m.state.made o.name.seg.0 (get_or m.state.made o.name.seg.0 0 + 1) → totals' ≡ set totals o.name.seg.0 (n + object_bytes o) →
+    IsKept (record m { state = record m.state { objects = objects; made = made } }) totals'
+kept_placed m totals totals' o objects made n kept room is next total objects_are made_are totals_are =
+    let goal : List Object → List ℕ → List ℕ → Type 0 = λ xs ks ts. IsKept (record m { state = record m.state { objects = xs; made = ks } }) ts in
+    subst (λ xs. goal xs made totals') (sym objects_are)
+    (subst (λ ks. goal (with_object o m.state.objects) ks totals') (sym made_are)
+    (subst (λ ts. goal (with_object o m.state.objects) (set m.state.made o.name.seg.0 (get_or m.state.made o.name.seg.0 0 + 1)) ts) (sym totals_are)
+    (placed_kept m totals o n kept room is next total)))

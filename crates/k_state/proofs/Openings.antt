@@ -14,7 +14,7 @@ use Rattle.k_types.specs.Limits.{max_of}
 use Rattle.k_types.specs.State.{Content, Refers, opening}
 use Rattle.k_types.specs.Sound.{AreNumbered, IsSized}
 use Rattle.k_types.specs.Trace.{Trace, process_count, segment_count}
-use Rattle.k_state.specs.Machines.{AreSetupRules, IsPlain}
+use Rattle.k_state.specs.Machines.{AreSetupRules, AreTotals, IsKept, IsPlain}
 
 opening_is_sized : (setup : Trace) → IsSized setup (opening setup)
 opening_is_sized setup = record {
@@ -53,3 +53,8 @@ opening_is_plain setup rules = record {
   phases = unmade_known setup setup.shared_heaps;
   maxima = small_maxima setup.limits rules.limits.small;
 }
+
+-- with the total of the directory beside
+pub opening_is_kept : (setup : Trace) (totals : List ℕ) → AreSetupRules setup → length totals ≡ segment_count setup → AreTotals (opening setup).objects totals →
+    IsKept (record { setup = setup; state = opening setup }) totals
+opening_is_kept setup totals rules counted are = record { plain = opening_is_plain setup rules; counted = counted; bytes = are }

@@ -1,5 +1,5 @@
 -- The bytes of segments, and of heaps by their segments.
-use Rattle.std.proofs.Common.{◌≡◌, ℕ, zero, suc, ◌+◌, ◌*◌, ◌-◌, ◌<◌, ◌≤◌, ◌==◌, ◌&&◌, nat_lt, Bool, true, false, cond, refl, ap, ap₂, sym, ◌∙◌, inl, inr, List, [], ◌∷◌, length, map, filter, take, get_or, set, arith, eq-eqb, ne_eqb, length-set, get_or-set_same, get_or-set_other}
+use Rattle.std.proofs.Common.{◌≡◌, ℕ, zero, suc, ◌+◌, ◌*◌, ◌-◌, ◌<◌, ◌≤◌, ◌==◌, ◌&&◌, nat_lt, Bool, true, false, cond, refl, ap, ap₂, sym, ◌∙◌, inl, inr, List, [], ◌∷◌, ◌++◌, length, map, filter, take, drop, get_or, set, arith, eq-eqb, ne_eqb, length-set, get_or-set_same, get_or-set_other}
 use Rattle.std.proofs.lemmas.Bool.{cases_eq}
 use Rattle.std.specs.List.{AllByRecursion}
 use Rattle.k_types.specs.Totals.{total}
@@ -10,6 +10,8 @@ use Rattle.k_types.specs.Owners.{bytes_by, object_bytes}
 use Rattle.k_types.specs.State.{Content, Object}
 use Rattle.k_types.specs.Trace.{Trace, segment_count}
 use Rattle.k_types.specs.Updates.{object_after_write, with_object}
+use Rattle.std.proofs.Math.Seq.{take-append_seam}
+use Rattle.k_base.proofs.Lists.{get_or-set_cases}
 use Rattle.k_base.proofs.Objects.{written_name}
 use Rattle.k_base.proofs.Sums.{sum_both, sum_same, sum-filter}
 use Rattle.k_state.specs.Machines.{AreTotals, IsDeclared, segment_bytes}
@@ -189,3 +191,45 @@ totals_placed o xs totals n are is seg inside =
 
 pub totals_written : (n : Name) (i : ℕ) (c : Content) (xs : List Object) (totals : List ℕ) → AreTotals xs totals → AreTotals (map (object_after_write n i c) xs) totals
 totals_written n i c xs totals are seg inside = are seg inside ∙ sym (segment_written n i c xs seg)
+
+-- the totals of one object more from the left, which is in a segment that has a total
+pub counted_here : (xs : List Object) (i : ℕ) (o : Object) (totals : List ℕ) (n : ℕ) → i < length xs → o ≡ get_or xs i o → AreTotals (take i xs) totals →
+    n ≡ get_or totals o.name.seg.0 0 → AreTotals (take (i + 1) xs) (set totals o.name.seg.0 (n + object_bytes o))
+counted_here xs i o totals n low at are is seg inside =
+    let seg' = o.name.seg.0 in
+    let long = length-set totals seg' (n + object_bytes o) in
+    let was = are seg (omega (arith, inside, long)) in
+    let more = segment_next xs i seg o low at in
+    elim (cases_eq seg' seg) [
+      | inl e ↦
+          let here = get_or-set_same totals seg (n + object_bytes o) 0 (omega (arith, inside, long)) in
+          let there = ap (λ k. get_or (set totals k (n + object_bytes o)) seg 0) e in
+          let add = ap (λ b. cond b (object_bytes o) 0) (eq-eqb seg' seg e) in
+          let old = ap (λ k. get_or totals k 0) e in
+          omega (arith, was, more, here, there, add, old, is)
+      | inr ne ↦
+          let here : get_or (set totals seg' (n + object_bytes o)) seg 0 ≡ get_or totals seg 0 = grind (arith, get_or-set_other) in
+          let add = ap (λ b. cond b (object_bytes o) 0) (ne_eqb seg' seg ne) in
+          omega (arith, was, more, here, add)
+    ]
+
+-- and which is in no such segment
+pub counted_past : (xs : List Object) (i : ℕ) (o : Object) (totals : List ℕ) → i < length xs → o ≡ get_or xs i o → AreTotals (take i xs) totals →
+    length totals ≤ o.name.seg.0 → AreTotals (take (i + 1) xs) totals
+counted_past xs i o totals low at are past seg inside =
+    let was = are seg inside in
+    let more = segment_next xs i seg o low at in
+    let add = ap (λ b. cond b (object_bytes o) 0) (ne_eqb o.name.seg.0 seg (λ e. omega (arith, e, past, inside))) in
+    omega (arith, was, more, add)
+
+pub small_after : (totals : List ℕ) (s n bytes bound : ℕ) → ((seg : ℕ) → get_or totals seg 0 ≤ bound) → n ≡ get_or totals s 0 → bytes ≤ 144 →
+    (seg : ℕ) → get_or (set totals s (n + bytes)) seg 0 ≤ bound + 144
+small_after totals s n bytes bound small is few seg =
+    elim (get_or-set_cases totals s seg (n + bytes) 0) [
+      | inl same ↦ let was = small seg in omega (arith, was, same)
+      | inr here ↦ let was = small s in omega (arith, was, here.1, is, few)
+    ]
+
+pub written_back : (xs ys : List ℕ) (n : ℕ) → n ≡ length ys → length xs ≡ length ys → take n (xs ++ drop (length xs) ys) ≡ xs
+written_back xs ys n long same =
+    ap (λ k. take k (xs ++ drop (length xs) ys)) (long ∙ sym same) ∙ take-append_seam xs (drop (length xs) ys)
