@@ -11,9 +11,11 @@ use Rattle.k_types.specs.declared.setup.LimitRow.{LimitRow}
 use Rattle.k_types.specs.Bounds.{maximum_below}
 use Rattle.k_types.specs.Known.{IsKnownPhase}
 use Rattle.k_types.specs.Limits.{max_of}
-use Rattle.k_types.specs.State.{Content, Refers, opening}
+use Rattle.k_types.specs.State.{Content, Object, Refers, opening}
 use Rattle.k_types.specs.Sound.{AreNumbered, IsSized}
 use Rattle.k_types.specs.Trace.{Trace, process_count, segment_count}
+use Rattle.k_types.specs.Types.{object_size}
+use Rattle.k_state.proofs.Totals.{segment_first, segment_none}
 use Rattle.k_state.specs.Machines.{AreSetupRules, AreTotals, IsKept, IsPlain}
 
 opening_is_sized : (setup : Trace) → IsSized setup (opening setup)
@@ -42,7 +44,7 @@ opening_is_numbered setup n there =
       | inr t ↦ absurd (false≢true t)
     ]
 
-pub opening_is_plain : (setup : Trace) → AreSetupRules setup → IsPlain (record { setup = setup; state = opening setup })
+opening_is_plain : (setup : Trace) → AreSetupRules setup → IsPlain (record { setup = setup; state = opening setup })
 opening_is_plain setup rules = record {
   setup = rules;
   sized = opening_is_sized setup;
@@ -54,7 +56,24 @@ opening_is_plain setup rules = record {
   maxima = small_maxima setup.limits rules.limits.small;
 }
 
+opening_totals : (setup : Trace) → AreTotals (opening setup).objects (object_size setup.dir_fields ∷ replicate (length setup.procs + setup.shared_heaps) 0)
+opening_totals setup zero inside =
+    let o : Object = record { name = directory; ty = None; fields = replicate setup.dir_fields (Refers None) } in
+    let first = segment_first o [] 0 in
+    let long = length-replicate {A = Content} setup.dir_fields (Refers None) in
+    omega (arith, first, segment_none 0, long)
+opening_totals setup (suc seg) inside =
+    let o : Object = record { name = directory; ty = None; fields = replicate setup.dir_fields (Refers None) } in
+    let n = length setup.procs + setup.shared_heaps in
+    let first = segment_first o [] (suc seg) in
+    let low : seg < n = omega (arith, inside, length-replicate {A = ℕ} n 0) in
+    omega (arith, first, segment_none (suc seg), get_or-replicate n seg 0 0 low)
+
 -- with the total of the directory beside
-pub opening_is_kept : (setup : Trace) (totals : List ℕ) → AreSetupRules setup → length totals ≡ segment_count setup → AreTotals (opening setup).objects totals →
-    IsKept (record { setup = setup; state = opening setup }) totals
-opening_is_kept setup totals rules counted are = record { plain = opening_is_plain setup rules; counted = counted; bytes = are }
+pub opening_is_kept : (setup : Trace) → AreSetupRules setup →
+    IsKept (record { setup = setup; state = opening setup }) (object_size setup.dir_fields ∷ replicate (length setup.procs + setup.shared_heaps) 0)
+opening_is_kept setup rules = record {
+  plain = opening_is_plain setup rules;
+  counted = omega (arith, length-replicate {A = ℕ} (length setup.procs + setup.shared_heaps) 0);
+  bytes = opening_totals setup;
+}

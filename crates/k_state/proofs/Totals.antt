@@ -222,12 +222,12 @@ counted_past xs i o totals low at are past seg inside =
     let add = ap (λ b. cond b (object_bytes o) 0) (ne_eqb o.name.seg.0 seg (λ e. omega (arith, e, past, inside))) in
     omega (arith, was, more, add)
 
-pub small_after : (totals : List ℕ) (s n bytes bound : ℕ) → ((seg : ℕ) → get_or totals seg 0 ≤ bound) → n ≡ get_or totals s 0 → bytes ≤ 144 →
-    (seg : ℕ) → get_or (set totals s (n + bytes)) seg 0 ≤ bound + 144
-small_after totals s n bytes bound small is few seg =
+pub small_after : (totals : List ℕ) (s n bytes bound : ℕ) → ((seg : ℕ) → seg < length totals → get_or totals seg 0 ≤ bound) → n ≡ get_or totals s 0 →
+    s < length totals → bytes ≤ 144 → (seg : ℕ) → seg < length (set totals s (n + bytes)) → get_or (set totals s (n + bytes)) seg 0 ≤ bound + 144
+small_after totals s n bytes bound small is there few seg inside =
     elim (get_or-set_cases totals s seg (n + bytes) 0) [
-      | inl same ↦ let was = small seg in omega (arith, was, same)
-      | inr here ↦ let was = small s in omega (arith, was, here.1, is, few)
+      | inl same ↦ let was = small seg (omega (arith, inside, length-set totals s (n + bytes))) in omega (arith, was, same)
+      | inr here ↦ let was = small s there in omega (arith, was, here.1, is, few)
     ]
 
 pub written_back : (xs ys : List ℕ) (n : ℕ) → n ≡ length ys → length xs ≡ length ys → take n (xs ++ drop (length xs) ys) ≡ xs

@@ -6,5 +6,5 @@ abbrev pub invariant-loop-object : goal.invariant-loop-object
 invariant-loop-object l = record {
   long : length l.totals ≡ length l.initial.totals;
   sums : (seg : ℕ) → seg < length l.totals → get_or l.totals seg 0 ≡ segment_bytes (take l.object-index l.objects) seg;
-  small : (seg : ℕ) → get_or l.totals seg 0 ≤ 144 * l.object-index;
+  small : (seg : ℕ) → seg < length l.totals → get_or l.totals seg 0 ≤ 144 * l.object-index;
 }
