@@ -1,5 +1,5 @@
 -- The opening state has its shape.
-use Rattle.std.proofs.Common.{◌≡◌, ℕ, zero, suc, ◌+◌, ◌<◌, ◌≤◌, ◌^◌, lit≤, lit<, ap, length, map, replicate, get_or, slice_index_or, Option, None, List, [], ◌∷◌, arith, ◌∙◌, subst, false, inl, inr}
+use Rattle.std.proofs.Common.{◌≡◌, cond, ne_eqb, ℕ, zero, suc, ◌+◌, ◌<◌, ◌≤◌, ◌^◌, lit≤, lit<, ap, length, map, replicate, get_or, slice_index_or, Option, None, List, [], ◌∷◌, arith, ◌∙◌, sym, subst, false, inl, inr}
 use Rattle.std.proofs.lemmas.List.{length-replicate, get_or-replicate, length-map}
 use Rattle.std.specs.List.{AllByRecursion}
 use Rattle.std.proofs.lemmas.Bool.{false≢true, or_cases}
@@ -12,21 +12,13 @@ use Rattle.k_types.specs.Bounds.{maximum_below}
 use Rattle.k_types.specs.Known.{IsKnownPhase}
 use Rattle.k_types.specs.Limits.{max_of}
 use Rattle.k_types.specs.State.{Content, Object, Refers, opening}
-use Rattle.k_types.specs.Sound.{AreNumbered, IsSized}
+use Rattle.k_types.specs.Owners.{object_bytes}
+use Rattle.k_types.specs.Sound.{AreNumbered}
+use Rattle.k_frame.proofs.Sizes.{opening_sized}
 use Rattle.k_types.specs.Trace.{Trace, process_count, segment_count}
 use Rattle.k_types.specs.Types.{object_size}
-use Rattle.k_state.proofs.Totals.{segment_first, segment_none}
-use Rattle.k_state.specs.Machines.{AreSetupRules, AreTotals, IsKept, IsPlain}
-
-opening_is_sized : (setup : Trace) → IsSized setup (opening setup)
-opening_is_sized setup = record {
-  made = omega (arith, length-replicate {A = ℕ} (length setup.procs + setup.shared_heaps) 0);
-  registers = length-replicate (process_count setup) (replicate {A = Option Name} 16 None);
-  each = λ p known. ap length (get_or-replicate (process_count setup) p (replicate {A = Option Name} 16 None) [] known);
-  done = length-replicate {A = ℕ} (process_count setup) 0;
-  phases = length-replicate setup.shared_heaps _;
-  maxima = length-map setup.limits (λ (row : LimitRow). row.max);
-}
+use Rattle.k_state.proofs.Totals.{segment_first, segment_none, share_of}
+use Rattle.k_state.specs.Machines.{AreSetupRules, AreTotals, IsKept, IsPlain, segment_bytes}
 
 unmade_known : (setup : Trace) (n : ℕ) → AllByRecursion (IsKnownPhase setup) (replicate n Unmade)
 unmade_known setup zero = tt
@@ -47,7 +39,7 @@ opening_is_numbered setup n there =
 opening_is_plain : (setup : Trace) → AreSetupRules setup → IsPlain (record { setup = setup; state = opening setup })
 opening_is_plain setup rules = record {
   setup = rules;
-  sized = opening_is_sized setup;
+  sized = opening_sized setup;
   few = lit< tt;
   few_exits = lit< tt;
   names = record { ordered = tt; numbered = opening_is_numbered setup };
@@ -67,7 +59,9 @@ opening_totals setup (suc seg) inside =
     let n = length setup.procs + setup.shared_heaps in
     let first = segment_first o [] (suc seg) in
     let low : seg < n = omega (arith, inside, length-replicate {A = ℕ} n 0) in
-    omega (arith, first, segment_none (suc seg), get_or-replicate n seg 0 0 low)
+    let out : share_of o (suc seg) ≡ 0 = ap (λ b. cond b (object_bytes o) 0) (ne_eqb 0 (suc seg) (λ e. absurd (omega (arith, e)))) in
+    let nothing : segment_bytes (o ∷ []) (suc seg) ≡ 0 = omega (arith, first, out, segment_none (suc seg)) in
+    get_or-replicate {A = ℕ} n seg 0 0 low ∙ sym nothing
 
 -- with the total of the directory beside
 pub opening_is_kept : (setup : Trace) → AreSetupRules setup →

@@ -1,5 +1,5 @@
 -- Room after a step.
-use Rattle.std.proofs.Common.{◌≡◌, ℕ, suc, ◌+◌, ◌<◌, ◌≤◌, ◌^◌, ◌==◌, not, Bool, true, false, cond, refl, ap, inl, inr, List, [], ◌∷◌, ◌++◌, length, length-append, map, filter, filter_map, get_or, set, Option, Some, None, arith}
+use Rattle.std.proofs.Common.{◌≡◌, ℕ, zero, suc, ◌+◌, ◌-◌, replicate, ◌<◌, ◌≤◌, ◌^◌, ◌==◌, not, Bool, true, false, cond, refl, ap, inl, inr, List, [], ◌∷◌, ◌++◌, length, length-append, map, filter, filter_map, get_or, set, Option, Some, None, arith}
 use Rattle.std.proofs.lemmas.List.{length-map}
 use Rattle.std.proofs.lemmas.List.Filters.{length-filter_both}
 use Rattle.k_types.specs.declared.names.Heap.{Heap}
@@ -16,10 +16,11 @@ use Rattle.k_types.specs.Effects.{step, effect, effect_unless, after_new, after_
 use Rattle.k_types.specs.Names.{heap_eq, name_lt}
 use Rattle.k_types.specs.Owners.{owner_of}
 use Rattle.k_types.specs.Replies.{faults, first_fault}
-use Rattle.k_types.specs.State.{State, Object, Content, Refers, Holds, fresh, has_exit, has_share}
-use Rattle.k_types.specs.Trace.{Trace, kinds_of}
+use Rattle.k_types.specs.State.{State, Object, Content, Refers, Holds, fresh, has_exit, has_share, opening}
+use Rattle.k_types.specs.Trace.{Trace, kinds_of, process_count}
 use Rattle.k_types.specs.Updates.{next_name, count_done, set_register, create, with_object, with_exit, write, object_after_write, add_exit, open_scan, set_phase, add_share, keep_objects, keep_exits, keep_shares, close_scan, clear_registers, end_process, turn_exits, close}
 use Rattle.k_base.proofs.Lists.{get_or-set_cases}
+use Rattle.k_frame.proofs.Sizes.{zeros_at}
 use Rattle.k_state.specs.Rooms.{HasRoom}
 
 -- each count but that of the operations done is one more at most, and that stays
@@ -287,3 +288,19 @@ room_after_step n trace st (Done pid op said) room = counted trace st n pid.0 _ 
 room_after_step n trace st (Ended h a b c d) room = rested trace st n _ (ended_next trace st h) room
 room_after_step n trace st (Absorbed s) room = rested trace st n _ (absorbed_next trace st s.0) room
 room_after_step n trace st Closing room = rested trace st n _ (closing_next trace st) room
+
+first_made : (others seg : ℕ) → get_or (1 ∷ replicate {A = ℕ} others 0) seg 0 ≤ 1
+first_made others zero = omega arith
+first_made others (suc seg) = let none : get_or (1 ∷ replicate {A = ℕ} others 0) (suc seg) 0 ≡ 0 = zeros_at others seg in omega (arith, none)
+
+-- a trace begins with room for almost as many steps as there are numbers of 32 bits
+pub room_at_opening : (n : ℕ) (trace : Trace) → n < 2 ^ 32 - 1 → HasRoom n (opening trace)
+room_at_opening n trace few = record {
+  objects = omega (arith, few);
+  exits = omega (arith, few);
+  shares = omega (arith, few);
+  ended = omega (arith, few);
+  scans = omega (arith, few);
+  serials = λ seg. omega (arith, few, first_made (length trace.procs + trace.shared_heaps) seg);
+  done = λ p. omega (arith, few, zeros_at (process_count trace) p);
+}

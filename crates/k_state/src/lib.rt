@@ -29,4 +29,4 @@ pub use items::{ExitItem, Scan, Share};
 pub use lists::PlainLists;
 pub use names::{is_before, is_same_heap, is_same_name, kind_of};
 pub use objects::{FieldValue, PlainObject};
-pub use rooms::room_is_left;
+pub use rooms::{room_is_ample_at_first, room_is_left};

@@ -1,8 +1,8 @@
 //! Room for steps to come.
-ghost use Rattle.std.specs.Prelude.{ℕ, ◌+◌};
+ghost use Rattle.std.specs.Prelude.{ℕ, ◌<◌, ◌+◌, ◌-◌, ◌^◌};
 ghost use Rattle.k_state.specs.Rooms.{HasRoom};
 ghost use Rattle.k_types.specs.Effects.{step};
-ghost use Rattle.k_types.specs.State.{State};
+ghost use Rattle.k_types.specs.State.{State, opening};
 ghost use Rattle.k_types.specs.Trace.{Trace};
 ghost use Rattle.k_types.specs.declared.event.Event.{Event};
 
@@ -10,4 +10,10 @@ ghost use Rattle.k_types.specs.declared.event.Event.{Event};
 #[tactic(auto, using(crate::proofs::RoomLaws::room_after_step))]
 pub fn room_is_left()
     ensures { (n : ℕ) (trace : Trace) (st : State) (event : Event) → HasRoom (1 + n) st → HasRoom n (step trace st event) }
+{}
+
+/// The law that a trace begins with room for almost as many steps as there are numbers of 32 bits.
+#[tactic(auto, using(crate::proofs::RoomLaws::room_at_opening))]
+pub fn room_is_ample_at_first()
+    ensures { (n : ℕ) (trace : Trace) → n < 2 ^ 32 - 1 → HasRoom n (opening trace) }
 {}

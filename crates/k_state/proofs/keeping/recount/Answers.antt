@@ -14,10 +14,10 @@ loop-object-init c =
     let zeros : c.fill.new.self ≡ replicate {A = ℕ} n 0 = c.fill.ensures.after (λ y e. e) in
     record {
       long = refl;
-      sums = λ seg inside. ap (λ (xs : List ℕ). get_or xs seg 0) zeros ∙ get_or-replicate n seg 0 0 (omega (arith, inside, c.fill.ensures.len)) ∙ sym (segment_none seg);
+      sums = λ seg inside. ap (λ (xs : List ℕ). get_or xs seg 0) zeros ∙ get_or-replicate {A = ℕ} n seg 0 0 (omega (arith, inside, c.fill.ensures.len)) ∙ sym (segment_none seg);
       small = λ seg inside.
           let here = ap (λ (xs : List ℕ). get_or xs seg 0) zeros in
-          omega (arith, here, get_or-replicate n seg 0 0 (omega (arith, inside, c.fill.ensures.len)));
+          omega (arith, here, get_or-replicate {A = ℕ} n seg 0 0 (omega (arith, inside, c.fill.ensures.len)));
     }
 
 pub loop-object-preserved : goal.loop-object-preserved

@@ -18,12 +18,15 @@ loop-i-preserved c =
     elim c.match-heaps-i.branch [
       | in-Some w ↦
           let e : ExitItem = w.index_mut-item.result.now in
-          let given = w.in-Some.is in
-          let value = w.index_mut-item.ensures.value in
-          let passed = w.pass_to.ensures in
-          let swapped = w.swap.ensures.items in
-          let exits = w.exits-is in
-          ?
+          let e' : ExitItem = record e { heap = w.in-Some.heap } in
+          let is : c.match-heaps-i.exits.items ≡ swap (set xs i e') k i
+          = ap (λ v. v.items) w.exits-is ∙ w.swap.ensures.items ∙ ap (λ (x : ExitItem). swap (set xs i x) k i) w.pass_to.ensures in
+          record {
+            low = omega (arith, w.kept-is, inv.low);
+            same = ap length is ∙ length-swap (set xs i e') k i ∙ length-set xs i e' ∙ inv.same;
+            so_far = ap₂ (λ n ys. take n ys ++ staying_items (drop (i + 1) heaps) (drop (i + 1) ys)) w.kept-is is
+                ∙ turned_yes heaps xs all k i w.in-Some.heap e inv.low c.loop-i-test.true inv.same w.in-Some.is w.index_mut-item.ensures.value inv.so_far;
+          }
       | in_default w ↦
           let given = w.in_default.is in
           let is : c.match-heaps-i.exits.items ≡ xs = ap (λ v. v.items) w.exits-is in
