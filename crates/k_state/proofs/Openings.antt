@@ -6,12 +6,13 @@ use Rattle.std.proofs.lemmas.Bool.{false≢true, or_cases}
 use Rattle.k_types.specs.Names.{directory, name_eq}
 use Rattle.k_base.proofs.NameTests.{name_eq-true}
 use Rattle.k_types.specs.declared.names.Name.{Name}
+use Rattle.k_types.specs.declared.names.Phase.{Phase}
 use Rattle.k_types.specs.declared.names.Phase.TheVariants.{Unmade}
 use Rattle.k_types.specs.declared.setup.LimitRow.{LimitRow}
 use Rattle.k_types.specs.Bounds.{maximum_below}
 use Rattle.k_types.specs.Known.{IsKnownPhase}
 use Rattle.k_types.specs.Limits.{max_of}
-use Rattle.k_types.specs.State.{Content, Object, Refers, opening}
+use Rattle.k_types.specs.State.{Content, ExitItem, Object, Refers, Scan, Sharing, opening}
 use Rattle.k_types.specs.Owners.{object_bytes}
 use Rattle.k_types.specs.Sound.{AreNumbered}
 use Rattle.k_frame.proofs.Sizes.{opening_sized}
@@ -71,3 +72,28 @@ opening_is_kept setup rules = record {
   counted = omega (arith, length-replicate {A = ℕ} (length setup.procs + setup.shared_heaps) 0);
   bytes = opening_totals setup;
 }
+
+-- what has the lists of the opening state has its shape
+pub opening_from : (setup setup' : Trace) (objects : List Object) (made : List ℕ) (registers : List (List (Option Name))) (done : List ℕ)
+    (exits : List ExitItem) (shares : List Sharing) (phases : List Phase) (ended : List ℕ) (scans : List Scan) (maxima totals : List ℕ) → AreSetupRules setup' →
+    setup ≡ setup' → objects ≡ (opening setup').objects → made ≡ (opening setup').made → registers ≡ (opening setup').registers → done ≡ (opening setup').done →
+    exits ≡ [] → shares ≡ [] → phases ≡ (opening setup').phases → ended ≡ [] → scans ≡ [] → maxima ≡ (opening setup').maxima →
+    totals ≡ object_size setup'.dir_fields ∷ replicate (length setup'.procs + setup'.shared_heaps) 0 →
+    IsKept (record {
+      setup = setup;
+      state = record {
+        objects = objects;
+        made = made;
+        registers = registers;
+        done = done;
+        exits = exits;
+        shares = shares;
+        phases = phases;
+        ended = ended;
+        scans = scans;
+        closed = false;
+        maxima = maxima;
+      };
+    }) totals
+opening_from setup setup' objects made registers done exits shares phases ended scans maxima totals rules a b d e f g h i j k l m =
+    rw (a, b, d, e, f, g, h, i, j, k, l, m) (opening_is_kept setup' rules)
