@@ -1,9 +1,8 @@
 -- The bytes of a heap, segment by segment, from the totals.
-use Rattle.std.proofs.Common.{◌≡◌, ℕ, ◌+◌, ◌*◌, ◌<◌, ◌≤◌, ◌^◌, cond, ap, sym, ◌∙◌, List, length, get_or, arith}
+use Rattle.std.proofs.Common.{◌≡◌, ℕ, ◌+◌, ◌<◌, ◌^◌, cond, ap, sym, ◌∙◌, List, length, get_or, arith}
 use Rattle.k_types.specs.declared.names.Heap.{Heap}
 use Rattle.k_types.specs.Names.{heap_eq}
 use Rattle.k_types.specs.Owners.{bytes_of, owner_of}
-use Rattle.k_types.specs.Trace.{segment_count}
 use Rattle.k_state.specs.Machines.{IsKept, Machine}
 use Rattle.k_state.proofs.Totals.{below, below_all, below_next, below_none, below_small}
 

@@ -1,22 +1,19 @@
 -- The shape of the lists after a change.
-use Rattle.std.proofs.Common.{◌≡◌, ℕ, suc, ◌+◌, ◌*◌, ◌<◌, ◌≤◌, ◌^◌, true, false, cond, refl, ap, sym, ◌∙◌, inl, inr, Bool, List, [], ◌∷◌, length, length-set, map, get_or, get_or-set_same, set, Option, Some, None, subst, arith}
-use Rattle.std.specs.Prelude.{IsTrue, IsFalse}
+use Rattle.std.proofs.Common.{◌≡◌, ℕ, suc, ◌+◌, ◌<◌, ◌≤◌, ◌^◌, true, false, cond, refl, ap, sym, ◌∙◌, inl, inr, Bool, List, [], ◌∷◌, length, length-set, map, get_or, get_or-set_same, set, subst, arith}
 use Rattle.std.proofs.lemmas.Bool.{false_from_ne_true, or_cases}
 use Rattle.std.proofs.lemmas.List.{length-map}
 use Rattle.std.specs.List.{AllByRecursion}
 use Rattle.k_types.specs.declared.names.Name.{Name}
-use Rattle.k_types.specs.declared.names.TypeId.{TypeId}
-use Rattle.k_types.specs.declared.names.Field.{Field}
 use Rattle.k_types.specs.Names.{name_eq, name_lt}
 use Rattle.k_types.specs.Owners.{object_bytes}
-use Rattle.k_types.specs.Sound.{AreNames, AreNumbered, IsSized}
-use Rattle.k_types.specs.State.{Content, ExitItem, Object, State, fresh, has}
-use Rattle.k_types.specs.Trace.{Trace, kinds_of, segment_count}
-use Rattle.k_types.specs.Updates.{next_name, object_after_write, with_object}
+use Rattle.k_types.specs.Sound.{AreNames, AreNumbered}
+use Rattle.k_types.specs.State.{Content, ExitItem, Object, has}
+use Rattle.k_types.specs.Trace.{Trace}
+use Rattle.k_types.specs.Updates.{object_after_write, with_object}
 use Rattle.k_base.proofs.Lists.{get_or-set_cases}
 use Rattle.k_base.proofs.NameTests.{name_eq-true}
 use Rattle.k_base.proofs.Objects.{has-placed, has-written}
-use Rattle.k_state.specs.Machines.{AreTotals, IsDeclared, IsKept, IsPlain, Machine}
+use Rattle.k_state.specs.Machines.{AreTotals, IsDeclared, IsKept, Machine}
 use Rattle.k_state.specs.Marks.{marked}
 use Rattle.k_state.proofs.Marked.{all_marked, length_marked}
 use Rattle.k_state.proofs.Placed.{has_marked, ordered_marked, ordered_placed, ordered_written}

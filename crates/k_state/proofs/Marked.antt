@@ -1,13 +1,13 @@
 -- What a list keeps by marks.
-use Rattle.std.proofs.Common.{◌≡◌, ℕ, suc, ◌+◌, ◌<◌, ◌≤◌, ◌⊎◌, inl, inr, Bool, true, false, cond, refl, ap, sym, ◌∙◌, List, [], ◌∷◌, ◌++◌, length, map, filter, filter_map, take, drop, get_or, set, Option, Some, None, arith, IsTrue, append_assoc, get_or-set_same}
+use Rattle.std.proofs.Common.{◌≡◌, ℕ, ◌+◌, ◌<◌, ◌≤◌, inl, inr, Bool, true, false, cond, refl, ap, sym, ◌∙◌, List, [], ◌∷◌, ◌++◌, length, map, filter, filter_map, take, drop, get_or, set, Option, Some, None, arith, append_assoc, get_or-set_same}
 use Rattle.std.proofs.lemmas.Bool.{cases_eq}
 use Rattle.std.proofs.lemmas.List.{append-nil, drop_more, take-set-le, take_more_set, drop-set-lt, length-set}
 use Rattle.std.proofs.lemmas.List.Edits.{swap_is}
 use Rattle.k_base.proofs.Numbered.{drop_all}
-use Rattle.std.specs.List.{AllByRecursion, list_any, swap}
+use Rattle.std.specs.List.{AllByRecursion, swap}
 use Rattle.k_types.specs.declared.names.Heap.{Heap}
 use Rattle.k_types.specs.State.{ExitItem}
-use Rattle.k_state.specs.Marks.{marked, staying_items, turned_item, turned_items}
+use Rattle.k_state.specs.Marks.{marked, staying_items}
 
 -- marks that say what passes
 pub marked_filter : {A : Type 0} (p : A → Bool) (xs : List A) → marked (map p xs) xs ≡ filter p xs

@@ -1,6 +1,6 @@
 -- The opening state has its shape.
-use Rattle.std.proofs.Common.{◌≡◌, cond, ne_eqb, ℕ, zero, suc, ◌+◌, ◌<◌, ◌≤◌, ◌^◌, lit≤, lit<, ap, length, map, replicate, get_or, slice_index_or, Option, None, List, [], ◌∷◌, arith, ◌∙◌, sym, subst, false, inl, inr}
-use Rattle.std.proofs.lemmas.List.{length-replicate, get_or-replicate, length-map}
+use Rattle.std.proofs.Common.{◌≡◌, cond, ne_eqb, ℕ, zero, suc, ◌+◌, ◌<◌, lit<, ap, length, map, replicate, Option, None, List, [], ◌∷◌, arith, ◌∙◌, sym, false, inl, inr}
+use Rattle.std.proofs.lemmas.List.{length-replicate, get_or-replicate}
 use Rattle.std.specs.List.{AllByRecursion}
 use Rattle.std.proofs.lemmas.Bool.{false≢true, or_cases}
 use Rattle.k_types.specs.Names.{directory, name_eq}
@@ -16,7 +16,7 @@ use Rattle.k_types.specs.State.{Content, ExitItem, Object, Refers, Scan, Sharing
 use Rattle.k_types.specs.Owners.{object_bytes}
 use Rattle.k_types.specs.Sound.{AreNumbered}
 use Rattle.k_frame.proofs.Sizes.{opening_sized}
-use Rattle.k_types.specs.Trace.{Trace, process_count, segment_count}
+use Rattle.k_types.specs.Trace.{Trace}
 use Rattle.k_types.specs.Types.{object_size}
 use Rattle.k_state.proofs.Totals.{segment_first, segment_none, share_of}
 use Rattle.k_state.specs.Machines.{AreSetupRules, AreTotals, IsKept, IsPlain, segment_bytes}

@@ -1,5 +1,5 @@
 -- The first limit of a path at which a test holds.
-use Rattle.std.proofs.Common.{◌≡◌, ℕ, zero, suc, ◌-◌, ◌<◌, cond, Bool, true, false, ap, ap₂, sym, ◌∙◌, refl, List, [], ◌∷◌, length, get_or, find, Option, Some, None, arith, ◌⊎◌}
+use Rattle.std.proofs.Common.{◌≡◌, ℕ, zero, suc, ◌-◌, ◌<◌, cond, Bool, true, false, ap, ap₂, sym, ◌∙◌, refl, List, [], ◌∷◌, length, find, Some, None, arith}
 use Rattle.k_types.specs.declared.setup.LimitRow.{LimitRow}
 use Rattle.k_types.specs.declared.names.LimitId.{LimitId}
 use Rattle.k_types.specs.Trace.{row_of}

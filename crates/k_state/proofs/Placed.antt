@@ -1,6 +1,6 @@
 -- Objects in the order of their names.
-use Rattle.std.proofs.Common.{◌≡◌, ◌⊎◌, inl, inr, ℕ, zero, suc, ◌+◌, ◌-◌, ◌<◌, ◌≤◌, cond, Bool, true, false, refl, ap, subst, sym, ◌∙◌, ◌||◌, List, [], ◌∷◌, ◌++◌, map, take, drop, insert, Some, None, length, get_or, set, arith}
-use Rattle.std.specs.Prelude.{IsTrue, IsFalse}
+use Rattle.std.proofs.Common.{◌≡◌, ◌⊎◌, inl, inr, ℕ, zero, suc, ◌<◌, ◌≤◌, cond, Bool, true, false, refl, ap, sym, ◌∙◌, ◌||◌, List, [], ◌∷◌, map, insert, Some, None, length, get_or, set, arith}
+use Rattle.std.specs.Prelude.{IsTrue}
 use Rattle.std.proofs.lemmas.Bool.{cases_eq, false≢true, or_cases, or_left, or_parts, or_right}
 use Rattle.k_types.specs.declared.names.Name.{Name}
 use Rattle.k_types.specs.Names.{name_eq, name_lt}

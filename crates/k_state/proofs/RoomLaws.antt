@@ -18,7 +18,7 @@ use Rattle.k_types.specs.Owners.{owner_of}
 use Rattle.k_types.specs.Replies.{faults, first_fault}
 use Rattle.k_types.specs.State.{State, Object, Content, Refers, Holds, fresh, has_exit, has_share, opening}
 use Rattle.k_types.specs.Trace.{Trace, kinds_of, process_count}
-use Rattle.k_types.specs.Updates.{next_name, count_done, set_register, create, with_object, with_exit, write, object_after_write, add_exit, open_scan, set_phase, add_share, keep_objects, keep_exits, keep_shares, close_scan, clear_registers, end_process, turn_exits, close}
+use Rattle.k_types.specs.Updates.{next_name, count_done, set_register, create, with_object, write, object_after_write, add_exit, open_scan, set_phase, add_share, keep_objects, keep_exits, keep_shares, close_scan, clear_registers, end_process, turn_exits, close}
 use Rattle.k_base.proofs.Lists.{get_or-set_cases}
 use Rattle.k_frame.proofs.Sizes.{zeros_at}
 use Rattle.k_state.specs.Rooms.{HasRoom}

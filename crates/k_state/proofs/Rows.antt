@@ -1,10 +1,8 @@
 -- Rows of the limits with the maxima that they have now.
-use Rattle.std.proofs.Common.{◌≡◌, ℕ, zero, suc, ◌<◌, ◌≤◌, refl, ap, List, [], ◌∷◌, length, get_or, Some, arith}
+use Rattle.std.proofs.Common.{◌≡◌, ℕ, zero, suc, ◌<◌, refl, ap, List, [], ◌∷◌, length, get_or, arith}
 use Rattle.k_types.specs.declared.setup.LimitRow.{LimitRow}
-use Rattle.k_types.specs.declared.names.LimitId.{LimitId}
 use Rattle.k_types.specs.Trace.{row_of}
 use Rattle.k_types.specs.Limits.{with_maxima}
-use Rattle.k_types.specs.TraceRules.{IsTree}
 
 pub row_in : (rows : List LimitRow) (maxima : List ℕ) (m : ℕ) (d : ℕ) → m < length rows → length maxima ≡ length rows →
     row_of (with_maxima rows maxima) m ≡ record (row_of rows m) { max = get_or maxima m d }

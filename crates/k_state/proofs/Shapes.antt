@@ -1,13 +1,9 @@
 -- What holds of each element of a list.
-use Rattle.std.proofs.Common.{◌≡◌, refl, subst, ℕ, zero, suc, ◌<◌, length, get_or, cond, Bool, true, false, List, [], ◌∷◌, ◌++◌, map, insert, find, slice_get, Option, Some, None, arith}
+use Rattle.std.proofs.Common.{◌≡◌, subst, ℕ, zero, suc, ◌<◌, length, get_or, cond, Bool, true, false, List, [], ◌∷◌, ◌++◌, find, slice_get, Some, arith}
 use Rattle.std.specs.List.{AllByRecursion}
-use Rattle.k_types.specs.declared.names.Name.{Name}
 use Rattle.k_types.specs.declared.names.Phase.{Phase}
 use Rattle.k_types.specs.Known.{IsKnownPhase}
-use Rattle.k_types.specs.Names.{name_eq}
 use Rattle.k_types.specs.Trace.{Trace}
-use Rattle.k_types.specs.State.{Content, Object}
-use Rattle.k_types.specs.Updates.{object_after_write}
 
 pub all_snoc : {A : Type 0} (P : A → Type 0) (xs : List A) (x : A) → AllByRecursion P xs → P x → AllByRecursion P (xs ++ x ∷ [])
 all_snoc P [] x all holds = (holds, tt)

@@ -1,9 +1,8 @@
 -- Sums over what is left of a list or of the numbers below a bound.
-use Rattle.std.proofs.Common.{◌≡◌, ℕ, zero, suc, ◌+◌, ◌-◌, ◌<◌, ◌≤◌, cond, Bool, true, false, refl, ap, ◌∙◌, sym, List, [], ◌∷◌, length, filter, get_or, drop, arith, min, ◌^◌}
+use Rattle.std.proofs.Common.{◌≡◌, ℕ, suc, ◌+◌, ◌-◌, ◌<◌, ◌≤◌, cond, Bool, true, false, refl, ap, ◌∙◌, List, ◌∷◌, length, filter, get_or, drop, arith}
 use Rattle.std.proofs.lemmas.List.{drop_more, at_drop_all}
-use Rattle.std.proofs.lemmas.Grind.{common_steps}
 use Rattle.k_types.specs.Totals.{total}
-use Rattle.k_types.specs.Numbers.{numbers_from, numbers_below}
+use Rattle.k_types.specs.Numbers.{numbers_from}
 
 -- what one element adds
 pub total_filter : {A : Type 0} (f : A → ℕ) (g : A → Bool) (x : A) (xs : List A) → total f (filter g (x ∷ xs)) ≡ cond (g x) (f x) 0 + total f (filter g xs)

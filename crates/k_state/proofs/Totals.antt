@@ -1,5 +1,5 @@
 -- The bytes of segments, and of heaps by their segments.
-use Rattle.std.proofs.Common.{◌≡◌, ℕ, zero, suc, ◌+◌, ◌*◌, ◌-◌, ◌<◌, ◌≤◌, ◌==◌, ◌&&◌, nat_lt, Bool, true, false, cond, refl, ap, ap₂, sym, ◌∙◌, inl, inr, List, [], ◌∷◌, ◌++◌, length, map, filter, take, drop, get_or, set, arith, eq-eqb, ne_eqb, length-set, get_or-set_same, get_or-set_other}
+use Rattle.std.proofs.Common.{◌≡◌, ℕ, zero, suc, ◌+◌, ◌*◌, ◌<◌, ◌≤◌, ◌==◌, ◌&&◌, nat_lt, Bool, true, false, cond, refl, ap, ap₂, sym, ◌∙◌, inl, inr, List, [], ◌∷◌, ◌++◌, length, map, filter, take, drop, get_or, set, arith, eq-eqb, ne_eqb, length-set, get_or-set_same, get_or-set_other}
 use Rattle.std.proofs.lemmas.Bool.{cases_eq}
 use Rattle.std.specs.List.{AllByRecursion}
 use Rattle.k_types.specs.Totals.{total}
@@ -13,7 +13,6 @@ use Rattle.k_types.specs.Updates.{object_after_write, with_object}
 use Rattle.std.proofs.Math.Seq.{take-append_seam}
 use Rattle.k_base.proofs.Lists.{get_or-set_cases}
 use Rattle.k_base.proofs.Objects.{written_name}
-use Rattle.k_base.proofs.Sums.{sum_both, sum_same, sum-filter}
 use Rattle.k_state.specs.Machines.{AreTotals, IsDeclared, segment_bytes}
 use Rattle.k_state.proofs.Sums.{total_filter}
 

@@ -1,10 +1,10 @@
 -- What is left to add of a use, a charge and a direct charge.
-use Rattle.std.proofs.Common.{◌≡◌, ℕ, zero, suc, ◌+◌, ◌-◌, ◌<◌, ◌≤◌, cond, Bool, refl, ap, sym, ◌∙◌, List, length, arith}
+use Rattle.std.proofs.Common.{◌≡◌, ℕ, zero, suc, ◌+◌, ◌-◌, ◌<◌, ◌≤◌, cond, ap, ◌∙◌, List, length, arith}
 use Rattle.k_types.specs.declared.setup.LimitRow.{LimitRow}
 use Rattle.k_types.specs.Totals.{total}
-use Rattle.k_types.specs.Numbers.{numbers_from, numbers_below}
+use Rattle.k_types.specs.Numbers.{numbers_from}
 use Rattle.k_types.specs.Trace.{row_of}
-use Rattle.k_types.specs.Limits.{children, is_parent, max_of, use_within}
+use Rattle.k_types.specs.Limits.{is_parent, max_of, use_within}
 use Rattle.k_state.proofs.Sums.{numbers_sum_left, numbers_sum_over}
 use Rattle.std.specs.Prelude.{filter}
 

@@ -1,6 +1,6 @@
 -- A state of which one list is another.
 use Rattle.std.proofs.Common.{◌≡◌, ℕ, ap, ap₂, ◌∙◌, List}
-use Rattle.k_types.specs.State.{ExitItem, Object, Scan, Sharing, State}
+use Rattle.k_types.specs.State.{ExitItem, Object, Scan, Sharing}
 use Rattle.k_state.specs.Machines.{Machine}
 
 pub exits_are : (m n : Machine) (exits exits' : List ExitItem) → m ≡ n → exits ≡ exits' → record m.state { exits = exits } ≡ record n.state { exits = exits' }

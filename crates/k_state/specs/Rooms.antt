@@ -1,5 +1,5 @@
 -- Room for steps to come.
-use Rattle.std.specs.Prelude.{ℕ, ◌<◌, ◌+◌, ◌-◌, ◌^◌, length, slice_index_or}
+use Rattle.std.specs.Prelude.{ℕ, ◌<◌, ◌+◌, ◌^◌, length, slice_index_or}
 use Rattle.k_types.specs.State.{State}
 
 -- So many more steps leave each count a number of 32 bits: objects, exit items, shares, those who have ended, open

@@ -1,4 +1,4 @@
-use Rattle.std.proofs.Common.{◌≡◌, Some, [], ◌∷◌, ◌++◌, map, take, ap, ap₂, sym, ◌∙◌, slice_get}
+use Rattle.std.proofs.Common.{◌≡◌, Some, [], ◌∷◌, ◌++◌, map, ap, ap₂, sym, ◌∙◌, slice_get}
 use Rattle.std.proofs.lemmas.List.{map-append}
 use Rattle.k_types.specs.State.{fresh}
 use Rattle.k_types.specs.Types.{type_row}

@@ -1,4 +1,4 @@
-use Rattle.std.proofs.Common.{◌≡◌, Some, ap, sym, ◌∙◌}
+use Rattle.std.proofs.Common.{Some, ap, sym, ◌∙◌}
 use Rattle.k_types.specs.State.{Object}
 use Rattle.k_state.proofs.Placed.{found_at, found_none}
 use Rattle.k_state.proofs.ordered.find.Goals as goal

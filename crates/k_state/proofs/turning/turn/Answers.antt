@@ -1,4 +1,4 @@
-use Rattle.std.proofs.Common.{◌≡◌, ◌+◌, ◌++◌, Some, None, ap, ap₂, sym, ◌∙◌, length, length-set, get_or, set, take, drop, arith}
+use Rattle.std.proofs.Common.{◌≡◌, ◌+◌, ◌++◌, ap, ap₂, ◌∙◌, length, length-set, set, take, drop, arith}
 use Rattle.std.proofs.lemmas.List.Edits.{length-swap}
 use Rattle.std.specs.List.{swap}
 use Rattle.k_types.specs.State.{ExitItem}

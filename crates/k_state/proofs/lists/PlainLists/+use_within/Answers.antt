@@ -1,5 +1,5 @@
-use Rattle.std.proofs.Common.{◌≡◌, ◌<◌, ◌+◌, ◌-◌, cond, true, false, ap, sym, ◌∙◌, length, arith}
-use Rattle.k_types.specs.Limits.{direct_by, is_parent, limits_in, max_of, use_within}
+use Rattle.std.proofs.Common.{◌≡◌, ◌<◌, ◌+◌, ◌-◌, cond, ap, sym, ◌∙◌, length, arith}
+use Rattle.k_types.specs.Limits.{direct_by, is_parent, limits_in, use_within}
 use Rattle.k_types.specs.Owners.{charge_of}
 use Rattle.k_types.specs.Trace.{row_of}
 use Rattle.k_types.specs.declared.setup.LimitRow.{LimitRow}

@@ -1,4 +1,4 @@
-use Rattle.std.proofs.Common.{◌≡◌, ℕ, ◌+◌, ◌*◌, ◌<◌, ◌≤◌, ◌^◌, List, [], Some, map, refl, ap, ap₂, subst, sym, ◌∙◌, length, get_or, set, insert, arith}
+use Rattle.std.proofs.Common.{◌≡◌, ℕ, ◌+◌, ◌<◌, ◌≤◌, ◌^◌, List, [], Some, map, ap, ap₂, subst, sym, ◌∙◌, length, get_or, set, insert, arith}
 use Rattle.std.proofs.lemmas.List.{get_or_read, length-map}
 use Rattle.k_types.specs.Owners.{object_bytes}
 use Rattle.k_types.specs.State.{Content, Object, State, fresh}

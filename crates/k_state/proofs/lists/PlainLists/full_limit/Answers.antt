@@ -1,6 +1,6 @@
-use Rattle.std.proofs.Common.{◌≡◌, ℕ, ◌<◌, ◌-◌, ◌+◌, Bool, true, false, nat_lt, find, ap, subst, sym, ◌∙◌, length, arith}
+use Rattle.std.proofs.Common.{◌≡◌, ℕ, ◌-◌, ◌+◌, Bool, nat_lt, find, ap, subst, sym, ◌∙◌, length, arith}
 use Rattle.k_types.specs.declared.setup.LimitRow.{LimitRow}
-use Rattle.k_types.specs.Limits.{full_limit, limits_in, max_of, path_within, use_of}
+use Rattle.k_types.specs.Limits.{limits_in, max_of, path_within, use_of}
 use Rattle.k_types.specs.Trace.{row_of}
 use Rattle.k_state.specs.Machines.{IsPlain, Machine}
 use Rattle.k_state.proofs.Rows.{rows_in_length}

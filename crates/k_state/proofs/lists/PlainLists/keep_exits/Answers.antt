@@ -1,4 +1,4 @@
-use Rattle.std.proofs.Common.{◌≡◌, ◌≤◌, List, length, map, filter, ap, subst, sym, ◌∙◌}
+use Rattle.std.proofs.Common.{◌≡◌, ◌≤◌, List, length, filter, ap, subst, sym, ◌∙◌}
 use Rattle.k_types.specs.State.{ExitItem}
 use Rattle.k_types.specs.Updates.{keep_exits}
 use Rattle.k_state.specs.Machines.{Machine}

@@ -1,4 +1,4 @@
-use Rattle.std.proofs.Common.{◌≡◌, ◌<◌, ◌≤◌, ◌^◌, List, length, map, filter, ap, subst, sym, ◌∙◌, arith}
+use Rattle.std.proofs.Common.{◌≡◌, List, length, filter, ap, subst, ◌∙◌, arith}
 use Rattle.k_types.specs.State.{Object}
 use Rattle.k_types.specs.Updates.{keep_objects}
 use Rattle.k_state.specs.Machines.{AreTotals, Machine}

@@ -1,4 +1,4 @@
-use Rattle.std.proofs.Common.{◌≡◌, map, filter, ap, ◌∙◌}
+use Rattle.std.proofs.Common.{◌≡◌, filter, ap, ◌∙◌}
 use Rattle.k_types.specs.Updates.{keep_shares}
 use Rattle.k_state.specs.Machines.{Machine}
 use Rattle.k_state.specs.Marks.{marked}

@@ -1,4 +1,4 @@
-use Rattle.std.proofs.Common.{◌≡◌, ◌+◌, ◌∷◌, [], None, Option, List, ap, ap₂, sym, ◌∙◌, length, map, replicate, arith, rules}
+use Rattle.std.proofs.Common.{◌≡◌, ◌+◌, ◌∷◌, [], None, Option, ap, ◌∙◌, length, map, replicate, arith}
 use Rattle.k_types.specs.State.{opening}
 use Rattle.k_types.specs.Trace.{trace_of}
 use Rattle.k_types.specs.declared.names.Name.{Name}

@@ -1,8 +1,8 @@
 use Rattle.std.proofs.Common.{◌≡◌, List, map, get_or, set, ap, subst, sym, ◌∙◌}
-use Rattle.k_types.specs.State.{Content, Object}
+use Rattle.k_types.specs.State.{Object}
 use Rattle.k_types.specs.Updates.{object_after_write, write}
 use Rattle.k_state.specs.Contents.{content}
-use Rattle.k_state.specs.Machines.{IsKept, Machine}
+use Rattle.k_state.specs.Machines.{Machine}
 use Rattle.k_state.specs.Places.{IsNamedAt}
 use Rattle.k_state.proofs.Kept.{kept_written}
 use Rattle.k_state.proofs.Placed.{written_none, written_once}
