@@ -1,0 +1,2 @@
+//! Collections, absorptions and ends of processes on the plain machine.
+#![tactic(auto)]
