@@ -1,2 +1,4 @@
 pub mod Marks
 pub mod Looks
+pub mod References
+pub mod Reaches

@@ -48,7 +48,7 @@ none_marked [] k n = refl
 none_marked (x ∷ xs) zero n = refl
 none_marked (x ∷ xs) (suc k) n = grind (arith, none_marked xs k n)
 
-later : (m : Name) (xs : List Object) (n : Name) → IsOrderedFrom m xs → has xs n ≡ true → name_lt m n ≡ true
+pub later : (m : Name) (xs : List Object) (n : Name) → IsOrderedFrom m xs → has xs n ≡ true → name_lt m n ≡ true
 later m [] n ordered t = absurd (false≢true t)
 later m (x ∷ xs) n ordered t =
     elim (or_cases (name_eq x.name n) (has xs n) t) [
@@ -64,7 +64,7 @@ apart x xs marks ordered =
       | inr f ↦ f
     ]
 
-ordered_rest : (n : Name) (xs : List Object) → IsOrderedFrom n xs → IsOrdered xs
+pub ordered_rest : (n : Name) (xs : List Object) → IsOrderedFrom n xs → IsOrdered xs
 ordered_rest n [] ordered = tt
 ordered_rest n (x ∷ xs) ordered = ordered.1
 
