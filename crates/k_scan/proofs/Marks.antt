@@ -1,6 +1,7 @@
 -- Marks beside the objects.
 use Rattle.std.proofs.Common.{◌≡◌, ℕ, zero, suc, ◌+◌, ◌<◌, ◌&&◌, ◌||◌, not, cond, Bool, true, false, refl, sym, ap, ap₂, ◌∙◌, inl, inr, List, [], ◌∷◌, map, replicate, length, get_or, set, count_by, arith}
 use Rattle.std.proofs.lemmas.Bool.{and_parts, and_from, or_left, or_right, or_cases, false≢true, cases_Bool}
+use Rattle.std.proofs.lemmas.List.{get_or-map}
 use Rattle.std.proofs.lemmas.List.Sums.{sum_by-set}
 use Rattle.k_types.specs.declared.names.Name.{Name}
 use Rattle.k_types.specs.Names.{name_eq, name_lt}
@@ -95,3 +96,7 @@ left-set marks k inside f =
     let free : Bool → ℕ = λ b. cond (not b) 1 0 in
     let one : free (get_or marks k false) ≡ 1 = ap free f in
     omega (arith, sum_by-set free marks k true false inside, one)
+
+-- a mark is what is said of its element
+pub mark_is : {A : Type 0} (f : A → Bool) (xs : List A) (marks : List Bool) (i : ℕ) (x : A) → marks ≡ map f xs → i < length xs → x ≡ get_or xs i x → get_or marks i false ≡ f x
+mark_is f xs marks i x are inside is = ap (λ ms. get_or ms i false) are ∙ get_or-map f xs i x false inside ∙ ap f (sym is)

@@ -1,7 +1,7 @@
 //! The beginning of collections, absorptions and ends of processes.
 ghost use Rattle.std.specs.Prelude.{◌≡◌, ◌<◌, ◌==◌, not, length, map, IfOk, OnErr, OnOk};
 ghost use Rattle.k_state.specs.Marks.{turned_item, turned_items};
-ghost use Rattle.k_types.specs.Effects.{after_absorbed, after_closing, after_end_of, exit_after, leads_back, passes_to_kernel, stays_after_absorb};
+ghost use Rattle.k_types.specs.Effects.{after_absorbed, after_closing, after_end_of, exit_after, stays_after_absorb};
 ghost use Rattle.k_types.specs.Reach.{is_shared_heap, roots_of};
 ghost use Rattle.k_types.specs.State.{Sharing};
 ghost use Rattle.k_types.specs.Trace.{process_count};
@@ -135,7 +135,6 @@ fn shares_of_others(alloc: Global, lists: &PlainLists, pid: Pid) -> Result<Vec<b
 /// are the kernel's, once each, and the kernel's into its heap are gone. No object goes or changes.
 ///
 /// `NoMemory` comes where the marks or the list of those who have ended find no memory, and leaves the state as it was.
-#[tactic(auto, unfolding(k_types::specs::Effects::after_end_of, k_types::specs::Updates::end_process, k_types::specs::Updates::clear_registers, k_types::specs::Updates::keep_shares, k_types::specs::Updates::turn_exits))]
 pub fn end_of_process(alloc: Global, lists: &mut PlainLists, pid: Pid) -> Result<(), NoMemory>
     requires { pid.0 < process_count lists.old.setup }
     ensures setup { lists.new.setup ≡ lists.old.setup }

@@ -38,6 +38,7 @@ fn some_leads_to(registers: &[Option<Name>], name: Name) -> bool
 }
 
 // Whether some register of the process holds the name; a process that the trace does not have holds nothing.
+#[tactic(auto, using(crate::proofs::Numbers::none_past))]
 fn is_in_registers(lists: &PlainLists, pid: Pid, name: Name) -> bool
     ensures { result ≡ in_registers lists.now.state.registers pid.0 name }
 {
@@ -67,6 +68,7 @@ fn has_entry(lists: &PlainLists, name: Name) -> bool
 fn is_pinned(lists: &PlainLists, name: Name) -> bool
     ensures { result ≡ is_pinned (process_count lists.now.setup) (owner_of lists.now.setup lists.now.state) lists.now.state.registers name }
 {
+    let _setup = lists.setup();
     let owner = lists.owner(name.seg);
     for p in 0..lists.process_count() as u32 {
         if !is_same_heap(Heap::User(Pid(p)), owner) && is_in_registers(lists, Pid(p), name) {

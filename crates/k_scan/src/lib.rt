@@ -7,7 +7,7 @@
 #![tactic(auto)]
 
 mod changes;
-mod ending;
+mod collecting;
 mod holding;
 mod marking;
 mod orphans;
@@ -16,7 +16,7 @@ mod rooting;
 mod surviving;
 
 pub use changes::{absorb, begin, close, end_of_process};
-pub use ending::{end_collection, ending};
+pub use collecting::{end_collection, ending};
 pub use orphans::{first_orphan, is_orphan, no_orphan};
 pub use reaching::reached;
 pub use rooting::roots;

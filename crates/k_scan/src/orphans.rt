@@ -48,7 +48,6 @@ pub fn first_orphan(lists: &PlainLists) -> Option<SharedId>
 }
 
 /// Whether no shared heap is an orphan.
-#[tactic(auto, using(crate::proofs::Numbers::none_found))]
 pub fn no_orphan(lists: &PlainLists) -> bool
     ensures { result ≡ no_orphan lists.now.setup lists.now.state }
 {

@@ -13,7 +13,7 @@ use std::alloc::Global;
 ///
 /// For each object of the heap it walks over the exit items and all registers. `NoMemory` comes where the list of roots finds
 /// no memory.
-#[tactic(auto, using(crate::proofs::Roots::roots_next, crate::proofs::Roots::roots_last))]
+#[tactic(auto, using(crate::proofs::Chosen::roots_next, crate::proofs::Chosen::roots_last), unfolding(k_types::specs::Reach::roots_of))]
 pub fn roots(alloc: Global, lists: &PlainLists, heap: Heap) -> Result<Vec<Name>, NoMemory>
     ensures { IfOk result (λ names. names.items ≡ roots_of lists.now.setup lists.now.state heap) }
 {

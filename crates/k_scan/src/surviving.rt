@@ -31,7 +31,7 @@ pub(crate) fn reached_of_scan(
 }
 
 // The objects that stay.
-#[tactic(auto, unfolding(k_types::specs::Effects::survives))]
+#[tactic(auto, using(crate::proofs::Marks::mark_is), unfolding(k_types::specs::Effects::survives))]
 pub(crate) fn surviving_objects(
     alloc: Global,
     lists: &PlainLists,
@@ -51,6 +51,7 @@ pub(crate) fn surviving_objects(
 }
 
 // Whether a reached object refers to the name.
+#[tactic(auto, using(crate::proofs::Marks::mark_is, crate::proofs::Referred::reach_any))]
 fn is_referred(lists: &PlainLists, heap: Heap, reached: &[bool], name: Name) -> bool
     requires { reached.now ≡ map
         (λ (o : Object). has (reach_in lists.now.setup lists.now.state heap (open_roots lists.now.state heap)) o.name) lists.now.state.objects }
@@ -127,6 +128,7 @@ fn is_populating(phase: Phase, pid: Pid) -> bool
 }
 
 // Whether an exit item of the heap that stays leads into the shared heap.
+#[tactic(auto, using(crate::proofs::Marks::mark_is))]
 fn some_exit_leads_in(lists: &PlainLists, heap: Heap, exits: &[bool], shared: SharedId) -> bool
     requires { exits.now ≡ map (exit_stays lists.now.setup lists.now.state heap) lists.now.state.exits }
     ensures { result ≡ list_any
@@ -141,6 +143,7 @@ fn some_exit_leads_in(lists: &PlainLists, heap: Heap, exits: &[bool], shared: Sh
 }
 
 // Whether some register of the process leads into the shared heap.
+#[tactic(auto, using(crate::proofs::Numbers::none_leads_past))]
 fn some_register_leads_in(lists: &PlainLists, pid: Pid, shared: SharedId) -> bool
     ensures { result ≡ list_any (register_lies_in lists.now.setup lists.now.state shared.0) (registers_of lists.now.state pid.0) }
 {

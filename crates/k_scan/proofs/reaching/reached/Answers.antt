@@ -15,7 +15,7 @@ loop-name-preserved-in-Continue-branch-3 c =
     let m = c.args.lists.now in
     let reaching = λ (work : List Name). IsReaching m.setup m.state c.args.heap c.args.roots.now c.loop-name.marks work in
     let found : object_at m.state.objects c.in-Some.name ≡ Some c.in-Some-object.object.now = sym c.object.ensures ∙ ap option_copied c.in-Some-object.is in
-    reaching_follows m.setup m.state c.args.heap c.args.roots.now c.loop-name.marks c.follow.new.marks c.pop.new.self.items c.follow.new.work.items c.in-Some.name c.in-Some-object.object.now c.setup-_setup.ensures.shape.ordered found
+    reaching_follows m.setup m.state c.args.heap c.args.roots.now c.loop-name.marks c.follow.new.marks c.pop.new.self.items c.follow.new.work.items c.in-Some.name c.in-Some-object.object.now c.setup-setup.ensures.shape.names.ordered found
     c.in_ok-follow.ensures (subst reaching c.in-Some.ensures.items c.loop-name.invariant)
 
 pub loop-name-preserved : goal.loop-name-preserved
@@ -30,4 +30,4 @@ returns c =
     let m = c.args.lists.now in
     let reaching = λ (work : List Name). IsReaching m.setup m.state c.args.heap c.args.roots.now c.loop-name.marks work in
     let empty : c.loop-name.work.items ≡ [] = search rules in
-    c.into_list.ensures ∙ reaching_ends m.setup m.state c.args.heap c.args.roots.now c.loop-name.marks c.setup-_setup.ensures.shape.ordered (subst reaching empty c.loop-name.invariant)
+    c.into_list.ensures ∙ reaching_ends m.setup m.state c.args.heap c.args.roots.now c.loop-name.marks c.setup-setup.ensures.shape.names.ordered (subst reaching empty c.loop-name.invariant)

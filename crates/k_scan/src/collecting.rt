@@ -21,7 +21,7 @@ struct Stays {
     shares: Vec<bool>,
 }
 
-fn stays(alloc: Global, lists: &PlainLists, heap: Heap) -> Result<Stays, NoMemory>
+fn what_stays(alloc: Global, lists: &PlainLists, heap: Heap) -> Result<Stays, NoMemory>
     ensures objects { IfOk result (λ stays. stays.objects.items ≡ map (λ (o : Object). survives lists.now.setup lists.now.state heap o.name) lists.now.state.objects) }
     ensures exits { IfOk result (λ stays. stays.exits.items ≡ map (exit_stays lists.now.setup lists.now.state heap) lists.now.state.exits) }
     ensures shares { IfOk result (λ stays. stays.shares.items ≡ map (share_stays lists.now.setup lists.now.state heap) lists.now.state.shares) }
@@ -46,6 +46,7 @@ fn gone(stays: &[bool]) -> u32
 }
 
 // The bytes of the objects that go.
+#[tactic(auto, using(crate::proofs::Marks::mark_is, crate::proofs::Counts::sum_next, crate::proofs::Counts::sum_last))]
 fn bytes_gone(lists: &PlainLists, heap: Heap, stays: &[bool]) -> u64
     requires marks { stays.now ≡ map (λ (o : Object). survives lists.now.setup lists.now.state heap o.name) lists.now.state.objects }
     requires few { length lists.now.state.objects < 2 ^ 32 }
@@ -69,7 +70,7 @@ pub fn ending(alloc: Global, lists: &PlainLists, heap: Heap) -> Result<Event, No
     requires { HasRoom 1 lists.now.state }
     ensures { IfOk result (λ event. event ≡ end_of lists.now.setup lists.now.state heap) }
 {
-    let stays = stays(alloc, lists, heap)?;
+    let stays = what_stays(alloc, lists, heap)?;
     Ok(Event::Ended {
         heap,
         freed_objects: gone(&stays.objects),
@@ -83,13 +84,12 @@ pub fn ending(alloc: Global, lists: &PlainLists, heap: Heap) -> Result<Event, No
 /// more, and the collection is closed.
 ///
 /// `NoMemory` comes where the marks of what stays find no memory, and leaves the state as it was.
-#[tactic(auto, unfolding(k_types::specs::Effects::after_ended, k_types::specs::Updates::keep_objects, k_types::specs::Updates::keep_exits, k_types::specs::Updates::keep_shares))]
 pub fn end_collection(alloc: Global, lists: &mut PlainLists, heap: Heap) -> Result<(), NoMemory>
     ensures setup { lists.new.setup ≡ lists.old.setup }
     ensures ok { OnOk result (lists.new.state ≡ after_ended lists.old.setup heap lists.old.state) }
     ensures err { OnErr result (lists.new ≡ lists.old) }
 {
-    let stays = stays(alloc, lists, heap)?;
+    let stays = what_stays(alloc, lists, heap)?;
     lists.keep_objects(&stays.objects);
     lists.keep_exits(&stays.exits);
     lists.keep_shares(&stays.shares);
