@@ -1,5 +1,5 @@
 -- The roots among the objects that are left.
-use Rattle.std.proofs.Common.{◌≡◌, ℕ, ◌+◌, ◌<◌, ◌≤◌, ◌&&◌, cond, Bool, true, false, refl, sym, ap, ◌∙◌, List, [], ◌∷◌, ◌++◌, map, filter, drop, get_or, length, arith}
+use Rattle.std.proofs.Common.{◌≡◌, ℕ, ◌+◌, ◌<◌, ◌≤◌, ◌&&◌, cond, Bool, true, false, refl, sym, ap, ◌∙◌, List, [], ◌∷◌, map, filter, drop, get_or, length}
 use Rattle.std.proofs.lemmas.List.{drop_all, drop_more}
 use Rattle.k_types.specs.declared.names.Name.{Name}
 use Rattle.k_types.specs.declared.names.Heap.{Heap}

@@ -1,5 +1,5 @@
 -- The end of a collection and the end of a process, change by change.
-use Rattle.std.proofs.Common.{◌≡◌, ℕ, ◌==◌, not, Bool, refl, sym, ap, ◌∙◌, List, map, length, Option}
+use Rattle.std.proofs.Common.{◌≡◌, ℕ, ◌==◌, not, Bool, sym, ap, ◌∙◌, List, map, length, Option}
 use Rattle.std.proofs.lemmas.List.{length-map}
 use Rattle.k_types.specs.declared.names.Name.{Name}
 use Rattle.k_types.specs.declared.names.Heap.{Heap}

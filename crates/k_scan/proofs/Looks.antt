@@ -1,7 +1,5 @@
 -- What marking leaves: one name, one look, and several in a row.
-use Rattle.std.proofs.Common.{◌≡◌, ℕ, zero, suc, ◌+◌, ◌<◌, ◌&&◌, ◌||◌, ◌⊎◌, not, cond, Bool, true, false, refl, sym, ap, ap₂, ◌∙◌, inl, inr, List, [], ◌∷◌, ◌++◌, length, get_or, set, count_by, None, arith, length-set}
-use Rattle.std.specs.Prelude.{IsTrue}
-use Rattle.std.specs.List.{list_any}
+use Rattle.std.proofs.Common.{◌≡◌, ℕ, ◌+◌, ◌<◌, ◌&&◌, ◌||◌, not, cond, Bool, true, false, refl, sym, ap, ◌∙◌, inl, inr, List, [], ◌∷◌, ◌++◌, length, get_or, set, count_by, None, arith, length-set}
 use Rattle.std.proofs.lemmas.Bool.{and_parts, and_from, or_left, or_right, or_cases, false≢true}
 use Rattle.std.proofs.lemmas.List.{length_push}
 use Rattle.std.proofs.lemmas.List.Folds.{list_any_at, list_any-append}
@@ -10,7 +8,7 @@ use Rattle.k_types.specs.declared.names.Heap.{Heap}
 use Rattle.k_types.specs.Names.{name_eq, heap_eq, name_among}
 use Rattle.k_types.specs.Owners.{objects_of}
 use Rattle.k_types.specs.State.{Object, has}
-use Rattle.k_base.proofs.NameTests.{name_eq-true, name_eq_refl}
+use Rattle.k_base.proofs.NameTests.{name_eq-true}
 use Rattle.k_base.proofs.Objects.{has-kept}
 use Rattle.k_state.specs.Places.{IsNamedAt}
 use Rattle.k_scan.specs.Marks.{is_marked, IsMarked, HasLooked}

@@ -1,11 +1,11 @@
 -- References of an object that is found by its name.
-use Rattle.std.proofs.Common.{◌≡◌, ◌||◌, ◌&&◌, cond, Bool, true, false, refl, sym, ap, ◌∙◌, inl, inr, List, [], ◌∷◌, map, Option, Some, None}
+use Rattle.std.proofs.Common.{◌≡◌, ◌||◌, ◌&&◌, cond, Bool, true, false, refl, sym, ap, ◌∙◌, inl, inr, List, [], ◌∷◌, map, Option, Some}
 use Rattle.std.specs.List.{list_any}
-use Rattle.std.proofs.lemmas.Bool.{and_parts, and_from, or_left, or_right, or_cases, false≢true}
+use Rattle.std.proofs.lemmas.Bool.{or_left, or_cases}
 use Rattle.k_types.specs.declared.names.Name.{Name}
 use Rattle.k_types.specs.Names.{name_eq, name_lt}
-use Rattle.k_types.specs.State.{Object, Content, has, object_at, refers, refers_in}
-use Rattle.k_types.specs.Sound.{IsOrdered, IsOrderedFrom}
+use Rattle.k_types.specs.State.{Object, object_at, refers, refers_in}
+use Rattle.k_types.specs.Sound.{IsOrdered}
 use Rattle.k_base.proofs.NameTests.{name_eq-true, name_lt_irrefl}
 use Rattle.k_base.proofs.Objects.{refers_in_has}
 use Rattle.k_scan.proofs.Marks.{later, ordered_rest}

@@ -1,6 +1,6 @@
 -- Exit items with the heap that is given for each.
-use Rattle.std.proofs.Common.{◌≡◌, ℕ, zero, suc, ◌+◌, ◌<◌, ◌≤◌, refl, sym, ap, ap₂, ◌∙◌, List, [], ◌∷◌, ◌++◌, map, take, get_or, length, length-take-le, Option, arith}
-use Rattle.std.proofs.lemmas.List.{length_push, map_push, take_all, take_more}
+use Rattle.std.proofs.Common.{◌≡◌, ℕ, ◌+◌, ◌<◌, ◌≤◌, refl, sym, ap, ap₂, ◌∙◌, List, [], ◌∷◌, ◌++◌, map, take, get_or, length, length-take-le, Option, arith}
+use Rattle.std.proofs.lemmas.List.{map_push, take_all, take_more}
 use Rattle.k_types.specs.declared.names.Heap.{Heap}
 use Rattle.k_types.specs.State.{ExitItem}
 use Rattle.k_state.specs.Marks.{turned_item, turned_items}

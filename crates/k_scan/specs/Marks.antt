@@ -1,5 +1,5 @@
 -- Marks beside the objects: one for each, in order.
-use Rattle.std.specs.Prelude.{◌≡◌, ℕ, ◌+◌, ◌&&◌, ◌||◌, ◌⊎◌, not, cond, Bool, true, false, IsTrue, IsFalse, List, [], ◌∷◌, length, count_by}
+use Rattle.std.specs.Prelude.{◌≡◌, ◌+◌, ◌&&◌, ◌||◌, ◌⊎◌, not, cond, Bool, false, IsTrue, IsFalse, List, [], ◌∷◌, length, count_by}
 use Rattle.k_types.specs.declared.names.Name.{Name}
 use Rattle.k_types.specs.Names.{name_eq, name_among}
 use Rattle.k_types.specs.State.{Object, has}

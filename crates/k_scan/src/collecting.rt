@@ -64,7 +64,8 @@ fn bytes_gone(lists: &PlainLists, heap: Heap, stays: &[bool]) -> u64
 /// The event with which the heap's open collection ends: how many objects go and their bytes, and how many exit items and
 /// shares are dropped.
 ///
-/// `NoMemory` comes where the marks of what stays find no memory.
+/// For each exit item of the heap it walks over the reached objects. `NoMemory` comes where the marks of what stays find no
+/// memory.
 #[tactic(auto, using(crate::proofs::Counts::objects_gone, crate::proofs::Counts::items_gone))]
 pub fn ending(alloc: Global, lists: &PlainLists, heap: Heap) -> Result<Event, NoMemory>
     requires { HasRoom 1 lists.now.state }
@@ -83,7 +84,8 @@ pub fn ending(alloc: Global, lists: &PlainLists, heap: Heap) -> Result<Event, No
 /// Ends the heap's open collection: what its roots do not reach goes, with the exit items and shares that nothing needs any
 /// more, and the collection is closed.
 ///
-/// `NoMemory` comes where the marks of what stays find no memory, and leaves the state as it was.
+/// For each exit item of the heap it walks over the reached objects. `NoMemory` comes where the marks of what stays find no
+/// memory, and leaves the state as it was.
 pub fn end_collection(alloc: Global, lists: &mut PlainLists, heap: Heap) -> Result<(), NoMemory>
     ensures setup { lists.new.setup ≡ lists.old.setup }
     ensures ok { OnOk result (lists.new.state ≡ after_ended lists.old.setup heap lists.old.state) }

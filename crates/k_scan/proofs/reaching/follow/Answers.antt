@@ -1,10 +1,10 @@
-use Rattle.std.proofs.Common.{◌≡◌, List, Bool, ap, sym, ◌∙◌, take, map, arith}
+use Rattle.std.proofs.Common.{◌≡◌, Bool, ap, sym, ◌∙◌, take}
 use Rattle.std.specs.List.{list_any}
 use Rattle.std.proofs.lemmas.List.{take_all}
 use Rattle.k_state.specs.Contents.{content}
 use Rattle.k_state.specs.declared.objects.FieldValue.{FieldValue}
 use Rattle.k_types.specs.declared.names.Name.{Name}
-use Rattle.k_types.specs.State.{Content, content_leads_to, refers}
+use Rattle.k_types.specs.State.{content_leads_to, refers}
 use Rattle.k_scan.proofs.Looks.{looked_same}
 use Rattle.k_scan.proofs.References.{any_mapped}
 use Rattle.k_scan.proofs.reaching.follow.Goals as goal

@@ -1,4 +1,4 @@
-use Rattle.std.proofs.Common.{map, take}
+use Rattle.std.proofs.Common.{take}
 use Rattle.std.specs.List.{list_any}
 use Rattle.k_types.specs.State.{content_leads_to}
 use Rattle.k_types.specs.Owners.{objects_of, owner_of}

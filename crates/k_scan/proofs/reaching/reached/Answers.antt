@@ -1,6 +1,6 @@
-use Rattle.std.proofs.Common.{rules, ◌≡◌, List, [], ◌∷◌, ◌++◌, Option, Some, None, ap, sym, subst, ◌∙◌, option_copied}
+use Rattle.std.proofs.Common.{rules, ◌≡◌, List, [], Some, None, ap, sym, subst, ◌∙◌, option_copied}
 use Rattle.k_types.specs.declared.names.Name.{Name}
-use Rattle.k_types.specs.State.{Object, object_at}
+use Rattle.k_types.specs.State.{object_at}
 use Rattle.k_scan.proofs.Reaches.{IsReaching, reaching_begins, reaching_ends, reaching_follows, reaching_skips}
 use Rattle.k_scan.proofs.reaching.reached.Goals as goal
 
