@@ -38,8 +38,10 @@ pub struct Segment {
     room: u32,
     places: Places,
     cells: Slab<Cell>,
-    // The serial of the first gray object; 0 where there is none.
+    // The serial of the gray object that was made gray first; 0 where there is none.
     gray: u32,
+    // That of the one that was made gray last.
+    last: u32,
     // Those of the live objects.
     bytes: u64,
     // One more than the highest slot that was ever used.
@@ -56,13 +58,14 @@ impl Model for Segment {
     ghost Value = { SegmentValue };
 
     ghost use Rattle.std.specs.Prelude.{map, vec_capacity, ◌≡◌};
-    ghost use Rattle.k_space.specs.Places.{row_of, IsSound, AreBytes, AreBelow};
+    ghost use Rattle.k_space.specs.Places.{row_of, IsSound, IsLastGray, AreBytes, AreBelow};
     ghost use Rattle.k_space.specs.Listed.{IsListed};
 
     ghost view = { λ s. record { number = s.number.0; room = s.room; rows = map (row_of s.cells) s.places.items } };
 
     ghost invariant = { λ s. record {
       sound : IsSound s.places.items s.cells s.room s.places.capacity s.gray;
+      last : IsLastGray s.places.items s.last;
       bytes : AreBytes s.places.items s.cells s.bytes;
       end : AreBelow s.cells s.end;
       listed : IsListed s.places.items s.live.items s.left;
@@ -87,6 +90,7 @@ impl Segment {
             places,
             cells,
             gray: 0,
+            last: 0,
             bytes: 0,
             end: 0,
             live: Vec::with_capacity(alloc, room as usize)?,
@@ -275,8 +279,14 @@ impl Segment {
         match place {
             Place::At(slot, mark) => match mark {
                 Mark::White => {
-                    self.places.set(at, Place::At(slot, Mark::Gray(self.gray)));
-                    self.gray = serial.0;
+                    let last = self.last;
+                    self.last = serial.0;
+                    self.places.set(at, Place::At(slot, Mark::Gray(0)));
+                    if self.gray == 0 {
+                        self.gray = serial.0;
+                    } else {
+                        self.places.follow(last as usize, serial.0);
+                    }
                 }
                 Mark::Gray(_) => {}
                 Mark::Black => {}
@@ -285,7 +295,8 @@ impl Segment {
         }
     }
 
-    /// Takes a gray object, and makes it black. Constant time.
+    /// Takes a gray object, and makes it black: the one that was made gray first, so that objects come in the order
+    /// in which they were reached, mostly that of their making. Constant time.
     pub fn take_gray(&mut self) -> Option<Serial>
         ensures some { (serial : Serial) → result ≡ Some serial → (row : Row) × LiesAt self.old row.slot serial.0 row × (row.color ≡ Gray)
             × (self.new ≡ with_row self.old serial.0 (Some (record row { color = Black }))) }

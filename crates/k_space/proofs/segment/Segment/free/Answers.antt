@@ -3,6 +3,7 @@ use Rattle.k_types.specs.Types.{object_size}
 use Rattle.k_space.specs.declared.marks.Place.TheVariants.{Empty, At}
 use Rattle.k_space.specs.declared.marks.Mark.TheVariants.{White as MarkWhite}
 use Rattle.k_space.specs.declared.marks.Mark.{Mark}
+use Rattle.k_space.proofs.GrayQueue.{last_set}
 use Rattle.k_space.proofs.ListedLemmas.{listed_set}
 use Rattle.k_space.specs.Listed.{IsListed}
 use Rattle.k_space.specs.Stamps.{PlacesValue}
@@ -58,6 +59,7 @@ invariant_of-self c =
       end = below_freed c.self.inside.cells c.remove-cell.new.self c.args.slot c.self.inside.end c.self.invariant.end updates;
       listed = subst (λ (p : PlacesValue). IsListed p.items c.unlist-self-inside.new.live.items c.unlist-self-inside.result) c.set.ensures c.unlist-self-inside.ensures.listed;
       reserved = c.unlist-self-inside.ensures.capacity ∙ c.self.invariant.reserved;
+      last = last_set c.self.inside.places.items c.self.inside.last c.remove-cell.result.serial.0 Empty c.self.invariant.last within refl;
     })
 
 pub returns-clause-freed : goal.returns-clause-freed

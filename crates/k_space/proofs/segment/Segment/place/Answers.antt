@@ -5,6 +5,7 @@ use Rattle.k_types.specs.Types.{object_size}
 use Rattle.k_space.specs.declared.marks.Place.{Place}
 use Rattle.k_space.specs.Stamps.{PlacesValue}
 use Rattle.k_space.proofs.Pushed.{pushed, pushed_view, rows_kept}
+use Rattle.k_space.proofs.GrayQueue.{last_pushed}
 use Rattle.k_space.proofs.ListedLemmas.{listed_pushed}
 use Rattle.k_space.proofs.Bytes.{bytes_pushed, below_pushed}
 use Rattle.k_space.proofs.segment.Segment.place.Goals as goal
@@ -47,6 +48,7 @@ invariant_of-self c =
           (below_pushed c.self.inside.cells c.insert_reserved-slot.new.self c.insert_reserved-slot.result _ c.self.inside.end c.self.invariant.end updates);
       listed = rw (c.push_reserved.ensures, c.push_reserved-2.ensures.items) (listed_pushed places c.self.inside.live.items c.self.inside.left c.insert_reserved-slot.result c.len-serial.result c.len-self-inside.result c.self.invariant.listed serial (whole c.len-self-inside.result c.push_reserved-2.new.self.len _ _ c.len-self-inside.ensures c.push_reserved-2.new.self.ok.0 c.push_reserved-2.ensures.items));
       reserved = omega (arith, c.push_reserved-2.ensures.capacity, c.self.invariant.reserved);
+      last = rw c.push_reserved.ensures (last_pushed places c.self.inside.last c.insert_reserved-slot.result c.self.invariant.last);
     }
 
 pub returns-clause-placed : goal.returns-clause-placed

@@ -1,6 +1,7 @@
 use Rattle.std.proofs.Common.{List, Option, ap, ◌∙◌}
 use Rattle.k_space.specs.Segments.{Row, SegmentValue, unmarked_segment}
 use Rattle.k_space.proofs.Rows.{whitened, whitened_rows}
+use Rattle.k_space.proofs.GrayQueue.{last_whitened}
 use Rattle.k_space.proofs.ListedLemmas.{listed_whitened}
 use Rattle.k_space.proofs.Bytes.{bytes_whitened}
 use Rattle.k_space.proofs.segment.Segment.unmark_all.Goals as goal
@@ -14,6 +15,7 @@ invariant_of-self c =
       end = c.self.invariant.end;
       listed = listed_whitened places _ _ c.len-self-inside.result c.self.invariant.listed (c.len-self-inside.ensures ∙ c.self.inside.live.ok.0);
       reserved = c.self.invariant.reserved;
+      last = last_whitened places c.self.inside.last;
     })
 
 pub returns : goal.returns
