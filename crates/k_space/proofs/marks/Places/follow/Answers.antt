@@ -1,7 +1,6 @@
 use Rattle.std.proofs.Common.{◌≡◌, sym, ap, ◌∙◌, set}
 use Rattle.k_space.specs.declared.marks.Place.TheVariants.{Empty, At}
 use Rattle.k_space.specs.declared.marks.Mark.TheVariants.{Gray}
-use Rattle.k_space.specs.Stamps.{PlacesValue}
 use Rattle.k_space.proofs.GrayLists.{At_inside}
 use Rattle.k_space.proofs.Rows.{same_At}
 use Rattle.k_space.proofs.marks.Places.follow.Goals as goal

@@ -1,5 +1,5 @@
-use Rattle.std.proofs.Common.{◌≡◌, ◌<◌, ℕ, Some, refl, sym, ap, subst, ◌∙◌, length, get_or, set, count_by, arith}
-use Rattle.k_space.specs.declared.marks.Place.TheVariants.{Empty, At}
+use Rattle.std.proofs.Common.{◌<◌, ℕ, Some, refl, sym, ap, subst, ◌∙◌, length, set, count_by, arith}
+use Rattle.k_space.specs.declared.marks.Place.TheVariants.{At}
 use Rattle.k_space.specs.declared.marks.Mark.TheVariants.{White as MarkWhite, Gray as MarkGray}
 use Rattle.k_space.specs.Segments.{Row, Color, with_row, gray_or_black}
 use Rattle.k_space.specs.Places.{IsGrayList, is_gray_place}
