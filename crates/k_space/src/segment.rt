@@ -8,7 +8,7 @@ ghost use Rattle.k_space.specs.Segments.{Row, White, Black, Gray, LiesAt, IsLive
 ghost use Rattle.k_space.specs.Sweeping.{IsFreed, IsFree, IsFirstUnmarked, IsTakenAway, IsUnmarkedAt};
 
 use crate::body::{Body, Stored};
-use crate::live::{next_white, unlist};
+use crate::live::{Pass, next_white, passed};
 use crate::marks::{Mark, Place, Places};
 use k_io::NoMemory;
 use k_types::{Field, Link, Seg, Serial, Slot, TypeId};
@@ -48,8 +48,8 @@ pub struct Segment {
     end: usize,
     // The serials of the live objects, in any order, and of some that are gone.
     live: Vec<u32>,
-    // None of them is white but of so many first ones.
-    left: usize,
+    // How far a sweep has come on that list.
+    pass: Pass,
 }
 
 impl Model for Segment {
@@ -68,7 +68,7 @@ impl Model for Segment {
       last : IsLastGray s.places.items s.last;
       bytes : AreBytes s.places.items s.cells s.bytes;
       end : AreBelow s.cells s.end;
-      listed : IsListed s.places.items s.live.items s.left;
+      listed : IsListed s.places.items s.live.items s.pass.kept s.pass.next;
       reserved : vec_capacity s.live ≡ s.room;
     } };
 }
@@ -94,7 +94,7 @@ impl Segment {
             bytes: 0,
             end: 0,
             live: Vec::with_capacity(alloc, room as usize)?,
-            left: 0,
+            pass: Pass { kept: 0, next: 0 },
         })
     }
 
@@ -141,7 +141,6 @@ impl Segment {
         self.places.push_reserved(Place::At(slot, Mark::White));
         self.end = self.end.max(slot + 1);
         self.live.push_reserved(serial);
-        self.left = self.live.len();
         Link {
             seg: self.number,
             slot: Slot(slot),
@@ -279,6 +278,7 @@ impl Segment {
         match place {
             Place::At(slot, mark) => match mark {
                 Mark::White => {
+                    // Behind the others, so that objects are visited mostly in the order of their making.
                     let last = self.last;
                     self.last = serial.0;
                     self.places.set(at, Place::At(slot, Mark::Gray(0)));
@@ -295,8 +295,7 @@ impl Segment {
         }
     }
 
-    /// Takes a gray object, and makes it black: the one that was made gray first, so that objects come in the order
-    /// in which they were reached, mostly that of their making. Constant time.
+    /// Takes a gray object, and makes it black. Constant time.
     pub fn take_gray(&mut self) -> Option<Serial>
         ensures some { (serial : Serial) → result ≡ Some serial → (row : Row) × LiesAt self.old row.slot serial.0 row × (row.color ≡ Gray)
             × (self.new ≡ with_row self.old serial.0 (Some (record row { color = Black }))) }
@@ -330,7 +329,7 @@ impl Segment {
     {
         self.places.whiten();
         self.gray = 0;
-        self.left = self.live.len();
+        self.pass = Pass { kept: 0, next: 0 };
     }
 
     /// Frees the first object that isn't marked, by slots from that one on. It passes the slots up to
@@ -354,12 +353,12 @@ impl Segment {
         ensures none { IfNone result ((serial : ℕ) (row : Row) → row_at self.old serial ≡ Some row → IsTrue (is_marked row.color)) }
         ensures kept { IfNone result (self.new ≡ self.old) }
     {
-        let left = next_white(&mut self.live, &self.places, self.left);
-        self.left = left;
-        if left == 0 {
+        let pass = next_white(&mut self.live, &self.places, self.pass);
+        self.pass = pass;
+        if pass.next >= self.live.len() {
             return None;
         }
-        match self.places.at(self.live[left - 1] as usize) {
+        match self.places.at(self.live[pass.next] as usize) {
             Place::At(slot, _) => Some(self.free(slot)),
             Place::Empty => unreachable!(),
         }
@@ -414,7 +413,7 @@ impl Segment {
         let bytes = cell.body.bytes();
         self.places.set(cell.serial.0 as usize, Place::Empty);
         self.bytes -= bytes;
-        self.left = unlist(&mut self.live, &self.places, self.left, cell.serial.0);
+        self.pass = passed(&self.live, &self.places, self.pass, cell.serial.0);
         Gone {
             slot: Slot(slot),
             serial: cell.serial,

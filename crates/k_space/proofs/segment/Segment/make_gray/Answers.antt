@@ -32,7 +32,7 @@ invariant_of-self c =
       last = last_alone places c.args.serial.0 c.in-At.slot none within;
       bytes = bytes_recolored places c.self.inside.cells c.self.inside.bytes c.args.serial.0 c.in-At.slot MarkWhite (MarkGray 0) c.self.invariant.bytes here;
       end = c.self.invariant.end;
-      listed = listed_set places _ _ c.args.serial.0 (At c.in-At.slot (MarkGray 0)) c.self.invariant.listed within refl (λ s m e. c.self.invariant.listed.covers c.args.serial.0 c.in-At.slot MarkWhite here);
+      listed = listed_set places _ _ _ c.args.serial.0 (At c.in-At.slot (MarkGray 0)) c.self.invariant.listed within refl (λ s m e. c.self.invariant.listed.covers c.args.serial.0 c.in-At.slot MarkWhite here);
       reserved = c.self.invariant.reserved;
     })
 
@@ -48,7 +48,7 @@ invariant_of-self-else-self-eq0 c =
     let one = set places c.args.serial.0 (At c.in-At.slot (MarkGray 0)) in
     let inside : c.self.inside.last < length one = At_inside one c.self.inside.last end.slot (MarkGray 0) there in
     let kept = recolored_kept places c.self.inside.cells c.self.inside.room _ c.args.serial.0 c.in-At.slot MarkWhite (MarkGray 0) (kept_of _ _ _ _ c.self.inside.gray c.self.invariant.sound) here in
-    let listed = listed_set places _ _ c.args.serial.0 (At c.in-At.slot (MarkGray 0)) c.self.invariant.listed within refl (λ s m e. c.self.invariant.listed.covers c.args.serial.0 c.in-At.slot MarkWhite here) in
+    let listed = listed_set places _ _ _ c.args.serial.0 (At c.in-At.slot (MarkGray 0)) c.self.invariant.listed within refl (λ s m e. c.self.invariant.listed.covers c.args.serial.0 c.in-At.slot MarkWhite here) in
     rw (c.follow.ensures end.slot (rw c.set.ensures there), c.set.ensures) (record {
       sound =
           sound_of _ _ _ _ c.self.inside.gray
@@ -59,7 +59,7 @@ invariant_of-self-else-self-eq0 c =
           bytes_recolored one c.self.inside.cells c.self.inside.bytes c.self.inside.last end.slot (MarkGray 0) (MarkGray c.args.serial.0)
           (bytes_recolored places c.self.inside.cells c.self.inside.bytes c.args.serial.0 c.in-At.slot MarkWhite (MarkGray 0) c.self.invariant.bytes here) there;
       end = c.self.invariant.end;
-      listed = listed_set one _ _ c.self.inside.last (At end.slot (MarkGray c.args.serial.0)) listed inside refl (λ s m e. listed.covers c.self.inside.last end.slot (MarkGray 0) there);
+      listed = listed_set one _ _ _ c.self.inside.last (At end.slot (MarkGray c.args.serial.0)) listed inside refl (λ s m e. listed.covers c.self.inside.last end.slot (MarkGray 0) there);
       reserved = c.self.invariant.reserved;
     })
 

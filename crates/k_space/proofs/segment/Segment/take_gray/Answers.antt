@@ -32,7 +32,7 @@ invariant_of-self c =
           (first_left places _ at c.in-At.slot c.in-Gray.next (At c.in-At.slot MarkBlack) refl here some c.self.invariant.sound.grays refl);
       bytes = bytes_recolored places c.self.inside.cells c.self.inside.bytes at c.in-At.slot (MarkGray c.in-Gray.next) MarkBlack c.self.invariant.bytes here;
       end = c.self.invariant.end;
-      listed = listed_set places _ _ at (At c.in-At.slot MarkBlack) c.self.invariant.listed (At_inside places at c.in-At.slot (MarkGray c.in-Gray.next) here) refl (λ s m e. c.self.invariant.listed.covers at c.in-At.slot (MarkGray c.in-Gray.next) here);
+      listed = listed_set places _ _ _ at (At c.in-At.slot MarkBlack) c.self.invariant.listed (At_inside places at c.in-At.slot (MarkGray c.in-Gray.next) here) refl (λ s m e. c.self.invariant.listed.covers at c.in-At.slot (MarkGray c.in-Gray.next) here);
       reserved = c.self.invariant.reserved;
       last = last_set places c.self.inside.last at (At c.in-At.slot MarkBlack) c.self.invariant.last (At_inside places at c.in-At.slot (MarkGray c.in-Gray.next) here) refl;
     })

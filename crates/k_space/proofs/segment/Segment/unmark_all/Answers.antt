@@ -13,7 +13,7 @@ invariant_of-self c =
       sound = whitened places c.self.inside.cells c.self.inside.room _ c.self.inside.gray c.self.invariant.sound;
       bytes = bytes_whitened places c.self.inside.cells c.self.inside.bytes c.self.invariant.bytes;
       end = c.self.invariant.end;
-      listed = listed_whitened places _ _ c.len-self-inside.result c.self.invariant.listed (c.len-self-inside.ensures ∙ c.self.inside.live.ok.0);
+      listed = listed_whitened places _ _ _ c.self.invariant.listed;
       reserved = c.self.invariant.reserved;
       last = last_whitened places c.self.inside.last;
     })
