@@ -55,6 +55,13 @@ impl TypeTable {
         TypeTable::make(alloc, &self.rows)
     }
 
+    /// How many types there are.
+    pub fn len(&self) -> usize
+        ensures { result ≡ length self.now }
+    {
+        self.rows.len()
+    }
+
     /// How many bytes an object of the type takes.
     pub fn size_of(&self, ty: TypeId) -> u64
         requires { ty.0 < length self.now }
