@@ -18,7 +18,8 @@ use Rattle.k_trace.specs.Spelling.{declarations, limit_words, proc_words, shared
 use Rattle.k_trace.specs.Grown.{fits, with_limit, with_proc, with_shared}
 use Rattle.k_trace.specs.Judgement.{SoFar, has_process}
 use Rattle.k_trace.proofs.OpRules.{none_each}
-use Rattle.k_trace.proofs.Pushed.{length_push, AreNames_front, declares_append}
+use Rattle.k_base.proofs.Lists.{length_push}
+use Rattle.k_trace.proofs.Pushed.{AreNames_front, declares_append}
 use Rattle.k_trace.proofs.Reserved.{AllFit, fit_room}
 use Rattle.k_trace.proofs.Steps.{at_place, limit_row, ProcStep, SharedStep, Step, OfProc, OfShared, Run}
 use Rattle.k_trace.proofs.Runs.{run_to, run_then, good_at, fresh_at, moved, with_limits, limits_more, row_is, AreLater, limit_step, seam, front_tree, fit_front}
