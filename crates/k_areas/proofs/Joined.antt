@@ -11,7 +11,6 @@ use Rattle.k_types.specs.Sound.{IsOrdered, IsOrderedFrom}
 use Rattle.k_types.specs.Updates.{with_object}
 use Rattle.k_changes.specs.CellChanges.{with_objects}
 use Rattle.k_changes.proofs.Merged.{placed_first}
-use Rattle.k_base.proofs.NameTests.{name_lt_trans}
 use Rattle.k_space.specs.Objects.{BodyValue}
 use Rattle.k_space.specs.Segments.{Row, SegmentValue, object_of, objects_from, segment_objects, placed, new_row}
 use Rattle.k_space.specs.Areas.{AreaValue, segment_at, with_segment}
