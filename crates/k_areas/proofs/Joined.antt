@@ -19,7 +19,6 @@ use Rattle.k_areas.specs.Shown.{area_objects, objects_of_some, HasNoneFrom, IsTa
 use Rattle.k_areas.proofs.Shown.{placed_objects}
 use Rattle.k_areas.proofs.Found.{at_push_same, at_push_other, at_set_same, at_set_other, found_below}
 use Rattle.k_areas.proofs.Changed.{changed_area}
-use Rattle.k_base.proofs.Ordered.{IsBefore}
 
 by_segment_lt : (a b : Name) → a.seg.0 < b.seg.0 → name_lt a b ≡ true
 by_segment_lt a b low = grind (arith, nat_tests)
