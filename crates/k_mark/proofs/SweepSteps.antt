@@ -1,5 +1,5 @@
 -- What one sweep of a segment has done so far.
-use Rattle.std.proofs.Common.{◌≡◌, ℕ, zero, suc, ◌+◌, ◌<◌, true, cond, refl, sym, ap, ap₂, ◌∙◌, List, [], ◌∷◌, length, map, get_or, sum_by, Option, Some, None, arith}
+use Rattle.std.proofs.Common.{◌≡◌, ℕ, zero, suc, ◌+◌, ◌<◌, true, cond, refl, sym, ap, ap₂, ◌∙◌, List, [], ◌∷◌, length, map, get_or, sum_by, Option, Some, None, arith, ◌≤◌, Bool, false}
 use Rattle.std.proofs.Math.Seq.{map-set_same}
 use Rattle.std.proofs.lemmas.List.Sums.{sum_by-cons, sum_by-set}
 use Rattle.k_base.proofs.Lists.{some_inside}
@@ -16,6 +16,19 @@ pub record IsSweeping (old now : SegmentValue) (objects bytes begun_objects begu
   pub survivors : map survivor now.rows ≡ map survivor old.rows
   pub objects_are : objects + sum_by dead_row now.rows ≡ begun_objects + sum_by dead_row old.rows
   pub bytes_are : bytes + sum_by dead_bytes_of now.rows ≡ begun_bytes + sum_by dead_bytes_of old.rows
+
+dead_once : (o : Option Row) → dead_row o ≤ 1
+dead_once None = omega arith
+dead_once (Some row) = by_mark (is_marked row.color)
+  where
+    by_mark : (b : Bool) → cond b 0 1 ≤ 1
+    by_mark true = omega arith
+    by_mark false = omega arith
+
+-- no more objects are dead than there are places for them
+pub dead_rows : (rows : List (Option Row)) → sum_by dead_row rows ≤ length rows
+dead_rows [] = omega arith
+dead_rows (o ∷ rows) = omega (arith, sum_by-cons dead_row o rows, dead_once o, dead_rows rows)
 
 pub goes_on : (old now after : SegmentValue) (objects bytes begun_objects begun_bytes : ℕ) (gone : Gone) → IsSweeping old now objects bytes begun_objects begun_bytes → IsTakenAway now after gone →
     IsSweeping old after (objects + 1) (bytes + gone.bytes) begun_objects begun_bytes × (sum_by dead_row after.rows < sum_by dead_row now.rows)
