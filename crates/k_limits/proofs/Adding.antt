@@ -1,5 +1,5 @@
 -- The facts on a row that is put after the others, as the code meets them.
-use Rattle.std.proofs.Common.{◌≡◌, ℕ, ◌+◌, ◌-◌, ◌*◌, ◌^◌, ◌<◌, Bool, false, refl, ap, ◌∙◌, sym, subst, List, [], ◌∷◌, ◌++◌, length, find, slice_index, Option, Some, None, option_map, is_some, arith}
+use Rattle.std.proofs.Common.{◌≡◌, ℕ, ◌+◌, ◌*◌, ◌^◌, ◌<◌, Bool, false, ap, ◌∙◌, sym, subst, List, [], ◌∷◌, ◌++◌, length, find, slice_index, Option, option_map, is_some, arith}
 use Rattle.k_types.specs.declared.names.LimitId.{LimitId}
 use Rattle.k_types.specs.declared.setup.LimitRow.{LimitRow}
 use Rattle.k_limits.specs.Limits.{ChargedLimits, charged_limits, is_full_at}

@@ -1,7 +1,6 @@
 -- What a charge at a limit does to the uses: each limit on its path has that much more, and no other.
-use Rattle.std.proofs.Common.{◌≡◌, ℕ, zero, suc, ◌+◌, ◌*◌, ◌<◌, ◌≤◌, ◌==◌, ◌&&◌, not, Bool, true, false, cond, refl, ap, ap₂, ◌∙◌, sym, List, length, Option, Some, None, arith}
+use Rattle.std.proofs.Common.{◌≡◌, ℕ, zero, suc, ◌+◌, ◌*◌, ◌<◌, ◌≤◌, ◌==◌, Bool, true, false, cond, refl, ap, ap₂, ◌∙◌, sym, List, length, Option, Some, None, arith}
 use Rattle.std.proofs.Math.Path.{fun_ext}
-use Rattle.std.proofs.lemmas.Bool.{and_right}
 use Rattle.std.proofs.lemmas.Bool.Decides.{nat_tests}
 use Rattle.k_types.specs.Totals.{total}
 use Rattle.k_types.specs.Numbers.{numbers_below}
@@ -9,7 +8,7 @@ use Rattle.k_types.specs.declared.names.LimitId.{LimitId}
 use Rattle.k_types.specs.declared.setup.LimitRow.{LimitRow}
 use Rattle.k_types.specs.Trace.{row_of}
 use Rattle.k_types.specs.TraceRules.{IsTree}
-use Rattle.k_types.specs.Limits.{use_within, path_within, path_above, children, max_of, is_parent}
+use Rattle.k_types.specs.Limits.{use_within, path_within, path_above, max_of, is_parent}
 use Rattle.k_limits.specs.Paths.{times_on}
 use Rattle.k_base.proofs.Sums.{bit, sum-filter, same_below}
 use Rattle.k_base.proofs.Charges.{soft, soft_one, soft_both, is_soft_child, not_soft_hard, soft_child, not_soft_top, bit_turned, counted, use_added}

@@ -1,5 +1,5 @@
 -- The machine's uses, and those over a list of what is charged directly.
-use Rattle.std.proofs.Common.{◌≡◌, ℕ, zero, suc, ◌+◌, ◌<◌, nat_lt, cond, refl, ap, ◌∙◌, sym, List, [], ◌∷◌, find, length, slice_index, arith}
+use Rattle.std.proofs.Common.{◌≡◌, ℕ, zero, suc, ◌+◌, ◌<◌, nat_lt, cond, refl, ap, List, find, length, slice_index, arith}
 use Rattle.k_types.specs.Numbers.{numbers_below}
 use Rattle.k_types.specs.declared.setup.LimitRow.{LimitRow}
 use Rattle.k_types.specs.Trace.{Trace, row_of}

@@ -1,5 +1,5 @@
 -- A row is put after the others: what its reservation does to the uses.
-use Rattle.std.proofs.Common.{◌≡◌, ℕ, zero, suc, ◌+◌, ◌*◌, ◌^◌, ◌<◌, ◌≤◌, ◌==◌, ◌&&◌, Bool, true, false, cond, refl, ap, ap₂, ◌∙◌, sym, List, [], ◌∷◌, ◌++◌, length, find, slice_index, Option, Some, None, is_some, arith, eq-eqb, ne_eqb, inl, inr, zero-le, length-append}
+use Rattle.std.proofs.Common.{◌≡◌, ℕ, zero, suc, ◌+◌, ◌*◌, ◌^◌, ◌<◌, ◌≤◌, ◌==◌, ◌&&◌, Bool, true, false, cond, refl, ap, ap₂, ◌∙◌, sym, List, [], ◌∷◌, ◌++◌, length, find, slice_index, Option, Some, None, is_some, arith, eq-eqb, ne_eqb, inl, inr, zero-le}
 use Rattle.std.proofs.Math.Path.{fun_ext}
 use Rattle.std.proofs.lemmas.Bool.{cases_eq}
 use Rattle.std.proofs.lemmas.List.{get_or_append_left, get_or-append-add, get_or_past}

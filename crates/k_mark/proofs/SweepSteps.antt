@@ -1,5 +1,5 @@
 -- What one sweep of a segment has done so far.
-use Rattle.std.proofs.Common.{◌≡◌, ℕ, zero, suc, ◌+◌, ◌<◌, true, cond, refl, sym, ap, ap₂, ◌∙◌, List, [], ◌∷◌, length, map, get_or, sum_by, Option, Some, None, arith, ◌≤◌, Bool, false}
+use Rattle.std.proofs.Common.{◌≡◌, ℕ, suc, ◌+◌, ◌<◌, true, cond, refl, sym, ap, ap₂, ◌∙◌, List, [], ◌∷◌, length, map, get_or, sum_by, Option, Some, None, arith, ◌≤◌, Bool, false}
 use Rattle.std.proofs.Math.Seq.{map-set_same}
 use Rattle.std.proofs.lemmas.List.Sums.{sum_by-cons, sum_by-set}
 use Rattle.k_base.proofs.Lists.{some_inside}

@@ -1,6 +1,5 @@
-use Rattle.std.proofs.Common.{◌≡◌, List, sym, ap, subst, ◌∙◌, length, map, set, arith}
+use Rattle.std.proofs.Common.{◌≡◌, List, sym, ap, subst, ◌∙◌, length, set, arith}
 use Rattle.std.proofs.lemmas.List.{get_or-set_other, length-set, map-set}
-use Rattle.k_exit.specs.declared.chains.Item.{Item}
 use Rattle.k_exit.specs.Chains.{IsLinked, row_of, blank}
 use Rattle.k_exit.specs.Exits.{ExitRow}
 use Rattle.k_exit.proofs.Removes.{relinked, same_len}

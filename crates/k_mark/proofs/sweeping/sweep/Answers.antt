@@ -1,4 +1,4 @@
-use Rattle.std.proofs.Common.{◌≡◌, ◌+◌, ℕ, Option, Some, None, ap, ◌∙◌, sum_by, slice_get, arith}
+use Rattle.std.proofs.Common.{◌≡◌, ◌+◌, ℕ, Some, None, ap, ◌∙◌, sum_by, slice_get, arith}
 use Rattle.k_base.proofs.Lists.{some_one}
 use Rattle.k_space.specs.Segments.{SegmentValue}
 use Rattle.k_space.specs.Areas.{segment_at, place_of}
