@@ -1,10 +1,11 @@
 -- What the rows of a segment are after a change.
-use Rattle.std.proofs.Common.{◌≡◌, ◌≢◌, ℕ, zero, suc, ◌<◌, Bool, true, false, cond, refl, sym, ap, ap₂, subst, ◌∙◌, inl, inr, List, [], ◌∷◌, ◌++◌, length, map, take, get_or, set, Option, Some, None, is_some, count_by, arith}
+use Rattle.std.proofs.Common.{◌≡◌, ◌≢◌, ℕ, zero, suc, ◌+◌, ◌-◌, ◌<◌, ◌≤◌, ◌^◌, Bool, true, false, cond, refl, sym, ap, ap₂, subst, ◌∙◌, inl, inr, List, [], ◌∷◌, ◌++◌, length, map, take, get_or, set, Option, Some, None, is_some, count_by, arith}
 use Rattle.std.proofs.Math.ListN.{get_or-map}
+use Rattle.std.proofs.Math.Seq.{map-set_same}
 use Rattle.std.proofs.lemmas.Bool.{cases_eq}
 use Rattle.std.proofs.lemmas.List.Sums.{sum_by-cons}
 use Rattle.std.proofs.lemmas.List.{get_or-set_same, get_or-set_other, length-set, map-set, set-get_or}
-use Rattle.slab.specs.Slab.{Slab, get, with_value}
+use Rattle.slab.specs.Slab.{Slab, get, slab_len, with_value}
 use Rattle.k_space.specs.declared.marks.Place.{Place}
 use Rattle.k_space.specs.declared.marks.Place.TheVariants.{Empty, At}
 use Rattle.k_space.specs.declared.marks.Mark.{Mark}
@@ -57,10 +58,48 @@ row_at_view cells places i = get_or-map (row_of cells) places i Empty
 pub same_At : (s t : ℕ) (m n : Mark) → At s m ≡ At t n → (s ≡ t) × (m ≡ n)
 same_At s t m n e = (cc, cc)
 
+-- what holds of places and slots, but for the list of gray places
+pub record AreKept (places : List Place) (cells : Slab Cell) (room capacity : ℕ) : Type 0 where
+  pub first : get_or places 0 Empty ≡ Empty
+  pub begun : 0 < length places
+  pub within : length places ≤ room + 1
+  pub reserved : capacity ≡ room + 1
+  pub small : room < 2 ^ 32
+  pub keys : cells.capacity < 2 ^ 64
+  pub fits : slab_len cells + (room + 1 - length places) ≤ cells.capacity
+  pub placed : (i slot : ℕ) (mark : Mark) → get_or places i Empty ≡ At slot mark → IsPlaced cells i slot
+  pub kept : (slot : ℕ) (cell : Cell) → get cells slot ≡ Some cell → IsKept places slot cell
+
+pub kept_of : (places : List Place) (cells : Slab Cell) (room capacity head : ℕ) → IsSound places cells room capacity head → AreKept places cells room capacity
+kept_of places cells room capacity head sound = record {
+  first = sound.first;
+  begun = sound.begun;
+  within = sound.within;
+  reserved = sound.reserved;
+  small = sound.small;
+  keys = sound.keys;
+  fits = sound.fits;
+  placed = sound.placed;
+  kept = sound.kept;
+}
+
+pub sound_of : (places : List Place) (cells : Slab Cell) (room capacity head : ℕ) → AreKept places cells room capacity → IsGrayList places (count_by is_gray_place places) head → IsSound places cells room capacity head
+sound_of places cells room capacity head kept grays = record {
+  first = kept.first;
+  begun = kept.begun;
+  within = kept.within;
+  reserved = kept.reserved;
+  small = kept.small;
+  keys = kept.keys;
+  fits = kept.fits;
+  placed = kept.placed;
+  kept = kept.kept;
+  grays = grays;
+}
+
 -- another mark at one place
-pub recolored : (places : List Place) (cells : Slab Cell) (room capacity head after i slot : ℕ) (m n : Mark) → IsSound places cells room capacity head → get_or places i Empty ≡ At slot m →
-    IsGrayList (set places i (At slot n)) (count_by is_gray_place (set places i (At slot n))) after → IsSound (set places i (At slot n)) cells room capacity after
-recolored places cells room capacity head after i slot m n sound here grays =
+pub recolored_kept : (places : List Place) (cells : Slab Cell) (room capacity i slot : ℕ) (m n : Mark) → AreKept places cells room capacity → get_or places i Empty ≡ At slot m → AreKept (set places i (At slot n)) cells room capacity
+recolored_kept places cells room capacity i slot m n sound here =
     let not_first : 0 ≢ i = λ e. apart e in
     record {
       first = get_or-set_other places i 0 (At slot n) Empty not_first ∙ sound.first;
@@ -72,7 +111,6 @@ recolored places cells room capacity head after i slot m n sound here grays =
       fits = omega (arith, length-set places i (At slot n), sound.fits);
       placed = placed_after;
       kept = kept_after;
-      grays = grays;
     }
   where
     within : i < length places
@@ -103,6 +141,22 @@ recolored places cells room capacity head after i slot m n sound here grays =
               }
           | inr differs ↦ record { mark = was.mark; there = get_or-set_other places i cell.serial.0 (At slot n) Empty differs ∙ was.there; few = was.few }
         ]
+
+pub recolored : (places : List Place) (cells : Slab Cell) (room capacity head after i slot : ℕ) (m n : Mark) → IsSound places cells room capacity head → get_or places i Empty ≡ At slot m →
+    IsGrayList (set places i (At slot n)) (count_by is_gray_place (set places i (At slot n))) after → IsSound (set places i (At slot n)) cells room capacity after
+recolored places cells room capacity head after i slot m n sound here grays =
+    sound_of (set places i (At slot n)) cells room capacity after (recolored_kept places cells room capacity i slot m n (kept_of places cells room capacity head sound) here) grays
+
+-- another gray place that follows changes no row
+pub followed_view : (number room : ℕ) (places : List Place) (cells : Slab Cell) (i slot next after : ℕ) → get_or places i Empty ≡ At slot (MarkGray next) →
+    ◌≡◌ {A = SegmentValue} (record { number = number; room = room; rows = map (row_of cells) (set places i (At slot (MarkGray after))) }) (record { number = number; room = room; rows = map (row_of cells) places })
+followed_view number room places cells i slot next after here =
+    ap (λ (rs : List (Option Row)). record { number = number; room = room; rows = rs })
+    (map-set_same (row_of cells) places i (At slot (MarkGray after)) Empty (same_gray slot after next (get cells slot) ∙ sym (ap (row_of cells) here)))
+  where
+    same_gray : (slot m n : ℕ) (o : Option Cell) → row_in slot (MarkGray m) o ≡ row_in slot (MarkGray n) o
+    same_gray slot m n None = refl
+    same_gray slot m n (Some cell) = refl
 
 row_in_recolored : (slot : ℕ) (m n : Mark) (row : Row) (o : Option Cell) → row_in slot m o ≡ Some row → row_in slot n o ≡ Some (record row { color = color_of n })
 row_in_recolored slot m n row None e = absurd (cc)

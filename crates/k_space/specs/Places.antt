@@ -37,6 +37,15 @@ IsGrayList places zero head = head ≡ 0
 IsGrayList places (suc n) head = (0 < head) × (slot : ℕ) × (next : ℕ) × (slice_index_or places head Empty ≡ At slot (MarkGray next))
     × IsGrayList places n next
 
+-- the place there is gray, and names no next one
+pub record IsGrayEnd (places : List Place) (last : ℕ) : Type 0 where
+  pub slot : ℕ
+  pub there : slice_index_or places last Empty ≡ At slot (MarkGray 0)
+
+-- no other gray place names no next one
+abbrev pub IsLastGray : List Place → ℕ → Type 0
+IsLastGray places last = (i : ℕ) (slot : ℕ) → slice_index_or places i Empty ≡ At slot (MarkGray 0) → i ≡ last
+
 -- the slot has the object of that serial
 pub record IsPlaced (cells : Slab Cell) (serial slot : ℕ) : Type 0 where
   pub cell : Cell

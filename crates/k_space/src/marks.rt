@@ -1,6 +1,7 @@
-ghost use Rattle.std.specs.Prelude.{◌≡◌, ◌<◌, ◌≤◌, ◌+◌, ◌^◌, ◌++◌, ◌∷◌, [], length, map, slice_set, slice_index_or, IfOk};
-ghost use Rattle.k_space.specs.declared.marks.Place.TheVariants.{Empty as NoPlace};
-ghost use Rattle.k_space.specs.Places.{white_place, is_white_place, is_empty_place};
+ghost use Rattle.std.specs.Prelude.{◌≡◌, ◌<◌, ◌≤◌, ◌+◌, ◌^◌, ◌++◌, ◌∷◌, [], length, map, slice_set, slice_index_or, IfOk, ℕ};
+ghost use Rattle.k_space.specs.declared.marks.Place.TheVariants.{Empty as NoPlace, At as PlaceAt};
+ghost use Rattle.k_space.specs.declared.marks.Mark.TheVariants.{Gray as MarkGray};
+ghost use Rattle.k_space.specs.Places.{white_place, is_white_place, is_empty_place, IsGrayEnd};
 ghost use Rattle.k_space.specs.Stamps.{seen, plain};
 
 use k_io::NoMemory;
@@ -169,6 +170,17 @@ impl Places {
         ensures { self.new ≡ record self.old { items = slice_set self.old.items serial place } }
     {
         self.spots[serial] = Spot::of(place, self.epoch);
+    }
+
+    /// Has the gray place of the one serial, which names no next one, name the other.
+    pub(crate) fn follow(&mut self, last: usize, next: u32)
+        requires { IsGrayEnd self.old.items last }
+        ensures { (slot : ℕ) → slice_index_or self.old.items last NoPlace ≡ PlaceAt slot (MarkGray 0) → self.new ≡ record self.old { items = slice_set self.old.items last (PlaceAt slot (MarkGray next)) } }
+    {
+        match self.at(last) {
+            Place::At(slot, _) => self.set(last, Place::At(slot, Mark::Gray(next))),
+            Place::Empty => unreachable!(),
+        }
     }
 
     /// Makes it the place of the next serial.
