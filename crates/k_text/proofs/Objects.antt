@@ -1,7 +1,7 @@
 -- The objects, one after the other in the order of their names.
-use Rattle.std.proofs.Common.{◌≡◌, ◌∙◌, ℕ, ◌+◌, ◌-◌, ◌<◌, ◌||◌, not, Bool, true, false, IsTrue, List, [], ◌∷◌, ◌++◌, length, filter, find, Option, Some, None, refl, sym, ap, subst, arith, length-append, option_map, cond}
+use Rattle.std.proofs.Common.{◌≡◌, ◌∙◌, ℕ, ◌+◌, ◌-◌, ◌<◌, not, Bool, true, false, IsTrue, List, [], ◌∷◌, ◌++◌, length, filter, find, Option, Some, None, refl, sym, ap, subst, arith, length-append, option_map, cond}
 use Rattle.k_types.specs.declared.names.Name.{Name}
-use Rattle.k_types.specs.Names.{name_eq, name_lt}
+use Rattle.k_types.specs.Names.{name_lt}
 use Rattle.k_types.specs.State.{Object, object_at, has}
 use Rattle.k_types.specs.Sound.{IsOrdered, IsOrderedFrom}
 use Rattle.k_base.proofs.NameTests.{name_lt_asym, name_lt_trans, name_eq_refl, name_lt_apart}

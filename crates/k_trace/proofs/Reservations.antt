@@ -1,21 +1,17 @@
 -- Whether what a limit reserves fits, by the tree of limits and by the machine.
-use Rattle.std.proofs.Common.{◌≡◌, ◌∙◌, ℕ, ◌+◌, ◌<◌, ◌≤◌, ◌^◌, Bool, true, false, not, ◌||◌, ◌&&◌, List, [], ◌∷◌, ◌++◌, length, replicate, slice_index, Option, Some, None, is_some, cond, ltb, refl, sym, ap, subst, arith}
+use Rattle.std.proofs.Common.{◌≡◌, ◌∙◌, ℕ, ◌<◌, ◌^◌, Bool, true, false, not, ◌||◌, List, [], ◌∷◌, ◌++◌, length, replicate, Option, Some, None, is_some, cond, ltb, refl, sym, ap, arith}
 use Rattle.std.proofs.lemmas.Bool.{and_parts, ltb-true}
-use Rattle.std.proofs.lemmas.List.{get_or-replicate, length-append}
+use Rattle.std.proofs.lemmas.List.{get_or-replicate}
 use Rattle.k_types.specs.declared.setup.LimitRow.{LimitRow}
-use Rattle.k_types.specs.declared.names.Field.{Field}
 use Rattle.k_words.specs.Words.{Text}
 use Rattle.k_words.specs.Numbers.{is_number, is_below, value, below_of}
-use Rattle.k_trace.specs.Named.{DeclaredNames}
 use Rattle.k_types.specs.declared.names.LimitId.{LimitId}
-use Rattle.k_types.specs.Trace.{row_of}
 use Rattle.k_types.specs.State.{opening}
 use Rattle.k_types.specs.TraceRules.{IsTree}
-use Rattle.k_types.specs.Limits.{use_within, max_of, full_limit}
-use Rattle.k_limits.specs.Limits.{ChargedLimits, charged_limits, use_at, full_at}
-use Rattle.k_limits.specs.Rows.{AreRows, uncharged, is_refused, first_refused}
-use Rattle.k_limits.proofs.MachineUses.{use_same, machine_fulls}
-use Rattle.k_limits.proofs.Reserves.{tree_before}
+use Rattle.k_types.specs.Limits.{full_limit}
+use Rattle.k_limits.specs.Limits.{charged_limits, full_at}
+use Rattle.k_limits.specs.Rows.{uncharged, is_refused, first_refused}
+use Rattle.k_limits.proofs.MachineUses.{machine_fulls}
 use Rattle.k_limits.proofs.Fits.{AllFit, use_uncharged, fit_more, none_refused}
 use Rattle.k_trace.specs.Grown.{bare_trace, fits, fits_by}
 use Rattle.k_trace.specs.Outcome.{AreReserved}

@@ -1,5 +1,5 @@
 -- Lines and their line feeds.
-use Rattle.std.proofs.Common.{◌≡◌, ◌∙◌, ℕ, Bool, true, false, cond, eqb, List, [], ◌∷◌, ◌++◌, refl, sym, ap, inl, inr}
+use Rattle.std.proofs.Common.{◌≡◌, ℕ, Bool, true, false, eqb, List, [], ◌∷◌, ◌++◌, refl, ap, inl, inr}
 use Rattle.std.specs.List.{flat_map, onto_first}
 use Rattle.std.proofs.lemmas.Bool.{eqb-true}
 use Rattle.k_words.specs.Words.{Text, lines_of, AreText}
