@@ -1,7 +1,7 @@
 -- The list of live objects after a change.
 use Rattle.std.proofs.Common.{◌≡◌, ◌≢◌, ℕ, ◌+◌, ◌<◌, ◌≤◌, false, refl, sym, ap, subst, ◌∙◌, inl, inr, List, [], ◌∷◌, ◌++◌, length, map, take, get_or, set, arith}
 use Rattle.std.proofs.lemmas.Bool.{cases_eq}
-use Rattle.std.proofs.lemmas.List.{get_or-set_same, get_or-set_other, length-set, get_or_append_left, get_or_push, length-append, length-take-le, get_or-take}
+use Rattle.std.proofs.lemmas.List.{get_or-set_same, get_or-set_other, length-set, get_or_append_left, get_or_push, length-append, length-take-le, get_or-take, length-map}
 use Rattle.k_space.specs.declared.marks.Place.{Place}
 use Rattle.k_space.specs.declared.marks.Place.TheVariants.{Empty, At}
 use Rattle.k_space.specs.declared.marks.Mark.{Mark}
@@ -9,7 +9,7 @@ use Rattle.k_space.specs.declared.marks.Mark.TheVariants.{White}
 use Rattle.k_space.specs.Places.{is_white_place, white_place}
 use Rattle.k_space.specs.Listed.{IsAmong, IsListed}
 use Rattle.k_space.proofs.Pushed.{at_pushed}
-use Rattle.k_space.proofs.Rows.{map_len, white_there}
+use Rattle.k_space.proofs.Rows.{white_there}
 
 -- one object more
 pub listed_pushed : (places : List Place) (live : List ℕ) (kept next slot serial : ℕ) → IsListed places live kept next → serial ≡ length places → IsListed (places ++ At slot White ∷ []) (live ++ serial ∷ []) kept next
@@ -69,10 +69,10 @@ listed_set places live kept next i x was within dark among = record {
 -- no marks
 pub listed_whitened : (places : List Place) (live : List ℕ) (kept next : ℕ) → IsListed places live kept next → IsListed (map white_place places) live 0 0
 listed_whitened places live kept next was = record {
-  few = omega (arith, was.few, map_len white_place places);
+  few = omega (arith, was.few, length-map places white_place);
   within = omega arith;
   reached = omega arith;
-  inside = λ k below. omega (arith, was.inside k below, map_len white_place places);
+  inside = λ k below. omega (arith, was.inside k below, length-map places white_place);
   covers = λ i s mark e.
       let there = white_there places i s mark e in
       let a = was.covers i s there.0 there.1 in

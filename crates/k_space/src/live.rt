@@ -1,3 +1,4 @@
+//! The list of live objects, and a sweep along it.
 ghost use Rattle.std.specs.Prelude.{◌≡◌, ◌<◌, ◌≤◌, length, vec_capacity, slice_index_or, IsTrue};
 ghost use Rattle.k_space.specs.declared.marks.Place.TheVariants.{Empty as NoPlace};
 ghost use Rattle.k_space.specs.Places.{is_white_place};
@@ -15,6 +16,7 @@ pub(crate) struct Pass {
 
 /// Passes the listed serials up to the first with a white place, keeps those of marked objects, and takes those with no
 /// object off the list. Where all are passed, the kept ones are the list.
+#[tactic(auto, using(crate::proofs::ListedLemmas::listed_ended))]
 pub(crate) fn next_white(live: &mut Vec<u32>, places: &Places, pass: Pass) -> Pass
     requires { IsListed places.now.items live.old.items pass.kept pass.next }
     ensures listed { IsListed places.now.items live.new.items result.kept result.next }

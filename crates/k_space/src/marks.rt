@@ -1,3 +1,4 @@
+//! The places of objects by serial, and their marks.
 ghost use Rattle.std.specs.Prelude.{◌≡◌, ◌<◌, ◌≤◌, ◌+◌, ◌^◌, ◌++◌, ◌∷◌, [], length, map, slice_set, slice_index_or, IfOk, ℕ};
 ghost use Rattle.k_space.specs.declared.marks.Place.TheVariants.{Empty as NoPlace, At as PlaceAt};
 ghost use Rattle.k_space.specs.declared.marks.Mark.TheVariants.{Gray as MarkGray};
@@ -165,6 +166,7 @@ impl Places {
     }
 
     /// Makes it the place of that serial.
+    #[tactic(auto, using(crate::proofs::StampLemmas::stamped_set))]
     pub(crate) fn set(&mut self, serial: usize, place: Place)
         requires { serial < length self.old.items }
         ensures { self.new ≡ record self.old { items = slice_set self.old.items serial place } }
@@ -184,6 +186,7 @@ impl Places {
     }
 
     /// Makes it the place of the next serial.
+    #[tactic(auto, using(crate::proofs::StampLemmas::stamped_push))]
     pub(crate) fn push_reserved(&mut self, place: Place)
         requires { length self.old.items < self.old.capacity }
         ensures { self.new ≡ record self.old { items = self.old.items ++ place ∷ [] } }
@@ -193,6 +196,7 @@ impl Places {
     }
 
     /// Takes the marks of all places away. Constant time, but for one pass at each 2,000,000,000th call.
+    #[tactic(auto, using(crate::proofs::StampLemmas::stamped_later))]
     pub(crate) fn whiten(&mut self)
         ensures { self.new ≡ record self.old { items = map white_place self.old.items } }
     {

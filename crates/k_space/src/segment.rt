@@ -1,3 +1,4 @@
+//! The objects made under one number.
 ghost use Rattle.std.specs.Prelude.{◌≡◌, ◌<◌, ◌≤◌, ◌+◌, ℕ, length, map, Some, None, option_map, IfOk, IfSome, IfNone, ◌∷◌, [], slice_set, slice_get, slice_index_or, ◌==◌, IsFalse, IsTrue, OnSome};
 ghost use Rattle.k_types.specs.State.{Refers, Holds, field_kind};
 ghost use Rattle.k_types.specs.Types.{object_size};
@@ -265,6 +266,7 @@ impl Segment {
 
     /// Makes a white object gray. Other objects, and serials with no object, stay as they are. Constant
     /// time, and no memory.
+    #[tactic(auto, using(crate::proofs::Rows::kept_view))]
     pub fn make_gray(&mut self, serial: Serial)
         ensures grayed { (row : Row) → row_at self.old serial.0 ≡ Some row → self.new ≡ with_row self.old serial.0 (Some (record row { color = gray_or_black row.color })) }
         ensures gone { row_at self.old serial.0 ≡ None → self.new ≡ self.old }

@@ -1,4 +1,5 @@
 use Rattle.std.proofs.Common.{ℕ, List, ◌≡◌, ◌<◌, true, refl, sym, ap, subst, ◌∙◌, length, get_or, map, arith}
+use Rattle.std.proofs.lemmas.List.{get_or_default}
 use Rattle.slab.specs.Slab.{Slab}
 use Rattle.k_space.specs.declared.segment.Cell.{Cell}
 use Rattle.k_space.specs.declared.marks.Mark.{Mark}
@@ -9,7 +10,7 @@ use Rattle.k_space.specs.Sweeping.{IsUnmarkedAt, IsTakenAway}
 use Rattle.k_space.specs.Places.{row_of, is_white_place, IsSound}
 use Rattle.k_space.proofs.Freed.{unmarked_place, taken_away, other_mark}
 use Rattle.k_space.proofs.ListedLemmas.{none_white}
-use Rattle.k_space.proofs.Rows.{lies_in, any_default}
+use Rattle.k_space.proofs.Rows.{lies_in}
 use Rattle.k_space.proofs.segment.Segment.free_unmarked.Goals as goal
 
 pub returns-then-pass-len-clause-none : goal.returns-then-pass-len-clause-none
@@ -23,7 +24,7 @@ found : (number room : ℕ) (places : List Place) (cells : Slab Cell) (capacity 
     p ≡ get_or places n Empty → p ≡ At slot mark → is_white_place (get_or places (get_or live at 0) Empty) ≡ true →
     IsUnmarkedAt (record { number = number; room = room; rows = map (row_of cells) places }) slot
 found number room places cells capacity head live at n d slot mark p sound below read place is white =
-    let serial : n ≡ get_or live at 0 = read ∙ any_default live at d 0 below in
+    let serial : n ≡ get_or live at 0 = read ∙ get_or_default live at d 0 below in
     let here : get_or places n Empty ≡ At slot mark = sym place ∙ is in
     unmarked_place number room places cells capacity head _ n slot mark sound refl here (sym (ap is_white_place here) ∙ ap (λ n. is_white_place (get_or places n Empty)) serial ∙ white)
 

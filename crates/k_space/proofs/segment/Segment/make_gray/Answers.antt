@@ -1,11 +1,12 @@
 use Rattle.std.proofs.Common.{◌<◌, ℕ, Some, refl, sym, ap, subst, ◌∙◌, length, set, count_by, arith}
+use Rattle.k_base.proofs.Lists.{some_one}
 use Rattle.k_space.specs.declared.marks.Place.TheVariants.{At}
 use Rattle.k_space.specs.declared.marks.Mark.TheVariants.{White as MarkWhite, Gray as MarkGray}
 use Rattle.k_space.specs.Segments.{Row, Color, with_row, gray_or_black}
 use Rattle.k_space.specs.Places.{IsGrayList, is_gray_place}
 use Rattle.k_space.proofs.GrayLists.{At_inside, above_zero, joined, past_first}
 use Rattle.k_space.proofs.GrayQueue.{gray_end, last_alone, still, queued, last_queued}
-use Rattle.k_space.proofs.Rows.{same_row, kept_of, sound_of, recolored, recolored_kept, recolored_view, followed_view, row_there}
+use Rattle.k_space.proofs.Rows.{kept_of, sound_of, recolored, recolored_kept, recolored_view, followed_view, row_there}
 use Rattle.k_space.proofs.ListedLemmas.{listed_set}
 use Rattle.k_space.proofs.Bytes.{bytes_recolored}
 use Rattle.k_space.proofs.segment.Segment.make_gray.Goals as goal
@@ -69,7 +70,7 @@ returns-then-self-eq0-clause-grayed c = λ row at.
     let here = sym c.at-place.ensures ∙ (c.in-At.is ∙ ap (At c.in-At.slot) c.in-White.is) in
     let placed = c.self.invariant.sound.placed c.args.serial.0 c.in-At.slot MarkWhite here in
     let some = row_there _ _ places c.self.inside.cells c.args.self.now c.args.serial.0 c.in-At.slot MarkWhite (Some placed.cell) c.self.view_is here placed.there in
-    let same = same_row (sym at ∙ some) in
+    let same = some_one (sym at ∙ some) in
     rw c.set.ensures
     (recolored_view _ _ places c.self.inside.cells c.args.serial.0 c.in-At.slot MarkWhite (MarkGray 0) c.args.self.now row c.self.view_is here at
     ∙ ap (λ (x : Color). with_row c.args.self.now c.args.serial.0 (Some (record row { color = x }))) (sym (ap (λ (r : Row). gray_or_black r.color) same)))
@@ -81,7 +82,7 @@ returns-else-self-eq0-clause-grayed c = λ row at.
     let here = sym c.at-place.ensures ∙ (c.in-At.is ∙ ap (At c.in-At.slot) c.in-White.is) in
     let placed = c.self.invariant.sound.placed c.args.serial.0 c.in-At.slot MarkWhite here in
     let some = row_there _ _ places c.self.inside.cells c.args.self.now c.args.serial.0 c.in-At.slot MarkWhite (Some placed.cell) c.self.view_is here placed.there in
-    let same = same_row (sym at ∙ some) in
+    let same = some_one (sym at ∙ some) in
     let end = gray_end places _ c.self.inside.gray c.self.inside.last (above_zero c.self.inside.gray c.if-self-eq0.false) c.self.invariant.sound.grays c.self.invariant.last in
     let first = past_first places c.args.serial.0 c.in-At.slot MarkWhite c.self.invariant.sound.first here in
     let there = still places c.self.inside.last c.args.serial.0 c.in-At.slot end.slot c.self.invariant.last end.there (ap is_gray_place here) first within in
