@@ -27,16 +27,16 @@ pub record BookRecord : Type 0 where
   pub event_room : ℕ
 
 -- the limits with what is charged directly at each
-abbrev pub limits_of : BookRecord → ChargedLimits
-limits_of b = charged_limits b.rows b.value.direct
+abbrev pub book_limits : BookRecord → ChargedLimits
+book_limits b = charged_limits b.rows b.value.direct
 
 -- the entry items with the owners of the segments
-abbrev pub entries_of : BookRecord → EntryValue
-entries_of b = record { items = b.value.entries; homes = b.value.homes; room = b.entry_room }
+abbrev pub book_entries : BookRecord → EntryValue
+book_entries b = record { items = b.value.entries; homes = b.value.homes; room = b.entry_room }
 
 -- the pins with the owners of the segments
-abbrev pub pins_of : BookRecord → EntryValue
-pins_of b = record { items = b.value.pins; homes = b.value.homes; room = b.pin_room }
+abbrev pub book_pins : BookRecord → EntryValue
+book_pins b = record { items = b.value.pins; homes = b.value.homes; room = b.pin_room }
 
 -- what is seen of the parts of a book
 abbrev pub book_by : ChargedLimits → EnteredValue → ShareValue → KeptJournal → List LimitId → ℕ → Bool → BookRecord

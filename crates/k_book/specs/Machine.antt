@@ -13,7 +13,7 @@ use Rattle.k_types.specs.Trace.{Trace, segment_count}
 use Rattle.k_entry.specs.Entries.{home_of}
 use Rattle.k_limits.specs.Limits.{full_at, use_at}
 use Rattle.k_shares.specs.Sharers.{lowest_orphan}
-use Rattle.k_book.specs.Books.{BookRecord, limits_of}
+use Rattle.k_book.specs.Books.{BookRecord, book_limits}
 
 -- the book is of that trace: its limits, processes and ceiling are the trace's, and the maxima that it shows are those of its rows
 pub record IsBookOf (trace : Trace) (b : BookRecord) : Type 0 where
@@ -38,5 +38,5 @@ pub record TellsTheMachine (trace : Trace) (st : State) (b : BookRecord) : Type 
 -- the limits of the book are those of the machine in the state
 pub record TellsTheLimits (trace : Trace) (st : State) (b : BookRecord) : Type 0 where
   pub max : (m : ℕ) → max_of b.rows m ≡ max_of (limits_in trace st) m
-  pub uses : (m : ℕ) → m < length trace.limits → use_at (limits_of b) m ≡ use_of trace st m
-  pub full : (m n : ℕ) → m < length trace.limits → full_at (limits_of b) m n ≡ full_limit trace st m n
+  pub uses : (m : ℕ) → m < length trace.limits → use_at (book_limits b) m ≡ use_of trace st m
+  pub full : (m n : ℕ) → m < length trace.limits → full_at (book_limits b) m n ≡ full_limit trace st m n

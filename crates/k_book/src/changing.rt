@@ -7,7 +7,7 @@ ghost use Rattle.k_entry.specs.Entries.{HasLess, HasMore};
 ghost use Rattle.k_entered.specs.Entered.{HasRehomed};
 ghost use Rattle.k_limits.specs.Limits.{full_at};
 ghost use Rattle.k_shares.specs.Sharers.{bytes_in_phase, GainsEnded, GainsShare, LosesShare};
-ghost use Rattle.k_book.specs.Books.{entries_of, limits_of, pins_of};
+ghost use Rattle.k_book.specs.Books.{book_entries, book_limits, book_pins};
 
 use crate::parts::Book;
 use k_types::{Heap, LimitId, Link, Name, Phase, Pid, Seg, SharedId};
@@ -17,8 +17,8 @@ impl Book {
     /// then nothing is charged.
     pub fn charge(&mut self, at: LimitId, n: u64) -> Result<(), LimitId>
         requires { at.0 < length self.old.rows }
-        ensures charged { IfOk result (λ _. (self.new ≡ record self.old { value = record self.old.value { direct = slice_set self.old.value.direct at.0 (slice_index self.old.value.direct at.0 + n) } }) × (full_at (limits_of self.old) at.0 n ≡ None)) }
-        ensures full { IfErr result (λ m. (self.new ≡ self.old) × (full_at (limits_of self.old) at.0 n ≡ Some m.0)) }
+        ensures charged { IfOk result (λ _. (self.new ≡ record self.old { value = record self.old.value { direct = slice_set self.old.value.direct at.0 (slice_index self.old.value.direct at.0 + n) } }) × (full_at (book_limits self.old) at.0 n ≡ None)) }
+        ensures full { IfErr result (λ m. (self.new ≡ self.old) × (full_at (book_limits self.old) at.0 n ≡ Some m.0)) }
     {
         self.limits.charge(at, n)?;
         Ok(())
@@ -38,7 +38,7 @@ impl Book {
         requires home { target.seg.0 < length self.old.value.homes }
         requires room { counted self.old.value.entries (name_of target) ≡ 0 → length self.old.value.entries < self.old.entry_room }
         requires small { counted self.old.value.entries (name_of target) < 2 ^ 32 - 1 }
-        ensures more { HasMore (entries_of self.old) (entries_of self.new) (name_of target) }
+        ensures more { HasMore (book_entries self.old) (book_entries self.new) (name_of target) }
         ensures rest { self.new ≡ record self.old { value = record self.old.value { entries = self.new.value.entries } } }
     {
         self.entered.enter(target);
@@ -47,7 +47,7 @@ impl Book {
     /// One heap fewer has an exit item to the object.
     pub fn leave(&mut self, target: Name)
         requires { 0 < counted self.old.value.entries target }
-        ensures less { HasLess (entries_of self.old) (entries_of self.new) target }
+        ensures less { HasLess (book_entries self.old) (book_entries self.new) target }
         ensures rest { self.new ≡ record self.old { value = record self.old.value { entries = self.new.value.entries } } }
     {
         self.entered.leave(target);
@@ -58,7 +58,7 @@ impl Book {
         requires home { target.seg.0 < length self.old.value.homes }
         requires room { counted self.old.value.pins (name_of target) ≡ 0 → length self.old.value.pins < self.old.pin_room }
         requires small { counted self.old.value.pins (name_of target) < 2 ^ 32 - 1 }
-        ensures more { HasMore (pins_of self.old) (pins_of self.new) (name_of target) }
+        ensures more { HasMore (book_pins self.old) (book_pins self.new) (name_of target) }
         ensures rest { self.new ≡ record self.old { value = record self.old.value { pins = self.new.value.pins } } }
     {
         self.entered.pin(target);
@@ -67,7 +67,7 @@ impl Book {
     /// One register fewer of another process than its owner holds the object.
     pub fn unpin(&mut self, target: Name)
         requires { 0 < counted self.old.value.pins target }
-        ensures less { HasLess (pins_of self.old) (pins_of self.new) target }
+        ensures less { HasLess (book_pins self.old) (book_pins self.new) target }
         ensures rest { self.new ≡ record self.old { value = record self.old.value { pins = self.new.value.pins } } }
     {
         self.entered.unpin(target);
@@ -115,8 +115,8 @@ impl Book {
     /// The segment is another heap's from now on, and its entered and pinned objects are on the walks of that heap.
     pub fn rehome(&mut self, seg: Seg, to: Heap)
         requires { seg.0 < length self.old.value.homes }
-        ensures entries { HasRehomed (entries_of self.old) (entries_of self.new) seg.0 to }
-        ensures pins { HasRehomed (pins_of self.old) (pins_of self.new) seg.0 to }
+        ensures entries { HasRehomed (book_entries self.old) (book_entries self.new) seg.0 to }
+        ensures pins { HasRehomed (book_pins self.old) (book_pins self.new) seg.0 to }
         ensures rest { self.new ≡ record self.old { value = record self.old.value { homes = slice_set self.old.value.homes seg.0 to; entries = self.new.value.entries; pins = self.new.value.pins } } }
     {
         self.entered.rehome(seg, to);

@@ -7,7 +7,8 @@
 //! no other field does. Rooms are conditions of the calls that need them. Only [`Book::make`] takes memory.
 //!
 //! [`the_book_tells_the_machine`] says that a book that shows a state answers as the machine would there, and
-//! [`the_books_limits_are_the_machines`] says the same of uses and full limits.
+//! [`the_books_limits_are_the_machines`] says the same of uses and full limits. Further laws say what each changing call is to
+//! the machine.
 #![tactic(auto)]
 
 mod changing;
@@ -16,9 +17,13 @@ mod journaling;
 mod laws;
 mod parts;
 mod reading;
+mod squares;
 #[cfg(test)]
 mod tests;
 mod walking;
 
 pub use laws::{opened_books_agree, the_book_tells_the_machine, the_books_limits_are_the_machines};
 pub use parts::Book;
+pub use squares::{
+    amounts_change_the_part, calls_are_steps_of_drains, pins_change_the_part, tests_change_the_part,
+};

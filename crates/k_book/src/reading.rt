@@ -8,7 +8,7 @@ ghost use Rattle.k_types.specs.State.{has_share};
 ghost use Rattle.k_entry.specs.Entries.{AreEntries, home_of};
 ghost use Rattle.k_limits.specs.Limits.{use_at};
 ghost use Rattle.k_shares.specs.Sharers.{heap_number, lowest_orphan};
-ghost use Rattle.k_book.specs.Books.{entries_of, limits_of, pins_of};
+ghost use Rattle.k_book.specs.Books.{book_entries, book_limits, book_pins};
 
 use crate::parts::Book;
 use k_types::{Heap, LimitId, Name, Phase, Pid, Seg, SharedId};
@@ -66,7 +66,7 @@ impl Book {
     /// The bytes in use at the limit.
     pub fn use_of(&self, limit: LimitId) -> u64
         requires { limit.0 < length self.now.rows }
-        ensures sum { result ≡ use_at (limits_of self.now) limit.0 }
+        ensures sum { result ≡ use_at (book_limits self.now) limit.0 }
         ensures fits { result ≤ max_of self.now.rows limit.0 }
     {
         self.limits.use_of(limit)
@@ -123,7 +123,7 @@ impl Book {
     /// How many heaps have an exit item to the object.
     pub fn entries(&self, target: Name) -> u32
         ensures count { result ≡ counted self.now.value.entries target }
-        ensures items { AreEntries (entries_of self.now) }
+        ensures items { AreEntries (book_entries self.now) }
     {
         self.entered.entries(target)
     }
@@ -131,7 +131,7 @@ impl Book {
     /// How many registers of other processes than its owner hold the object.
     pub fn pins(&self, target: Name) -> u32
         ensures count { result ≡ counted self.now.value.pins target }
-        ensures items { AreEntries (pins_of self.now) }
+        ensures items { AreEntries (book_pins self.now) }
     {
         self.entered.pins(target)
     }

@@ -29,6 +29,9 @@ fn small_setup(alloc: Global) -> Result<Setup, NoMemory>
     })
 }
 
+// A value that another thread may have.
+fn may_be_handed_on<T: Send>(_value: &T) {}
+
 // What is charged is in use, and a heap that is made without a sharer is an orphan.
 #[test]
 fn a_book_is_charged_and_finds_an_orphan(rt: HostRuntime) -> Result<(), Fail> {
@@ -55,6 +58,7 @@ fn events_come_back(rt: HostRuntime) -> Result<(), Fail> {
     let setup = small_setup(rt.alloc())?;
     let (tie, seat, _notes) = Tie::make(rt.alloc(), 4)?;
     let mut book = Book::make(rt.alloc(), &setup, 2, 2, tie, seat)?;
+    may_be_handed_on(&book);
     book.append(Event::Closing);
     book.close();
     assert_eq!(rt; book.len(), 1);

@@ -1,6 +1,7 @@
 -- What the tests of shares and of ended processes read off the bits.
-use Rattle.std.proofs.Common.{◌≡◌, ◌≢◌, ℕ, zero, suc, ◌+◌, ◌*◌, ◌<◌, ◌==◌, ◌&&◌, ◌||◌, not, Bool, true, false, cond, refl, sym, ap, ◌∙◌, inl, inr, List, [], ◌∷◌, ◌++◌, map, filter, length, get_or, set, nat_lt, slice_index_or, slice_set, arith, eqb-true, eq-eqb, get_or-set_same, get_or-set_other, IsTrue, IsFalse}
+use Rattle.std.proofs.Common.{◌≡◌, ℕ, zero, suc, ◌+◌, ◌*◌, ◌<◌, ◌==◌, ◌&&◌, ◌||◌, not, Bool, true, false, cond, refl, sym, ap, ◌∙◌, inl, inr, List, [], ◌∷◌, map, filter, length, set, nat_lt, arith, eqb-true, eq-eqb, get_or-set_same, get_or-set_other, IsTrue}
 use Rattle.std.specs.List.{list_any}
+use Rattle.std.proofs.Math.Bool.{and-false, and-true, or-false, or-true, not-not, and-or_distrib_left, and-or_distrib_right}
 use Rattle.std.proofs.Math.ListN.{length-set}
 use Rattle.std.proofs.lemmas.List.Folds.{list_any-append}
 use Rattle.std.proofs.lemmas.Bool.{false≢true, cases_eq, cases_Bool, or_cases, and_parts, and_from, false_from_ne_true, lt-ltb, ltb-true}
@@ -14,36 +15,6 @@ use Rattle.k_types.specs.Steps.{has_sharer}
 use Rattle.k_shares.specs.Sharers.{GainsShare, LosesShare, GainsEnded}
 use Rattle.k_shares.specs.Places.{place_of, bit_at, bit_of, sharing, shares_by, shares_of_all, shares_in, ended_in}
 use Rattle.k_shares.proofs.Places.{place_inside, same_pair}
-
-and_false : (a : Bool) → (a && false) ≡ false
-and_false true = refl
-and_false false = refl
-
-and_true : (a : Bool) → (a && true) ≡ a
-and_true true = refl
-and_true false = refl
-
-or_true : (a : Bool) → (a || true) ≡ true
-or_true true = refl
-or_true false = refl
-
-or_false : (a : Bool) → (a || false) ≡ a
-or_false true = refl
-or_false false = refl
-
-not_not : (a : Bool) → not (not a) ≡ a
-not_not true = refl
-not_not false = refl
-
-both : (a b c : Bool) → ((a && b) || (a && c)) ≡ (a && (b || c))
-both true b c = refl
-both false b c = refl
-
-either : (a b c : Bool) → ((a && c) || (b && c)) ≡ ((a || b) && c)
-either true true true = refl
-either true true false = refl
-either true false c = or_false c
-either false b c = refl
 
 -- which numbers are among those that pass
 among_where : (p : ℕ → Bool) (n k : ℕ) → among k (filter p (numbers_below n)) ≡ (nat_lt k n && p k)
@@ -68,8 +39,8 @@ among_below n q =
 
 -- the shares of one process
 by_one : (p q t : ℕ) (ss : List ℕ) → has_share (map (sharing p) ss) q t ≡ ((p == q) && among t ss)
-by_one p q t [] = sym (and_false (p == q))
-by_one p q t (s ∷ ss) = ap (λ b. ((p == q) && (s == t)) || b) (by_one p q t ss) ∙ both (p == q) (s == t) (among t ss)
+by_one p q t [] = sym (and-false (p == q))
+by_one p q t (s ∷ ss) = ap (λ b. ((p == q) && (s == t)) || b) (by_one p q t ss) ∙ sym (and-or_distrib_left (p == q) (s == t) (among t ss))
 
 same_process : (p q : ℕ) (f : ℕ → Bool) → ((p == q) && f p) ≡ ((p == q) && f q)
 same_process p q f = elim (cases_Bool (p == q)) [
@@ -88,7 +59,7 @@ by_all test heaps q t (p ∷ ps) =
     ∙ ap (λ b. (p == q) && b) (among_where (test p) heaps t)
     ∙ same_process p q (λ r. nat_lt t heaps && test r t))
     ∙ ap (λ b. ((p == q) && (nat_lt t heaps && test q t)) || b) (by_all test heaps q t ps)
-    ∙ either (p == q) (among q ps) (nat_lt t heaps && test q t)
+    ∙ sym (and-or_distrib_right (p == q) (among q ps) (nat_lt t heaps && test q t))
 
 -- who shares what is in the bits
 pub share_test : (heaps procs : ℕ) (bits : List Bool) (q t : ℕ) →
@@ -111,13 +82,13 @@ sharer_by p t (s ∷ ss) = ap (λ b. (s == t) || b) (sharer_by p t ss)
 
 sharer_all : (test : ℕ → ℕ → Bool) (heaps t : ℕ) (ps : List ℕ) →
     has_sharer (shares_of_all test heaps ps) t ≡ (nat_lt t heaps && list_any (λ p. test p t) ps)
-sharer_all test heaps t [] = sym (and_false (nat_lt t heaps))
+sharer_all test heaps t [] = sym (and-false (nat_lt t heaps))
 sharer_all test heaps t (p ∷ ps) =
     list_any-append (λ (e : Sharing). e.heap == t) (shares_by test heaps p) (shares_of_all test heaps ps)
     ∙ ap (λ b. b || has_sharer (shares_of_all test heaps ps) t)
     (sharer_by p t (filter (test p) (numbers_below heaps)) ∙ among_where (test p) heaps t)
     ∙ ap (λ b. (nat_lt t heaps && test p t) || b) (sharer_all test heaps t ps)
-    ∙ both (nat_lt t heaps) (test p t) (list_any (λ p. test p t) ps)
+    ∙ sym (and-or_distrib_left (nat_lt t heaps) (test p t) (list_any (λ p. test p t) ps))
 
 -- whether anybody shares a heap is in the bits
 pub sharer_bit : (heaps procs : ℕ) (bits : List Bool) (t : ℕ) → t < heaps →
@@ -134,7 +105,7 @@ ended_test living p = among_where (λ q. not (bit_at living q)) (length living) 
 
 pub living_bit : (living : List Bool) (p : ℕ) → p < length living → not (among p (ended_in living)) ≡ bit_at living p
 living_bit living p inside =
-    ap not (ended_test living p ∙ ap (λ b. b && not (bit_at living p)) (lt-ltb p (length living) inside)) ∙ not_not (bit_at living p)
+    ap not (ended_test living p ∙ ap (λ b. b && not (bit_at living p)) (lt-ltb p (length living) inside)) ∙ not-not (bit_at living p)
 
 -- one bit is set and no other
 bit_set : (bits : List Bool) (i j : ℕ) (b : Bool) → i < length bits → bit_at (set bits i b) j ≡ cond (i == j) b (bit_at bits j)
@@ -166,22 +137,22 @@ pair_set heaps procs bits p s q t b size inside there here =
 
 gained : (a b o n same : Bool) → (IsTrue same → IsTrue a) → (IsTrue same → IsTrue b) → (IsTrue b → n ≡ cond same true o) →
     (a && (b && n)) ≡ ((a && (b && o)) || same)
-gained true true o n true fa fb e = e refl ∙ sym (or_true o)
-gained true true o n false fa fb e = e refl ∙ sym (or_false o)
+gained true true o n true fa fb e = e refl ∙ sym (or-true o)
+gained true true o n false fa fb e = e refl ∙ sym (or-false o)
 gained true false o n true fa fb e = absurd (false≢true (fb refl))
 gained true false o n false fa fb e = refl
 gained false b o n true fa fb e = absurd (false≢true (fa refl))
 gained false b o n false fa fb e = refl
 
 lost : (a b o n same : Bool) → (IsTrue b → n ≡ cond same false o) → (a && (b && n)) ≡ ((a && (b && o)) && not same)
-lost true true o n true e = e refl ∙ sym (and_false o)
-lost true true o n false e = e refl ∙ sym (and_true o)
+lost true true o n true e = e refl ∙ sym (and-false o)
+lost true true o n false e = e refl ∙ sym (and-true o)
 lost true false o n same e = refl
 lost false b o n same e = refl
 
 ending : (a o n same : Bool) → (IsTrue same → IsTrue a) → n ≡ cond same false o → (a && not n) ≡ ((a && not o) || same)
-ending true o n true fa e = ap not e ∙ sym (or_true (not o))
-ending true o n false fa e = ap not e ∙ sym (or_false (not o))
+ending true o n true fa e = ap not e ∙ sym (or-true (not o))
+ending true o n false fa e = ap not e ∙ sym (or-false (not o))
 ending false o n true fa e = absurd (false≢true (fa refl))
 ending false o n false fa e = refl
 

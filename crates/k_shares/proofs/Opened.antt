@@ -1,11 +1,11 @@
 -- The lists of a table that was just made.
-use Rattle.std.proofs.Common.{◌≡◌, ℕ, zero, suc, ◌+◌, ◌*◌, ◌^◌, ◌<◌, ◌≤◌, not, Bool, true, false, cond, refl, sym, ap, ◌∙◌, List, [], ◌∷◌, ◌++◌, map, filter, length, replicate, get_or, arith}
+use Rattle.std.proofs.Common.{◌≡◌, ℕ, zero, suc, ◌+◌, ◌*◌, ◌^◌, ◌<◌, not, Bool, true, false, cond, refl, sym, ap, ◌∙◌, List, [], ◌∷◌, ◌++◌, map, filter, length, replicate, arith}
+use Rattle.std.proofs.lemmas.List.{get_or-replicate, length-replicate}
 use Rattle.k_types.specs.declared.names.Phase.{Phase}
 use Rattle.k_types.specs.declared.names.Phase.TheVariants.{Unmade}
 use Rattle.k_types.specs.Numbers.{numbers_below, numbers_from}
-use Rattle.k_types.specs.State.{Sharing}
-use Rattle.k_shares.specs.Places.{place_of, bit_at, bit_of, sharing, shares_by, shares_of_all, shares_in, ended_in, shown, HaveSizes}
-use Rattle.k_shares.specs.Sharers.{ShareValue, unshared}
+use Rattle.k_shares.specs.Places.{place_of, bit_at, bit_of, sharing, shares_of_all, shares_in, ended_in, shown, HaveSizes}
+use Rattle.k_shares.specs.Sharers.{unshared}
 
 none_from : (p : ℕ → Bool) (first n : ℕ) → ((k : ℕ) → k < first + n → p k ≡ false) → filter p (numbers_from first n) ≡ []
 none_from p first zero none = refl
@@ -24,15 +24,6 @@ all_false zero i = refl
 all_false (suc n) zero = refl
 all_false (suc n) (suc i) = all_false n i
 
-all_true : (n i : ℕ) → i < n → bit_at (replicate n true) i ≡ true
-all_true zero i inside = absurd (omega arith)
-all_true (suc n) zero inside = refl
-all_true (suc n) (suc i) inside = all_true n i (omega arith)
-
-length_same : {A : Type 0} (n : ℕ) (x : A) → length (replicate n x) ≡ n
-length_same zero x = refl
-length_same (suc n) x = ap suc (length_same n x)
-
 -- nobody shares anything
 pub no_shares : (heaps procs n : ℕ) → shares_in heaps procs (replicate n false) ≡ []
 unfolding shares_in
@@ -43,11 +34,11 @@ pub no_ended : (n : ℕ) → ended_in (replicate n true) ≡ []
 unfolding ended_in
 no_ended n =
     none_from (λ p. not (bit_at (replicate n true) p)) 0 (length (replicate n true))
-    (λ k high. ap not (all_true n k (omega (arith, length_same n true, high))))
+    (λ k high. ap not (get_or-replicate n k true false (omega (arith, length-replicate n true, high))))
 
 opened : (procs heaps : ℕ) → shown (replicate procs true) (replicate (procs * heaps) false) (replicate heaps Unmade) (replicate heaps 0) ≡ unshared procs heaps
 opened procs heaps = λ i. record {
-  procs = length_same procs true i;
+  procs = length-replicate procs true i;
   ended = no_ended procs i;
   shares = no_shares (length (replicate heaps Unmade)) (length (replicate procs true)) (procs * heaps) i;
   phases = replicate heaps Unmade;
@@ -69,11 +60,11 @@ first_shown procs heaps living bits phases bytes f =
 pub first_sizes : (procs heaps : ℕ) (living bits : List Bool) (phases : List Phase) (bytes : List ℕ) →
     AreFirst procs heaps living bits phases bytes → procs < 2 ^ 32 → heaps < 2 ^ 32 → HaveSizes living bits phases bytes
 first_sizes procs heaps living bits phases bytes f few_procs few_heaps =
-    let lives : length living ≡ procs = ap length f.all_live ∙ length_same procs true in
-    let made : length phases ≡ heaps = ap length f.all_unmade ∙ length_same heaps Unmade in
+    let lives : length living ≡ procs = ap length f.all_live ∙ length-replicate procs true in
+    let made : length phases ≡ heaps = ap length f.all_unmade ∙ length-replicate heaps Unmade in
     record {
-      pairs = ap length f.none_shared ∙ length_same (procs * heaps) false ∙ sym (λ i. lives i * made i);
-      heaps = ap length f.all_empty ∙ length_same heaps 0 ∙ sym made;
+      pairs = ap length f.none_shared ∙ length-replicate (procs * heaps) false ∙ sym (λ i. lives i * made i);
+      heaps = ap length f.all_empty ∙ length-replicate heaps 0 ∙ sym made;
       few_procs = omega (arith, lives, few_procs);
       few_heaps = omega (arith, made, few_heaps);
     }
