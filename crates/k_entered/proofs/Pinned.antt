@@ -2,7 +2,7 @@
 use Rattle.std.proofs.Common.{◌≡◌, List, sym, ap}
 use Rattle.k_types.specs.declared.names.Heap.{Heap}
 use Rattle.k_entry.specs.Entries.{EntryValue}
-use Rattle.k_entered.specs.Entered.{EnteredValue, entered_by, pin_items}
+use Rattle.k_entered.specs.Entered.{entered_by, pin_items}
 
 abbrev with_homes : EntryValue → List Heap → EntryValue
 with_homes v homes = record v { homes = homes }
