@@ -34,7 +34,8 @@ pub record IsOrderly (t : NamedTrace) : Type 0 where
   pub procs : AreApart t.names.procs
   pub each : (p : ℕ) → p < length t.names.procs → is_name (word_at t.names.procs p) ≡ true
 
-nor : (a b : Bool) → (a || b) ≡ false → (a ≡ false) × (b ≡ false)
+-- neither holds
+pub nor : (a b : Bool) → (a || b) ≡ false → (a ≡ false) × (b ≡ false)
 nor true b e = absurd cc
 nor false b e = (refl, e)
 

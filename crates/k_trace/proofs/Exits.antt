@@ -24,9 +24,6 @@ pub AreEnded_push : (operations : List (List Op)) (ended : List Bool) (p : ℕ) 
     → AreEnded (set operations p (get_or operations p [] ++ op ∷ [])) (set ended p (get_or ended p false || is_exit op))
 AreEnded_push operations ended p op lt len few good q below = grind (arith, common_steps, good q below, has_exit_push (get_or operations p []) op, good p few)
 
-pub AreEnded_process : (operations : List (List Op)) (ended : List Bool) → AreEnded operations ended → AreEnded (operations ++ [] ∷ []) ended
-AreEnded_process operations ended good q below = grind (arith, common_steps, good q below)
-
 -- an element that was read at its place
 pub AreEnded_unchanged : (ops : List (Vec Op)) (ended : List Bool) (p : ℕ) (v w : Vec Op) → v ≡ get_or ops p v → w.items ≡ v.items
     → AreEnded (items_of ops) ended → AreEnded (items_of (set ops p w)) ended

@@ -25,7 +25,10 @@ use Rattle.k_trace.specs.Grown.{blank, fits, has_exit, with_kernel, with_type, w
 use Rattle.k_trace.specs.Judgement.{SoFar, has_process}
 use Rattle.k_trace.proofs.OpForms.{AreNamed}
 use Rattle.k_trace.proofs.Steps.{at_place, version_words, kernel_words, root_row, limit_row, VersionStep, KernelStep, TypeStep, RootStep, LimitStep, ProcStep, SharedStep, OperationStep, Step, OfVersion, OfKernel, OfType, OfRoot, OfLimit, OfProc, OfShared, OfOperation}
-use Rattle.k_trace.proofs.Pushed.{length_push, AreNames_push, AreNames_nil, AreNames_front, neither_declares, declarations_push, declarations_same, word_before}
+use Rattle.k_limits.proofs.Reserves.{row_before}
+use Rattle.k_base.proofs.Lists.{length_push}
+use Rattle.k_trace.proofs.Pushed.{AreNames_push, AreNames_nil, AreNames_front, neither_declares, declarations_push, declarations_same, word_before}
+use Rattle.k_trace.proofs.Readers.{few_push}
 use Rattle.k_trace.proofs.OpLists.{lines_push}
 use Rattle.k_trace.proofs.OpRules.{none_each, no_operations, operation_kept, op_added}
 use Rattle.k_trace.proofs.Reserved.{AllFit, fit_none, fit_root, fit_limit}
@@ -52,20 +55,6 @@ behind_all a b c d e x = simp append_assoc
 
 -- ---- the parts, grown
 
-few_push : (rows : List (List Field)) (row : List Field) → HaveFewFields rows → length row ≤ 16 → HaveFewFields (rows ++ row ∷ [])
-few_push rows row few le ty = elim (cases_lt ty.0 (length rows)) [
-  | inl below ↦ rw (get_or_append_left rows (row ∷ []) [] ty.0 below) (few ty)
-  | inr above ↦ elim (cases_lt (length rows) ty.0) [
-    | inl past ↦ past_few (rows ++ row ∷ []) ty.0 (omega (arith, length_push rows row))
-    | inr at ↦ let e : ty.0 ≡ length rows = omega arith in rw (e, get_or-append_seam rows row [] []) le
-  ]
-]
-  where
-    past_few : (xs : List (List Field)) (i : ℕ) → length xs ≤ i → length (get_or xs i []) ≤ 16
-    past_few [] i past = omega arith
-    past_few (x ∷ xs) zero past = absurd (omega (arith, past))
-    past_few (x ∷ xs) (suc i) past = past_few xs i (omega (arith, past))
-
 types_push : (names : List Text) (types : List (List Field)) (name : Text) (fields : List Field) → AreTypes names types → is_name name ≡ true → declares names name ≡ false
     → length fields ≤ 16 → length names < 256 → AreTypes (names ++ name ∷ []) (types ++ fields ∷ [])
 types_push names types name fields old good fresh few room = record {
@@ -74,9 +63,6 @@ types_push names types name fields old good fresh few room = record {
   are_names = AreNames_push names name old.are_names good fresh;
   named = rw (length_push names name, length_push types fields, old.named) refl;
 }
-
-row_before : (rows : List LimitRow) (row : LimitRow) (m : ℕ) → m < length rows → row_of (rows ++ row ∷ []) m ≡ row_of rows m
-row_before rows row m lt = get_or_append_left rows (row ∷ []) no_row m lt
 
 row_last : (rows : List LimitRow) (row : LimitRow) (m : ℕ) → m ≡ length rows → row_of (rows ++ row ∷ []) m ≡ row
 row_last rows row m e = rw e (get_or-append_seam rows row [] no_row)
@@ -89,11 +75,6 @@ each_row P rows row old last m lt = elim (cases_lt m (length rows)) [
   | inr above ↦ let e : m ≡ length rows = omega (arith, length_push rows row) in
       subst (P m) (sym (row_last rows row m e)) (subst (λ (k : ℕ). P k row) (sym e) last)
 ]
-
-root_push : (rows : List LimitRow) (added : LimitRow) → (row_of rows 0).hard ≡ true → (0 < length rows) ⊎ (added.hard ≡ true) → 0 < length rows ⊎ (rows ≡ []) → (row_of (rows ++ added ∷ []) 0).hard ≡ true
-root_push rows added old (inl lt) some = rw (row_before rows added 0 lt) old
-root_push rows added old (inr hard) (inl lt) = rw (row_before rows added 0 lt) old
-root_push rows added old (inr hard) (inr none) = rw none hard
 
 pub tree_push : (rows : List LimitRow) (row : LimitRow) → IsTree rows → ((parent : LimitId) → row.parent ≡ Some parent → parent.0 < length rows) → IsTree (rows ++ row ∷ [])
 tree_push rows row old known m parent lt is = each_row (λ k r. (p : LimitId) → r.parent ≡ Some p → p.0 < k) rows row (λ k below p. old k p below) known m lt parent is

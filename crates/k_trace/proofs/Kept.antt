@@ -25,7 +25,8 @@ use Rattle.k_trace.specs.Grown.{blank, fits, has_exit, with_kernel, with_type, w
 use Rattle.k_trace.specs.Judgement.{SoFar, has_process}
 use Rattle.k_trace.proofs.OpForms.{AreNamed}
 use Rattle.k_trace.proofs.Steps.{at_place, version_words, kernel_words, root_row, limit_row, VersionStep, KernelStep, TypeStep, RootStep, LimitStep, ProcStep, SharedStep, OperationStep, Step, OfVersion, OfKernel, OfType, OfRoot, OfLimit, OfProc, OfShared, OfOperation}
-use Rattle.k_trace.proofs.Pushed.{length_push, AreNames_push, AreNames_nil, AreNames_front, neither_declares, declarations_push, declarations_same, word_before}
+use Rattle.k_base.proofs.Lists.{length_push}
+use Rattle.k_trace.proofs.Pushed.{AreNames_push, AreNames_nil, AreNames_front, neither_declares, declarations_push, declarations_same, word_before}
 use Rattle.k_trace.proofs.OpLists.{lines_push}
 use Rattle.k_trace.proofs.OpRules.{none_each, no_operations, operation_kept, op_added}
 use Rattle.k_trace.proofs.Reserved.{AllFit, fit_none, fit_root, fit_limit}

@@ -18,7 +18,9 @@ use Rattle.k_trace.specs.Spelling.{declarations, limit_words, proc_words, shared
 use Rattle.k_trace.specs.Grown.{fits, with_limit, with_proc, with_shared}
 use Rattle.k_trace.specs.Judgement.{SoFar, has_process}
 use Rattle.k_trace.proofs.OpRules.{none_each}
-use Rattle.k_trace.proofs.Pushed.{length_push, AreNames_front, declares_append}
+use Rattle.k_base.proofs.Lists.{length_push}
+use Rattle.k_trace.proofs.Pushed.{AreNames_front, declares_append}
+use Rattle.k_trace.proofs.Again.{nor}
 use Rattle.k_trace.proofs.Reserved.{AllFit, fit_room}
 use Rattle.k_trace.proofs.Steps.{at_place, limit_row, ProcStep, SharedStep, Step, OfProc, OfShared, Run}
 use Rattle.k_trace.proofs.Runs.{run_to, run_then, good_at, fresh_at, moved, with_limits, limits_more, row_is, AreLater, limit_step, seam, front_tree, fit_front}
@@ -149,10 +151,6 @@ shareds_more t n ns = let e : t.trace.shared_heaps + 1 + length ns ≡ t.trace.s
 heaps_moved : (ps xs : List Text) (n : Text) (ns : List Text) → AreNames (ps ++ (xs ++ n ∷ ns)) → AreNames (ps ++ ((xs ++ n ∷ []) ++ ns))
 heaps_moved ps xs n ns all = subst (λ (us : List Text). AreNames (ps ++ us)) (sym (append_assoc xs (n ∷ []) ns)) all
 
-or_false : (a b : Bool) → (a || b) ≡ false → (a ≡ false) × (b ≡ false)
-or_false true b e = absurd cc
-or_false false b e = (refl, e)
-
 abbrev pub IsEarly : Place → Type 0
 IsEarly p = (p ≡ Procs) ⊎ (p ≡ Shared)
 
@@ -160,7 +158,7 @@ shared_step : (p : Place) (t : NamedTrace) (n : Text) (ns : List Text) → IsEar
     → Step (at_place p t) (shared_words n) (at_place Shared (with_shared t n))
 shared_step p t n ns at all few =
     let flat : AreNames ((t.names.procs ++ t.names.shared) ++ n ∷ ns) = subst AreNames (sym (append_assoc t.names.procs t.names.shared (n ∷ ns))) all in
-    let fresh = or_false (declares t.names.procs n) (declares t.names.shared n) (sym (declares_append t.names.procs t.names.shared n) ∙ fresh_at (t.names.procs ++ t.names.shared) n ns flat) in
+    let fresh = nor (declares t.names.procs n) (declares t.names.shared n) (sym (declares_append t.names.procs t.names.shared n) ∙ fresh_at (t.names.procs ++ t.names.shared) n ns flat) in
     OfShared (record {
       name = n;
       at = at;

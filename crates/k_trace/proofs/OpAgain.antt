@@ -28,10 +28,10 @@ pub record AreDistinct (t : NamedTrace) : Type 0 where
 abbrev IsRead : NamedTrace → Op → Type 0
 IsRead t op = op_of t.names (op_words t.names op) ≡ Ok op
 
-type_below : (t : NamedTrace) (ty : TypeId) → AreNamed t → ltb ty.0 (length t.trace.types) ≡ true → ty.0 < length t.names.types
+pub type_below : (t : NamedTrace) (ty : TypeId) → AreNamed t → ltb ty.0 (length t.trace.types) ≡ true → ty.0 < length t.names.types
 type_below t ty named h = rw named.types (ltb-true _ _ h)
 
-shared_below : (t : NamedTrace) (s : SharedId) → AreNamed t → ltb s.0 t.trace.shared_heaps ≡ true → s.0 < length t.names.shared
+pub shared_below : (t : NamedTrace) (s : SharedId) → AreNamed t → ltb s.0 t.trace.shared_heaps ≡ true → s.0 < length t.names.shared
 shared_below t s named h = rw named.shared (ltb-true _ _ h)
 
 new_again : (t : NamedTrace) (r : Reg) (ty : TypeId) → AreNamed t → AreDistinct t → in_range t.trace (New r ty) ≡ true → is_spelled (New r ty) ≡ true → IsRead t (New r ty)

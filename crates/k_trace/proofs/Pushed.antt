@@ -7,12 +7,10 @@ use Rattle.std.specs.List.{list_all, list_any}
 use Rattle.std.specs.Str.{bytes_eq}
 use Rattle.k_words.specs.Words.{Text, word_at}
 use Rattle.k_words.specs.Names.{is_name, declares}
+use Rattle.k_base.proofs.Lists.{length_push}
 use Rattle.k_words.proofs.Again.{declares-at}
 use Rattle.k_trace.specs.Rules.{AreNames}
 use Rattle.k_trace.specs.Spelling.{declarations}
-
-pub length_push : {A : Type 0} (xs : List A) (x : A) → length (xs ++ x ∷ []) ≡ length xs + 1
-length_push xs x = length-append xs (x ∷ [])
 
 pub word_before : (names : List Text) (n : Text) (i : ℕ) → i < length names → word_at (names ++ n ∷ []) i ≡ word_at names i
 word_before names n i lt = get_or_append_left names (n ∷ []) [] i lt

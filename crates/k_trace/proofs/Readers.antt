@@ -18,7 +18,7 @@ use Rattle.k_trace.specs.Judgement.{operation_line, process_line}
 use Rattle.k_trace.specs.declared.reasons.Reason.{Reason}
 use Rattle.k_trace.specs.declared.reasons.Reason.TheVariants.{NoForm}
 
-few_push : (rows : List (List Field)) (row : List Field) → HaveFewFields rows → length row ≤ 16 → HaveFewFields (rows ++ row ∷ [])
+pub few_push : (rows : List (List Field)) (row : List Field) → HaveFewFields rows → length row ≤ 16 → HaveFewFields (rows ++ row ∷ [])
 few_push rows row few le ty = grind (arith, common_steps, few ty)
 
 pub few_fields_push : (rows : List (Vec Field)) (v : Vec Field) → HaveFewFields (map (λ r. r.items) rows) → length v.items ≤ 16

@@ -22,7 +22,8 @@ use Rattle.k_trace.specs.Grown.{fits, with_type, with_limit, with_proc, with_sha
 use Rattle.k_trace.specs.Judgement.{SoFar}
 use Rattle.k_trace.proofs.OpForms.{number_below}
 use Rattle.k_trace.proofs.OpRules.{none_each}
-use Rattle.k_trace.proofs.Pushed.{length_push, AreNames_front}
+use Rattle.k_base.proofs.Lists.{length_push}
+use Rattle.k_trace.proofs.Pushed.{AreNames_front}
 use Rattle.k_trace.proofs.Reserved.{AllFit, fit_none, fit_before, fit_room}
 use Rattle.k_trace.proofs.Steps.{at_place, limit_row, TypeStep, LimitStep, ProcStep, SharedStep, Step, OfType, OfLimit, OfProc, OfShared, Run}
 
@@ -96,9 +97,6 @@ types_run (n ∷ ns) (r ∷ rs) t e all few small =
 
 abbrev pub with_limits : NamedTrace → List Text → List LimitRow → NamedTrace
 with_limits t ns rows = record { names = record t.names { limits = t.names.limits ++ ns }; trace = record t.trace { limits = t.trace.limits ++ rows } }
-
-limits_none : (t : NamedTrace) → t ≡ with_limits t [] []
-limits_none t = rw (append-nil t.names.limits, append-nil t.trace.limits) refl
 
 pub limits_more : (t : NamedTrace) (n : Text) (ns : List Text) (r : LimitRow) (rs : List LimitRow) → with_limits (with_limit t n r) ns rs ≡ with_limits t (n ∷ ns) (r ∷ rs)
 limits_more t n ns r rs = rw (append_assoc t.names.limits (n ∷ []) ns, append_assoc t.trace.limits (r ∷ []) rs) refl

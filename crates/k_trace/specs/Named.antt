@@ -15,6 +15,7 @@ pub record DeclaredNames : Type 0 where
   pub procs : List Text
   pub shared : List Text
 
+-- nothing is declared
 abbrev pub no_names : DeclaredNames
 no_names = record { types = []; limits = []; procs = []; shared = [] }
 

@@ -21,6 +21,7 @@ abbrev pub declarations : {A : Type 0} → (Text → A → List Text) → List T
 declarations words (name ∷ names) (x ∷ xs) = words name x ∷ declarations words names xs
 declarations words _ _ = []
 
+-- the words of a type
 abbrev pub type_words : Text → List Field → List Text
 type_words name fields = codes "type" ∷ name ∷ map field_word fields
 
@@ -30,12 +31,15 @@ place_words names None hard = []
 place_words names (Some parent) true = limit_name names parent ∷ codes "hard" ∷ []
 place_words names (Some parent) false = limit_name names parent ∷ codes "soft" ∷ []
 
+-- the words of a limit
 abbrev pub limit_words : DeclaredNames → Text → LimitRow → List Text
 limit_words names name row = codes "limit" ∷ name ∷ place_words names row.parent row.hard ++ decimal row.max ∷ []
 
+-- the words of a process
 abbrev pub proc_words : DeclaredNames → Text → LimitId → List Text
 proc_words names name limit = codes "proc" ∷ name ∷ limit_name names limit ∷ []
 
+-- the words of a shared heap
 abbrev pub shared_words : Text → List Text
 shared_words name = codes "shared" ∷ name ∷ []
 
@@ -91,5 +95,6 @@ header_words t =
 abbrev pub words : NamedTrace → List (List Text)
 words t = header_words t ++ operation_lines t.names (operations_of t.trace) t.trace.order
 
+-- the whole text
 abbrev pub text : NamedTrace → Text
 text t = text_of (words t)

@@ -1,3 +1,4 @@
+//! The table of the types that a trace declares.
 ghost use Rattle.std.specs.Prelude.{◌≡◌, ◌<◌, ◌≤◌, length, map, slice_get, IfOk};
 ghost use Rattle.k_types.specs.Bounds.{most_fields};
 ghost use Rattle.k_types.specs.Types.{HaveFewFields, object_size, type_row};
@@ -52,6 +53,13 @@ impl TypeTable {
         ensures { IfOk result (λ t. t ≡ self.now) }
     {
         TypeTable::make(alloc, &self.rows)
+    }
+
+    /// How many types there are.
+    pub fn len(&self) -> usize
+        ensures { result ≡ length self.now }
+    {
+        self.rows.len()
     }
 
     /// How many bytes an object of the type takes.

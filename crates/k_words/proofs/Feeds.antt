@@ -11,9 +11,6 @@ fed lines = flat_map (λ line. line ++ 10 ∷ []) lines
 abbrev pub Joined : Text → Type 0
 Joined bytes = AreText bytes (fed (lines_of bytes))
 
-fed-onto_first : (b : ℕ) (l : Text) (ls : List Text) → fed (onto_first b (l ∷ ls)) ≡ b ∷ fed (l ∷ ls)
-fed-onto_first b l ls = refl
-
 onto : (b : ℕ) (bytes : Text) (lines : List Text) → AreText bytes (fed lines) → AreText (b ∷ bytes) (fed (onto_first b lines))
 onto b [] [] (inl e) = inr refl
 onto b [] [] (inr e) = absurd cc

@@ -39,7 +39,7 @@ both_are a b e f = rw (e, f) refl
 three : (a b c : Bool) → (a && b && c) ≡ true → (a ≡ true) × (b ≡ true) × (c ≡ true)
 three a b c h = let e = both (a && b) c h in let f = both a b e.0 in (f.0, f.1, e.1)
 
-visible_no_space : (b : ℕ) → is_visible b ≡ true → not (eqb b 32) ≡ true
+pub visible_no_space : (b : ℕ) → is_visible b ≡ true → not (eqb b 32) ≡ true
 visible_no_space b h = grind (arith, nat_tests)
 
 visible_printable : (b : ℕ) → is_visible b ≡ true → is_printable b ≡ true

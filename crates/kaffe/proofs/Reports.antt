@@ -14,8 +14,8 @@ use Rattle.k_text.specs.Report.{text_over, report_text}
 use Rattle.k_text.proofs.Setups.{setup_alone}
 use Rattle.k_types.specs.Steps.{IsLegalHistory}
 use Rattle.k_types.specs.Complete.{IsComplete}
-use Rattle.k_history.proofs.Refusals.{proper}
 use Rattle.k_history.proofs.ReportLines.{history_of_text}
+use Rattle.k_reports.proofs.Spelled.{all_spelled}
 use Rattle.k_laws.proofs.Laws.{collections_free_nothing_live}
 use Rattle.kaffe.specs.Reports.{IsReportOf}
 
@@ -35,7 +35,7 @@ named_in_run t setup is e = rw e (record { types = is.types_named; limits = is.l
 pub report_is : (t : NamedTrace) (history : List Event) → IsTrace t → IsLegalHistory t.trace history → IsComplete t.trace history → IsReportOf t history (report_text t.names t.trace history)
 report_is t history is legal complete = record {
   whole = refl;
-  read_back = λ spelled. history_of_text t.names t.trace history (state_after t.trace history) (proper t is) (spelled history (record { legal = legal; in_order = complete.in_order }));
+  read_back = history_of_text t.names t.trace history (state_after t.trace history) (proper t is) (all_spelled t is history (record { legal = legal; in_order = complete.in_order }));
   legal = legal;
   complete = complete;
   safe = λ before rest h objects bytes exits shares parted n live.

@@ -13,7 +13,6 @@ use Rattle.k_types.specs.Trace.{Trace}
 use Rattle.k_words.specs.Words.{Text}
 use Rattle.k_trace.specs.Named.{NamedTrace}
 use Rattle.k_text.specs.Report.{report_text}
-use Rattle.k_history.specs.Good.{AreAllSpelled}
 use Rattle.k_history.specs.Histories.{history_of}
 
 -- No end of a collection in the history frees an object that a living process's register, the directory or a live shared heap
@@ -27,7 +26,7 @@ FreesNothingLive trace history =
 -- The text is the report of the history, which can be read back from it, is legal and complete, and frees nothing live.
 pub record IsReportOf (t : NamedTrace) (history : List Event) (text : Text) : Type 0 where
   pub whole : text ≡ report_text t.names t.trace history
-  pub read_back : AreAllSpelled t → history_of t.names text ≡ Ok history
+  pub read_back : history_of t.names text ≡ Ok history
   pub legal : IsLegalHistory t.trace history
   pub complete : IsComplete t.trace history
   pub safe : FreesNothingLive t.trace history
