@@ -14,6 +14,7 @@ use Rattle.k_text.specs.Report.{text_over, report_text}
 use Rattle.k_text.proofs.Setups.{setup_alone}
 use Rattle.k_types.specs.Steps.{IsLegalHistory}
 use Rattle.k_types.specs.Complete.{IsComplete}
+use Rattle.k_history.proofs.Refusals.{proper}
 use Rattle.k_history.proofs.ReportLines.{history_of_text}
 use Rattle.k_reports.proofs.Spelled.{all_spelled}
 use Rattle.k_laws.proofs.Laws.{collections_free_nothing_live}
