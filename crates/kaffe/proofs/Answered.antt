@@ -1,5 +1,5 @@
 -- What an answer tells, from the part that a called function tells.
-use Rattle.std.proofs.Common.{◌≡◌, ◌⊎◌, ℕ, List, [], inl, inr, refl}
+use Rattle.std.proofs.Common.{◌≡◌, ℕ, List, [], inl, refl}
 use Rattle.k_io.proofs.Takings.{takes_nothing}
 use Rattle.k_words.specs.Words.{Text}
 use Rattle.k_trace.specs.Named.{NamedTrace}

@@ -12,12 +12,12 @@ use Rattle.k_trace.proofs.Exact.{one, apart}
 use Rattle.kaffe.specs.declared.commands.Command.{Command}
 use Rattle.kaffe.specs.declared.status.Status.{Status}
 use Rattle.kaffe.specs.declared.status.Status.TheVariants.{Good, BadTrace, Usage, WantOfMemory, ReadFault, WriteFault, Refused}
-use Rattle.kaffe.specs.Answers.{WasRead, IsDone, IsBadInput, IsMisused, IsDue, IsDecided, IsAnswered, IsUnwritten}
+use Rattle.kaffe.specs.Answers.{WasRead, IsDone, IsBadInput, IsDue, IsAnswered, IsUnwritten}
 use Rattle.kaffe.specs.Commands.{command_of, IsCommand, IsNoCommand}
 use Rattle.kaffe.specs.Ends.{Input, Output, SourceFailed, SinkFailed, Took, TookFront, TookNothing}
-use Rattle.kaffe.specs.NotBuilt.{IsBadAt, IsRunSoFar, NotBuilt}
-use Rattle.kaffe.specs.Parts.{Answers, IsWritten, TellsOfBytes, TellsOfSource}
-use Rattle.kaffe.specs.Texts.{usage_text, bad_trace_text}
+use Rattle.kaffe.specs.NotBuilt.{IsBadAt, IsRunSoFar}
+use Rattle.kaffe.specs.Parts.{Answers, IsWritten, TellsOfSource}
+use Rattle.kaffe.specs.Texts.{usage_text}
 
 -- ---- what is told of a source, as the contract says it
 

@@ -4,7 +4,7 @@ use Rattle.k_words.specs.Words.{Text}
 use Rattle.k_trace.specs.Named.{NamedTrace}
 use Rattle.k_trace.specs.Rules.{Spells}
 use Rattle.kaffe.specs.declared.status.Status.{Status}
-use Rattle.kaffe.specs.declared.status.Status.TheVariants.{BadTrace, WriteFault}
+use Rattle.kaffe.specs.declared.status.Status.TheVariants.{BadTrace}
 use Rattle.kaffe.specs.Answers.{IsUnwritten}
 use Rattle.kaffe.specs.Ends.{Output}
 use Rattle.kaffe.specs.NotBuilt.{IsRunSoFar, IsBadAt}

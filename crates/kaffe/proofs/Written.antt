@@ -4,7 +4,6 @@ use Rattle.k_io.specs.Writing.{Writes}
 use Rattle.k_words.specs.Words.{Text}
 use Rattle.kaffe.specs.declared.status.Status.{Status}
 use Rattle.kaffe.specs.Answers.{IsUnwritten}
-use Rattle.kaffe.specs.Ends.{Output}
 use Rattle.kaffe.specs.Parts.{IsWritten, status_after}
 
 written : {E : Type 0} (old new : List ℕ → List ℕ → Type 0) (before now : ℕ) (r : Result (Unit {0}) E) (text : Text) (status : Status) → ¬ IsUnwritten status

@@ -1,5 +1,5 @@
 -- What the program answers: the contract of its top call, a field for each status.
-use Rattle.std.specs.Prelude.{◌≡◌, ◌≢◌, ◌⊎◌, ℕ, ◌+◌, ◌≤◌, List, length, Option, Some}
+use Rattle.std.specs.Prelude.{◌≡◌, ◌≢◌, ◌⊎◌, ℕ, ◌+◌, ◌≤◌, List, length, Some}
 use Rattle.std.specs.Io.KnownBytes.{Consumes, IsAtEnd}
 use Rattle.k_types.specs.declared.event.Event.{Event}
 use Rattle.k_types.specs.Bounds.{most_trace_bytes}

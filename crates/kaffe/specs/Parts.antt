@@ -1,18 +1,17 @@
 -- What the parts of a call tell: the writing of a text, the run of a trace, the judgement of an input.
-use Rattle.std.specs.Prelude.{◌≡◌, ◌⊎◌, ℕ, List, [], Result, Ok, Err}
+use Rattle.std.specs.Prelude.{◌≡◌, ◌⊎◌, ℕ, [], Result, Ok, Err}
 use Rattle.k_types.specs.Bounds.{most_trace_bytes}
 use Rattle.k_types.specs.FileOrder.{file_order}
 use Rattle.k_words.specs.Words.{Text}
 use Rattle.k_trace.specs.Named.{NamedTrace}
 use Rattle.k_trace.specs.Rules.{Spells}
 use Rattle.kaffe.specs.declared.status.Status.{Status}
-use Rattle.kaffe.specs.declared.status.Status.TheVariants.{Good, BadTrace, Usage, WantOfMemory, ReadFault, WriteFault, Refused}
+use Rattle.kaffe.specs.declared.status.Status.TheVariants.{Good, BadTrace, WantOfMemory, ReadFault, WriteFault}
 use Rattle.kaffe.specs.Answers.{IsUnwritten, WasRead}
-use Rattle.kaffe.specs.Commands.{IsNoCommand}
 use Rattle.kaffe.specs.Ends.{Input, Output, SourceFailed, Took, TookFront}
 use Rattle.kaffe.specs.NotBuilt.{IsBadAt, IsRunSoFar}
 use Rattle.kaffe.specs.Reports.{IsReportOf}
-use Rattle.kaffe.specs.Texts.{usage_text, bad_trace_text}
+use Rattle.kaffe.specs.Texts.{bad_trace_text}
 
 -- The status after its text was handed to the sink.
 abbrev pub status_after : {E : Type 0} → Status → Result (Unit {0}) E → Status

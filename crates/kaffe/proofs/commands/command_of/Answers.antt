@@ -1,6 +1,5 @@
-use Rattle.std.proofs.Common.{subst, sym, ◌∙◌, ap, ◌∷◌, []}
+use Rattle.std.proofs.Common.{sym, ◌∙◌}
 use Rattle.std.specs.Prelude.{string_bytes}
-use Rattle.k_words.specs.Words.{Text}
 use Rattle.kaffe.proofs.Lists.{of_one, of_other}
 use Rattle.kaffe.proofs.commands.command_of.Goals as goal
 

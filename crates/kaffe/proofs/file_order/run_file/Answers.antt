@@ -1,9 +1,6 @@
-use Rattle.std.proofs.Common.{length, refl, subst, sym, ap, arith, Err}
-use Rattle.k_words.specs.Words.{Text}
-use Rattle.k_types.specs.Bounds.{most_trace_bytes}
-use Rattle.kaffe.specs.Answers.{WasRead}
+use Rattle.std.proofs.Common.{refl, ap, Err}
 use Rattle.kaffe.specs.declared.status.Status.TheVariants.{WantOfMemory, ReadFault}
-use Rattle.kaffe.proofs.Answered.{answered_unwritten, answered_more, source_tells}
+use Rattle.kaffe.proofs.Answered.{answered_unwritten}
 use Rattle.kaffe.proofs.file_order.run_file.Goals as goal
 
 pub returns-in-Err-NoMemory-clause-answered : goal.returns-in-Err-NoMemory-clause-answered
