@@ -32,7 +32,6 @@ use Rattle.k_base.proofs.NameTests.{heap_eq-true, heap_eq_refl}
 use Rattle.k_frame.proofs.OwnerOf.{owner_user, segment_of_shared}
 use Rattle.k_base.proofs.Sums.{sum_same}
 use Rattle.k_laws.proofs.Merge.{merged}
-use Rattle.k_laws.proofs.SoundEffects.{none_is}
 use Rattle.k_laws.proofs.SoundAbsorbed.{is_merged as absorbed_owner}
 use Rattle.k_laws.proofs.SoundExited.{is_merged as ended_owner}
 use Rattle.k_laws.specs.Changes.{MayAbsorb, MayExit}
@@ -45,6 +44,7 @@ use Rattle.k_agree.specs.GivingOnTheBook.{HasAbsorbed, HasEnded, charged, leadin
 use Rattle.k_tie.specs.Values.{JournalValue}
 use Rattle.k_agree.proofs.AtTheEnd.{book_sound}
 use Rattle.k_agree.proofs.Swept.{among_kept}
+use Rattle.k_base.proofs.Lists.{none_is}
 
 -- a list over numbers of which one is given another value
 map_above : {A : Type 0} (f g : ℕ → A) (first n k : ℕ) → k < first → ((q : ℕ) → q ≢ k → g q ≡ f q) → map g (numbers_from first n) ≡ map f (numbers_from first n)

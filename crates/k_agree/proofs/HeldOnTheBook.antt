@@ -1,6 +1,6 @@
 -- What the book gives up is there, and goes one by one.
-use Rattle.std.proofs.Common.{◌≡◌, ◌≢◌, ◌⊎◌, ℕ, zero, suc, length, ◌+◌, ◌<◌, ◌≤◌, ◌==◌, ◌||◌, ◌&&◌, not, Bool, true, false, cond, refl, sym, ap, ◌∙◌, inl, inr, List, [], ◌∷◌, filter, get_or, arith, Option, eq-eqb}
-use Rattle.std.proofs.lemmas.Bool.{false≢true, and_parts, or_cases, false_from_ne_true, cases_eq}
+use Rattle.std.proofs.Common.{◌≡◌, ◌≢◌, ◌⊎◌, ℕ, zero, suc, length, ◌+◌, ◌<◌, ◌≤◌, ◌==◌, ◌||◌, ◌&&◌, not, Bool, true, false, cond, refl, sym, ap, ◌∙◌, inl, inr, List, [], ◌∷◌, get_or, arith, Option, eq-eqb}
+use Rattle.std.proofs.lemmas.Bool.{false≢true, and_parts, false_from_ne_true, cases_eq}
 use Rattle.k_types.specs.declared.names.Heap.{Heap}
 use Rattle.k_types.specs.declared.names.Heap.TheVariants.{Kernel}
 use Rattle.k_types.specs.declared.names.Name.{Name}
@@ -13,7 +13,7 @@ use Rattle.k_types.specs.Numbers.{numbers_from}
 use Rattle.k_types.specs.Owners.{charge_of, owner_of, user}
 use Rattle.k_types.specs.Reach.{is_shared_heap}
 use Rattle.k_types.specs.Sound.{IsSound}
-use Rattle.k_types.specs.State.{ExitItem, State, has_exit}
+use Rattle.k_types.specs.State.{State}
 use Rattle.k_types.specs.Totals.{total}
 use Rattle.k_types.specs.Trace.{Trace, limit_of, process_count}
 use Rattle.k_types.specs.TraceRules.{AreLimits}
@@ -22,25 +22,15 @@ use Rattle.k_bounds.specs.Distinct.{AreDistinctNames}
 use Rattle.k_laws.specs.Changes.{MayExit}
 use Rattle.k_changes.specs.BookChanges.{registers_in}
 use Rattle.k_changes.proofs.EndsOnBook.{charge_told}
-use Rattle.k_changes.proofs.OnBook.{get_mapped}
 use Rattle.k_agree.specs.Agreement.{Shows, BookShows}
 use Rattle.k_agree.specs.Ending.{HasLeft}
 use Rattle.k_agree.specs.GivingOnTheBook.{HasEntered, HasUnpinned, charged, leading_into, new_to_kernel}
 use Rattle.k_agree.proofs.Credited.{kept_distinct, left_bit}
 use Rattle.k_agree.proofs.GivenOnTheBook.{charge_as_told}
 use Rattle.k_agree.proofs.Swept.{among_kept}
-
--- an exit item is counted
-exit_counted : (exits : List ExitItem) (h : Heap) (n : Name) → has_exit exits h n ≡ true → 0 < total (λ (e : ExitItem). cond (name_eq e.target n) 1 0) exits
-exit_counted [] h n t = absurd (false≢true t)
-exit_counted (e ∷ exits) h n t = go (exit_counted exits h n) (name_eq e.target n) t
-  where
-    go : (has_exit exits h n ≡ true → 0 < total (λ (e : ExitItem). cond (name_eq e.target n) 1 0) exits) → (b : Bool) → ((heap_eq e.heap h && b) || has_exit exits h n) ≡ true → 0 < cond b 1 0 + total (λ (e : ExitItem). cond (name_eq e.target n) 1 0) exits
-    go rest true u = omega arith
-    go rest false u = elim (or_cases (heap_eq e.heap h && false) (has_exit exits h n) u) [
-      | inl here ↦ absurd (false≢true (and_parts (heap_eq e.heap h) false here).1)
-      | inr there ↦ let least = rest there in omega (arith, least)
-    ]
+use Rattle.k_base.proofs.Lists.{get_mapped}
+use Rattle.k_base.proofs.Sums.{passing_within}
+use Rattle.k_base.proofs.Exits.{exit_counted}
 
 -- a number of a list is at most their sum, also of those that pass a test
 member_within : (f : ℕ → ℕ) (p first n : ℕ) → first ≤ p → p < first + n → f p ≤ total f (numbers_from first n)
@@ -50,18 +40,6 @@ member_within f p first (suc n) low high =
       | inl e ↦ let same = ap f e in omega (arith, same)
       | inr ne ↦ let rest = member_within f p (suc first) n (omega (arith, low, ne)) (omega (arith, high)) in omega (arith, rest)
     ]
-
-passing_within : (f : ℕ → ℕ) (test : ℕ → Bool) (p first n : ℕ) → test p ≡ true → first ≤ p → p < first + n → f p ≤ total f (filter test (numbers_from first n))
-passing_within f test p first zero t low high = absurd (omega (arith, low, high))
-passing_within f test p first (suc n) t low high =
-    go (λ ne. passing_within f test p (suc first) n t (omega (arith, low, ne)) (omega (arith, high))) (test first) refl (cases_eq first p)
-  where
-    go : (first ≢ p → f p ≤ total f (filter test (numbers_from (suc first) n))) → (b : Bool) → test first ≡ b → (first ≡ p) ⊎ (first ≢ p) →
-        f p ≤ total f (cond b (first ∷ filter test (numbers_from (suc first) n)) (filter test (numbers_from (suc first) n)))
-    go rest true e (inl same) = let here = ap f same in omega (arith, here)
-    go rest false e (inl same) = absurd (false≢true (sym e ∙ ap test same ∙ t))
-    go rest true e (inr ne) = let least = rest ne in omega (arith, least)
-    go rest false e (inr ne) = rest ne
 
 pub left_there : (trace : Trace) (st : State) (cell : Cell) (value : CellValue) (book : BookValue) (n : Name) → BookShows trace st book → Shows trace st cell value → name_among n value.exits ≡ true → 0 < counted book.entries n
 unfolding book_part part

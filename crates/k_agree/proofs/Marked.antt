@@ -1,13 +1,12 @@
 -- A cell whose objects are marked.
-use Rattle.std.proofs.Common.{◌≡◌, ℕ, ◌&&◌, not, Bool, true, false, cond, refl, sym, ap, ◌∙◌, subst, inl, inr, List, [], ◌∷◌, ◌++◌, length, filter, get_or, Some, None, is_some}
+use Rattle.std.proofs.Common.{◌≡◌, ℕ, ◌&&◌, not, Bool, true, false, cond, refl, sym, ap, ◌∙◌, subst, List, [], ◌∷◌, ◌++◌, length, filter, get_or, Some, None, is_some}
 use Rattle.std.specs.List.{list_any}
 use Rattle.std.proofs.Math.Path.{fun_ext}
-use Rattle.std.proofs.lemmas.Bool.{or_cases, or_left, or_right, and_from, false≢true}
 use Rattle.k_types.specs.declared.names.CellPhase.TheVariants.{Begun, Marked}
 use Rattle.k_types.specs.declared.names.Name.{Name}
 use Rattle.k_types.specs.Agree.{CellValue, AreMarks}
 use Rattle.k_types.specs.Cells.{Cell, ShownPart, part, made_of}
-use Rattle.k_types.specs.Names.{heap_eq, name_eq, name_among}
+use Rattle.k_types.specs.Names.{heap_eq, name_among}
 use Rattle.k_types.specs.Owners.{owner_of, objects_of}
 use Rattle.k_types.specs.Reach.{closure, reach_among, reach_in}
 use Rattle.k_types.specs.Sound.{IsSound}
@@ -15,23 +14,13 @@ use Rattle.k_types.specs.State.{State, Object, opening, has, refers, refers_in, 
 use Rattle.k_types.specs.Steps.{state_after}
 use Rattle.k_types.specs.Trace.{Trace}
 use Rattle.k_types.specs.TraceRules.{AreLimits}
-use Rattle.k_base.proofs.NameTests.{name_eq_refl}
-use Rattle.k_base.proofs.Objects.{has-kept}
+use Rattle.k_base.proofs.Objects.{has-kept, referrer}
 use Rattle.k_laws.proofs.Means.{reach_is, reached_refers}
 use Rattle.k_laws.proofs.SoundOpening.{opening_sound}
 use Rattle.k_laws.proofs.SoundSteps.{run_sound}
 use Rattle.k_tie.specs.Values.{NoteValue}
 use Rattle.k_agree.specs.Agreement.{Shows, Agrees}
 use Rattle.k_agree.specs.Marking.{marked, is_foreign_in, AreReached}
-
--- some object of the list refers to the name
-referring : (xs : List Object) (n : Name) → list_any (λ x. refers x n) xs ≡ true → (a : Name) × (refers_in xs a n ≡ true)
-referring [] n t = absurd (false≢true t)
-referring (x ∷ xs) n t =
-    elim (or_cases (refers x n) (list_any (λ y. refers y n) xs) t) [
-      | inl here ↦ (x.name, or_left (name_eq x.name x.name && refers x n) (refers_in xs x.name n) (and_from _ _ (name_eq_refl x.name) here))
-      | inr there ↦ let more = referring xs n there in (more.0, or_right (name_eq x.name more.0 && refers x n) (refers_in xs more.0 n) more.1)
-    ]
 
 owned_bit : {A : Type 0} (b : Bool) (x : A) → is_some (cond b (Some x) None) ≡ b
 owned_bit true x = refl
@@ -64,7 +53,7 @@ module _ (trace : Trace) (st : State) (sound : IsSound trace st) (cell : Cell) (
   referred_there : (roots : List Name) (opened : scan_of st.scans cell ≡ Some roots) (n : Name) → list_any (λ x. refers x n) (reach_among value.objects roots) ≡ true → has st.objects n ≡ true
   referred_there roots opened n t =
       let same : reach_among value.objects roots ≡ reach_in trace st cell roots = ap (λ os. reach_among os roots) objects_are ∙ sym (reach_is trace st cell roots) in
-      let from = referring (reach_among value.objects roots) n t in
+      let from = referrer (reach_among value.objects roots) n t in
       sound.no_dangling.fields from.0 n
       (reached_refers trace st sound cell roots opened roots from.0 n (subst (λ os. refers_in os from.0 n ≡ true) same from.1)).0
 

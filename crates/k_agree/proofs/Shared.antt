@@ -19,7 +19,7 @@ use Rattle.k_types.specs.Steps.{MayEnd}
 use Rattle.k_types.specs.Totals.{total}
 use Rattle.k_types.specs.Trace.{Trace}
 use Rattle.k_base.proofs.NameTests.{name_eq-true, name_eq_refl, heap_eq_refl}
-use Rattle.k_base.proofs.Sums.{bit, sum_same, sum-filter, zeros}
+use Rattle.k_base.proofs.Sums.{bit, sum_same, sum-filter, zeros, count_is_total}
 use Rattle.k_base.proofs.Tests.{same_test}
 use Rattle.k_laws.proofs.Means.{reach_is}
 use Rattle.k_laws.proofs.Turned.{some_element}
@@ -29,7 +29,8 @@ use Rattle.k_changes.proofs.SharedSums.{shares_sum}
 use Rattle.k_changes.proofs.WaysInto.{share_stays_so}
 use Rattle.k_agree.specs.Agreement.{Shows, BookShows}
 use Rattle.k_agree.specs.Ending.{keeps_way, dropped_shares, freed_objects, freed_bytes, dropped_exits, TellsItsShares}
-use Rattle.k_agree.proofs.Swept.{among_kept, counted, marks, reached, reached_state, exits_are, black_exit, shows_end}
+use Rattle.k_agree.proofs.Swept.{among_kept, marks, reached, reached_state, exits_are, black_exit, shows_end}
+use Rattle.k_base.proofs.Lists.{any_same}
 
 -- a test that one name of the list passes
 among_any : (g : Name → Bool) (xs : List Name) (n : Name) → name_among n xs ≡ true → g n ≡ true → list_any g xs ≡ true
@@ -39,10 +40,6 @@ among_any g (x ∷ xs) n t u =
       | inl here ↦ or_left (g x) (list_any g xs) (ap g (name_eq-true x n here) ∙ u)
       | inr there ↦ or_right (g x) (list_any g xs) (among_any g xs n there u)
     ]
-
-any_same : {A : Type 0} (p q : A → Bool) → ((x : A) → p x ≡ q x) → (xs : List A) → list_any p xs ≡ list_any q xs
-any_same p q same [] = refl
-any_same p q same (x ∷ xs) = ap₂ (λ a b. a || b) (same x) (any_same p q same xs)
 
 or_given : (a b : Bool) → a ≡ true → (not a || b) ≡ b
 or_given true b t = refl
@@ -139,7 +136,7 @@ module _ (trace : Trace) (st : State) (p : ℕ) (value : CellValue) (book : Book
   shares_told : count_by (λ e. not (share_stays trace st (user p) e)) st.shares ≡ total (λ t. cond (has_share st.shares p t) (no_way t) 0) (numbers_below trace.shared_heaps)
   unfolding no_way
   shares_told =
-      counted (λ e. not (share_stays trace st (user p) e)) st.shares
+      count_is_total (λ e. not (share_stays trace st (user p) e)) st.shares
       ∙ sum_same (λ e. bit (not (share_stays trace st (user p) e))) (λ (e : Sharing). cond (e.process == p) (no_way e.heap) 0)
       (λ e. ap (λ b. bit (not b)) (share_stays_so trace st sound p (marks trace st (user p) value sound shows phase distinct).0 (marks trace st (user p) value sound shows phase distinct).1 e.heap e.process)
       ∙ not_or_bit (e.process == p) (has_way_into (owner_of trace st) (book_part trace st) (part trace st (user p)) p e.heap)) st.shares
@@ -172,7 +169,7 @@ module _ (trace : Trace) (st : State) (p : ℕ) (value : CellValue) (book : Book
 
 none_go : (trace : Trace) (st : State) (h : Heap) → ((e : Sharing) → not (share_stays trace st h e) ≡ false) → 0 ≡ count_by (λ e. not (share_stays trace st h e)) st.shares
 none_go trace st h stays =
-    sym (counted (λ e. not (share_stays trace st h e)) st.shares
+    sym (count_is_total (λ e. not (share_stays trace st h e)) st.shares
     ∙ sum_same (λ e. bit (not (share_stays trace st h e))) (λ e. 0) (λ e. ap bit (stays e)) st.shares
     ∙ zeros st.shares)
 

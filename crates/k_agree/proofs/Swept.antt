@@ -3,7 +3,6 @@ use Rattle.std.proofs.Common.{◌≡◌, ℕ, ◌+◌, ◌||◌, ◌&&◌, not, 
 use Rattle.std.specs.List.{list_any}
 use Rattle.std.proofs.Math.Path.{fun_ext}
 use Rattle.std.proofs.lemmas.Bool.{or_left, or_right, not_from_false}
-use Rattle.std.proofs.lemmas.List.Recursion.{is_count_by}
 use Rattle.k_types.specs.declared.names.CellPhase.TheVariants.{Marked}
 use Rattle.k_types.specs.declared.names.Name.{Name}
 use Rattle.k_types.specs.Agree.{CellValue, AreMarks, shown_by}
@@ -18,7 +17,7 @@ use Rattle.k_types.specs.Totals.{total}
 use Rattle.k_types.specs.Trace.{Trace}
 use Rattle.k_base.proofs.NameTests.{name_eq-true, name_eq_refl, heap_eq_sym}
 use Rattle.k_base.proofs.Objects.{has-kept}
-use Rattle.k_base.proofs.Sums.{bit, sum_same}
+use Rattle.k_base.proofs.Sums.{bit, sum_same, not_or_bit, count_is_total}
 use Rattle.k_laws.proofs.Means.{reach_is}
 use Rattle.k_bounds.specs.Distinct.{AreDistinctNames}
 use Rattle.k_bounds.proofs.Distinct.{targets_sum}
@@ -26,6 +25,8 @@ use Rattle.k_changes.specs.CellChanges.{collected, reached_in}
 use Rattle.k_changes.proofs.Collected.{ended_on_cell}
 use Rattle.k_agree.specs.Agreement.{Shows}
 use Rattle.k_agree.specs.Ending.{swept, dropped_exits, ShowsItsEnd}
+use Rattle.k_base.proofs.Lists.{both_kept}
+use Rattle.k_base.proofs.Tests.{not_or}
 
 and_false : (b : Bool) → (b && false) ≡ false
 and_false true = refl
@@ -58,21 +59,6 @@ length_counts q (x ∷ xs) = elim (q x) as (λ b. length (cond b (x ∷ filter q
   | true ↦ omega (arith, length_counts q xs)
   | false ↦ omega (arith, length_counts q xs)
 ]
-
-pub counted : {A : Type 0} (p : A → Bool) (xs : List A) → count_by p xs ≡ total (λ x. bit (p x)) xs
-counted p xs = sym (is_count_by (total (λ x. bit (p x))) p refl (λ x xs. elim (p x) as (λ b. bit b + total (λ x. bit (p x)) xs ≡ cond b (1 + total (λ x. bit (p x)) xs) (total (λ x. bit (p x)) xs)) [ true ↦ omega arith | false ↦ omega arith ]) xs)
-
-both_kept : (p q r : Object → Bool) → ((o : Object) → r o ≡ (p o && q o)) → (xs : List Object) → filter r xs ≡ filter q (filter p xs)
-both_kept p q r same [] = refl
-both_kept p q r same (x ∷ xs) = grind (arith, same x, both_kept p q r same xs)
-
-not_or : (a b : Bool) → not (not a || b) ≡ (a && not b)
-not_or true b = refl
-not_or false b = refl
-
-not_or_bit : (a b : Bool) → bit (not (not a || b)) ≡ cond a (bit (not b)) 0
-not_or_bit true b = refl
-not_or_bit false b = refl
 
 when_there : (e a b : Bool) → (e ≡ true → a ≡ true) → (e && (a && b)) ≡ (e && b)
 when_there true a b there = ap (λ x. x && b) (there refl)
@@ -166,7 +152,7 @@ module _ (trace : Trace) (st : State) (cell : Cell) (value : CellValue) (sound :
       ∙ sum_same (λ (e : ExitItem). cond (heap_eq e.heap cell) (missed_bit e.target) 0) (λ e. bit (not (exit_stays trace st cell e)))
       (λ e. sym (ap (λ set. bit (not (not (heap_eq e.heap cell) || list_any (λ x. refers x e.target) set))) (reach_is trace st cell (open_roots st cell) ∙ reached_state)
       ∙ not_or_bit (heap_eq e.heap cell) (list_any (λ x. refers x e.target) reached))) st.exits
-      ∙ sym (counted (λ e. not (exit_stays trace st cell e)) st.exits)
+      ∙ sym (count_is_total (λ e. not (exit_stays trace st cell e)) st.exits)
 
   pub shows_end : ShowsItsEnd trace st cell value
   shows_end = record {

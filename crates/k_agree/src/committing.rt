@@ -1,3 +1,4 @@
+//! A step that appends one event keeps cells and book in agreement.
 ghost use Rattle.std.specs.Prelude.{List, length, ◌∷◌, ◌≡◌, ◌≤◌, ℕ};
 ghost use Rattle.k_agree.specs.Agreement.{Agrees, BookAgrees};
 ghost use Rattle.k_agree.specs.Committing.{AreDistinctCells, cell_among, CanCommit, IsCommitted, NotedCell};

@@ -1,3 +1,4 @@
+//! What a cell leaves and tells at the end of a collection.
 ghost use Rattle.std.specs.Prelude.{IsFalse, List, [], ◌∷◌, ◌≡◌, ℕ};
 ghost use Rattle.k_agree.specs.Agreement.{BookShows, Shows};
 ghost use Rattle.k_agree.specs.Ending.{HasLeft, HasSettledWith, ShowsItsEnd, TellsItsShares, dropped, dropped_exits, freed_bytes, freed_objects};

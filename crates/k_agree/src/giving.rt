@@ -1,3 +1,4 @@
+//! Cells that give themselves away: a process that ends, a shared heap that is absorbed.
 ghost use Rattle.std.specs.Prelude.{[], ◌++◌, ◌∷◌, ◌≡◌, ℕ};
 ghost use Rattle.k_agree.specs.Agreement.{BookAgrees, Shows};
 ghost use Rattle.k_agree.specs.GivingAway.{HasTakenIn, absorbed_cell, ended_cell, with_one_done};

@@ -1,3 +1,4 @@
+//! What the book does where a cell gives itself away.
 ghost use Rattle.std.specs.Prelude.{IsFalse, IsTrue, List, Option, [], slice_index_or, ◌++◌, ◌<◌, ◌∷◌, ◌≤◌, ℕ};
 ghost use Rattle.k_agree.specs.Agreement.{BookAgrees, BookShows, Shows};
 ghost use Rattle.k_agree.specs.GivingOnTheBook.{CanBeAbsorbed, CanBeEnded, HasAbsorbed, HasEnded, HasEntered, HasUnpinned, charged, leading_into, new_to_kernel};

@@ -1,3 +1,4 @@
+//! What marking reaches in a cell that agrees.
 ghost use Rattle.std.specs.Prelude.{List, Some, ◌≡◌};
 ghost use Rattle.k_agree.specs.Agreement.{Agrees, BookShows, Shows};
 ghost use Rattle.k_agree.specs.Marking.{AreReached, begun, heap_begun_by, marked, roots_seen};

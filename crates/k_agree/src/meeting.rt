@@ -1,3 +1,4 @@
+//! A note that meets the journal.
 ghost use Rattle.k_agree.specs.Agreement.{Agrees, BookAgrees};
 ghost use Rattle.k_agree.specs.Meeting.{Fits, ShowsTheJournal};
 ghost use Rattle.k_tie.specs.Values.{JournalValue, NoteValue};

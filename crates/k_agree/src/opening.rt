@@ -1,3 +1,4 @@
+//! The cells and the book at the opening.
 ghost use Rattle.std.specs.Prelude.{slice_index_or, ◌<◌, ◌≡◌, ℕ};
 ghost use Rattle.atomic_table.specs.Seated.{TableId};
 ghost use Rattle.k_agree.specs.Agreement.{Agrees, BookAgrees, BookShows};

@@ -1,3 +1,4 @@
+//! Notes and journal fit the rooms that the trace gives them.
 ghost use Rattle.std.specs.Prelude.{IsFalse, List, [], drop, length, slice_index_or, ◌++◌, ◌<◌, ◌≡◌, ◌≤◌, ◌∷◌, ℕ};
 ghost use Rattle.k_agree.specs.Agreement.{Agrees, BookAgrees};
 ghost use Rattle.k_agree.specs.Meeting.{Fits};

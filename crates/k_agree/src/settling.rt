@@ -1,3 +1,4 @@
+//! What agrees where the run is over.
 ghost use Rattle.k_agree.specs.Agreement.{Agrees, BookAgrees};
 ghost use Rattle.k_agree.specs.Settled.{IsOver};
 ghost use Rattle.k_tie.specs.Values.{JournalValue, NoteValue};

@@ -1,3 +1,4 @@
+//! Values that show a given state.
 ghost use Rattle.std.specs.Prelude.{List};
 ghost use Rattle.k_agree.specs.Agreement.{BookShows, Shows};
 ghost use Rattle.k_agree.specs.Showing.{book_of, cell_of};

@@ -7,24 +7,13 @@ use Rattle.k_types.specs.Types.{object_size}
 use Rattle.k_types.specs.Owners.{object_bytes}
 use Rattle.k_types.specs.Totals.{total}
 use Rattle.k_space.specs.Segments.{Row, SegmentValue, IsSegment, made, is_marked, object_of, objects_from, segment_bytes}
+use Rattle.k_mark.proofs.SweepSteps.{dead_rows}
 use Rattle.k_mark.specs.Sweeping.{dead_row, dead_bytes_of, dead_objects, dead_bytes}
-
-row_one : (o : Option Row) → dead_row o ≤ 1
-row_one None = omega arith
-row_one (Some row) = by_mark (is_marked row.color)
-  where
-    by_mark : (b : Bool) → cond b 0 1 ≤ 1
-    by_mark true = omega arith
-    by_mark false = omega arith
-
-rows_most : (rows : List (Option Row)) → sum_by dead_row rows ≤ length rows
-rows_most [] = omega arith
-rows_most (o ∷ rows) = omega (arith, sum_by-cons dead_row o rows, row_one o, rows_most rows)
 
 -- the first serial has no object
 rows_within : (rows : List (Option Row)) → get_or rows 0 None ≡ None → sum_by dead_row rows ≤ length rows - 1
 rows_within [] first = omega arith
-rows_within (None ∷ rows) first = omega (arith, sum_by-cons dead_row None rows, rows_most rows)
+rows_within (None ∷ rows) first = omega (arith, sum_by-cons dead_row None rows, dead_rows rows)
 rows_within (Some row ∷ rows) first = absurd (cc)
 
 row_bytes_most : (number serial : ℕ) (row : Row) → dead_bytes_of (Some row) ≤ object_bytes (object_of number serial row)

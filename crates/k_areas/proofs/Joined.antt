@@ -3,14 +3,14 @@ use Rattle.std.proofs.Common.{◌≡◌, ◌≢◌, ◌==◌, not, ℕ, zero, su
 use Rattle.std.proofs.lemmas.Bool.{cases_eq}
 use Rattle.std.proofs.lemmas.Bool.Decides.{nat_tests}
 use Rattle.std.proofs.lemmas.List.Elements.{filter-append}
+use Rattle.k_base.proofs.Ordered.{IsBefore, ordered_before, ordered_tail}
 use Rattle.k_types.specs.declared.names.Name.{Name}
 use Rattle.k_types.specs.Names.{name_lt}
 use Rattle.k_types.specs.State.{Object}
 use Rattle.k_types.specs.Sound.{IsOrdered, IsOrderedFrom}
 use Rattle.k_types.specs.Updates.{with_object}
 use Rattle.k_changes.specs.CellChanges.{with_objects}
-use Rattle.k_changes.proofs.Merged.{IsBefore, placed_first}
-use Rattle.k_base.proofs.NameTests.{name_lt_trans}
+use Rattle.k_changes.proofs.Merged.{placed_first}
 use Rattle.k_space.specs.Objects.{BodyValue}
 use Rattle.k_space.specs.Segments.{Row, SegmentValue, object_of, objects_from, segment_objects, placed, new_row}
 use Rattle.k_space.specs.Areas.{AreaValue, segment_at, with_segment}
@@ -25,18 +25,6 @@ by_segment_lt a b low = grind (arith, nat_tests)
 
 by_serial_lt : (a b : Name) → a.seg.0 ≡ b.seg.0 → a.serial.0 < b.serial.0 → name_lt a b ≡ true
 by_serial_lt a b same low = grind (arith, nat_tests)
-
-before_from : (o : Object) (m : Name) (xs : List Object) → IsTrue (name_lt o.name m) → IsOrderedFrom m xs → IsBefore o xs
-before_from o m [] low t = tt
-before_from o m (x ∷ xs) low t = let here = name_lt_trans o.name m x.name low t.0 in (here, before_from o x.name xs here t.1)
-
-ordered_before : (o : Object) (xs : List Object) → IsOrderedFrom o.name xs → IsBefore o xs
-ordered_before o [] t = tt
-ordered_before o (x ∷ xs) t = (t.0, before_from o x.name xs t.0 t.1)
-
-ordered_rest : (o : Object) (xs : List Object) → IsOrderedFrom o.name xs → IsOrdered xs
-ordered_rest o [] t = tt
-ordered_rest o (x ∷ xs) t = t.1
 
 -- all of the list come before the object
 abbrev AreBefore : List Object → Object → Type 0
@@ -76,7 +64,7 @@ joined_up (x ∷ xs) ys zs = ap (λ us. x ∷ us) (joined_up xs ys zs)
 -- objects in order that come after all of a list come last
 placed_last : (xs more : List Object) → AreLater xs more → IsOrdered more → with_objects more xs ≡ xs ++ more
 placed_last xs [] t ordered = sym (no_more xs)
-placed_last xs (o ∷ more) t ordered = ap (with_object o) (placed_last xs more t.1 (ordered_rest o more ordered)) ∙ past xs more o t.0 (ordered_before o more ordered)
+placed_last xs (o ∷ more) t ordered = ap (with_object o) (placed_last xs more t.1 (ordered_tail o.name more ordered)) ∙ past xs more o t.0 (ordered_before o more ordered)
 
 placed_within_one : (o : Object) (xs ys : List Object) → IsBefore o ys → with_object o (xs ++ ys) ≡ with_object o xs ++ ys
 placed_within_one o [] ys t = placed_first o ys t

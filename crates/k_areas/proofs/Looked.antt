@@ -10,6 +10,7 @@ use Rattle.k_space.specs.Segments.{Row, Color, White, Gray, Black, SegmentValue,
 use Rattle.k_space.specs.Areas.{AreaValue, segment_at, row_in_segment, row_of_name, with_segment, with_row_of, marked_at, gray_at, black_at, grayed, grayed_row, unmarked}
 use Rattle.k_space.proofs.AreaRows.{found, after_same, after_other}
 use Rattle.k_space.proofs.NameTests.{name_eq-parts}
+use Rattle.k_mark.proofs.Looks.{black_gray}
 use Rattle.k_mark.specs.Sweeping.{swept, swept_segment, survivor}
 use Rattle.k_areas.specs.Shown.{name_in}
 use Rattle.k_areas.proofs.Found.{at_map, at_push_same, at_push_other, at_set_same, at_set_other}
@@ -112,11 +113,6 @@ gray_now White e = refl
 gray_now Gray e = refl
 gray_now Black e = absurd (false≢true (sym e))
 
-black_still : (c : Color) → is_black (gray_or_black c) ≡ is_black c
-black_still White = refl
-black_still Gray = refl
-black_still Black = refl
-
 pub gray_one : (a : AreaValue) (m n : Name) → black_at a m ≡ false → gray_at (grayed a m) n ≡ (gray_at a n || (name_eq m n && is_some (row_of_name a.segments m)))
 gray_one a m n clean = by_row (row_of_name a.segments m) refl
   where
@@ -144,7 +140,7 @@ black_same a m n = by_row (row_of_name a.segments m) refl
         elim (cases_Bool (name_eq m n)) [
           | inl same ↦
               ap (λ b. some_black (cond b (Some (record row { color = gray_or_black row.color })) (row_of_name a.segments n))) same
-              ∙ black_still row.color ∙ sym (ap some_black (ap (row_of_name a.segments) (sym (name_eq-true m n same)) ∙ e))
+              ∙ black_gray row.color ∙ sym (ap some_black (ap (row_of_name a.segments) (sym (name_eq-true m n same)) ∙ e))
           | inr differs ↦ ap (λ b. some_black (cond b (Some (record row { color = gray_or_black row.color })) (row_of_name a.segments n))) differs
         ]
 

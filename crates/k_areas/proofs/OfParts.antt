@@ -1,5 +1,5 @@
 -- Areas that show the part of a cell.
-use Rattle.std.proofs.Common.{◌≡◌, ◌≢◌, ◌==◌, ◌&&◌, not, ℕ, ◌+◌, ◌-◌, ◌<◌, Bool, true, false, cond, refl, sym, ap, ap₂, subst, ◌∙◌, inl, inr, List, [], ◌∷◌, ◌++◌, length, map, filter, set, slice_set, Option, Some, None, is_some, option_map, unwrap_or, eq-eqb, ne_eqb, arith}
+use Rattle.std.proofs.Common.{◌≡◌, ◌≢◌, ◌==◌, ◌&&◌, not, ℕ, ◌+◌, ◌-◌, ◌<◌, Bool, false, cond, refl, sym, ap, ap₂, subst, ◌∙◌, inl, inr, List, [], ◌∷◌, ◌++◌, length, map, filter, set, slice_set, Option, Some, None, is_some, option_map, unwrap_or, eq-eqb, ne_eqb, arith}
 use Rattle.std.proofs.Math.Path.{fun_ext}
 use Rattle.std.proofs.lemmas.Bool.{cases_eq}
 use Rattle.std.proofs.lemmas.List.{length-append, length-map, length-set}
@@ -34,6 +34,7 @@ use Rattle.k_areas.proofs.Changed.{same_area, swept_objects, written_area}
 use Rattle.k_areas.proofs.Joined.{placed_area, joined_area, alone_area, none_area}
 use Rattle.k_exit.specs.Exits.{ExitRow, target_marked}
 use Rattle.std.specs.List.{list_any}
+use Rattle.k_base.proofs.Tests.{same_test}
 use Rattle.k_areas.specs.Lists.{black_names, marked_targets}
 use Rattle.k_areas.specs.Parts.{AreExitsMarked}
 use Rattle.k_areas.proofs.Named.{black_named, marked_named}
@@ -236,16 +237,11 @@ leads : (n m : Name) (o : Option Row) → at_row (λ (x : Object). name_eq x.nam
 leads n m None = refl
 leads n m (Some row) = ap (λ b. b && refers (object_of n.seg.0 n.serial.0 row) m) (name_eq_refl n)
 
-shows : (area : AreaValue) (bound : ℕ) → HasNoneFrom area.segments bound → ShowsObjects area (area_objects bound area.segments)
+pub shows : (area : AreaValue) (bound : ℕ) → HasNoneFrom area.segments bound → ShowsObjects area (area_objects bound area.segments)
 shows area bound none = record {
   lives = λ n. any_area (λ (x : Object). name_eq x.name n) n (λ o e. e) area.segments bound none ∙ lives n (row_of_name area.segments n);
   refers = λ n m. any_area (λ (x : Object). name_eq x.name n && refers x m) n (λ o e. ap (λ b. b && refers o m) e) area.segments bound none ∙ leads n m (row_of_name area.segments n);
 }
-
-same_test : (a b : Bool) → (a ≡ true → b ≡ true) → (b ≡ true → a ≡ true) → a ≡ b
-same_test true b to from = sym (to refl)
-same_test false true to from = from refl
-same_test false false to from = refl
 
 module _ (bound : ℕ) (begun ended : AreaValue) (c : CellPart) (p : IsMarkedPart bound begun ended c) where
   pub shown_begun : ShowsObjects begun c.objects

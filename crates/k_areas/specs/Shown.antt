@@ -10,6 +10,7 @@ use Rattle.k_space.specs.Areas.{segment_at, HasDistinct}
 abbrev pub name_in : SegmentValue → ℕ → Name
 name_in s serial = record { seg = record { 0 = s.number }; serial = record { 0 = serial } }
 
+-- the live objects of the segment, if there is one
 abbrev pub objects_of_some : Option SegmentValue → List Object
 objects_of_some None = []
 objects_of_some (Some s) = segment_objects s

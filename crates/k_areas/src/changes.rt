@@ -1,3 +1,4 @@
+//! Laws of the changes of an area, told by its objects.
 ghost use Rattle.std.specs.Prelude.{◌≡◌, ◌<◌, ◌≤◌, ◌++◌, ◌∷◌, [], ◌==◌, not, ℕ, List, map, filter, length, slice_set, Some, None};
 ghost use Rattle.std.specs.List.{sum_by};
 ghost use Rattle.k_types.specs.declared.names.Name.{Name};

@@ -1,3 +1,4 @@
+//! A worked collection of three nodes.
 ghost use Rattle.std.specs.Prelude.{◌≡◌, ◌∷◌, [], map, true, false};
 ghost use Rattle.k_types.specs.State.{has};
 ghost use Rattle.k_types.specs.Reach.{reach_among};

@@ -1,3 +1,4 @@
+//! Laws of the lists of an area and of exit items.
 ghost use Rattle.std.specs.Prelude.{◌≡◌, [], ℕ, List, map, length, slice_index_or, None, option_map, IsFalse};
 ghost use Rattle.k_types.specs.declared.names.Name.{Name};
 ghost use Rattle.k_types.specs.Names.{name_among};

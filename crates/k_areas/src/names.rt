@@ -1,3 +1,4 @@
+//! Laws of what a name finds in an area.
 ghost use Rattle.std.specs.Prelude.{if◌then◌else◌, ◌≡◌, ◌++◌, ◌∷◌, [], ◌==◌, ◌||◌, ◌&&◌, ℕ, List, length, slice_set, is_some, IsFalse, Some, None};
 ghost use Rattle.k_types.specs.declared.names.Name.{Name};
 ghost use Rattle.k_types.specs.Names.{name_eq};

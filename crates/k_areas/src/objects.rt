@@ -1,3 +1,4 @@
+//! Laws of the objects that an area shows.
 ghost use Rattle.std.specs.Prelude.{◌≡◌, ◌++◌, ◌∷◌, [], ◌&&◌, not, Bool, ℕ, List, map, filter, length, slice_set, Option, Some, is_some, option_map, None, true, false};
 ghost use Rattle.k_types.specs.declared.names.Name.{Name};
 ghost use Rattle.k_types.specs.Names.{name_eq};

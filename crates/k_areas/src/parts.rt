@@ -1,3 +1,4 @@
+//! Laws that make an area's changes those of the machine's part.
 ghost use Rattle.std.specs.Prelude.{◌≡◌, ◌++◌, ◌∷◌, [], ◌&&◌, not, ℕ, List, filter, length, slice_set, Some};
 ghost use Rattle.std.specs.List.{list_any};
 ghost use Rattle.k_types.specs.declared.names.Name.{Name};

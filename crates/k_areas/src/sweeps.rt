@@ -1,3 +1,4 @@
+//! Laws of what a sweep adds up.
 ghost use Rattle.std.specs.Prelude.{◌≡◌, ◌*◌, ◌≤◌, ◌∷◌, [], ℕ, List, length};
 ghost use Rattle.std.specs.List.{AllByRecursion};
 ghost use Rattle.k_types.specs.State.{Object};

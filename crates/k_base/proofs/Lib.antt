@@ -7,3 +7,5 @@ pub mod Tests
 pub mod Objects
 pub mod Numbered
 pub mod Distinct
+pub mod Ordered
+pub mod Exits

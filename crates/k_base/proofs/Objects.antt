@@ -7,12 +7,8 @@ use Rattle.k_types.specs.Names.{name_eq, name_lt}
 use Rattle.k_types.specs.State.{Object, Content, has, object_at, refers, refers_in, content_leads_to}
 use Rattle.k_types.specs.Updates.{with_object, object_after_write}
 use Rattle.k_base.proofs.Lists.{any-set}
+use Rattle.k_base.proofs.Tests.{or_swap}
 use Rattle.k_base.proofs.NameTests.{name_eq-true, name_eq_refl, name_eq_sym}
-
-or_swap : (a b c : Bool) → (a || (b || c)) ≡ (b || (a || c))
-or_swap true true c = refl
-or_swap true false c = refl
-or_swap false b c = refl
 
 pub has-placed : (o : Object) (xs : List Object) (n : Name) → has (with_object o xs) n ≡ (name_eq o.name n || has xs n)
 has-placed o [] n = refl
@@ -85,6 +81,10 @@ found xs n h = some_is (object_at xs n) (is_some-object_at xs n ∙ h)
 pub has_found : (xs : List Object) (n : Name) (o : Object) → object_at xs n ≡ Some o → has xs n ≡ true
 has_found [] n o e = grind arith
 has_found (x ∷ xs) n o e = grind (arith, has_found xs n o)
+
+pub refers_found : (xs : List Object) (x y : Name) (o : Object) → object_at xs x ≡ Some o → refers o y ≡ true → refers_in xs x y ≡ true
+refers_found [] x y o found leads = absurd (cc found)
+refers_found (z ∷ zs) x y o found leads = grind (arith, refers_found zs x y o)
 
 pub found_name : (xs : List Object) (n : Name) (o : Object) → object_at xs n ≡ Some o → o.name ≡ n
 found_name [] n o e = grind arith

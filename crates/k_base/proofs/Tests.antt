@@ -1,5 +1,5 @@
 -- Tests that are one.
-use Rattle.std.proofs.Common.{◌≡◌, Bool, true, false, refl, IsTrue}
+use Rattle.std.proofs.Common.{◌≡◌, ◌&&◌, ◌||◌, not, Bool, true, false, refl, IsTrue}
 use Rattle.std.proofs.lemmas.Bool.{false≢true}
 
 -- two tests with the same yes are one
@@ -8,3 +8,12 @@ same_test true true f g = refl
 same_test false false f g = refl
 same_test true false f g = absurd (false≢true (f refl))
 same_test false true f g = absurd (false≢true (g refl))
+
+pub or_swap : (a b c : Bool) → (a || (b || c)) ≡ (b || (a || c))
+or_swap true true c = refl
+or_swap true false c = refl
+or_swap false b c = refl
+
+pub not_or : (a b : Bool) → not (not a || b) ≡ (a && not b)
+not_or true b = refl
+not_or false b = refl

@@ -22,13 +22,14 @@ use Rattle.k_types.specs.Updates.{count_done, set_register, create, open_scan, s
 use Rattle.k_types.specs.Effects.{step, effect, effect_unless, after_operation, after_store, after_put, after_freeze, after_end_of, after_ended, after_absorbed, after_closing}
 use Rattle.k_types.specs.Steps.{IsPossible, IsLegalHistory, state_after, is_live, has_sharer}
 use Rattle.k_bounds.specs.Counts.{one_if, is_absorption, absorbed_count, is_closing_event, closing_count}
-use Rattle.k_bounds.proofs.Counting.{total_push, total_set, count_low}
+use Rattle.k_bounds.proofs.Counting.{count_low}
 use Rattle.k_bounds.proofs.Phases.{store_phases, put_phases, ended_phases, closing_phases}
 use Rattle.k_frame.proofs.FrameSteps.{none_on}
 use Rattle.k_frame.proofs.Histories.{history_induction, state_next}
 use Rattle.k_frame.proofs.Sizes.{history_sized}
 use Rattle.k_laws.proofs.SoundEffects.{is_unmade_so, is_populating_by}
 use Rattle.k_frame.proofs.Rest.{store_rest, put_rest, freeze_rest}
+use Rattle.k_base.proofs.Sums.{total_push, total_set}
 
 abbrev gone : Phase → ℕ
 gone phase = one_if (is_absorbed phase)

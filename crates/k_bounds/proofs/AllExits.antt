@@ -18,7 +18,8 @@ use Rattle.k_types.specs.Updates.{count_done, set_register, create, write, add_e
 use Rattle.k_types.specs.Effects.{step, effect, effect_unless, after_operation, after_store, after_put, with_exit_of_store, after_freeze, after_end_of, exit_after, passes_to_kernel, leads_back, after_ended, after_absorbed, after_closing, exit_stays, stays_after_absorb}
 use Rattle.k_types.specs.Steps.{run, state_after}
 use Rattle.k_bounds.specs.Counts.{one_if, is_store, has_stored, store_count}
-use Rattle.k_bounds.proofs.Counting.{total_push, total_turned, total_fewer, option_count}
+use Rattle.k_bounds.proofs.Counting.{total_turned, total_fewer, option_count}
+use Rattle.k_base.proofs.Sums.{total_push}
 
 -- each exit item counts
 abbrev one : ExitItem → ℕ

@@ -15,7 +15,7 @@ use Rattle.k_types.specs.Complete.{IsPrefixOf}
 use Rattle.k_types.specs.Following.{FollowsOwn}
 use Rattle.k_bounds.specs.Counts.{one_if, of_operation, is_store, store_count, stores_by, operation_count, allocation_count, allocates_in, has_stored, has_allocated_in, is_operation}
 use Rattle.k_bounds.proofs.Dones.{done_count}
-use Rattle.k_base.proofs.Sums.{sum_same, sum_both, one_counts, total_append, zeros}
+use Rattle.k_base.proofs.Sums.{sum_same, sum_both, one_counts, total_append, zeros, ones}
 
 -- of the first elements no more is counted than of all
 pub prefix_less : {A : Type 0} (f : A → ℕ) (xs ys : List A) → IsPrefixOf xs ys → total f xs ≤ total f ys
@@ -68,10 +68,6 @@ same_allocation trace seg (Done pid op said) = refl
 same_allocation trace seg (Ended h a b c d) = refl
 same_allocation trace seg (Absorbed s) = refl
 same_allocation trace seg Closing = refl
-
-ones : {A : Type 0} (xs : List A) → total (λ x. 1) xs ≡ length xs
-ones [] = refl
-ones (x ∷ xs) = omega (arith, ones xs)
 
 pub stores_by_process : (trace : Trace) (history : List Event) → IsLegalHistory trace history → store_count history ≡ total (λ p. stores_by p history) (numbers_below (process_count trace))
 stores_by_process trace history legal =

@@ -1,13 +1,8 @@
 -- Counts over lists.
-use Rattle.std.proofs.Common.{◌≡◌, ℕ, zero, suc, ◌+◌, ◌≤◌, ◌<◌, Bool, true, false, cond, refl, List, [], ◌∷◌, ◌++◌, filter, filter_map, length, set, get_or, Option, Some, None, arith, zero-le}
+use Rattle.std.proofs.Common.{◌≡◌, ℕ, ◌+◌, ◌≤◌, ◌<◌, Bool, true, false, cond, refl, List, [], ◌∷◌, ◌++◌, filter, filter_map, length, Option, Some, None, arith, zero-le}
 use Rattle.std.specs.List.{cons_option}
 use Rattle.k_types.specs.Totals.{total}
 use Rattle.k_bounds.specs.Counts.{one_if}
-use Rattle.k_base.proofs.Sums.{total_append}
-
--- one more element
-pub total_push : {A : Type 0} (f : A → ℕ) (xs : List A) (x : A) → total f (xs ++ x ∷ []) ≡ total f xs + f x
-total_push f xs x = omega (arith, total_append f xs (x ∷ []))
 
 pub one_if_low : (b : Bool) → one_if b ≤ 1
 one_if_low true = omega arith
@@ -28,10 +23,6 @@ total_fewer f q (x ∷ xs) =
       | false ↦ omega (arith, rest)
     ]
 
-pub total_at_most : {A : Type 0} (f g : A → ℕ) → ((x : A) → f x ≤ g x) → (xs : List A) → total f xs ≤ total g xs
-total_at_most f g less [] = zero-le
-total_at_most f g less (x ∷ xs) = omega (arith, less x, total_at_most f g less xs)
-
 -- what an element becomes counts at most what it counted
 abbrev pub option_count : {B : Type 0} → (B → ℕ) → Option B → ℕ
 option_count f None = 0
@@ -44,9 +35,3 @@ total_cons_option f (Some y) ys = refl
 pub total_turned : {A B : Type 0} (f : A → ℕ) (g : B → ℕ) (turn : A → Option B) → ((x : A) → option_count g (turn x) ≤ f x) → (xs : List A) → total g (filter_map turn xs) ≤ total f xs
 total_turned f g turn less [] = zero-le
 total_turned f g turn less (x ∷ xs) = omega (arith, total_cons_option g (turn x) (filter_map turn xs), less x, total_turned f g turn less xs)
-
--- an element that is set
-pub total_set : {A : Type 0} (f : A → ℕ) (xs : List A) (i : ℕ) (y d : A) → i < length xs → total f (set xs i y) + f (get_or xs i d) ≡ total f xs + f y
-total_set f [] i y d inside = absurd (omega arith)
-total_set f (x ∷ xs) zero y d inside = omega arith
-total_set f (x ∷ xs) (suc i) y d inside = omega (arith, total_set f xs i y d (omega arith))

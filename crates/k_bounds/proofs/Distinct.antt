@@ -5,7 +5,7 @@ use Rattle.k_types.specs.declared.names.Name.{Name}
 use Rattle.k_types.specs.declared.names.Heap.{Heap}
 use Rattle.k_types.specs.Names.{name_eq, heap_eq, name_among, leads_to}
 use Rattle.k_types.specs.Totals.{total}
-use Rattle.k_types.specs.Numbers.{numbers_below, numbers_from}
+use Rattle.k_types.specs.Numbers.{numbers_below}
 use Rattle.k_types.specs.Trace.{Trace, process_count}
 use Rattle.k_types.specs.State.{State, ExitItem, has_exit}
 use Rattle.k_types.specs.Owners.{owner_of, user}
@@ -13,9 +13,9 @@ use Rattle.k_types.specs.Cells.{entries, pins, pins_of}
 use Rattle.k_types.specs.Sound.{IsSized, AreDistinctExits}
 use Rattle.k_bounds.specs.Counts.{one_if}
 use Rattle.k_bounds.specs.Distinct.{AreDistinctNames}
-use Rattle.k_bounds.proofs.Counting.{total_at_most}
 use Rattle.k_base.proofs.NameTests.{name_eq-true, name_eq_refl, heap_eq-true}
-use Rattle.k_base.proofs.Sums.{zeros, sum_both, sum_same}
+use Rattle.k_base.proofs.Sums.{zeros, sum_both, sum_same, total_at_most, ones, both_or}
+use Rattle.k_base.proofs.Lists.{numbers_length}
 
 -- the sums of a table by rows and by columns
 swapped : {A B : Type 0} (f : A → B → ℕ) (xs : List A) (ys : List B) → total (λ x. total (f x) ys) xs ≡ total (λ y. total (λ x. f x y) xs) ys
@@ -48,21 +48,13 @@ one_led (Some m) names distinct = omega (arith, one_name (λ n. 1) m names disti
     low true = omega arith
     low false = omega arith
 
-count_ones : {A : Type 0} (xs : List A) → total (λ x. 1) xs ≡ length xs
-count_ones [] = refl
-count_ones (x ∷ xs) = omega (arith, count_ones xs)
-
 pins_of_row : (row : List (Option Name)) (names : List Name) → AreDistinctNames names → total (pins_of row) names ≤ length row
 pins_of_row row names distinct =
-    omega (arith, swapped (λ n r. one_if (leads_to r n)) names row, total_at_most (λ r. total (λ n. one_if (leads_to r n)) names) (λ r. 1) (λ r. one_led r names distinct) row, count_ones row)
+    omega (arith, swapped (λ n r. one_if (leads_to r n)) names row, total_at_most (λ r. total (λ n. one_if (leads_to r n)) names) (λ r. 1) (λ r. one_led r names distinct) row, ones row)
 
 sixteen : (xs : List ℕ) → total (λ x. 16) xs ≡ 16 * length xs
 sixteen [] = omega arith
 sixteen (x ∷ xs) = omega (arith, sixteen xs)
-
-counted : (first n : ℕ) → length (numbers_from first n) ≡ n
-counted first zero = refl
-counted first (suc n) = ap suc (counted (suc first) n)
 
 outside : {A : Type 0} (rows : List (List A)) (p : ℕ) → length rows ≤ p → get_or rows p [] ≡ []
 outside [] p out = refl
@@ -74,7 +66,7 @@ pub pins_few : (trace : Trace) (st : State) → IsSized trace st → (names : Li
 pins_few trace st sized names distinct =
     let by_process = swapped (λ n p. cond (heap_eq (user p) (owner_of trace st n.seg.0)) 0 (pins_of (get_or st.registers p []) n)) names (numbers_below (process_count trace)) in
     let each = total_at_most (λ p. total (λ n. cond (heap_eq (user p) (owner_of trace st n.seg.0)) 0 (pins_of (get_or st.registers p []) n)) names) (λ p. 16) row_low (numbers_below (process_count trace)) in
-    omega (arith, by_process, each, sixteen (numbers_below (process_count trace)), counted 0 (process_count trace))
+    omega (arith, by_process, each, sixteen (numbers_below (process_count trace)), numbers_length 0 (process_count trace))
   where
     less : (b : Bool) (n : ℕ) → cond b 0 n ≤ n
     less true n = zero-le
@@ -101,16 +93,8 @@ entries_few st names distinct =
       arith,
       swapped (λ n (e : ExitItem). one_if (name_eq e.target n)) names st.exits,
       total_at_most (λ (e : ExitItem). total (λ n. one_if (name_eq e.target n)) names) (λ e. 1) (λ e. one_led (Some e.target) names distinct) st.exits,
-      count_ones st.exits,
+      ones st.exits,
     )
-
-both_or : (a b c : Bool) (n : ℕ) → (a ≡ true → b ≡ true → c ≡ false) → cond ((a && b) || c) n 0 ≡ cond a (cond b n 0) 0 + cond c n 0
-both_or true true true n apart = absurd (false≢true (sym (apart refl refl)))
-both_or true true false n apart = omega arith
-both_or true false true n apart = omega arith
-both_or true false false n apart = omega arith
-both_or false b true n apart = omega arith
-both_or false b false n apart = omega arith
 
 inner : (f : Name → ℕ) (b : Bool) (t : Name) (names : List Name) → AreDistinctNames names → total (λ n. cond b (cond (name_eq t n) (f n) 0) 0) names ≡ cond b (cond (name_among t names) (f t) 0) 0
 inner f true t names distinct = one_name f t names distinct

@@ -12,7 +12,8 @@ use Rattle.k_types.specs.Owners.{owner_of, user}
 use Rattle.k_types.specs.Updates.{set_register, create, write, add_exit, with_exit, open_scan, set_phase, add_share, keep_shares, clear_registers, end_process, turn_exits}
 use Rattle.k_types.specs.Effects.{effect, after_store, after_put, with_exit_of_store, after_freeze, after_end_of, exit_after, passes_to_kernel, leads_back}
 use Rattle.k_bounds.specs.Counts.{one_if, exit_count}
-use Rattle.k_bounds.proofs.Counting.{total_push, total_turned, option_count}
+use Rattle.k_bounds.proofs.Counting.{total_turned, option_count}
+use Rattle.k_base.proofs.Sums.{total_push}
 
 abbrev pub weight : Heap → ExitItem → ℕ
 weight h e = one_if (heap_eq e.heap h)

@@ -1,3 +1,4 @@
+//! How large the tables can get, by what the history has done.
 ghost use Rattle.std.specs.Prelude.{List, if◌then◌else◌, length, slice_index_or, ◌*◌, ◌+◌, ◌==◌, ◌≡◌, ◌≤◌, ◌⊎◌, ℕ};
 ghost use Rattle.k_bounds.specs.Counts.{
   MadeBy,

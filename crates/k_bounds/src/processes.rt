@@ -1,3 +1,4 @@
+//! The counts of a history, process by process.
 ghost use Rattle.std.specs.Prelude.{List, length, ◌≡◌, ◌≤◌, ◌↔◌, ℕ};
 ghost use Rattle.k_bounds.specs.Counts.{allocates_in, allocation_count, one_if, operation_count, store_count, stores_by};
 ghost use Rattle.k_types.specs.Complete.{IsPrefixOf};

@@ -1,3 +1,4 @@
+//! Sums over distinct names of what exit items lead to.
 ghost use Rattle.std.specs.Prelude.{List, if◌then◌else◌, ◌≡◌, ℕ};
 ghost use Rattle.k_bounds.specs.Distinct.{AreDistinctNames};
 ghost use Rattle.k_types.specs.Names.{heap_eq, name_among};

@@ -22,15 +22,15 @@ use Rattle.k_types.specs.Sound.{IsSound}
 use Rattle.k_changes.specs.CellChanges.{collected, reached_in}
 use Rattle.k_changes.specs.BookChanges.{when_collected, without_entries, drops, has_way_into, shared_by, bytes_in}
 use Rattle.k_changes.proofs.Collected.{ended_on_cell, stays_here}
-use Rattle.k_changes.proofs.OnBook.{get_mapped}
 use Rattle.k_changes.proofs.EndsOnBook.{direct_lowered}
 use Rattle.k_changes.proofs.EntryCounts.{kept_and_gone, one_item}
-use Rattle.k_changes.proofs.SharedSums.{shares_sum, same_below}
+use Rattle.k_changes.proofs.SharedSums.{shares_sum}
 use Rattle.k_changes.proofs.WaysInto.{share_stays_so}
-use Rattle.k_base.proofs.Sums.{bit, sum_same, sum_both}
+use Rattle.k_base.proofs.Sums.{bit, sum_same, sum_both, same_below}
 use Rattle.k_frame.proofs.ElsewhereOther.{filter_hidden}
 use Rattle.k_frame.proofs.Kept.{has_share-kept, distinct_shares-kept, any-fewer}
 use Rattle.k_base.proofs.NameTests.{heap_eq-true}
+use Rattle.k_base.proofs.Lists.{get_mapped}
 
 -- the bytes of a heap are those of the objects in its cell's part
 shows : (trace : Trace) (su : State) (h : Heap) → bytes_of trace su h ≡ bytes_in (part trace su h)

@@ -20,16 +20,17 @@ use Rattle.k_types.specs.Cells.{BookPart, book_part, part, entries, pins, pins_o
 use Rattle.k_types.specs.Sound.{IsSound}
 use Rattle.k_laws.specs.Changes.{MayExit}
 use Rattle.k_changes.specs.BookChanges.{charge_in, when_ended}
-use Rattle.k_changes.proofs.OnBook.{map_changed, get_mapped}
+use Rattle.k_changes.proofs.OnBook.{map_changed}
 use Rattle.k_changes.proofs.PinsOnBook.{one_changed}
 use Rattle.k_changes.proofs.EntryCounts.{entries_left, entries_turned}
-use Rattle.k_changes.proofs.SharedSums.{shares_sum, same_below}
-use Rattle.k_base.proofs.Sums.{bit}
+use Rattle.k_changes.proofs.SharedSums.{shares_sum}
+use Rattle.k_base.proofs.Sums.{bit, same_below}
 use Rattle.k_base.proofs.NameTests.{heap_eq-true, heap_eq_refl}
 use Rattle.k_laws.proofs.Merge.{merged}
 use Rattle.k_laws.proofs.Ending.{same_bytes, own_charge, other_charge, leaves_rest}
 use Rattle.k_laws.proofs.Raised.{direct_added}
 use Rattle.k_laws.proofs.SoundExited.{is_merged}
+use Rattle.k_base.proofs.Lists.{get_mapped}
 
 -- one number of the list is less by so much
 pub map_lowered : (f g : ℕ → ℕ) (n k less : ℕ) → k < n → ((q : ℕ) → f q ≡ g q + less * bit (q == k)) → map g (numbers_below n) ≡ set (map f (numbers_below n)) k (get_or (map f (numbers_below n)) k 0 - less)

@@ -6,26 +6,9 @@ use Rattle.k_types.specs.declared.names.Name.{Name}
 use Rattle.k_types.specs.Names.{name_lt}
 use Rattle.k_types.specs.State.{Object}
 use Rattle.k_types.specs.Updates.{with_object}
-use Rattle.k_types.specs.Sound.{IsOrdered, IsOrderedFrom}
+use Rattle.k_types.specs.Sound.{IsOrdered}
 use Rattle.k_changes.specs.CellChanges.{with_objects}
-use Rattle.k_base.proofs.NameTests.{name_lt_trans}
-
--- the object comes before all of the list
-abbrev pub IsBefore : Object → List Object → Type 0
-IsBefore o [] = Unit {0}
-IsBefore o (x ∷ xs) = IsTrue (name_lt o.name x.name) × IsBefore o xs
-
-before_from : (o : Object) (m : Name) (xs : List Object) → IsTrue (name_lt o.name m) → IsOrderedFrom m xs → IsBefore o xs
-before_from o m [] low t = tt
-before_from o m (x ∷ xs) low t = let here = name_lt_trans o.name m x.name low t.0 in (here, before_from o x.name xs here t.1)
-
-ordered_before : (o : Object) (xs : List Object) → IsOrderedFrom o.name xs → IsBefore o xs
-ordered_before o [] t = tt
-ordered_before o (x ∷ xs) t = (t.0, before_from o x.name xs t.0 t.1)
-
-ordered_rest : (o : Object) (xs : List Object) → IsOrderedFrom o.name xs → IsOrdered xs
-ordered_rest o [] t = tt
-ordered_rest o (x ∷ xs) t = t.1
+use Rattle.k_base.proofs.Ordered.{IsBefore, ordered_before, ordered_tail}
 
 kept_before : (o : Object) (p : Object → Bool) (xs : List Object) → IsBefore o xs → IsBefore o (filter p xs)
 kept_before o p [] t = tt
@@ -74,7 +57,7 @@ merged_step p q o xs apart before ih =
 -- of objects in order, those of two disjoint kinds are those of the one put among those of the other
 pub merged : (p q : Object → Bool) (xs : List Object) → ((o : Object) → p o ≡ true → q o ≡ false) → IsOrdered xs → filter (λ x. q x || p x) xs ≡ with_objects (filter p xs) (filter q xs)
 merged p q [] apart t = refl
-merged p q (o ∷ xs) apart t = merged_step p q o xs (apart o) (ordered_before o xs t) (merged p q xs apart (ordered_rest o xs t))
+merged p q (o ∷ xs) apart t = merged_step p q o xs (apart o) (ordered_before o xs t) (merged p q xs apart (ordered_tail o.name xs t))
 
 later : (a b c : Name) → name_lt a c ≡ false → IsTrue (name_lt a b) → name_lt b c ≡ false
 later a b c e t = grind (arith, nat_tests)
@@ -106,4 +89,4 @@ kept_placed_step p o x xs own before ih =
 -- an object that passes is put among those that pass in its place
 pub kept_placed : (p : Name → Bool) (o : Object) (xs : List Object) → IsTrue (p o.name) → IsOrdered xs → filter (λ y. p y.name) (with_object o xs) ≡ with_object o (filter (λ y. p y.name) xs)
 kept_placed p o [] own t = ap (λ b. cond b (o ∷ []) []) own
-kept_placed p o (x ∷ xs) own t = kept_placed_step p o x xs own (ordered_before x xs t) (kept_placed p o xs own (ordered_rest x xs t))
+kept_placed p o (x ∷ xs) own t = kept_placed_step p o x xs own (ordered_before x xs t) (kept_placed p o xs own (ordered_tail x.name xs t))

@@ -21,6 +21,7 @@ use Rattle.k_base.proofs.Sums.{bit}
 use Rattle.k_laws.proofs.Raised.{direct_added, charge_sharing}
 use Rattle.k_laws.proofs.SoundShare.{owner_kept}
 use Rattle.k_base.proofs.Sums.{total_append}
+use Rattle.k_base.proofs.Lists.{get_mapped}
 
 -- the book tells all owners
 pub owner_told : (trace : Trace) (st : State) → owner_in trace (book_part trace st) ≡ owner_of trace st
@@ -39,11 +40,6 @@ map_changed f g first (suc n) zero same =
 map_changed f g first (suc n) (suc k) same =
     ap₂ (λ x xs. x ∷ xs) (same first (λ e. absurd (omega (arith, e))))
     (map_changed f g (suc first) n k (λ q ne. same q (λ e. ne (omega (arith, e)))) ∙ ap (λ at. set (map f (numbers_from (suc first) n)) k (g at)) (omega arith))
-
-pub get_mapped : (f : ℕ → ℕ) (first n k : ℕ) → k < n → get_or (map f (numbers_from first n)) k 0 ≡ f (first + k)
-get_mapped f first zero k inside = absurd (omega arith)
-get_mapped f first (suc n) zero inside = ap f (omega arith)
-get_mapped f first (suc n) (suc k) inside = get_mapped f (suc first) n k (omega (arith, inside)) ∙ ap f (omega arith)
 
 -- one number of the list is more by so much
 pub map_raised : (f g : ℕ → ℕ) (n k more : ℕ) → k < n → ((q : ℕ) → g q ≡ f q + more * bit (q == k)) → map g (numbers_below n) ≡ set (map f (numbers_below n)) k (get_or (map f (numbers_below n)) k 0 + more)

@@ -1,12 +1,12 @@
 -- What a process shares, summed over its shares and over the shared heaps.
-use Rattle.std.proofs.Common.{◌≡◌, ℕ, zero, suc, ◌+◌, ◌<◌, ◌==◌, ◌&&◌, ◌||◌, Bool, true, false, cond, refl, sym, ap, ap₂, ◌∙◌, List, [], ◌∷◌, filter, arith, eqb-true, eq-eqb, IsTrue}
-use Rattle.std.proofs.lemmas.Bool.{false≢true, and_from, or_left, or_right}
+use Rattle.std.proofs.Common.{◌≡◌, ℕ, ◌+◌, ◌<◌, ◌==◌, ◌&&◌, ◌||◌, Bool, true, false, cond, refl, sym, ap, ap₂, ◌∙◌, List, [], ◌∷◌, filter, arith, eqb-true, eq-eqb, IsTrue}
+use Rattle.std.proofs.lemmas.Bool.{and_from, or_left, or_right}
 use Rattle.std.proofs.lemmas.Bool.Decides.{nat_tests}
 use Rattle.k_types.specs.Totals.{total}
-use Rattle.k_types.specs.Numbers.{numbers_below, numbers_from}
+use Rattle.k_types.specs.Numbers.{numbers_below}
 use Rattle.k_types.specs.State.{Sharing, has_share}
 use Rattle.k_types.specs.Sound.{AreDistinctShares}
-use Rattle.k_base.proofs.Sums.{sum-filter, one_counts}
+use Rattle.k_base.proofs.Sums.{sum-filter, one_counts, both_or}
 use Rattle.k_base.proofs.Sums.{zeros, sum_both, sum_same}
 
 one_heap : (f : ℕ → ℕ) (s n : ℕ) → s < n → total (λ t. cond (s == t) (f t) 0) (numbers_below n) ≡ f s
@@ -16,14 +16,6 @@ one_heap f s n inside =
   where
     turned : (a b : ℕ) → (a == b) ≡ (b == a)
     turned a b = grind (arith, nat_tests)
-
-both_or : (a b c : Bool) (n : ℕ) → (a ≡ true → b ≡ true → c ≡ false) → cond ((a && b) || c) n 0 ≡ cond a (cond b n 0) 0 + cond c n 0
-both_or true true true n apart = absurd (false≢true (sym (apart refl refl)))
-both_or true true false n apart = omega arith
-both_or true false true n apart = omega arith
-both_or true false false n apart = omega arith
-both_or false b true n apart = omega arith
-both_or false b false n apart = omega arith
 
 inner : (f : ℕ → ℕ) (b : Bool) (s n : ℕ) → s < n → total (λ t. cond b (cond (s == t) (f t) 0) 0) (numbers_below n) ≡ cond b (f s) 0
 inner f true s n inside = one_heap f s n inside
@@ -43,8 +35,3 @@ shares_sum f p n shares distinct known = sum-filter (λ e. e.process == p) (λ (
         ∙ sym (sum_both (λ t. cond (e.process == p) (cond (e.heap == t) (f t) 0) 0) (λ t. cond (has_share shares p t) (f t) 0) (numbers_below n))
         ∙ sym (sum_same (λ t. cond (has_share (e ∷ shares) p t) (f t) 0) (λ t. cond (e.process == p) (cond (e.heap == t) (f t) 0) 0 + cond (has_share shares p t) (f t) 0)
         (λ t. both_or (e.process == p) (e.heap == t) (has_share shares p t) (f t) (λ a b. ap₂ (λ x y. has_share shares x y) (sym (eqb-true e.process p a)) (sym (eqb-true e.heap t b)) ∙ distinct.0)) (numbers_below n))
-
--- sums over numbers in a row of what is the same below the bound
-pub same_below : (f g : ℕ → ℕ) (first n : ℕ) → ((t : ℕ) → t < first + n → f t ≡ g t) → total f (numbers_from first n) ≡ total g (numbers_from first n)
-same_below f g first zero same = refl
-same_below f g first (suc n) same = ap₂ (λ a b. a + b) (same first (omega arith)) (same_below f g (suc first) n (λ t inside. same t (omega (arith, inside))))

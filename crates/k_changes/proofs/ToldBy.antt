@@ -15,12 +15,12 @@ use Rattle.k_frame.specs.PartUpdates.{held_in}
 use Rattle.k_changes.specs.CellChanges.{given, next_name_in}
 use Rattle.k_changes.specs.BookChanges.{bytes_in}
 use Rattle.k_changes.specs.Told.{full_limit_in}
-use Rattle.k_changes.proofs.OnBook.{get_mapped}
 use Rattle.k_base.proofs.Charges.{path_low}
 use Rattle.k_base.proofs.Maxima.{length_in, tree_in}
 use Rattle.k_base.proofs.NameTests.{heap_eq-same}
 use Rattle.k_base.proofs.Objects.{object_at-kept}
 use Rattle.k_laws.proofs.UseShown.{use_is_shown}
+use Rattle.k_base.proofs.Lists.{get_mapped}
 
 -- an object is found in its owner's cell
 pub object_told : (trace : Trace) (st : State) (c : Heap) (x : Name) → owner_of trace st x.seg.0 ≡ c → object_at (part trace st c).objects x ≡ object_at st.objects x

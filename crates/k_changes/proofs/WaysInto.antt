@@ -1,5 +1,5 @@
 -- A share stays at the end of a collection exactly where the process has a way into the shared heap, told by its cell and the book.
-use Rattle.std.proofs.Common.{◌≡◌, ℕ, ◌==◌, ◌&&◌, ◌||◌, not, Bool, true, refl, sym, ap, ap₂, ◌∙◌, inl, inr, List, [], ◌∷◌, Option, Some, None, eq-eqb, ne_eqb, IsTrue}
+use Rattle.std.proofs.Common.{◌≡◌, ℕ, ◌==◌, ◌&&◌, ◌||◌, not, true, refl, sym, ap, ap₂, ◌∙◌, inl, inr, List, [], ◌∷◌, Option, Some, None, eq-eqb, ne_eqb, IsTrue}
 use Rattle.std.specs.List.{list_any}
 use Rattle.std.proofs.lemmas.Bool.{false≢true, cases_eq, or_cases, or_left, or_right, and_parts, and_from}
 use Rattle.k_types.specs.declared.names.Name.{Name}
@@ -13,16 +13,12 @@ use Rattle.k_types.specs.Effects.{share_stays, exit_stays, open_roots, register_
 use Rattle.k_types.specs.Cells.{part, book_part}
 use Rattle.k_types.specs.Sound.{IsSound}
 use Rattle.k_changes.specs.BookChanges.{leads_into, content_into, has_way_into}
-use Rattle.k_base.proofs.Lists.{any_weaker}
+use Rattle.k_base.proofs.Lists.{any_weaker, any_same}
 use Rattle.k_base.proofs.NameTests.{name_eq-true, name_eq_refl, heap_eq-true, heap_eq_refl, heap_eq-same}
 use Rattle.k_laws.proofs.Means.{reach_is, reached_refers}
 use Rattle.k_laws.proofs.Surviving.{exit_into, into_exit, exits_after, leads_into as item_into}
 use Rattle.k_laws.proofs.Turned.{some_element}
 use Rattle.k_base.proofs.Tests.{same_test}
-
-any_same : {A : Type 0} (p q : A → Bool) → ((x : A) → p x ≡ q x) → (xs : List A) → list_any p xs ≡ list_any q xs
-any_same p q same [] = refl
-any_same p q same (x ∷ xs) = ap₂ (λ a b. a || b) (same x) (any_same p q same xs)
 
 register_same : (trace : Trace) (st : State) (t : ℕ) (r : Option Name) → register_lies_in trace st t r ≡ leads_into (owner_of trace st) t r
 register_same trace st t None = refl

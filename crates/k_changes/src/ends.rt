@@ -1,3 +1,4 @@
+//! What the ends of collections, processes and shared heaps change on the book.
 ghost use Rattle.std.specs.Prelude.{IsFalse, List, Some, ◌≡◌, ℕ};
 ghost use Rattle.k_changes.specs.BookChanges.{charge_in, drops, when_collected, when_ended, when_taken, without_entries};
 ghost use Rattle.k_laws.specs.Changes.{MayAbsorb, MayExit};

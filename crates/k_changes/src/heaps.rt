@@ -1,3 +1,4 @@
+//! What scans, ends and absorptions change in the cells.
 ghost use Rattle.std.specs.Prelude.{IsFalse, List, ◌≡◌, ℕ};
 ghost use Rattle.k_changes.specs.CellChanges.{at_its_end, collected, taking_in, when_absorbed, with_scan};
 ghost use Rattle.k_laws.specs.Changes.{MayAbsorb, MayExit};

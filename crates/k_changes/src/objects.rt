@@ -1,3 +1,4 @@
+//! What creating and writing objects changes in the parts.
 ghost use Rattle.std.specs.Prelude.{IsFalse, List, length, not, ◌+◌, ◌<◌, ◌≡◌, ℕ};
 ghost use Rattle.k_changes.specs.BookChanges.{with_charge, with_entry, with_shared_bytes};
 ghost use Rattle.k_changes.specs.CellChanges.{with_created, with_exit_to};

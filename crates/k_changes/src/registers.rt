@@ -1,3 +1,4 @@
+//! What setting and clearing registers changes in the parts.
 ghost use Rattle.std.specs.Prelude.{IsFalse, Option, length, ◌<◌, ◌≡◌, ℕ};
 ghost use Rattle.k_changes.specs.BookChanges.{owner_in, with_pin_moved};
 ghost use Rattle.k_types.specs.Cells.{Cell, book_part, part};

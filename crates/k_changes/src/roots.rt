@@ -1,3 +1,4 @@
+//! The roots of a heap, by the parts of its cell and of the book.
 ghost use Rattle.std.specs.Prelude.{◌≡◌};
 ghost use Rattle.k_changes.specs.Roots.{roots_in};
 ghost use Rattle.k_types.specs.Cells.{book_part, part};

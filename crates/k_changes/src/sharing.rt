@@ -1,3 +1,4 @@
+//! What sharing, freezing and attaching change in the parts.
 ghost use Rattle.std.specs.Prelude.{IsFalse, IsTrue, length, slice_index_or, ◌<◌, ◌≡◌, ℕ};
 ghost use Rattle.k_changes.specs.BookChanges.{when_closed, with_charge, with_phase, with_share};
 ghost use Rattle.k_changes.specs.CellChanges.{in_phase};

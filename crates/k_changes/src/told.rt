@@ -1,3 +1,4 @@
+//! What the parts of a cell and of the book tell of a state.
 ghost use Rattle.std.specs.Prelude.{length, slice_index_or, ◌<◌, ◌≡◌, ℕ};
 ghost use Rattle.k_changes.specs.BookChanges.{bytes_in};
 ghost use Rattle.k_changes.specs.CellChanges.{next_name_in};

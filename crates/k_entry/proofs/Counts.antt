@@ -3,6 +3,7 @@ use Rattle.std.proofs.Common.{◌≡◌, ◌≢◌, ◌==◌, ℕ, ◌+◌, ◌<
 use Rattle.std.proofs.lemmas.Bool.{false_from_ne_true}
 use Rattle.std.proofs.lemmas.List.Sums.{sum_by-cons}
 use Rattle.std.proofs.lemmas.List.{map-append}
+use Rattle.k_base.proofs.Sums.{total_append}
 use Rattle.k_types.specs.Totals.{total}
 use Rattle.k_types.specs.declared.names.Name.{Name}
 use Rattle.k_types.specs.Names.{name_eq}
@@ -13,7 +14,7 @@ use Rattle.k_entry.specs.Entries.{EntryValue, AreEntries, HasMore, HasLess}
 use Rattle.k_entry.specs.Slots.{at, row_at}
 use Rattle.k_lists.proofs.Members.{in_head}
 use Rattle.k_entry.proofs.Members.{Split, split, cons_in, is_in_append}
-use Rattle.k_entry.proofs.With.{IsWith, with_total, with_length, total_append}
+use Rattle.k_entry.proofs.With.{IsWith, with_total, with_length}
 use Rattle.k_entry.proofs.Joined.{Single, or_cases}
 
 abbrev pub bit : Bool → ℕ

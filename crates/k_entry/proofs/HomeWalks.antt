@@ -1,12 +1,12 @@
 -- The walk of a home, by the slots of its segments.
-use Rattle.std.proofs.Common.{◌≡◌, ◌≢◌, ◌==◌, ◌||◌, ℕ, zero, suc, ◌+◌, ◌<◌, Bool, true, false, cond, refl, sym, ap, ap₂, subst, ◌∙◌, List, [], ◌∷◌, ◌++◌, append_assoc, append-nil, length, map, filter, slice_get, get_or, Option, Some, None, IfSome, option_map, eq-eqb, eqb-true, arith}
-use Rattle.std.proofs.lemmas.Bool.{false_from_ne_true}
+use Rattle.std.proofs.Common.{◌≡◌, ◌≢◌, ◌==◌, ◌||◌, ℕ, zero, suc, ◌+◌, ◌<◌, Bool, true, false, cond, refl, sym, ap, ap₂, subst, ◌∙◌, List, [], ◌∷◌, ◌++◌, append_assoc, append-nil, length, map, filter, slice_get, get_or, Option, Some, None, IfSome, option_map, arith}
+use Rattle.std.proofs.lemmas.Bool.{false_from_ne_true, or_right}
 use Rattle.std.proofs.lemmas.List.{map-append}
 use Rattle.std.proofs.lemmas.List.Elements.{filter-append}
 use Rattle.std.specs.List.{concat}
+use Rattle.k_base.proofs.NameTests.{heap_eq_refl, heap_eq-true}
 use Rattle.k_types.specs.declared.names.Name.{Name}
 use Rattle.k_types.specs.declared.names.Heap.{Heap}
-use Rattle.k_types.specs.declared.names.Heap.TheVariants.{Kernel, User, Shared}
 use Rattle.k_types.specs.Names.{name_eq, heap_eq}
 use Rattle.k_types.specs.Counted.{Counted}
 use Rattle.k_lists.specs.Lists.{members, is_in}
@@ -14,27 +14,11 @@ use Rattle.k_entry.specs.declared.item.Item.{Item}
 use Rattle.k_entry.specs.Entries.{first_object, object_after, items_of, is_at_home, home_of}
 use Rattle.k_entry.specs.Slots.{at, row_at, walk_of, homed, first_slot, onward, Parts, order, used, shown, AreKept}
 use Rattle.k_lists.proofs.Apart.{apart_in, apart_one}
-use Rattle.k_lists.proofs.Members.{in_head, in_at, place_of}
-use Rattle.k_entry.proofs.Members.{Once, Split, split, seam, seam_next, cons_in, once_of, onward_rest, is_in_append, shifted, or_right}
-use Rattle.k_entry.proofs.Joined.{joined, joined_append, in_joined, in_concat, off_members, or_cases}
+use Rattle.k_lists.proofs.Members.{in_head, in_at, place_of, in_differs}
+use Rattle.k_entry.proofs.Members.{Once, Split, split, seam, seam_next, cons_in, once_of, onward_rest, is_in_append, shifted}
+use Rattle.k_entry.proofs.Joined.{joined, joined_append, in_joined, in_concat, or_cases}
 use Rattle.k_entry.proofs.Counts.{one_slot}
 use Rattle.k_entry.proofs.Items.{once_hit, IsFound, used_of}
-
-pub heap_same : (h : Heap) → heap_eq h h ≡ true
-heap_same Kernel = refl
-heap_same (User p) = eq-eqb p.0 p.0 refl
-heap_same (Shared s) = eq-eqb s.0 s.0 refl
-
-pub heap_is : (a b : Heap) → heap_eq a b ≡ true → a ≡ b
-heap_is Kernel Kernel e = refl
-heap_is (User p) (User q) e = ap (λ n. User (record { 0 = n })) (eqb-true p.0 q.0 e)
-heap_is (Shared s) (Shared t) e = ap (λ n. Shared (record { 0 = n })) (eqb-true s.0 t.0 e)
-heap_is Kernel (User q) e = absurd (cc)
-heap_is Kernel (Shared t) e = absurd (cc)
-heap_is (User p) Kernel e = absurd (cc)
-heap_is (User p) (Shared t) e = absurd (cc)
-heap_is (Shared s) Kernel e = absurd (cc)
-heap_is (Shared s) (User q) e = absurd (cc)
 
 -- filters
 filter_all : {X : Type 0} (p : X → Bool) (f : ℕ → X) (xs : List ℕ) → ((j : ℕ) → is_in xs j ≡ true → p (f j) ≡ true) → filter p (map f xs) ≡ map f xs
@@ -87,7 +71,7 @@ walk_is p h k =
     let below : s < length p.homes = omega (arith, apart_in p.walks w.0 s k.walks_apart w.1, k.sizes.walks_room) in
     ap (λ n. heap_eq (home_of p.homes n) h) (k.placed s j below there))
     ∙ ap (λ xs. map (row_at p.slots) (joined (members p.segments) xs)) (filter_concat (λ s. heap_eq (home_of p.homes s) h) p.walks.lists (walk_of (length p.homes) h)
-    (λ a s ne e. false_from_ne_true (heap_eq (home_of p.homes s) h) (λ is. absurd (ne ((k.live a s e).0 ∙ ap (λ x. walk_of (length p.homes) x) (heap_is (home_of p.homes s) h is))))))
+    (λ a s ne e. false_from_ne_true (heap_eq (home_of p.homes s) h) (λ is. absurd (ne ((k.live a s e).0 ∙ ap (λ x. walk_of (length p.homes) x) (heap_eq-true (home_of p.homes s) h is))))))
 
 in_filter : (q : ℕ → Bool) (xs : List ℕ) (s : ℕ) → is_in (filter q xs) s ≡ true → is_in xs s ≡ true
 in_filter q [] s e = e
@@ -153,7 +137,7 @@ after_is p t i k f w =
     let back = joined g (filter q w.seg.after) in
     let segs : filter q ws ≡ filter q w.seg.before ++ t.seg.0 ∷ filter q w.seg.after =
     ap (λ xs. filter q xs) w.seg.whole ∙ filter-append q w.seg.before (t.seg.0 ∷ w.seg.after)
-    ∙ ap (λ b. filter q w.seg.before ++ cond b (t.seg.0 ∷ filter q w.seg.after) (filter q w.seg.after)) (heap_same h) in
+    ∙ ap (λ b. filter q w.seg.before ++ cond b (t.seg.0 ∷ filter q w.seg.after) (filter q w.seg.after)) (heap_eq_refl h) in
     let slots : joined g (filter q ws) ≡ (front ++ w.slot.before) ++ i ∷ (w.slot.after ++ back) =
     ap (λ xs. joined g xs) segs ∙ joined_append g (filter q w.seg.before) (t.seg.0 ∷ filter q w.seg.after)
     ∙ ap (λ xs. front ++ (xs ++ back)) w.slot.whole
@@ -170,11 +154,11 @@ after_is p t i k f w =
     let below : at.list < length p.homes = omega (arith, apart_in p.walks (walk_of (length p.homes) h) at.list k.walks_apart on, k.sizes.walks_room) in
     let same : j ≡ i = one_slot p.slots (used p) t i j (once_hit p t k) f.in_use f.hit (used_of p at.list j k below at.there) is in
     let seg : at.list ≡ t.seg.0 = apart_one p.segments at.list t.seg.0 i k.segments_apart (subst (λ n. is_in (g at.list) n ≡ true) same at.there) f.there in
-    off_members w.seg.before t.seg.0 at.list w.seg.absent listed seg)
+    in_differs w.seg.before t.seg.0 at.list w.seg.absent listed seg)
     (λ in_slots.
     let there : is_in (g t.seg.0) j ≡ true = ap (λ xs. is_in xs j) w.slot.whole ∙ is_in_append w.slot.before (i ∷ w.slot.after) j ∙ ap (λ b. b || is_in (i ∷ w.slot.after) j) in_slots in
     let same : j ≡ i = one_slot p.slots (used p) t i j (once_hit p t k) f.in_use f.hit (used_of p t.seg.0 j k f.homed there) is in
-    off_members w.slot.before i j w.slot.absent in_slots same)))
+    in_differs w.slot.before i j w.slot.absent in_slots same)))
     f.hit
 
 -- the next slot in the list of the segment

@@ -1,7 +1,7 @@
 -- The items of a table, by the slots in which they stand.
 use Rattle.std.proofs.Common.{◌≡◌, ℕ, zero, suc, ◌+◌, ◌<◌, ◌≤◌, true, false, refl, sym, ap, ap₂, subst, ◌∙◌, List, [], ◌∷◌, ◌++◌, length, map, slice_get, get_or, replicate, count_by, ◌^◌, Some, None, arith}
 use Rattle.std.proofs.lemmas.Bool.{false_from_ne_true}
-use Rattle.std.proofs.lemmas.List.{length-map}
+use Rattle.std.proofs.lemmas.List.{length-map, get_or_default}
 use Rattle.std.specs.List.{concat}
 use Rattle.k_types.specs.Totals.{total}
 use Rattle.k_types.specs.declared.names.Name.{Name}
@@ -16,7 +16,7 @@ use Rattle.k_entry.specs.Entries.{AreEntries, home_of}
 use Rattle.k_entry.specs.Slots.{at, blank, row_at, buckets, bucket, walk_of, Parts, order, used, shown, AreKept}
 use Rattle.k_lists.proofs.Apart.{apart_in, apart_one}
 use Rattle.k_lists.proofs.Members.{in_head}
-use Rattle.k_entry.proofs.Members.{cons_in, once_of, any_default}
+use Rattle.k_entry.proofs.Members.{cons_in, once_of}
 use Rattle.k_entry.proofs.With.{with_map}
 use Rattle.k_entry.proofs.Joined.{Single, joined, in_concat, concat_in, in_joined, joined_in, single_concat}
 use Rattle.k_entry.proofs.Counts.{hits, hits_are, none_at, single_slot, counted_with}
@@ -124,11 +124,11 @@ none_by p t looked chain k same its none =
 
 -- an item that was read is the slot's
 pub read_at : (slots : List Item) (i : ℕ) (x : Item) → i < length slots → x ≡ get_or slots i x → x ≡ at slots i
-read_at slots i x within read = read ∙ any_default slots i x blank within
+read_at slots i x within read = read ∙ get_or_default slots i x blank within
 
 -- and so a home
 pub read_home : (homes : List Heap) (s : ℕ) (h : Heap) → s < length homes → h ≡ get_or homes s h → h ≡ home_of homes s
-read_home homes s h within read = read ∙ any_default homes s h Kernel within
+read_home homes s h within read = read ∙ get_or_default homes s h Kernel within
 
 -- the number of a walk, by what the calls tell
 pub walk_read : (homes : List Heap) (s n walk : ℕ) (h : Heap) → s < length homes → h ≡ get_or homes s h → n ≡ length homes → walk ≡ walk_of n h → walk ≡ walk_of (length homes) (home_of homes s)

@@ -1,10 +1,10 @@
 -- Lists that are joined: which members they have, and what a change of one of them changes.
 use Rattle.std.proofs.Common.{◌≡◌, ◌≢◌, ◌==◌, ◌||◌, ℕ, zero, suc, Bool, true, false, refl, sym, ap, ap₂, subst, ◌∙◌, List, [], ◌∷◌, ◌++◌, append_assoc, map, get_or, eqb-true, arith}
-use Rattle.std.proofs.lemmas.Bool.{false_from_ne_true}
+use Rattle.std.proofs.lemmas.Bool.{false_from_ne_true, or_left, or_right}
 use Rattle.std.specs.List.{concat}
 use Rattle.k_lists.specs.Lists.{is_in}
-use Rattle.k_lists.proofs.Members.{in_head}
-use Rattle.k_entry.proofs.Members.{Once, split, once_after, is_in_append, cons_in, or_left, or_right}
+use Rattle.k_lists.proofs.Members.{in_head, in_differs}
+use Rattle.k_entry.proofs.Members.{Once, split, once_after, is_in_append, cons_in}
 use Rattle.k_entry.proofs.With.{IsWith}
 
 abbrev pub joined : (ℕ → List ℕ) → List ℕ → List ℕ
@@ -82,15 +82,11 @@ pub map_same : {X : Type 0} (f h : ℕ → X) (xs : List ℕ) → ((s : ℕ) →
 map_same f h [] same = refl
 map_same f h (x ∷ xs) same = ap₂ (λ a b. a ∷ b) (same x (in_head x xs)) (map_same f h xs (λ s e. same s (cons_in x s xs e)))
 
--- a number that isn't there is none of the members
-pub off_members : (xs : List ℕ) (s t : ℕ) → is_in xs s ≡ false → is_in xs t ≡ true → t ≢ s
-off_members xs s t off on e = let bad : true ≡ false = sym on ∙ ap (λ n. is_in xs n) e ∙ off in absurd (cc)
-
 -- one list has one number more
 pub joined_with : (g h : ℕ → List ℕ) (xs : List ℕ) (s i : ℕ) → Single xs s → ((t : ℕ) → (t ≢ s) → g t ≡ h t) → IsWith i (g s) (h s) → IsWith i (joined g xs) (joined h xs)
 joined_with g h xs s i single same w =
-    let front : joined g single.before ≡ joined h single.before = joined_same g h single.before (λ t e. same t (off_members single.before s t single.absent e)) in
-    let back : joined g single.after ≡ joined h single.after = joined_same g h single.after (λ t e. same t (off_members single.after s t single.gone e)) in
+    let front : joined g single.before ≡ joined h single.before = joined_same g h single.before (λ t e. same t (in_differs single.before s t single.absent e)) in
+    let back : joined g single.after ≡ joined h single.after = joined_same g h single.after (λ t e. same t (in_differs single.after s t single.gone e)) in
     record {
       before = joined g single.before ++ w.before;
       after = w.after ++ joined g single.after;

@@ -1,6 +1,6 @@
 -- Members of lists, and the way along one.
 use Rattle.std.proofs.Common.{◌≡◌, ◌≢◌, ◌==◌, ◌||◌, not, ℕ, zero, suc, ◌+◌, ◌<◌, Bool, true, false, cond, refl, sym, ap, ap₂, subst, ◌∙◌, List, [], ◌∷◌, ◌++◌, length, slice_get, set, get_or, Option, Some, None, eqb-true, eq-eqb, append-nil, arith}
-use Rattle.std.proofs.lemmas.Bool.{false_from_ne_true}
+use Rattle.std.proofs.lemmas.Bool.{false_from_ne_true, or_left, or_right}
 use Rattle.k_lists.specs.Lists.{ListsValue, AreApart, members, is_in, without}
 use Rattle.k_lists.proofs.Members.{in_at, place_of}
 use Rattle.k_lists.proofs.Members.{place_of}
@@ -119,13 +119,6 @@ is_in_append (x ∷ xs) ys i = by_test (x == i) (is_in_append xs ys i)
     by_test true ih = refl
     by_test false ih = ih
 
-pub or_left : (a b : Bool) → a ≡ true → (a || b) ≡ true
-or_left a b e = ap (λ c. c || b) e
-
-pub or_right : (a b : Bool) → b ≡ true → (a || b) ≡ true
-or_right true b e = refl
-or_right false b e = e
-
 -- what is in a list with one number more
 pub in_cons : (x i : ℕ) (xs : List ℕ) → is_in (x ∷ xs) i ≡ true → (x ≢ i) → is_in xs i ≡ true
 in_cons x i xs e ne = ap (λ b. b || is_in xs i) (sym (false_from_ne_true (x == i) (λ t. ne (eqb-true x i t)))) ∙ e
@@ -219,8 +212,3 @@ in_within v list i e = by_place v.lists list e
     by_place [] k t = absurd (cc)
     by_place (l ∷ ls) zero t = omega arith
     by_place (l ∷ ls) (suc k) t = let ih : k < length ls = by_place ls k t in omega arith
-
-pub any_default : {A : Type 0} (xs : List A) (i : ℕ) (d e : A) → i < length xs → get_or xs i d ≡ get_or xs i e
-any_default [] i d e within = absurd (omega arith)
-any_default (x ∷ xs) zero d e within = refl
-any_default (x ∷ xs) (suc i) d e within = any_default xs i d e (omega arith)

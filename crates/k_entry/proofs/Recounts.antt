@@ -1,6 +1,7 @@
 -- A table where one item has another count.
 use Rattle.std.proofs.Common.{◌≡◌, ◌≢◌, ℕ, ◌+◌, ◌<◌, true, refl, sym, ap, ap₂, subst, ◌∙◌, List, [], ◌∷◌, ◌++◌, length, map, set, get_or, length-set, get_or-set_same, get_or-set_other, arith}
 use Rattle.std.proofs.lemmas.List.{map-append}
+use Rattle.k_lists.proofs.Members.{in_differs}
 use Rattle.k_types.specs.Totals.{total}
 use Rattle.k_types.specs.declared.names.Name.{Name}
 use Rattle.k_types.specs.Counted.{Counted}
@@ -9,7 +10,7 @@ use Rattle.k_entry.specs.declared.item.Item.{Item}
 use Rattle.k_entry.specs.Entries.{HasMore, HasLess}
 use Rattle.k_entry.specs.Slots.{at, row_of, row_at, blank, bucket, Parts, used, shown, AreKept}
 use Rattle.k_entry.proofs.With.{IsWith, with_map}
-use Rattle.k_entry.proofs.Joined.{map_same, off_members}
+use Rattle.k_entry.proofs.Joined.{map_same}
 use Rattle.k_entry.proofs.Counts.{hits, hits_are, more_there, less_there}
 use Rattle.k_entry.proofs.Items.{once_hit, read_at, entries_of, IsFound}
 use Rattle.k_entry.proofs.Changes.{same_or_not}
@@ -93,8 +94,8 @@ pub items_recount : (p : Parts) (t : Name) (after : List Item) (i n : ℕ) → I
 items_recount p t after i n f r =
     let s = f.single in
     let w : IsWith i (s.before ++ s.after) (used p) = record { before = s.before; after = s.after; less = refl; more = s.whole } in
-    let front : map (row_at after) s.before ≡ map (row_at p.slots) s.before = map_same (row_at after) (row_at p.slots) s.before (λ j e. ap row_of (recount_there p.slots after i n j r (off_members s.before i j s.absent e))) in
-    let back : map (row_at after) s.after ≡ map (row_at p.slots) s.after = map_same (row_at after) (row_at p.slots) s.after (λ j e. ap row_of (recount_there p.slots after i n j r (off_members s.after i j s.gone e))) in
+    let front : map (row_at after) s.before ≡ map (row_at p.slots) s.before = map_same (row_at after) (row_at p.slots) s.before (λ j e. ap row_of (recount_there p.slots after i n j r (in_differs s.before i j s.absent e))) in
+    let back : map (row_at after) s.after ≡ map (row_at p.slots) s.after = map_same (row_at after) (row_at p.slots) s.after (λ j e. ap row_of (recount_there p.slots after i n j r (in_differs s.after i j s.gone e))) in
     let rest : map (row_at after) (s.before ++ s.after) ≡ map (row_at p.slots) (s.before ++ s.after) =
     map-append (row_at after) s.before s.after ∙ ap₂ (λ xs ys. xs ++ ys) front back ∙ sym (map-append (row_at p.slots) s.before s.after) in
     record {

@@ -2,6 +2,7 @@
 use Rattle.std.proofs.Common.{◌≡◌, ℕ, zero, suc, ◌+◌, ◌<◌, true, refl, sym, ap, subst, ◌∙◌, List, [], ◌∷◌, ◌++◌, append_assoc, length, map, set, get_or, arith, length-append}
 use Rattle.std.proofs.lemmas.List.{map-append}
 use Rattle.std.specs.List.{concat}
+use Rattle.k_base.proofs.Sums.{total_append}
 use Rattle.k_types.specs.Totals.{total}
 use Rattle.k_lists.specs.Lists.{is_in, without}
 use Rattle.k_entry.proofs.Members.{Once, split, once_after, without_split}
@@ -38,10 +39,6 @@ with_right x xs ys zs w = record {
   less = ap (λ front. front ++ zs) w.less ∙ append_assoc w.before w.after zs;
   more = ap (λ front. front ++ zs) w.more ∙ append_assoc w.before (x ∷ w.after) zs;
 }
-
-pub total_append : {X : Type 0} (f : X → ℕ) (xs ys : List X) → total f (xs ++ ys) ≡ total f xs + total f ys
-total_append f [] ys = omega arith
-total_append f (x ∷ xs) ys = omega (arith, total_append f xs ys)
 
 pub with_total : {X : Type 0} (f : X → ℕ) (x : X) (xs ys : List X) → IsWith x xs ys → total f ys ≡ f x + total f xs
 with_total f x xs ys w =

@@ -24,9 +24,11 @@ is_at_home homes h item = heap_eq (home_of homes item.object.seg.0) h
 abbrev pub items_of : EntryValue → Heap → List Counted
 items_of v h = filter (is_at_home v.homes h) v.items
 
+-- the names of the items
 abbrev pub objects : List Counted → List Name
 objects items = map (λ item. item.object) items
 
+-- the name of the first item
 abbrev pub first_object : List Counted → Option Name
 first_object [] = None
 first_object (item ∷ items) = Some item.object

@@ -11,15 +11,19 @@ use Rattle.k_hash.specs.Hash.{bucket as chain}
 use Rattle.k_entry.specs.declared.item.Item.{Item}
 use Rattle.k_entry.specs.Entries.{EntryValue, home_of}
 
+-- an item as contracts see it
 abbrev pub row_of : Item → Counted
 row_of item = record { object = item.target; count = item.count }
 
+-- what is read where there is no slot
 abbrev pub blank : Item
 blank = record { target = record { seg = record { 0 = 0 }; serial = record { 0 = 0 } }; count = 0 }
 
+-- the item in the slot
 abbrev pub at : List Item → ℕ → Item
 at slots i = slice_index_or slots i blank
 
+-- and as contracts see it
 abbrev pub row_at : List Item → ℕ → Counted
 row_at slots i = row_of (at slots i)
 
@@ -27,6 +31,7 @@ row_at slots i = row_of (at slots i)
 unfoldable pub buckets : ℕ → ℕ
 buckets room = if room == 0 then 1 else room
 
+-- the number of the chain of an object
 unfoldable pub bucket : ℕ → Name → ℕ
 bucket room t = chain (buckets room) t
 
@@ -65,6 +70,7 @@ abbrev pub since : ℕ → List ℕ → List ℕ
 since i [] = []
 since i (x ∷ xs) = if x == i then x ∷ xs else since i xs
 
+-- the members from the next slot on, if there is one
 abbrev pub onward : List ℕ → Option ℕ → List ℕ
 onward xs None = []
 onward xs (Some i) = since i xs
@@ -97,12 +103,15 @@ pub record Parts : Type 0 where
 abbrev pub order : Parts → List ℕ
 order p = concat p.walks.lists
 
+-- the slots of the items, in the order of the walks
 abbrev pub used : Parts → List ℕ
 used p = concat (map (members p.segments) (order p))
 
+-- the table as contracts see it
 abbrev pub shown : Parts → EntryValue
 shown p = record { items = map (row_at p.slots) (used p); homes = p.homes; room = p.room }
 
+-- how many lists there are, and over how many numbers
 pub record HaveSizes (p : Parts) : Type 0 where
   pub chains : length p.chains.lists ≡ buckets p.room
   pub chains_room : p.chains.room ≡ p.room

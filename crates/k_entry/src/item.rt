@@ -1,3 +1,4 @@
+//! The items in their slots, and how the one of an object is found.
 ghost use Rattle.std.specs.Prelude.{◌≡◌, ◌<◌, ◌≤◌, ◌^◌, ℕ, Some, None, IfSome, IfNone, IsTrue, IsFalse, length, vec_capacity, slice_get, option_map};
 ghost use Rattle.k_types.specs.Names.{name_eq, name_of};
 ghost use Rattle.k_lists.specs.Lists.{AreApart, members, is_in};

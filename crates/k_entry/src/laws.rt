@@ -1,3 +1,4 @@
+//! Laws of the definitions.
 ghost use Rattle.std.specs.Prelude.{List, ◌≡◌, ◌≤◌, ◌&&◌, ◌++◌, ◌∷◌, ℕ, length, nat_lt};
 ghost use Rattle.k_types.specs.Counted.{Counted, counted};
 ghost use Rattle.k_types.specs.Names.{heap_eq, name_among};

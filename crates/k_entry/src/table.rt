@@ -1,3 +1,4 @@
+//! The table of the objects that are held from outside their heaps.
 ghost use Rattle.std.specs.Prelude.{◌≡◌, ◌+◌, ◌-◌, ◌<◌, ◌≤◌, ◌^◌, [], ℕ, Some, None, IfOk, IfSome, IfNone, length, option_map, slice_set, vec_capacity};
 ghost use Rattle.std.specs.List.Sorted.{IsPermutation};
 ghost use Rattle.k_types.specs.declared.names.Name.{Name as Named};

@@ -1,3 +1,4 @@
+//! Counts that rise and fall, and walks through the objects of a home.
 ghost use Rattle.std.specs.Prelude.{◌≡◌};
 ghost use Rattle.k_types.specs.Names.{name_of};
 

@@ -1,3 +1,4 @@
+//! The walks: the segments of each home that have an item, and their slots.
 ghost use Rattle.std.specs.Prelude.{◌≡◌, ◌<◌, ◌≤◌, ◌+◌, ◌∷◌, [], ◌^◌, ℕ, Some, None, IfSome, IsTrue, length, slice_set};
 ghost use Rattle.k_types.specs.Names.{heap_eq};
 ghost use Rattle.k_lists.specs.Lists.{AreApart, IsFree, members, is_in, without};

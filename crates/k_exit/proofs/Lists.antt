@@ -11,14 +11,13 @@ use Rattle.k_hash.specs.Hash.{bucket}
 use Rattle.k_exit.specs.Chains.{row_of, blank, at, last, in_chain, IsLinked, IsChained, is_wanted, HasPassed}
 use Rattle.std.proofs.Common.{take}
 use Rattle.std.proofs.lemmas.Option.{get_or_from_slice_get, slice_get_within, slice_get-get_or}
-use Rattle.std.proofs.lemmas.List.{get_or-set_same, get_or-set_other, length-set}
+use Rattle.std.proofs.lemmas.List.{get_or-set_same, get_or-set_other, length-set, get_or_default, length-map}
 use Rattle.std.specs.List.Sorted.{IsPermutation}
 use Rattle.std.proofs.lemmas.List.Sorted.{IsPermutation-swap_remove, sum_by-IsPermutation}
 use Rattle.k_exit.specs.declared.table.Wanted.{Wanted}
 use Rattle.k_exit.specs.declared.table.Wanted.TheVariants.{Any, Unmarked, Into}
 use Rattle.k_exit.specs.Chains.{rows_without, unmarked_item}
-use Rattle.k_exit.proofs.Relinks.{any_default}
-use Rattle.k_exit.proofs.Removes.{map_len, front_at, front_len}
+use Rattle.k_exit.proofs.Removes.{front_at, front_len}
 use Rattle.k_exit.proofs.Last.{last_same}
 use Rattle.k_base.proofs.NameTests.{name_eq-true, name_eq-same}
 
@@ -177,7 +176,7 @@ mapped_at f (x ∷ xs) (suc j) row e = mapped_at f xs j row e
 pub passed_marked : (rows : List ExitRow) (wanted : Wanted) (from : ℕ) (t : Name) → HasPassed rows wanted from → HasPassed (map (marked_if t) rows) wanted from
 passed_marked rows wanted from t was =
     record {
-      within = omega (arith, was.within, map_len (marked_if t) rows);
+      within = omega (arith, was.within, length-map rows (marked_if t));
       passed = λ j row low at.
           let old = mapped_at (marked_if t) rows j row at in
           ap (is_wanted wanted) (sym old.2) ∙ wanted_less wanted old.0 (name_eq old.0.target t) (was.passed j old.0 low old.1);
@@ -190,7 +189,7 @@ without_is rows i row at =
     let here : row ≡ get_or rows i row = sym (get_or_from_slice_get rows i row row at) in
     let last_in : length rows - 1 < length rows = omega (arith, within) in
     subst (λ (ys : List ExitRow). IsPermutation rows (row ∷ ys))
-    (ap (λ (r : ExitRow). take (length rows - 1) (set rows i r)) (any_default rows (length rows - 1) row (row_of blank) last_in))
+    (ap (λ (r : ExitRow). take (length rows - 1) (set rows i r)) (get_or_default rows (length rows - 1) row (row_of blank) last_in))
     (IsPermutation-swap_remove rows i row within here)
 
 pub distinct_taken : (rows rest : List ExitRow) (row : ExitRow) → IsPermutation rows (row ∷ rest) → AreDistinct rows → AreDistinct rest

@@ -1,8 +1,8 @@
 -- An item leaves its chain, or joins it.
-use Rattle.std.proofs.Common.{◌≡◌, ◌≢◌, ◌==◌, ℕ, zero, suc, ◌+◌, ◌<◌, ◌≤◌, ◌⊎◌, ◌&&◌, not, Bool, true, false, refl, sym, ap, ap₂, subst, ◌∙◌, inl, inr, List, [], ◌∷◌, length, map, get_or, set, Option, Some, None, arith}
+use Rattle.std.proofs.Common.{◌≡◌, ◌≢◌, ◌==◌, ℕ, suc, ◌<◌, ◌≤◌, ◌⊎◌, ◌&&◌, not, Bool, true, false, refl, sym, ap, ap₂, subst, ◌∙◌, inl, inr, List, length, map, get_or, set, Option, Some, None, arith}
 use Rattle.std.proofs.lemmas.Bool.{cases_eq, cases_lt}
 use Rattle.std.proofs.Math.Seq.{map-set_same}
-use Rattle.std.proofs.lemmas.List.{get_or-set_same, get_or-set_other, length-set}
+use Rattle.std.proofs.lemmas.List.{get_or-set_same, get_or-set_other, length-set, get_or_default}
 use Rattle.k_exit.specs.declared.chains.Item.{Item}
 use Rattle.k_hash.specs.Hash.{bucket}
 use Rattle.k_exit.specs.Chains.{row_of, blank, at, with_next, last, top, in_chain, IsLinked, IsChained, IsLinkedAbove, IsNextAbove, HasNoneAbove, IsClimb}
@@ -49,14 +49,6 @@ climb_goes items heads end chain i found m next l climb above e =
     found_is p some below is =
         let same : m ≡ p = cc in
         (omega (arith, same, above), omega (arith, same, below), ap (λ k. bucket (length heads) (at items k).target) (sym same) ∙ is)
-
-pub climb_ends_at : (items : List Item) (heads : List ℕ) (end chain i p next : ℕ) → IsClimb items heads end chain i (Some p) next → next ≤ i + 1 → IsNextAbove items heads end chain i p
-climb_ends_at items heads end chain i p next climb low =
-    let in_it = climb.in_it p refl in
-    record { above = in_it.0; below = in_it.1; in_it = in_it.2; lowest = λ j above below. climb.skips j above (omega (arith, low, above)) below }
-
-pub climb_ends : (items : List Item) (heads : List ℕ) (end chain i next : ℕ) → IsClimb items heads end chain i None next → next ≤ i + 1 → HasNoneAbove items heads end chain i
-climb_ends items heads end chain i next climb low = λ j above below. climb.skips j above (omega (arith, low, above)) below
 
 -- the chains after a change of links alone
 pub record SameTargets (items other : List Item) (heads after : List ℕ) : Type 0 where
@@ -367,14 +359,9 @@ linked_head items heads end i next chain linked inside chain_is chain_in next_is
     (next_here items i next i_in ∙ next_is ∙ ap (λ c. get_or heads c 0) chain_is)
     (λ j differs. ap (λ (x : Item). x.next) (next_other items i next j differs))
 
-pub any_default : {A : Type 0} (xs : List A) (i : ℕ) (d e : A) → i < length xs → get_or xs i d ≡ get_or xs i e
-any_default [] i d e within = absurd (omega arith)
-any_default (x ∷ xs) zero d e within = refl
-any_default (x ∷ xs) (suc i) d e within = any_default xs i d e (omega (arith, within))
-
 -- an item that was read
 pub read_at : (items : List Item) (i : ℕ) (x : Item) → i < length items → x ≡ get_or items i x → x ≡ at items i
-read_at items i x within e = e ∙ any_default items i x blank within
+read_at items i x within e = e ∙ get_or_default items i x blank within
 
 -- the chain of an item that was read
 pub chain_here : (items : List Item) (heads : List ℕ) (i room chain : ℕ) (x : Item) → i < length items → x ≡ get_or items i x → room ≡ length heads → chain ≡ bucket room x.target → chain ≡ bucket (length heads) (at items i).target

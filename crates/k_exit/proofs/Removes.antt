@@ -1,6 +1,7 @@
 -- An item is replaced, or goes.
 use Rattle.std.proofs.Common.{◌≡◌, ◌≢◌, ◌==◌, ℕ, zero, suc, ◌<◌, ◌≤◌, ◌&&◌, not, true, refl, sym, ap, ap₂, ◌∙◌, inl, inr, List, [], ◌∷◌, length, map, take, replicate, get_or, set, arith, ◌^◌, eq-eqb}
 use Rattle.std.proofs.lemmas.Bool.{cases_eq}
+use Rattle.std.proofs.lemmas.List.{length-map}
 use Rattle.k_exit.specs.declared.chains.Item.{Item}
 use Rattle.k_hash.specs.Hash.{bucket}
 use Rattle.k_exit.specs.Chains.{row_of, at, last, in_chain, IsLinked, IsChained}
@@ -79,12 +80,8 @@ one_more items heads end linked inside =
       nexts = λ i below apart. linked.nexts i (omega (arith, below, apart)) apart;
     }
 
-pub map_len : {A B : Type 0} (f : A → B) (xs : List A) → length (map f xs) ≡ length xs
-map_len f [] = refl
-map_len f (x ∷ xs) = ap suc (map_len f xs)
-
 pub same_len : (xs ys : List Item) → map row_of xs ≡ map row_of ys → length xs ≡ length ys
-same_len xs ys e = sym (map_len row_of xs) ∙ ap (λ (rs : List ExitRow). length rs) e ∙ map_len row_of ys
+same_len xs ys e = sym (length-map xs row_of) ∙ ap (λ (rs : List ExitRow). length rs) e ∙ length-map ys row_of
 
 pub map_front : {A B : Type 0} (f : A → B) (n : ℕ) (xs : List A) → map f (take n xs) ≡ take n (map f xs)
 map_front f zero xs = refl

@@ -6,12 +6,15 @@ use Rattle.k_exit.specs.declared.table.Wanted.{Wanted}
 use Rattle.k_exit.specs.declared.table.Wanted.TheVariants.{Any, Unmarked, Into}
 use Rattle.k_exit.specs.Exits.{ExitRow}
 
+-- an item as contracts see it
 abbrev pub row_of : Item → ExitRow
 row_of s = record { target = s.target; marked = s.marked }
 
+-- what is read where there is no item
 abbrev pub blank : Item
 blank = record { target = record { seg = record { 0 = 0 }; serial = record { 0 = 0 } }; marked = false; next = 0 }
 
+-- the item at the place
 abbrev pub at : List Item → ℕ → Item
 at items i = slice_index_or items i blank
 
@@ -97,5 +100,6 @@ HasNoneWanted rows wanted end = (j : ℕ) (row : ExitRow) → j < end → slice_
 abbrev pub rows_without : List ExitRow → ℕ → List ExitRow
 rows_without rows i = take (length rows - 1) (slice_set rows i (slice_index_or rows (length rows - 1) (record { target = record { seg = record { 0 = 0 }; serial = record { 0 = 0 } }; marked = false })))
 
+-- the item with no mark
 abbrev pub unmarked_item : Item → Item
 unmarked_item item = record item { marked = false }

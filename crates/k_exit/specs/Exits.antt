@@ -11,6 +11,7 @@ pub record ExitRow : Type 0 where
   pub target : Name
   pub marked : Bool
 
+-- the items, and how many there can be
 pub record ExitList : Type 0 where
   pub items : List ExitRow
   pub room : ℕ
@@ -23,6 +24,7 @@ has_target items t = list_any (λ e. name_eq e.target t) items
 abbrev pub target_marked : List ExitRow → Name → Bool
 target_marked items t = list_any (λ e. name_eq e.target t && e.marked) items
 
+-- the names of the targets
 abbrev pub targets : List ExitRow → List Name
 targets items = map (λ e. e.target) items
 
@@ -34,6 +36,7 @@ AreDistinct items = (t : Name) → count_by (λ e. name_eq e.target t) items ≤
 abbrev pub with_target : ExitList → Name → ExitList
 with_target e t = if has_target e.items t then e else record e { items = e.items ++ record { target = t; marked = false } ∷ [] }
 
+-- the item, marked if that is its target
 abbrev pub marked_if : Name → ExitRow → ExitRow
 marked_if t e = record { target = e.target; marked = e.marked || name_eq e.target t }
 
@@ -41,6 +44,7 @@ marked_if t e = record { target = e.target; marked = e.marked || name_eq e.targe
 abbrev pub with_marked : ExitList → Name → ExitList
 with_marked e t = record e { items = map (marked_if t) e.items }
 
+-- the item with no mark
 abbrev pub unmarked_row : ExitRow → ExitRow
 unmarked_row e = record e { marked = false }
 

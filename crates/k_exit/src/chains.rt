@@ -1,3 +1,4 @@
+//! The hash chains on which the exit items are found.
 ghost use Rattle.std.specs.Prelude.{◌≡◌, ◌<◌, ◌≤◌, ◌^◌, ◌≢◌, IsTrue, IsFalse, Some, None, IfOk, IfSome, IfNone, length, map, replicate, ℕ, slice_set, vec_capacity};
 ghost use Rattle.k_hash.specs.Hash.{bucket};
 ghost use Rattle.k_exit.specs.Chains.{IsChained, IsLinked, IsLinkedAbove, IsNextAbove, HasNoneAbove, at, row_of, rows_without, with_next};

@@ -1,3 +1,4 @@
+//! Laws of the definitions.
 ghost use Rattle.std.specs.Prelude.{List};
 ghost use Rattle.k_base.specs.Distinct.{AreDistinctNames};
 ghost use Rattle.k_exit.specs.Exits.{ExitRow, AreDistinct, targets};

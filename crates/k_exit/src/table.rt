@@ -1,3 +1,4 @@
+//! The table of the exit items of one heap.
 ghost use Rattle.std.specs.Prelude.{◌≡◌, ◌<◌, ◌≤◌, ◌⊎◌, not, [], ℕ, IsTrue, IsFalse, Some, None, IfOk, IfSome, IfNone, length, map, slice_get, vec_capacity, ◌==◌};
 ghost use Rattle.std.specs.List.{list_any};
 ghost use Rattle.std.specs.List.Sorted.{IsPermutation};

@@ -1,3 +1,4 @@
+//! Targets that are added, marked, arranged and taken.
 use crate::ExitTable;
 use k_types::{Link, Name, Seg, Serial, Slot};
 use std::test::Fail;

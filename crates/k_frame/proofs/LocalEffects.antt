@@ -2,7 +2,6 @@
 use Rattle.std.proofs.Common.{◌≡◌, ℕ, zero, suc, ◌+◌, ◌<◌, ◌==◌, ◌||◌, not, refl, sym, ap, ap₂, ◌∙◌, List, [], ◌∷◌, length, Option, Some, None, is_some, eqb-true, inl, inr, IsTrue, IsFalse, get_or, set, slice_index_or, get_or-set_same, nat_le}
 use Rattle.std.proofs.lemmas.Bool.{false≢true, or_cases, and_parts}
 use Rattle.k_types.specs.declared.names.Name.{Name}
-use Rattle.k_types.specs.declared.names.Reg.{Reg}
 use Rattle.k_types.specs.declared.op.Op.{Op}
 use Rattle.k_types.specs.declared.op.Op.TheVariants.{New, KNew, SNew, Store, Load, Move, Clear, Dir, Put, Get, Collect, KCollect, Share, Freeze, Attach, Exit}
 use Rattle.k_types.specs.declared.event.Fault.TheVariants.{WrongKind, Frozen, Segv}
@@ -12,9 +11,9 @@ use Rattle.k_types.specs.State.{State, Content, Refers, Holds, register}
 use Rattle.k_types.specs.Owners.{owner_of, user}
 use Rattle.k_types.specs.Updates.{count_done, set_register, write}
 use Rattle.k_types.specs.Replies.{fault_where, first_fault, faults, access_faults, at_base, field_at, field_count, is_ref, reference_from, passes_barrier, is_frozen_heap, store_faults}
-use Rattle.k_types.specs.Effects.{effect, after_operation, after_store, after_put, with_exit_of_store}
+use Rattle.k_types.specs.Effects.{effect, after_store, after_put, with_exit_of_store}
 use Rattle.k_types.specs.Cells.{part}
-use Rattle.k_frame.specs.PartUpdates.{with_register, with_done, with_written, held_in}
+use Rattle.k_frame.specs.PartUpdates.{with_register, with_done, with_written}
 use Rattle.k_types.specs.Local.{is_local, is_own, is_local_store}
 use Rattle.k_frame.specs.Alike.{Alike}
 use Rattle.k_base.proofs.NameTests.{heap_eq_refl}
@@ -111,11 +110,3 @@ module _ (trace : Trace) (p : ℕ) (st su : State) (alike : Alike trace p st su)
   effect_same (Freeze s root) l e = absurd (false≢true l)
   effect_same (Attach r s) l e = absurd (false≢true l)
   effect_same Exit l e = absurd (false≢true l)
-
--- what a move leaves of the cell
-pub move_part : (trace : Trace) (st : State) (p : ℕ) (r from : Reg) → p < length st.done →
-    part trace (after_operation trace p (Move r from) st) (user p) ≡ with_done (with_register r.0 (held_in (part trace st (user p)).process from.0) (part trace st (user p)))
-unfolding after_operation faults first_fault effect part set_register
-move_part trace st p r from inside =
-    part_done trace p (set_register p r.0 (register st.registers p from.0) st) inside
-    ∙ ap with_done (part_register trace p st r.0 (register st.registers p from.0))

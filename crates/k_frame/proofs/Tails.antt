@@ -1,5 +1,5 @@
 -- The law on tails: a list of local events does the same after more events that don't touch its cell.
-use Rattle.std.proofs.Common.{◌≡◌, ℕ, ◌+◌, ◌<◌, ◌==◌, ◌||◌, ◌&&◌, not, Bool, true, false, refl, sym, ap, ◌∙◌, List, [], ◌∷◌, ◌++◌, length, Option, Some, None, eqb-true, IsTrue, IsFalse, length-set, subst, get_or, nat_le, is_some}
+use Rattle.std.proofs.Common.{◌≡◌, ℕ, ◌+◌, ◌<◌, ◌==◌, ◌||◌, ◌&&◌, not, Bool, true, false, refl, sym, ap, ◌∙◌, List, [], ◌∷◌, ◌++◌, length, Option, Some, None, eqb-true, IsTrue, IsFalse, length-set, subst, get_or, nat_le, is_some, suc, cond, eq-eqb}
 use Rattle.std.specs.List.{list_any, list_all}
 use Rattle.std.proofs.lemmas.Bool.{false≢true, and_parts, and_from, or_left, not_from_false}
 use Rattle.k_types.specs.declared.names.Pid.{Pid}
@@ -20,8 +20,8 @@ use Rattle.k_types.specs.Replies.{is_ref, reference, first_fault, faults, reply_
 use Rattle.k_types.specs.Effects.{step, effect_unless, after_operation}
 use Rattle.k_frame.specs.Tails.{TailFollows}
 use Rattle.k_frame.proofs.Sizes.{history_sized}
-use Rattle.k_types.specs.Cells.{ProcessPart, part, Cell, cells_touched, touches, other_cells, access_cell, base_cell, book_part}
-use Rattle.k_types.specs.Steps.{IsPossible, IsRun, run, IsLegalHistory, state_after, waits_for_orphans, touch_count_from}
+use Rattle.k_types.specs.Cells.{part, Cell, cells_touched, touches, other_cells, access_cell, base_cell, book_part}
+use Rattle.k_types.specs.Steps.{IsPossible, IsRun, run, IsLegalHistory, state_after, waits_for_orphans, touch_count_from, done_by}
 use Rattle.k_types.specs.Local.{is_local, AreLocal, is_local_load, is_local_store, is_own}
 use Rattle.k_frame.specs.Alike.{Alike}
 use Rattle.k_frame.proofs.LocalSteps.{lives_too, reply_same, faults_same, same_register, same_object}
@@ -212,15 +212,6 @@ module _ (trace : Trace) (p : ℕ) where
             ∙ after_operation_elsewhere trace su p c apart op alike.known (lives_too trace p st su alike) (ap (list_any (λ d. heap_eq d c)) (local_beside trace su p op alike.known (lives_too trace p st su alike) m));
       }
 
--- whether the cell's process has ended
-ended_in : Option ProcessPart → Bool
-ended_in None = false
-ended_in (Some q) = q.has_ended
-
-same_ended : (trace : Trace) (p : ℕ) (st su : State) → part trace su (user p) ≡ part trace st (user p) → among p su.ended ≡ among p st.ended
-unfolding part ended_in
-same_ended trace p st su same = ap (λ c. ended_in c.process) same
-
 -- the law on tails, of histories: what is alike after the shorter one is alike after the longer one
 pub tail_law : (trace : Trace) (p : ℕ) (known rest tail : List Event) → IsLegalHistory trace (known ++ rest) → IsLegalHistory trace (known ++ tail) → AreLocal trace p (state_after trace known) tail →
     touch_count_from trace (state_after trace known) (user p) rest ≡ 0 → TailFollows trace p known rest tail
@@ -260,3 +251,13 @@ tail_law trace p known rest tail longer short local apart = go tail (legal_rest 
           same = sym same;
         })
         local legal)
+
+-- a local tail is as long as the operations in it
+pub tail_length : (trace : Trace) (p : ℕ) (st : State) (tail : List Event) → AreLocal trace p st tail → length tail ≡ length (done_by p tail)
+tail_length trace p st [] local = refl
+tail_length trace p st (Done pid op said ∷ tail) local =
+    ap suc (tail_length trace p (step trace st (Done pid op said)) tail local.2)
+    ∙ ap (λ b. length (cond b (op ∷ done_by p tail) (done_by p tail))) (sym (eq-eqb pid.0 p local.0))
+tail_length trace p st (Ended h a b c d ∷ tail) local = absurd local
+tail_length trace p st (Absorbed s ∷ tail) local = absurd local
+tail_length trace p st (Closing ∷ tail) local = absurd local

@@ -1,3 +1,4 @@
+//! What a step leaves as it was, and how histories add up.
 ghost use Rattle.std.specs.Prelude.{IsFalse, IsTrue, List, [], ◌+◌, ◌∷◌, ◌++◌, ◌≡◌, ◌↔◌, ℕ};
 ghost use Rattle.k_types.specs.Cells.{Cell, part, touches};
 ghost use Rattle.k_types.specs.Effects.{step};

@@ -1,3 +1,4 @@
+//! A local operation depends only on its process's cell, and so does a tail of them.
 ghost use Rattle.std.specs.Prelude.{IsFalse, IsTrue, List, ◌++◌, ◌<◌, ◌≡◌, ℕ};
 ghost use Rattle.k_frame.specs.Tails.{TailFollows};
 ghost use Rattle.k_types.specs.Cells.{book_part, part, touches, Cell};

@@ -28,7 +28,7 @@ begun_front trace xs ys h = record {
 abbrev pub IsStop : NamedTrace → List Event → List Text → Type 0
 IsStop t history left = (e : Event) (rest : List Text) → left ≡ event_line t.names e ∷ rest → IsSpelledEvent t.names e → ¬ IsBegun t.trace (history ++ e ∷ [])
 
-first_line : (a b : Text) (xs ys : List Text) → a ∷ xs ≡ b ∷ ys → a ≡ b
+pub first_line : (a b : Text) (xs ys : List Text) → a ∷ xs ≡ b ∷ ys → a ≡ b
 first_line a b xs ys e = cc
 
 other_lines : (a b : Text) (xs ys : List Text) → a ∷ xs ≡ b ∷ ys → xs ≡ ys

@@ -1,5 +1,5 @@
 -- An event that names what the trace declares, with its numbers in range, is one that a line can spell.
-use Rattle.std.proofs.Common.{◌≡◌, ◌∙◌, ℕ, suc, ◌+◌, ◌<◌, ◌^◌, List, ◌++◌, length, Some, None, refl, sym, arith, length-append}
+use Rattle.std.proofs.Common.{◌≡◌, suc, ◌+◌, ◌<◌, ◌^◌, ◌++◌, length, Some, None, arith, length-append}
 use Rattle.k_types.specs.declared.names.Name.{Name}
 use Rattle.k_types.specs.declared.names.Heap.{Heap}
 use Rattle.k_types.specs.declared.names.Heap.TheVariants.{Kernel, User, Shared}
@@ -10,12 +10,12 @@ use Rattle.k_types.specs.declared.event.Reply.{Reply}
 use Rattle.k_types.specs.declared.event.Reply.TheVariants.{Done as DoneReply, Made, Loaded, Value, Refused}
 use Rattle.k_types.specs.declared.event.Event.{Event}
 use Rattle.k_types.specs.declared.event.Event.TheVariants.{Done, Ended, Absorbed, Closing}
-use Rattle.k_types.specs.Trace.{process_count, IsHeap}
+use Rattle.k_types.specs.Trace.{IsHeap}
 use Rattle.k_types.specs.Known.{IsKnownName, IsKnownFault, IsKnownReply, IsKnownEvent}
 use Rattle.k_trace.specs.Named.{NamedTrace}
 use Rattle.k_trace.specs.Rules.{IsTrace}
 use Rattle.k_trace.proofs.OpForms.{AreNamed}
-use Rattle.k_text.specs.Named.{segment_names, IsNamedHeap, IsNamedFault}
+use Rattle.k_text.specs.Named.{IsNamedHeap, IsNamedFault}
 use Rattle.k_history.specs.Spelled.{IsSpelledName, IsSpelledReply, IsSpelledEvent, IsReplyInRange, IsInRange}
 use Rattle.k_history.proofs.SpelledOps.{spelled_op}
 

@@ -13,10 +13,6 @@ abbrev pub onto_all : List Event → Result (List Event) ℕ → Result (List Ev
 onto_all before (Ok events) = Ok (before ++ events)
 onto_all before (Err line) = Err line
 
-pub onto_none : (r : Result (List Event) ℕ) → r ≡ onto_all [] r
-onto_none (Ok events) = refl
-onto_none (Err line) = refl
-
 onto_one : (before : List Event) (event : Event) (r : Result (List Event) ℕ) → onto_all before (onto event r) ≡ onto_all (before ++ event ∷ []) r
 onto_one before event (Ok events) = ap Ok (sym (append_assoc before (event ∷ []) events))
 onto_one before event (Err line) = refl

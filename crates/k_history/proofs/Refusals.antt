@@ -15,7 +15,7 @@ use Rattle.k_history.specs.Good.IsRefusedAt.{OfFirst, OfEvent, OfEnd, OfGraph, O
 use Rattle.k_history.proofs.Options.{some_is}
 use Rattle.k_history.proofs.Differences.{no_difference}
 use Rattle.k_history.proofs.ReportLines.{report_lines_of, behind_graph}
-use Rattle.k_history.proofs.Begun.{IsStop, stop_at_end, stop_at_graph, stop_at_other, same_reading}
+use Rattle.k_history.proofs.Begun.{first_line, IsStop, stop_at_end, stop_at_graph, stop_at_other, same_reading}
 
 -- The names of a trace can be told apart.
 pub proper : (t : NamedTrace) → IsTrace t → AreProper t.names
@@ -36,11 +36,8 @@ record Refusal (t : NamedTrace) (report : Text) (n : ℕ) : Type 0 where
   stop : IsStop t history left
   answer : Answer t report history left n
 
-first_of : (a b : Text) (xs ys : List Text) → a ∷ xs ≡ b ∷ ys → a ≡ b
-first_of a b xs ys e = cc
-
 not_graph_there : (line : Text) (left xs ys : List Text) → left ≡ line ∷ xs → line ≢ codes "graph" → left ≡ codes "graph" ∷ ys → ⊥
-not_graph_there line left xs ys e other f = other (first_of line (codes "graph") xs ys (sym e ∙ f))
+not_graph_there line left xs ys e other f = other (first_line line (codes "graph") xs ys (sym e ∙ f))
 
 one_answer : (t : NamedTrace) (report : Text) (history : List Event) (left : List Text) (n m : ℕ) → Answer t report history left n → Answer t report history left m → n ≡ m
 one_answer t report history left n m (AtEvent line behind e other is) (AtEvent line' behind' e' other' is') = is ∙ sym is'

@@ -15,15 +15,9 @@ use Rattle.k_trace.specs.Named.{DeclaredNames, NamedTrace}
 use Rattle.k_trace.specs.Spelling.{op_words}
 use Rattle.k_trace.specs.Forms.{op_of}
 use Rattle.k_trace.proofs.OpForms.{AreNamed, op_found}
-use Rattle.k_trace.proofs.OpAgain.{op_again}
+use Rattle.k_trace.proofs.OpAgain.{type_below, shared_below, op_again}
 use Rattle.k_trace.proofs.Tidy.{AreNames_back}
 use Rattle.k_history.specs.Spelled.{AreProper, IsSpelledOp}
-
-type_below : (t : NamedTrace) (ty : TypeId) → AreNamed t → ltb ty.0 (length t.trace.types) ≡ true → ty.0 < length t.names.types
-type_below t ty named h = rw named.types (ltb-true _ _ h)
-
-shared_below : (t : NamedTrace) (s : SharedId) → AreNamed t → ltb s.0 t.trace.shared_heaps ≡ true → s.0 < length t.names.shared
-shared_below t s named h = rw named.shared (ltb-true _ _ h)
 
 type_in : (t : NamedTrace) (ty : TypeId) → AreNamed t → ty.0 < length t.names.types → ltb ty.0 (length t.trace.types) ≡ true
 type_in t ty named h = lt-ltb _ _ (rw (← named.types) h)

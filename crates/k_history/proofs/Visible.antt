@@ -17,7 +17,7 @@ use Rattle.k_words.specs.Words.{Text, word_at, words_of}
 use Rattle.k_words.specs.Numbers.{register_word}
 use Rattle.k_words.proofs.Spelled.{both}
 use Rattle.k_words.proofs.Again.{has_no_space, words_again}
-use Rattle.k_words.proofs.Proper.{is_visible, is_word, all_weaker, decimal_word, register_is_word, name_word as name_is_word}
+use Rattle.k_words.proofs.Proper.{is_visible, visible_no_space, is_word, all_weaker, decimal_word, register_is_word, name_word as name_is_word}
 use Rattle.k_trace.specs.Named.{DeclaredNames}
 use Rattle.k_trace.specs.Rules.{AreNames}
 use Rattle.k_trace.specs.Spelling.{op_words}
@@ -99,9 +99,6 @@ event_plain names (Absorbed s) proper h = rw (shared_plain names s.0 proper h) r
 event_plain names Closing proper h = refl
 
 -- ---- the line of visible words
-
-visible_no_space : (b : ℕ) → is_visible b ≡ true → not (eqb b 32) ≡ true
-visible_no_space b h = grind (arith, nat_tests)
 
 visible_no_feed : (b : ℕ) → is_visible b ≡ true → not (eqb b 10) ≡ true
 visible_no_feed b h = grind (arith, nat_tests)

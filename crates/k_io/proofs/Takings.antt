@@ -1,6 +1,6 @@
 -- Writes to a sink, one after the other, for any relation that a sink tells.
-use Rattle.std.proofs.Common.{◌≡◌, ◌∙◌, ℕ, zero, suc, ◌+◌, ◌-◌, ◌<◌, ◌≤◌, List, [], ◌∷◌, ◌++◌, length, take, drop, min, get_or, Option, Some, None, sym, ap, subst, arith, append_assoc, add-one, zero-add}
-use Rattle.std.proofs.lemmas.List.{take-append-le, take_min, append-nil, take_more}
+use Rattle.std.proofs.Common.{◌≡◌, ◌∙◌, ℕ, zero, suc, ◌+◌, ◌-◌, ◌<◌, ◌≤◌, List, [], ◌∷◌, ◌++◌, length, take, drop, min, Option, Some, None, sym, ap, subst, arith, append_assoc, zero-add}
+use Rattle.std.proofs.lemmas.List.{take-append-le, take_min, append-nil}
 use Rattle.std.specs.Io.KnownBytes.{Appends, Keeps}
 use Rattle.k_io.specs.Taking.{Takes, TakesFront}
 use Rattle.k_io.specs.Known.{IsKnown}
@@ -20,19 +20,10 @@ takes_then a b c first second h k given xs p =
 pub takes_same : (a b : List ℕ → List ℕ → Type 0) (text other : List ℕ) → text ≡ other → Takes a b text → Takes a b other
 takes_same a b text other e h = subst (λ (t : List ℕ). Takes a b t) e h
 
--- A sink that keeps what it agreed with took nothing.
-pub keeps_takes_nothing : (a b : List ℕ → List ℕ → Type 0) → ((given xs : List ℕ) → a given xs → b given xs) → Takes a b []
-keeps_takes_nothing a b h given xs p = subst (λ (t : List ℕ). b given t) (sym (append-nil xs)) (h given xs p)
-
 -- The first i bytes, and then n more of them.
 pub takes_more : (a b c : List ℕ → List ℕ → Type 0) (bytes : List ℕ) (i n : ℕ) → Takes a b (take i bytes) → Takes b c (take n (drop i bytes)) → Takes a c (take (i + n) bytes)
 takes_more a b c bytes i n h k =
     takes_same a c (take i bytes ++ take n (drop i bytes)) (take (i + n) bytes) (take_add bytes i n) (takes_then a b c (take i bytes) (take n (drop i bytes)) h k)
-
--- The first i bytes, and then the one at i.
-pub takes_next : (a b c : List ℕ → List ℕ → Type 0) (bytes : List ℕ) (i : ℕ) → i < length bytes → Takes a b (take i bytes) → Takes b c (get_or bytes i 0 ∷ []) → Takes a c (take (i + 1) bytes)
-takes_next a b c bytes i lt h k =
-    takes_same a c (take i bytes ++ (get_or bytes i 0 ∷ [])) (take (i + 1) bytes) (sym (take_more bytes i 0 lt)) (takes_then a b c (take i bytes) (get_or bytes i 0 ∷ []) h k)
 
 -- A whole text, and then a front of another.
 pub takes_front_then : (a b c : List ℕ → List ℕ → Type 0) (first second : List ℕ) → Takes a b first → TakesFront b c second → TakesFront a c (first ++ second)
@@ -45,19 +36,7 @@ takes_front_longer a b first second k =
     let le : min k.0 (length first) ≤ length first = omega arith in
     (min k.0 (length first), takes_same a b (take k.0 first) (take (min k.0 (length first)) (first ++ second)) (sym (take-append-le (min k.0 (length first)) first second le ∙ take_min k.0 first)) k.1)
 
--- The empty front.
-pub takes_front_nothing : (a b : List ℕ → List ℕ → Type 0) (text : List ℕ) → Takes a b [] → TakesFront a b text
-takes_front_nothing a b text h = (0, h)
-
 -- ---- the texts of the numbers below n
-
-pub takes_up_to_none : (f : ℕ → List ℕ) (a : List ℕ → List ℕ → Type 0) → Takes a a (up_to f 0)
-unfolding up_to
-takes_up_to_none f a = takes_nothing a
-
-pub takes_up_to_next : (f : ℕ → List ℕ) (i : ℕ) (a b c : List ℕ → List ℕ → Type 0) → Takes a b (up_to f i) → Takes b c (f i) → Takes a c (up_to f (i + 1))
-unfolding up_to
-takes_up_to_next f i a b c h k = rw add-one (takes_then a b c (up_to f i) (f i) h k)
 
 begins_with : (f : ℕ → List ℕ) (i d : ℕ) → (rest : List ℕ) × (up_to f (d + i) ≡ up_to f i ++ rest)
 unfolding up_to

@@ -1,10 +1,8 @@
 -- Calls that write a text, one after the other and in a loop.
 use Rattle.std.proofs.Common.{◌≡◌, ℕ, ◌<◌, ◌≤◌, List, [], ◌++◌, refl, ◌∙◌, subst, arith, Result, Ok, Err}
-use Rattle.std.specs.Prelude.{IsErr}
 use Rattle.k_io.specs.Causes.{RoseOrLast}
-use Rattle.k_io.specs.Taking.{Takes}
-use Rattle.k_io.specs.Writing.{Writes, up_to}
-use Rattle.k_io.proofs.Takings.{takes_nothing, takes_then, takes_front_then, takes_front_longer, takes_front_up_to}
+use Rattle.k_io.specs.Writing.{Writes}
+use Rattle.k_io.proofs.Takings.{takes_nothing, takes_then, takes_front_then}
 
 -- A count that rose later has risen since earlier.
 pub rose_since : (x y z : ℕ) → x ≤ y → RoseOrLast y z → RoseOrLast x z
@@ -18,19 +16,7 @@ writes_nothing a x u = record { ok = takes_nothing a; err = tt; steady = refl; c
 pub writes_same : {T E : Type 0} (a b : List ℕ → List ℕ → Type 0) (x y : ℕ) (r : Result T E) (text other : List ℕ) → text ≡ other → Writes a b x y r text → Writes a b x y r other
 writes_same {T = T} a b x y r text other e w = subst (λ (t : List ℕ). Writes {T = T} a b x y r t) e w
 
--- The first of two texts failed, and the call returned its error by `?`.
-pub writes_failed_first : {E : Type 0} (a b : List ℕ → List ℕ → Type 0) (x y : ℕ) (r : Result (Unit {0}) E) (e : E) (first second : List ℕ) → IsErr r → Writes {T = Unit {0}} a b x y (Err e) first → Writes a b x y r (first ++ second)
-writes_failed_first a b x y (Ok v) e first second is w = absurd cc
-writes_failed_first a b x y (Err d) e first second is w = record { ok = tt; err = takes_front_longer a b first second w.err; steady = tt; cause = record { later = w.cause.later; failed = w.cause.failed } }
-
 -- The first of two texts was written, and then the second, or a front of it.
 pub writes_then : {E : Type 0} (a b c : List ℕ → List ℕ → Type 0) (x y z : ℕ) (u : Unit {0}) (r : Result (Unit {0}) E) (first second : List ℕ) → Writes {T = Unit {0}} {E = E} a b x y (Ok u) first → Writes b c y z r second → Writes a c x z r (first ++ second)
 writes_then a b c x y z u (Ok v) first second w s = record { ok = takes_then a b c first second w.ok s.ok; err = tt; steady = s.steady ∙ w.steady; cause = record { later = omega (arith, w.cause.later, s.cause.later); failed = tt } }
 writes_then a b c x y z u (Err e) first second w s = record { ok = tt; err = takes_front_then a b c first second w.ok s.err; steady = tt; cause = record { later = omega (arith, w.cause.later, s.cause.later); failed = rose_since x y z w.cause.later s.cause.failed } }
-
--- The text of i failed in a loop over the numbers below n, and the loop returned its error by `?`.
-pub writes_failed_at : {E : Type 0} (f : ℕ → List ℕ) (i n : ℕ) (a b c : List ℕ → List ℕ → Type 0) (x y z : ℕ) (r : Result (Unit {0}) E) (e : E) → IsErr r → i < n → Takes a b (up_to f i) → x ≤ y
-    → Writes {T = Unit {0}} b c y z (Err e) (f i) → Writes a c x z r (up_to f n)
-writes_failed_at f i n a b c x y z (Ok v) e is lt h le w = absurd cc
-writes_failed_at f i n a b c x y z (Err d) e is lt h le w =
-    record { ok = tt; err = takes_front_up_to f i n a b c lt h w.err; steady = tt; cause = record { later = omega (arith, w.cause.later); failed = rose_since x y z le w.cause.failed } }

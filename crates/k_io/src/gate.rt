@@ -1,3 +1,5 @@
+//! Gates: the places of a run at which what stands outside is let in.
+
 /// A place that a run passes on its way.
 #[derive(Clone, Copy, Debug, PartialEq, Eq)]
 pub enum GatePlace {

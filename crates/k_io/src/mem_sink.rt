@@ -1,3 +1,4 @@
+//! A sink in memory, which fails at chosen calls.
 ghost use Rattle.std.specs.Prelude.{◌≡◌, ◌≤◌, ◌<◌, [], length, IfOk, OnOk, IsErr, IsTrue, ◌↔◌, min};
 ghost use Rattle.k_io.specs.Causes.{HasCause};
 ghost use Rattle.k_io.specs.Taking.{WriteTakes};

@@ -1,3 +1,4 @@
+//! A source in memory, which fails at chosen calls.
 ghost use Rattle.std.specs.Prelude.{◌≡◌, ◌≤◌, ◌<◌, [], Some, length, IfOk, OnOk, IsErr, IsTrue, ◌↔◌, min};
 ghost use Rattle.std.specs.Io.{ReadsAtMost};
 ghost use Rattle.std.specs.Io.KnownBytes.{ReadConsumes};

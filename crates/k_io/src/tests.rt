@@ -1,3 +1,4 @@
+//! Tests of what no clause says of sources and sinks.
 use crate::{
     DripSink, DripSource, MemSink, MemSource, ReadAllError, ReadFailed, Sink, Source, StdSink,
     StdSource, WriteFailed, read_all, write_all,

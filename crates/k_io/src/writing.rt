@@ -1,3 +1,4 @@
+//! A text written whole to a sink.
 ghost use Rattle.k_io.specs.Writing.{Writes};
 
 use crate::{Sink, WriteFailed};

@@ -1,7 +1,7 @@
 -- What a refused operation leaves, what waits for orphans, and what touches a heap whose collection is open.
-use Rattle.std.proofs.Common.{◌≡◌, ℕ, ◌<◌, ◌==◌, ◌&&◌, ◌||◌, not, Bool, true, false, refl, sym, ap, ◌∙◌, inl, inr, List, [], ◌∷◌, Option, Some, None, is_some, eq-eqb, IsTrue}
+use Rattle.std.proofs.Common.{◌≡◌, ℕ, ◌<◌, ◌==◌, ◌&&◌, ◌||◌, not, Bool, true, false, refl, sym, ap, ◌∙◌, inl, inr, List, [], ◌∷◌, Option, Some, None, is_some, IsTrue}
 use Rattle.std.specs.List.{list_all, list_any}
-use Rattle.std.proofs.lemmas.Bool.{and_from, and_parts, or_cases, or_left, or_right, false≢true, not-true}
+use Rattle.std.proofs.lemmas.Bool.{and_parts, or_cases, false≢true, not-true}
 use Rattle.k_types.specs.declared.names.Heap.{Heap}
 use Rattle.k_types.specs.declared.names.Heap.TheVariants.{Kernel, Shared}
 use Rattle.k_types.specs.declared.names.Phase.{Phase}
@@ -14,7 +14,7 @@ use Rattle.k_types.specs.declared.event.Fault.{Fault}
 use Rattle.k_types.specs.declared.event.Reply.TheVariants.{Refused}
 use Rattle.k_types.specs.Names.{heap_eq}
 use Rattle.k_types.specs.Trace.{Trace}
-use Rattle.k_types.specs.State.{State, Scan, Sharing, has_share, is_scanned}
+use Rattle.k_types.specs.State.{State, Scan, is_scanned}
 use Rattle.k_types.specs.Owners.{phase_of}
 use Rattle.k_types.specs.Replies.{answer, faults, first_fault, refused_or, reply_to}
 use Rattle.k_types.specs.Updates.{count_done}
@@ -25,6 +25,7 @@ use Rattle.k_types.specs.Sound.{IsSound}
 use Rattle.k_base.proofs.NameTests.{heap_eq-true}
 use Rattle.k_base.proofs.Numbered.{all_at_below}
 use Rattle.k_kept.specs.Kept.{HasEndOf, IsPaidFor}
+use Rattle.k_locality.proofs.SamePossible.{sharer_from}
 
 no_refusal : (trace : Trace) (st : State) (p : ℕ) (op : Op) (fault : Fault) → answer trace st p op ≡ Refused fault → ⊥
 unfolding answer
@@ -53,14 +54,6 @@ refused_counts trace st p op fault e = go (first_fault (faults trace st p op)) e
     go None e = absurd (no_refusal trace st p op fault e)
     go (Some f) e = refl
 
-some_share : (shares : List Sharing) (s : ℕ) → IsTrue (has_sharer shares s) → (p : ℕ) × IsTrue (has_share shares p s)
-some_share [] s t = absurd (false≢true t)
-some_share (e ∷ shares) s t =
-    elim (or_cases (e.heap == s) (has_sharer shares s) t) [
-      | inl here ↦ (e.process, or_left _ (has_share shares e.process s) (and_from _ _ (eq-eqb e.process e.process refl) here))
-      | inr there ↦ let rest = some_share shares s there in (rest.0, or_right _ _ rest.1)
-    ]
-
 twice : (b : Bool) → IsTrue (not (not b)) → IsTrue b
 twice true t = refl
 twice false t = absurd (false≢true t)
@@ -70,8 +63,8 @@ no_orphan_paid trace st s none inside = go (phase_of st.phases s) refl (all_at_b
   where
     go : (phase : Phase) → phase_of st.phases s ≡ phase → IsTrue (not (is_live phase && not (has_sharer st.shares s))) → IsPaidFor st s
     go Unmade e t = inl e
-    go (Populating q) e t = inr (inr (some_share st.shares s (twice _ t)))
-    go (Frozen root) e t = inr (inr (some_share st.shares s (twice _ t)))
+    go (Populating q) e t = inr (inr (sharer_from st.shares s (twice _ t)))
+    go (Frozen root) e t = inr (inr (sharer_from st.shares s (twice _ t)))
     go Absorbed e t = inr (inl e)
 
 idle_where : (scans : List Scan) (cells : List Heap) (h : Heap) → IsTrue (list_all (λ c. not (is_scanned scans c)) cells) → IsTrue (list_any (λ c. heap_eq c h) cells) → IsTrue (is_scanned scans h) → ⊥

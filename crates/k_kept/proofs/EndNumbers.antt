@@ -11,8 +11,7 @@ use Rattle.k_types.specs.Owners.{bytes_by, object_bytes, owner_of}
 use Rattle.k_types.specs.Updates.{close_scan, keep_exits, keep_objects, keep_shares}
 use Rattle.k_types.specs.Effects.{after_ended, exit_stays, share_stays, step, survives}
 use Rattle.k_types.specs.Steps.{IsPossible}
-use Rattle.k_base.proofs.Sums.{bit}
-use Rattle.k_locality.proofs.SameEnds.{counted}
+use Rattle.k_base.proofs.Sums.{bit, count_is_total}
 use Rattle.k_kept.specs.Kept.{GoesBy}
 
 -- what a test keeps and what it drops are together all
@@ -63,6 +62,6 @@ numbers_are_right trace st h objects bytes exits shares may = record {
   bytes_gone =
       bytes_parts object_bytes (λ o. heap_eq (owner_of trace st o.name.seg.0) h) (λ o. survives trace st h o.name) (stays_elsewhere trace st h) st.objects
       ∙ ap (λ n. total object_bytes (filter (λ o. heap_eq (owner_of trace st o.name.seg.0) h) (filter (λ o. survives trace st h o.name) st.objects)) + n) (sym may.bytes_gone);
-  exits_gone = sum_parts (exit_stays trace st h) st.exits ∙ ap (λ n. length (filter (exit_stays trace st h) st.exits) + n) (sym (may.exits_gone ∙ counted (λ e. not (exit_stays trace st h e)) st.exits));
-  shares_gone = sum_parts (share_stays trace st h) st.shares ∙ ap (λ n. length (filter (share_stays trace st h) st.shares) + n) (sym (may.shares_gone ∙ counted (λ e. not (share_stays trace st h e)) st.shares));
+  exits_gone = sum_parts (exit_stays trace st h) st.exits ∙ ap (λ n. length (filter (exit_stays trace st h) st.exits) + n) (sym (may.exits_gone ∙ count_is_total (λ e. not (exit_stays trace st h e)) st.exits));
+  shares_gone = sum_parts (share_stays trace st h) st.shares ∙ ap (λ n. length (filter (share_stays trace st h) st.shares) + n) (sym (may.shares_gone ∙ count_is_total (λ e. not (share_stays trace st h e)) st.shares));
 }

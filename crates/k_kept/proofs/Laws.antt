@@ -57,11 +57,11 @@ pub refused_operations_only_count : (trace : Trace) (st : State) (p : ℕ) (op :
 refused_operations_only_count = refused_counts
 
 -- before a collection of the kernel begins, by an operation or as the last one, no shared heap is an orphan: each that was made and is not absorbed has a process that pays for it
-pub last_collections_wait_for_orphans-operation : (trace : Trace) (st : State) (pid : Pid) (said : Reply) (s : ℕ) → IsPossible trace st (Done pid KCollect said) → s < trace.shared_heaps → IsPaidFor st s
-last_collections_wait_for_orphans-operation = λ trace st pid said s may inside. no_orphan_paid trace st s may.orphans inside
+pub kernel_collections_wait_for_orphans-operation : (trace : Trace) (st : State) (pid : Pid) (said : Reply) (s : ℕ) → IsPossible trace st (Done pid KCollect said) → s < trace.shared_heaps → IsPaidFor st s
+kernel_collections_wait_for_orphans-operation = λ trace st pid said s may inside. no_orphan_paid trace st s may.orphans inside
 
-pub last_collections_wait_for_orphans-closing : (trace : Trace) (st : State) (s : ℕ) → IsPossible trace st Closing → s < trace.shared_heaps → IsPaidFor st s
-last_collections_wait_for_orphans-closing = λ trace st s may inside. no_orphan_paid trace st s may.orphans inside
+pub kernel_collections_wait_for_orphans-closing : (trace : Trace) (st : State) (s : ℕ) → IsPossible trace st Closing → s < trace.shared_heaps → IsPaidFor st s
+kernel_collections_wait_for_orphans-closing = λ trace st s may inside. no_orphan_paid trace st s may.orphans inside
 
 -- nothing touches a heap whose collection is open but the end of that collection
 pub scanned_heaps_are_left_alone : (trace : Trace) (st : State) (event : Event) (h : Heap) → IsSound trace st → IsPossible trace st event → IsTrue (is_scanned st.scans h) → IsTrue (touches trace st event h) → HasEndOf h event

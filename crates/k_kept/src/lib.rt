@@ -13,7 +13,8 @@ pub use charges::{ended_collections_credit_what_goes, only_its_own_events_change
 pub use ends::ended_collections_tell_what_goes;
 pub use names::serials_are_never_given_again;
 pub use operations::{
-    last_collections_wait_for_orphans, refused_operations_only_count, scanned_heaps_are_left_alone,
+    kernel_collections_wait_for_orphans, refused_operations_only_count,
+    scanned_heaps_are_left_alone,
 };
 pub use owners::{ended_processes_stay_ended, owners_change_once};
 pub use sizes::frozen_heaps_keep_their_size;

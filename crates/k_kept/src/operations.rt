@@ -29,7 +29,7 @@ pub fn refused_operations_only_count()
 /// and is not absorbed has a process that pays for it.
 ///
 /// Source: KaffeOS paper, on orphaned shared heaps.
-pub fn last_collections_wait_for_orphans()
+pub fn kernel_collections_wait_for_orphans()
     ensures operation { (trace : Trace) (st : State) (pid : Pid) (said : Reply) (s : ℕ) →
         IsPossible trace st (Done pid KCollect said) → s < trace.shared_heaps → IsPaidFor st s }
     ensures closing { (trace : Trace) (st : State) (s : ℕ) → IsPossible trace st Closing → s < trace.shared_heaps → IsPaidFor st s }

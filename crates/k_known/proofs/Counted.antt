@@ -1,12 +1,12 @@
 -- A history that does first operations of a trace does no more than the trace has, and each is spelled as in a line.
-use Rattle.std.proofs.Common.{◌≡◌, ℕ, zero, suc, ◌+◌, ◌<◌, ◌≤◌, ◌==◌, nat_lt, Bool, true, false, cond, refl, sym, subst, ap, ◌∙◌, inl, inr, List, [], ◌∷◌, ◌++◌, length, get_or, arith, eq-eqb, ne_eqb, ltb-true, IsTrue}
+use Rattle.std.proofs.Common.{◌≡◌, ℕ, suc, ◌+◌, ◌<◌, ◌≤◌, ◌==◌, nat_lt, Bool, true, false, cond, refl, sym, subst, ap, ◌∙◌, inl, inr, List, [], ◌∷◌, ◌++◌, length, get_or, arith, eq-eqb, ne_eqb, ltb-true, IsTrue}
 use Rattle.std.specs.List.{AllByRecursion, list_all}
 use Rattle.std.proofs.lemmas.Bool.{and_from, and_parts, cases_eq}
 use Rattle.std.proofs.lemmas.List.{length-append}
 use Rattle.k_types.specs.declared.event.Event.{Event}
 use Rattle.k_types.specs.declared.event.Event.TheVariants.{Done, Ended, Absorbed, Closing}
 use Rattle.k_types.specs.Bounds.{most_operations}
-use Rattle.k_types.specs.Numbers.{numbers_below, numbers_from}
+use Rattle.k_types.specs.Numbers.{numbers_below}
 use Rattle.k_types.specs.Totals.{total}
 use Rattle.k_types.specs.Trace.{Trace, operations_of, process_count}
 use Rattle.k_types.specs.TraceRules.{AreOperations, is_spelled}
@@ -14,12 +14,11 @@ use Rattle.k_types.specs.State.{State, opening}
 use Rattle.k_types.specs.Effects.{step}
 use Rattle.k_types.specs.Steps.{IsLegalHistory, IsRun, done_by, state_after}
 use Rattle.k_base.proofs.Numbered.{occurrences, occurrences_count}
-use Rattle.k_base.proofs.Sums.{one_counts, sum_both, sum_same, zeros}
+use Rattle.k_base.proofs.Sums.{one_counts, sum_both, sum_same, zeros, same_below, less_below}
 use Rattle.k_bounds.specs.Counts.{allocation_count, has_allocated_in, is_operation, one_if, operation_count}
 use Rattle.k_bounds.proofs.ByProcess.{operations_by_process}
 use Rattle.k_bounds.proofs.Counting.{one_if_low}
 use Rattle.k_bounds.proofs.SerialBounds.{serials_at_most_allocations}
-use Rattle.k_changes.proofs.SharedSums.{same_below}
 use Rattle.k_known.specs.Fits.{DoesOperationsOf, IsSpelledEvent}
 
 -- each number of a list is counted once where all are below the bound
@@ -46,11 +45,6 @@ all_ordered trace rules =
     same_below (λ p. length (operations_of trace p)) (λ p. occurrences p trace.order) 0 (process_count trace)
     (λ p inside. sym (occurrences_count p trace.order ∙ rules.counted p (omega (arith, inside))))
     ∙ counted_once (process_count trace) trace.order rules.ordered
-
--- sums over numbers in a row of what is less below the bound
-less_below : (f g : ℕ → ℕ) (first n : ℕ) → ((t : ℕ) → t < first + n → f t ≤ g t) → total f (numbers_from first n) ≤ total g (numbers_from first n)
-less_below f g first zero less = omega arith
-less_below f g first (suc n) less = omega (arith, less first (omega arith), less_below f g (suc first) n (λ t inside. less t (omega (arith, inside))))
 
 pub operations_bounded : (trace : Trace) (history : List Event) → AreOperations trace → IsLegalHistory trace history → DoesOperationsOf trace history → operation_count history ≤ length trace.order
 operations_bounded trace history rules legal does =

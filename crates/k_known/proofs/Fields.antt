@@ -22,10 +22,9 @@ use Rattle.k_types.specs.Replies.{faults, field_at, first_fault, number_in}
 use Rattle.k_types.specs.Updates.{add_exit, add_share, clear_registers, close, close_scan, count_done, create, end_process, keep_exits, keep_objects, keep_shares, next_name, object_after_write, open_scan, set_phase, set_register, turn_exits, with_object, write}
 use Rattle.k_types.specs.Effects.{after_absorbed, after_closing, after_end_of, after_ended, after_operation, after_put, after_store, effect, effect_unless, step, survives, with_exit_of_store}
 use Rattle.k_types.specs.Steps.{IsLegalHistory, run, state_after}
-use Rattle.k_base.proofs.Lists.{get_or-set_cases}
+use Rattle.k_base.proofs.Lists.{get_or-set_cases, found_holds}
 use Rattle.k_frame.proofs.Rest.{freeze_rest}
 use Rattle.k_known.specs.Fits.{DoesOperationsOf, IsSpelledEvent, NumbersFit}
-use Rattle.k_known.proofs.Replied.{found_known}
 use Rattle.k_known.proofs.Counted.{operations_bounded, serials_bounded, spelled_history}
 
 -- each number among the fields has 64 bits
@@ -136,7 +135,7 @@ module _ (trace : Trace) where
     where
       go : (o : Option Object) → object_at st.objects x ≡ o → number_in (get_or (fields_of o) i (Holds 0)) < 2 ^ 64
       go None found = omega arith
-      go (Some o) found = found_known (λ y. AreSmall y.fields) (λ y. name_eq y.name x) st.objects o all found i
+      go (Some o) found = found_holds (λ y. AreSmall y.fields) (λ y. name_eq y.name x) st.objects o all found i
 
   pub history_fits : (history : List Event) → AreOperations trace → IsLegalHistory trace history → DoesOperationsOf trace history → NumbersFit history (state_after trace history)
   history_fits history rules legal does = record {

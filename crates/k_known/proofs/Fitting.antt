@@ -30,10 +30,11 @@ use Rattle.k_frame.proofs.Histories.{history_induction, state_next}
 use Rattle.k_frame.proofs.Rest.{freeze_rest, put_rest, store_rest}
 use Rattle.k_frame.proofs.Sizes.{history_sized}
 use Rattle.k_laws.proofs.Closure.{length-kept}
-use Rattle.k_laws.proofs.Raised.{length-map}
 use Rattle.k_laws.proofs.SoundSteps.{legal_sound}
-use Rattle.k_bounds.proofs.Counting.{total_set}
 use Rattle.k_known.specs.Fits.{AreAtMostTheSerials, FitsItsType, HasFewFields, serials_given}
+use Rattle.k_base.proofs.Sums.{total_set}
+use Rattle.k_base.proofs.Ordered.{ordered_tail}
+use Rattle.std.proofs.lemmas.List.{length-map}
 
 -- the object has few fields
 few_by : (trace : Trace) → HasFewFields trace → (ty : Option TypeId) → length (kinds_by trace ty) ≤ most_fields
@@ -45,7 +46,7 @@ few_by trace few None = omega (arith, replicated trace.dir_fields, few.directory
 few_by trace few (Some ty) = few.types ty
 
 typed_fits : (trace : Trace) → HasFewFields trace → (o : Object) → IsTyped trace o → FitsItsType trace o
-typed_fits trace few o typed = record { typed = typed; few = omega (arith, few_by trace few o.ty, ap length typed.kinds, length-map field_kind o.fields) }
+typed_fits trace few o typed = record { typed = typed; few = omega (arith, few_by trace few o.ty, ap length typed.kinds, length-map o.fields field_kind) }
 
 pub object_fits : (trace : Trace) (history : List Event) (n : Name) (o : Object) → AreLimits trace → HasFewFields trace → IsLegalHistory trace history →
     object_at (state_after trace history).objects n ≡ Some o → FitsItsType trace o
@@ -59,10 +60,6 @@ comes_after m n (x ∷ xs) t there =
       | inl here ↦ subst (λ k. IsTrue (name_lt m k)) (name_eq-true x.name n here) t.0
       | inr later ↦ name_lt_trans m x.name n t.0 (comes_after x.name n xs t.1 later)
     ]
-
-ordered_tail : (m : Name) (xs : List Object) → IsOrderedFrom m xs → IsOrdered xs
-ordered_tail m [] t = tt
-ordered_tail m (x ∷ xs) t = t.1
 
 -- of objects in order each is the one that is found by its name
 all_found : (P : Object → Type 0) (xs : List Object) → IsOrdered xs → ((n : Name) (o : Object) → object_at xs n ≡ Some o → P o) → AllByRecursion P xs
@@ -109,12 +106,12 @@ module _ (trace : Trace) where
   stored_length : (st : State) (b : Option Name) (i : ℕ) (v : Option Name) → length (after_store trace b i v st).objects ≡ length st.objects
   unfolding after_store write
   stored_length st None i v = refl
-  stored_length st (Some x) i v = length-map (object_after_write x i (Refers v)) (with_exit_of_store trace x v st).objects ∙ ap length (linked_objects st x v)
+  stored_length st (Some x) i v = length-map (with_exit_of_store trace x v st).objects (object_after_write x i (Refers v)) ∙ ap length (linked_objects st x v)
 
   put_length : (st : State) (b : Option Name) (i n : ℕ) → length (after_put b i n st).objects ≡ length st.objects
   unfolding after_put write
   put_length st None i n = refl
-  put_length st (Some x) i n = length-map (object_after_write x i (Holds n)) st.objects
+  put_length st (Some x) i n = length-map st.objects (object_after_write x i (Holds n))
 
   effect_within : (st : State) (p : ℕ) (op : Op) → IsSized trace st → p < process_count trace → IsTrue (in_range trace op) → Within st → Within (effect trace p op st)
   unfolding effect set_register open_scan add_share set_phase after_end_of end_process clear_registers keep_shares turn_exits in_range

@@ -1,14 +1,13 @@
 -- Each event of a run from a sound state names what the trace declares, and a tail has operations alone.
-use Rattle.std.proofs.Common.{◌≡◌, ℕ, suc, refl, sym, subst, ap, ◌∙◌, cond, List, [], ◌∷◌, length, eq-eqb}
+use Rattle.std.proofs.Common.{◌≡◌, ℕ, sym, subst, ◌∙◌, List, [], ◌∷◌}
 use Rattle.k_types.specs.declared.event.Event.{Event}
 use Rattle.k_types.specs.declared.event.Event.TheVariants.{Done, Ended, Absorbed, Closing}
 use Rattle.k_types.specs.Trace.{Trace}
 use Rattle.k_types.specs.TraceRules.{AreLimits}
 use Rattle.k_types.specs.State.{State, opening, scan_of}
 use Rattle.k_types.specs.Effects.{step}
-use Rattle.k_types.specs.Local.{AreLocal}
 use Rattle.k_types.specs.Known.{IsKnownEvent, IsKnownReply}
-use Rattle.k_types.specs.Steps.{IsLegalHistory, IsPossible, IsRun, done_by}
+use Rattle.k_types.specs.Steps.{IsLegalHistory, IsPossible, IsRun}
 use Rattle.k_types.specs.Sound.{IsSound}
 use Rattle.k_base.proofs.Objects.{some_is}
 use Rattle.k_laws.proofs.SoundOpening.{opening_sound}
@@ -30,12 +29,3 @@ run_known trace limits st sound (event ∷ events) legal =
 
 pub history_known : (trace : Trace) (history : List Event) → AreLimits trace → IsLegalHistory trace history → AreKnownEvents trace history
 history_known trace history limits legal = run_known trace limits (opening trace) (opening_sound trace limits) history legal
-
-pub tail_length : (trace : Trace) (p : ℕ) (st : State) (tail : List Event) → AreLocal trace p st tail → length tail ≡ length (done_by p tail)
-tail_length trace p st [] local = refl
-tail_length trace p st (Done pid op said ∷ tail) local =
-    ap suc (tail_length trace p (step trace st (Done pid op said)) tail local.2)
-    ∙ ap (λ b. length (cond b (op ∷ done_by p tail) (done_by p tail))) (sym (eq-eqb pid.0 p local.0))
-tail_length trace p st (Ended h a b c d ∷ tail) local = absurd local
-tail_length trace p st (Absorbed s ∷ tail) local = absurd local
-tail_length trace p st (Closing ∷ tail) local = absurd local

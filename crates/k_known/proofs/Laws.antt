@@ -16,8 +16,9 @@ use Rattle.k_known.proofs.Bounded.{end_bounded}
 use Rattle.k_known.proofs.Counted.{all_ordered, operations_bounded}
 use Rattle.k_known.proofs.Fields.{history_fits}
 use Rattle.k_known.proofs.Fitting.{object_fits, objects_bounded}
-use Rattle.k_known.proofs.KnownEvents.{history_known, tail_length}
+use Rattle.k_known.proofs.KnownEvents.{history_known}
 use Rattle.k_known.specs.Fits.{AreAtMostTheSerials, AreEndNumbers, FitsItsType, HasFewFields, AreKnownEvents, DoesOperationsOf, NumbersFit}
+use Rattle.k_frame.proofs.Tails.{tail_length}
 
 -- each object has the fields of its type, and few
 pub objects_fit_their_types : (trace : Trace) (history : List Event) (n : Name) (o : Object) → AreLimits trace → HasFewFields trace → IsLegalHistory trace history → object_at (state_after trace history).objects n ≡ Some o → FitsItsType trace o

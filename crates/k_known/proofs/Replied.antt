@@ -1,5 +1,5 @@
 -- What a sound state names is the trace's, and so is what its replies name.
-use Rattle.std.proofs.Common.{◌≡◌, ℕ, zero, suc, ◌+◌, ◌<◌, ◌&&◌, not, cond, Bool, true, false, refl, ap, subst, sym, ◌∙◌, List, [], ◌∷◌, find, nat_lt, length, get_or, Option, Some, None, arith, ltb-true, IsTrue}
+use Rattle.std.proofs.Common.{◌≡◌, ℕ, zero, suc, ◌+◌, ◌<◌, ◌&&◌, not, cond, Bool, true, false, refl, ap, subst, sym, ◌∙◌, List, [], ◌∷◌, nat_lt, length, get_or, Option, Some, None, arith, ltb-true, IsTrue}
 use Rattle.std.specs.Prelude.{IfSome}
 use Rattle.std.specs.List.{AllByRecursion, list_any}
 use Rattle.std.proofs.lemmas.Bool.{and_parts, or_left, or_right}
@@ -19,7 +19,7 @@ use Rattle.k_types.specs.Bounds.{register_count}
 use Rattle.k_types.specs.Names.{heap_eq, leads_to}
 use Rattle.k_types.specs.Trace.{Trace, IsHeap, limit_of, process_count, row_of, size_of_type}
 use Rattle.k_types.specs.TraceRules.{AreLimits, IsTree}
-use Rattle.k_types.specs.State.{Content, Refers, Holds, Object, State, content_leads_to, fields_of, has, has_share, object_at, refers, refers_in, register}
+use Rattle.k_types.specs.State.{Content, Refers, Holds, Object, State, content_leads_to, fields_of, has, has_share, object_at, refers_in, register}
 use Rattle.k_types.specs.Limits.{full_limit, limits_in, max_of, path_above, path_within, use_of}
 use Rattle.k_types.specs.Owners.{bytes_of, owner_of, phase_of}
 use Rattle.k_types.specs.Replies.{access_faults, answer, at_base, fault_where, faults, field_at, first_fault, limit_fault, is_populating, load_faults, number_faults, reference, reference_from, refused_or, reply_to, root_of, sharer_fault, size_fault, store_faults}
@@ -30,19 +30,8 @@ use Rattle.k_base.proofs.Maxima.{length_in, tree_in}
 use Rattle.k_base.proofs.NameTests.{name_eq_refl}
 use Rattle.k_frame.proofs.OwnerOf.{owner_known}
 use Rattle.k_laws.proofs.SoundStore.{register_holds}
-
-pub if_known : {A : Type 0} (P : A → Type 0) (o : Option A) → ((a : A) → o ≡ Some a → P a) → IfSome o P
-if_known P None gives = tt
-if_known P (Some a) gives = gives a refl
-
--- what is found among what is known is known
-pub found_known : {A : Type 0} (P : A → Type 0) (test : A → Bool) (xs : List A) (x : A) → AllByRecursion P xs → find test xs ≡ Some x → P x
-found_known P test [] x all found = absurd (cc found)
-found_known P test (y ∷ ys) x all found = go (test y) (found_known P test ys x all.1) found
-  where
-    go : (b : Bool) → (find test ys ≡ Some x → P x) → cond b (Some y) (find test ys) ≡ Some x → P x
-    go true later is = let same : y ≡ x = cc is in subst P same all.0
-    go false later is = later is
+use Rattle.k_base.proofs.Lists.{if_some, found_holds}
+use Rattle.k_base.proofs.Objects.{refers_found}
 
 -- the limits on a path are the trace's
 all_above : (n : ℕ) (path : ℕ → List ℕ) (hard : Bool) (parent : Option LimitId) → ((q : LimitId) → parent ≡ Some q → AllByRecursion (λ k. k < n) (path q.0)) →
@@ -65,7 +54,7 @@ limit_known trace st rules p size q known full =
     let long = length_in trace.limits st.maxima in
     let inside : limit_of trace p < length (limits_in trace st) = subst (λ k. limit_of trace p < k) (sym long) (rules.limited p known) in
     subst (λ k. q < k) long
-    (found_known (λ k. k < length (limits_in trace st)) (λ k. nat_lt (max_of (limits_in trace st) k) (use_of trace st k + size))
+    (found_holds (λ k. k < length (limits_in trace st)) (λ k. nat_lt (max_of (limits_in trace st) k) (use_of trace st k + size))
     (path_within (limits_in trace st) (length (limits_in trace st)) (limit_of trace p)) q
     (all_on_path (limits_in trace st) (tree_in trace.limits st.maxima rules.tree) (length (limits_in trace st)) (limit_of trace p) inside) full)
 
@@ -98,10 +87,6 @@ refused_known trace [] reply all known = known
 refused_known trace (Some f ∷ fs) reply all known = all.0
 refused_known trace (None ∷ fs) reply all known = refused_known trace fs reply all.1 known
 
-refers_found : (xs : List Object) (x y : Name) (o : Object) → object_at xs x ≡ Some o → refers o y ≡ true → refers_in xs x y ≡ true
-refers_found [] x y o found leads = absurd (cc found)
-refers_found (z ∷ zs) x y o found leads = grind (arith, refers_found zs x y o)
-
 leads_from : (content : List Content) (i : ℕ) (y : Name) → reference (get_or content i (Holds 0)) ≡ Some y → IsTrue (list_any (content_leads_to y) content)
 leads_from [] i y e = absurd (cc e)
 leads_from (Refers r ∷ content) zero y e = or_left _ _ (ap (λ m. leads_to m y) e ∙ name_eq_refl y)
@@ -120,11 +105,11 @@ module _ (trace : Trace) (st : State) (rules : AreLimits trace) (sound : IsSound
       go (Some o) found leads = refers_found st.objects x y o found (leads_from o.fields i y leads)
 
   in_register : (r : ℕ) → IfSome (register st.registers p r) (IsKnownName trace)
-  in_register r = if_known (IsKnownName trace) (register st.registers p r) (λ n e. there_known n (sound.no_dangling.registers p n (register_holds st.registers p r n e)))
+  in_register r = if_some (IsKnownName trace) (register st.registers p r) (λ n e. there_known n (sound.no_dangling.registers p n (register_holds st.registers p r n e)))
 
   loaded_known : (base : Option Name) (i : ℕ) → IfSome (reference_from st base i) (IsKnownName trace)
   loaded_known None i = tt
-  loaded_known (Some x) i = if_known (IsKnownName trace) (reference (field_at st x i)) (field_known x i)
+  loaded_known (Some x) i = if_some (IsKnownName trace) (reference (field_at st x i)) (field_known x i)
 
   sharer_at : (x : Name) → IsKnownName trace x → IfSome (sharer_fault st (owner_of trace st x.seg.0) p) (IsKnownFault trace)
   sharer_at x there = sharer_known trace st (owner_of trace st x.seg.0) p (owner_known trace st x.seg.0 there)

@@ -29,10 +29,10 @@ use Rattle.k_frame.proofs.ElsewhereOther.{among-push, owner_ended, owned_agree, 
 use Rattle.k_frame.proofs.Kept.{has_share-kept}
 use Rattle.k_laws.proofs.SoundAbsorbed.{bytes_fewer, merged_fewer, is_merged}
 use Rattle.k_laws.proofs.SoundCollected.{bytes-kept}
-use Rattle.k_laws.proofs.SoundEffects.{none_is}
 use Rattle.k_laws.proofs.Uses.{charge_less, charged_less}
 use Rattle.k_laws.proofs.UsesRaised.{uses_raised}
 use Rattle.k_laws.proofs.Charged.{operation_charges}
+use Rattle.k_base.proofs.Lists.{none_is}
 
 module _ (trace : Trace) (st : State) (p : ℕ) where
   own_ended : IsTrue (among p (st.ended ++ p ∷ []))

@@ -14,17 +14,12 @@ use Rattle.k_types.specs.Owners.{owner_of, objects_of, owner_of_segment, owner_o
 use Rattle.k_types.specs.Cells.{CellPart, BookPart, ProcessPart, part, book_part}
 use Rattle.k_types.specs.Sound.{IsSound, IsOrdered, IsOrderedFrom}
 use Rattle.k_laws.specs.Parts.{SameParts, SameState}
-use Rattle.k_base.proofs.NameTests.{name_eq_refl, heap_eq-true, heap_eq_refl}
+use Rattle.k_base.proofs.NameTests.{name_eq_refl, heap_eq-true, heap_eq_refl, name_lt_trans}
 use Rattle.k_frame.proofs.OwnerOf.{owner_known}
 use Rattle.k_laws.proofs.SoundStore.{get_or_above}
-
-some_one : {A : Type 0} (x y : A) → Some x ≡ Some y → x ≡ y
-some_one x y e = cc e
-
-bool_same : (a b : Bool) → (a ≡ true → b ≡ true) → (b ≡ true → a ≡ true) → a ≡ b
-bool_same true b f g = sym (f refl)
-bool_same false true f g = g refl
-bool_same false false f g = refl
+use Rattle.k_base.proofs.Lists.{some_one}
+use Rattle.k_base.proofs.Tests.{same_test}
+use Rattle.k_base.proofs.Ordered.{ordered_tail}
 
 -- lists of one length with the same elements
 list_same : {A : Type 0} (d : A) (xs ys : List A) → length xs ≡ length ys → ((k : ℕ) → k < length xs → get_or xs k d ≡ get_or ys k d) → xs ≡ ys
@@ -40,9 +35,6 @@ head_one x y xs ys e = cc e
 tail_one : {A : Type 0} (x y : A) (xs ys : List A) → x ∷ xs ≡ y ∷ ys → xs ≡ ys
 tail_one x y xs ys e = cc e
 
-name_lt_trans : (a b c : Name) → IsTrue (name_lt a b) → IsTrue (name_lt b c) → IsTrue (name_lt a c)
-name_lt_trans a b c s t = grind (arith, nat_tests)
-
 name_lt_one_way : (a b : Name) → IsTrue (name_lt a b) → IsTrue (name_lt b a) → ⊥
 name_lt_one_way a b s t = grind (arith, nat_tests)
 
@@ -54,10 +46,6 @@ kept_after p m (y ∷ xs) x rest ordered e =
       | true ↦ λ e. ap (λ (o : Object). name_lt m o.name) (sym (head_one y x (filter p xs) rest e)) ∙ ordered.0
       | false ↦ λ e. name_lt_trans m y.name x.name ordered.0 (kept_after p y.name xs x rest ordered.1 e)
     ] e
-
-ordered_tail : (m : Name) (xs : List Object) → IsOrderedFrom m xs → IsOrdered xs
-ordered_tail m [] t = tt
-ordered_tail m (x ∷ xs) t = t.1
 
 -- ordered objects are told by those of each owner
 module _ (own : ℕ → Heap) where
@@ -133,13 +121,13 @@ module _ (trace : Trace) (st su : State) (sound : IsSound trace st) (sound' : Is
       let both = ap (λ (q : CellPart). q.made k) (same.cells c (owner_known trace st k known)) in
       let left = ap (λ b. cond b (Some (get_or st.made k 0)) None) (heap_eq_refl c) in
       let right = ap (λ b. cond b (Some (get_or su.made k 0)) None) (ap (λ g. heap_eq g c) (sym (owner_same k)) ∙ heap_eq_refl c) in
-      some_one (get_or st.made k 0) (get_or su.made k 0) (sym left ∙ both ∙ right))
+      some_one (sym left ∙ both ∙ right))
 
   process_same : (p : ℕ) → p < process_count trace → (get_or st.registers p [] ≡ get_or su.registers p []) × (get_or st.done p 0 ≡ get_or su.done p 0)
   unfolding part
   process_same p known =
       let both = ap (λ (q : CellPart). q.process) (same.cells (user p) known) in
-      let one = some_one {A = ProcessPart} _ _ both in
+      let one = some_one {A = ProcessPart} both in
       (ap (λ (q : ProcessPart). q.registers) one, ap (λ (q : ProcessPart). q.done) one)
 
   registers_same : st.registers ≡ su.registers
@@ -154,7 +142,7 @@ module _ (trace : Trace) (st su : State) (sound : IsSound trace st) (sound' : Is
 
   exits_same : (h : Heap) (n : Name) → has_exit st.exits h n ≡ has_exit su.exits h n
   exits_same h n =
-      bool_same (has_exit st.exits h n) (has_exit su.exits h n)
+      same_test (has_exit st.exits h n) (has_exit su.exits h n)
       (λ t. sym (exit_at h n (sound.shape.known.referring h n t)) ∙ t)
       (λ t. exit_at h n (sound'.shape.known.referring h n t) ∙ t)
 

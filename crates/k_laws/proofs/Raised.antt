@@ -1,5 +1,5 @@
 -- The uses still fit where a process is charged more, and the charge fitted on the path of its limit.
-use Rattle.std.proofs.Common.{◌≡◌, ℕ, suc, ◌+◌, ◌*◌, ◌<◌, ◌≤◌, ◌==◌, ◌&&◌, nat_lt, Bool, true, false, cond, refl, sym, ap, ap₂, ◌∙◌, List, [], ◌∷◌, ◌++◌, filter, map, find, length, None, arith, eqb-true, ne_eqb, eq-eqb, inl, inr, IsTrue, IsFalse, ltb-false, le_trans, le_of_eq, mul-le-mul_left}
+use Rattle.std.proofs.Common.{◌≡◌, ℕ, ◌+◌, ◌*◌, ◌<◌, ◌≤◌, ◌==◌, ◌&&◌, nat_lt, Bool, true, false, cond, refl, sym, ap, ap₂, ◌∙◌, List, [], ◌∷◌, ◌++◌, filter, find, length, None, arith, eqb-true, ne_eqb, eq-eqb, inl, inr, IsTrue, IsFalse, ltb-false, le_trans, le_of_eq, mul-le-mul_left}
 use Rattle.std.proofs.lemmas.Bool.{cases_Bool, cases_eq, false≢true, false_from_ne_true, and_parts}
 use Rattle.k_types.specs.declared.names.Heap.{Heap}
 use Rattle.k_types.specs.Names.{heap_eq, among}
@@ -40,10 +40,6 @@ cond_swap true true = refl
 cond_swap true false = refl
 cond_swap false true = refl
 cond_swap false false = refl
-
-pub length-map : {A B : Type 0} (f : A → B) (xs : List A) → length (map f xs) ≡ length xs
-length-map f [] = refl
-length-map f (x ∷ xs) = ap suc (length-map f xs)
 
 -- what is charged directly at each limit
 pub direct_added : (trace : Trace) (c d : ℕ → ℕ) (p n : ℕ) → p < process_count trace → ((q : ℕ) → d q ≡ c q + n * bit (q == p)) → (m : ℕ) →

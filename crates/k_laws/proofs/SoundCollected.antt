@@ -29,6 +29,7 @@ use Rattle.k_laws.proofs.Uses.{use_by_less, charge_less}
 use Rattle.k_base.proofs.Objects.{has-kept, refers_in-kept, referred}
 use Rattle.k_base.proofs.Lists.{below_any, get_or_inside}
 use Rattle.k_laws.proofs.Safe.{root_reached, reach_closed, reach_refers, exit_enters}
+use Rattle.k_base.proofs.Ordered.{ordered_tail}
 
 ordered-kept_from : (q : Name → Bool) (m k : Name) (xs : List Object) → (m ≡ k) ⊎ IsTrue (name_lt m k) → IsOrderedFrom k xs → IsOrderedFrom m (filter (λ o. q o.name) xs)
 ordered-kept_from q m k [] low t = tt
@@ -39,16 +40,12 @@ ordered-kept_from q m k (o ∷ xs) low t =
       | false ↦ ordered-kept_from q m o.name xs (inr after) t.1
     ]
 
-tail_ordered : (m : Name) (ys : List Object) → IsOrderedFrom m ys → IsOrdered ys
-tail_ordered m [] t = tt
-tail_ordered m (o ∷ ys) t = t.1
-
 ordered-kept : (q : Name → Bool) (xs : List Object) → IsOrdered xs → IsOrdered (filter (λ o. q o.name) xs)
 ordered-kept q [] t = tt
 ordered-kept q (o ∷ xs) t =
     elim (q o.name) as (λ b. IsOrdered (cond b (o ∷ filter (λ o. q o.name) xs) (filter (λ o. q o.name) xs))) [
       | true ↦ ordered-kept_from q o.name o.name xs (inl refl) t
-      | false ↦ tail_ordered o.name (filter (λ o. q o.name) xs) (ordered-kept_from q o.name o.name xs (inl refl) t)
+      | false ↦ ordered_tail o.name (filter (λ o. q o.name) xs) (ordered-kept_from q o.name o.name xs (inl refl) t)
     ]
 
 -- a heap has no more bytes after some objects went

@@ -1,5 +1,5 @@
 -- What an operation that isn't refused leaves of a sound state is sound.
-use Rattle.std.proofs.Common.{◌≡◌, ℕ, ◌+◌, ◌<◌, ◌&&◌, not, Bool, true, false, cond, refl, sym, ap, ◌∙◌, inl, inr, List, [], ◌∷◌, ◌++◌, Option, Some, None, is_some, length, get_or, arith, eqb-true, IsTrue, IsFalse, subst, zero, suc, nat_lt, nat_le, ltb-true}
+use Rattle.std.proofs.Common.{◌≡◌, ℕ, ◌+◌, ◌<◌, ◌&&◌, not, Bool, true, false, cond, refl, sym, ap, ◌∙◌, inl, inr, List, [], ◌∷◌, ◌++◌, Option, Some, None, length, get_or, arith, eqb-true, IsTrue, IsFalse, subst, zero, suc, nat_lt, nat_le, ltb-true}
 use Rattle.std.specs.List.{list_all, list_any}
 use Rattle.std.proofs.lemmas.Bool.{cases_Bool, false≢true, and_parts, not-true, not-false, or_left, or_right}
 use Rattle.k_types.specs.declared.names.Name.{Name}
@@ -43,10 +43,7 @@ use Rattle.k_laws.proofs.SoundShare.{freeze_sound}
 use Rattle.k_laws.proofs.SoundSharing.{sharing_sound, sharing}
 use Rattle.k_laws.proofs.SoundPopulating.{populating_sound, no_share}
 use Rattle.k_laws.proofs.SoundExited.{exited_sound}
-
-pub none_is : {A : Type 0} (o : Option A) → is_some o ≡ false → o ≡ None
-none_is None e = refl
-none_is (Some a) e = absurd (false≢true (sym e))
+use Rattle.k_base.proofs.Lists.{none_is}
 
 none_limit : (o : Option ℕ) → limit_fault o ≡ None → o ≡ None
 none_limit None e = refl

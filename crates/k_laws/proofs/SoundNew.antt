@@ -21,9 +21,10 @@ use Rattle.k_base.proofs.Sums.{bit}
 use Rattle.k_base.proofs.NameTests.{name_eq-true}
 use Rattle.k_frame.proofs.OwnerOf.{owner_user, owner_kernel, owner_shared}
 use Rattle.k_laws.proofs.Uses.{use_by_less, charged_less}
-use Rattle.k_laws.proofs.Raised.{raised_fits, charge_added, charge_shared_added, length-map}
+use Rattle.k_laws.proofs.Raised.{raised_fits, charge_added, charge_shared_added}
 use Rattle.k_laws.proofs.SoundCreate.{create_sound, MayCreate, made_object, made_there}
 use Rattle.k_laws.proofs.SoundRegister.{set_register_sound}
+use Rattle.std.proofs.lemmas.List.{length-map}
 
 bytes-placed_step : (own : ℕ → Heap) (h : Heap) (o x : Object) (xs : List Object) →
     bytes_by own h (with_object o xs) ≡ bytes_by own h xs + object_bytes o * bit (heap_eq (own o.name.seg.0) h) →
@@ -79,7 +80,7 @@ pub bytes_after : (trace : Trace) (st : State) (seg : ℕ) (ty : TypeId) (h : He
 unfolding create
 bytes_after trace st seg ty h =
     bytes-placed (owner_of trace st) h (made_object st seg ty (kinds_of trace ty)) st.objects
-    ∙ ap (λ size. bytes_of trace st h + object_size size * bit (heap_eq (owner_of trace st seg) h)) (length-map fresh (kinds_of trace ty))
+    ∙ ap (λ size. bytes_of trace st h + object_size size * bit (heap_eq (owner_of trace st seg) h)) (length-map (kinds_of trace ty) fresh)
 
 abbrev shared_number : Heap → ℕ
 shared_number Kernel = 0

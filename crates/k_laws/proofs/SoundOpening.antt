@@ -5,7 +5,7 @@ use Rattle.std.proofs.lemmas.Bool.{and_parts, or_cases, false≢true}
 use Rattle.k_types.specs.declared.names.Name.{Name}
 use Rattle.k_types.specs.declared.names.Field.TheVariants.{Ref}
 use Rattle.k_types.specs.declared.names.Phase.TheVariants.{Unmade}
-use Rattle.k_types.specs.Names.{name_eq, directory, leads_to}
+use Rattle.k_types.specs.Names.{name_eq, directory}
 use Rattle.k_types.specs.Trace.{Trace, process_count, segment_count, limit_of}
 use Rattle.k_types.specs.TraceRules.{AreLimits}
 use Rattle.k_types.specs.State.{Object, Refers, field_kind, object_at, opening, has, refers_in, content_leads_to, in_registers}
@@ -16,8 +16,9 @@ use Rattle.k_types.specs.Sound.{IsSound, IsTyped}
 use Rattle.k_base.proofs.NameTests.{name_eq-true}
 use Rattle.k_frame.proofs.Sizes.{opening_sized}
 use Rattle.k_base.proofs.Maxima.{own_maxima}
-use Rattle.k_laws.proofs.Uses.{use_less, total_less}
-use Rattle.k_base.proofs.Sums.{zeros}
+use Rattle.k_laws.proofs.Uses.{use_less}
+use Rattle.k_base.proofs.Sums.{zeros, total_at_most}
+use Rattle.k_laws.proofs.SoundExited.{none_in}
 
 pub all_unmade : (n s : ℕ) → phase_of (replicate n Unmade) s ≡ Unmade
 all_unmade zero s = refl
@@ -29,13 +30,9 @@ references : (n : ℕ) → map field_kind (replicate n (Refers None)) ≡ replic
 references zero = refl
 references (suc n) = ap (λ ks. Ref ∷ ks) (references n)
 
-no_names : (n : ℕ) (m : Name) → list_any (λ r. leads_to r m) (replicate n None) ≡ false
-no_names zero m = refl
-no_names (suc n) m = no_names n m
-
 none_held : (n p : ℕ) (m : Name) → in_registers (replicate n (replicate 16 None)) p m ≡ false
 none_held zero p m = refl
-none_held (suc n) zero m = no_names 16 m
+none_held (suc n) zero m = none_in 16 m
 none_held (suc n) (suc p) m = none_held n p m
 
 no_references : (n : ℕ) (m : Name) → list_any (content_leads_to m) (replicate n (Refers None)) ≡ false
@@ -63,7 +60,7 @@ module _ (trace : Trace) (limits : AreLimits trace) where
   direct_nothing : (m : ℕ) → direct_by trace (charge_of trace (opening trace)) m ≤ 0
   direct_nothing m =
       let mine = filter (λ p. limit_of trace p == m) (numbers_below (process_count trace)) in
-      le_trans (total_less (charge_of trace (opening trace)) (λ p. 0) (λ p. omega (arith, charged_nothing p)) mine) (omega (arith, zeros mine))
+      le_trans (total_at_most (charge_of trace (opening trace)) (λ p. 0) (λ p. omega (arith, charged_nothing p)) mine) (omega (arith, zeros mine))
 
   use_fits : (m : ℕ) → m < length trace.limits → use_of trace (opening trace) m ≤ max_of (limits_in trace (opening trace)) m
   use_fits m known =

@@ -24,9 +24,10 @@ use Rattle.k_types.specs.Steps.{IsPossible, IsRun, IsLegalHistory, run, state_af
 use Rattle.k_types.specs.Sound.{IsSound}
 use Rattle.k_base.proofs.Objects.{some_is}
 use Rattle.k_laws.proofs.SoundOpening.{opening_sound}
-use Rattle.k_laws.proofs.SoundEffects.{effect_sound, kernel_scan_sound, none_is}
+use Rattle.k_laws.proofs.SoundEffects.{effect_sound, kernel_scan_sound}
 use Rattle.k_laws.proofs.SoundAbsorbed.{absorbed_sound}
 use Rattle.k_laws.proofs.SoundCollected.{collected_sound}
+use Rattle.k_base.proofs.Lists.{none_is}
 
 pub count_done_sound : (trace : Trace) (st : State) (p : ℕ) → IsSound trace st → IsSound trace (count_done p st)
 unfolding count_done bytes_by is_entered is_held

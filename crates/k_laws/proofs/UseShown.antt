@@ -1,6 +1,6 @@
 -- The uses are a function of the book's part.
 use Rattle.std.proofs.Common.{◌≡◌, ℕ, zero, suc, ◌+◌, ◌<◌, cond, refl, sym, ap, ap₂, ◌∙◌, List, length, map, arith, get_or}
-use Rattle.k_types.specs.Numbers.{numbers_below, numbers_from}
+use Rattle.k_types.specs.Numbers.{numbers_below}
 use Rattle.k_types.specs.declared.setup.LimitRow.{LimitRow}
 use Rattle.k_types.specs.Trace.{Trace, row_of}
 use Rattle.k_types.specs.State.{State}
@@ -9,11 +9,7 @@ use Rattle.k_types.specs.Limits.{direct_by, is_parent, limits_in, max_of, use_of
 use Rattle.k_types.specs.Cells.{book_part, use_shown}
 use Rattle.k_frame.proofs.Exact.{same_below}
 use Rattle.k_base.proofs.Maxima.{length_in}
-
-get_or_map : (f : ℕ → ℕ) (first n k : ℕ) → k < n → get_or (map f (numbers_from first n)) k 0 ≡ f (first + k)
-get_or_map f first zero k inside = absurd (omega arith)
-get_or_map f first (suc n) zero inside = ap f (omega arith)
-get_or_map f first (suc n) (suc k) inside = get_or_map f (suc first) n k (omega (arith, inside)) ∙ ap f (omega arith)
+use Rattle.k_base.proofs.Lists.{get_mapped}
 
 use_same : (rows : List LimitRow) (d e : ℕ → ℕ) → ((m : ℕ) → m < length rows → d m ≡ e m) → (depth m : ℕ) → m < length rows → use_within rows d depth m ≡ use_within rows e depth m
 unfolding use_within
@@ -28,6 +24,6 @@ unfolding book_part
 use_is_shown trace st m known =
     let long = length_in trace.limits st.maxima in
     use_same (limits_in trace st) (λ q. get_or (map (direct_by trace (charge_of trace st)) (numbers_below (length trace.limits))) q 0) (direct_by trace (charge_of trace st))
-    (λ q inside. get_or_map (direct_by trace (charge_of trace st)) 0 (length trace.limits) q (omega (arith, inside, long)) ∙ ap (direct_by trace (charge_of trace st)) (omega arith))
+    (λ q inside. get_mapped (direct_by trace (charge_of trace st)) 0 (length trace.limits) q (omega (arith, inside, long)) ∙ ap (direct_by trace (charge_of trace st)) (omega arith))
     (length trace.limits) m (omega (arith, known, long))
     ∙ ap (λ n. use_within (limits_in trace st) (direct_by trace (charge_of trace st)) n m) (sym long)

@@ -12,16 +12,13 @@ use Rattle.k_types.specs.Trace.{row_of}
 use Rattle.k_types.specs.Numbers.{numbers_below}
 use Rattle.k_types.specs.Limits.{use_within, use_by, direct_by, children, max_of}
 use Rattle.k_frame.proofs.Kept.{sum-fewer, filter_swap}
-
-pub total_less : {A : Type 0} (f g : A → ℕ) → ((x : A) → f x ≤ g x) → (xs : List A) → total f xs ≤ total g xs
-total_less f g less [] = le_refl 0
-total_less f g less (x ∷ xs) = omega (arith, less x, total_less f g less xs)
+use Rattle.k_base.proofs.Sums.{total_at_most}
 
 pub use_less : (rows : List LimitRow) (d e : ℕ → ℕ) → ((m : ℕ) → d m ≤ e m) → (depth m : ℕ) → use_within rows d depth m ≤ use_within rows e depth m
 unfolding use_within
 use_less rows d e less zero m = le_refl 0
 use_less rows d e less (suc depth) m =
-    omega (arith, less m, total_less (λ c. cond (row_of rows c).hard (max_of rows c) (use_within rows d depth c)) (λ c. cond (row_of rows c).hard (max_of rows c) (use_within rows e depth c)) (child_less rows d e depth (use_less rows d e less depth)) (children rows m))
+    omega (arith, less m, total_at_most (λ c. cond (row_of rows c).hard (max_of rows c) (use_within rows d depth c)) (λ c. cond (row_of rows c).hard (max_of rows c) (use_within rows e depth c)) (child_less rows d e depth (use_less rows d e less depth)) (children rows m))
   where
     child_less : (rows : List LimitRow) (d e : ℕ → ℕ) (depth : ℕ) → ((m : ℕ) → use_within rows d depth m ≤ use_within rows e depth m) → (c : ℕ) →
         cond (row_of rows c).hard (max_of rows c) (use_within rows d depth c) ≤ cond (row_of rows c).hard (max_of rows c) (use_within rows e depth c)
@@ -46,7 +43,7 @@ charge_less b c ended q shares less p =
 
 pub use_by_less : (trace : Trace) (rows : List LimitRow) (c d : ℕ → ℕ) → ((p : ℕ) → c p ≤ d p) → (m : ℕ) → use_by trace rows c m ≤ use_by trace rows d m
 use_by_less trace rows c d less m =
-    use_less rows (direct_by trace c) (direct_by trace d) (λ k. total_less c d less (filter (λ p. limit_of trace p == k) (numbers_below (process_count trace)))) (length rows) m
+    use_less rows (direct_by trace c) (direct_by trace d) (λ k. total_at_most c d less (filter (λ p. limit_of trace p == k) (numbers_below (process_count trace)))) (length rows) m
 
 -- the same, where less is known of no other heap than those that processes are charged for
 pub charged_less : (b c : Heap → ℕ) (ended : List ℕ) (shares : List Sharing) → ((p : ℕ) → b (user p) ≤ c (user p)) → ((s : ℕ) → b (shared s) ≤ c (shared s)) → (p : ℕ) →
@@ -54,7 +51,7 @@ pub charged_less : (b c : Heap → ℕ) (ended : List ℕ) (shares : List Sharin
 charged_less b c ended shares users heaps p =
     elim (among p ended) as (λ t. cond t 0 (b (user p) + total (λ e. b (shared e.heap)) (filter (λ e. e.process == p) shares)) ≤ cond t 0 (c (user p) + total (λ e. c (shared e.heap)) (filter (λ e. e.process == p) shares))) [
       | true ↦ le_refl 0
-      | false ↦ omega (arith, users p, total_less (λ e. b (shared e.heap)) (λ e. c (shared e.heap)) (λ e. heaps e.heap) (filter (λ e. e.process == p) shares))
+      | false ↦ omega (arith, users p, total_at_most (λ e. b (shared e.heap)) (λ e. c (shared e.heap)) (λ e. heaps e.heap) (filter (λ e. e.process == p) shares))
     ]
 
 -- the same, where more processes have ended and some shares went

@@ -1,3 +1,4 @@
+//! What an operation adds to the charges and to the uses of limits.
 ghost use Rattle.std.specs.Prelude.{IsFalse, List, if◌then◌else◌, length, ◌+◌, ◌<◌, ◌==◌, ◌≡◌, ◌≤◌, ℕ};
 ghost use Rattle.k_laws.specs.Charges.{bytes_added, is_done_by};
 ghost use Rattle.k_types.specs.Effects.{step};

@@ -1,3 +1,4 @@
+//! A collection keeps what is live, and nothing else.
 ghost use Rattle.std.specs.Prelude.{IsTrue, List, ◌∷◌, ◌++◌, ℕ};
 ghost use Rattle.k_laws.specs.Survivors.{KeepsTheSurvivors};
 ghost use Rattle.k_types.specs.Effects.{step};

@@ -1,3 +1,4 @@
+//! What registers, entries, pins and reaching mean in a sound state.
 ghost use Rattle.std.specs.Prelude.{IsFalse, IsTrue, List, Some, if◌then◌else◌, nat_lt, ◌<◌, ◌≡◌, ◌||◌, ◌↔◌, ℕ};
 ghost use Rattle.k_laws.specs.Meaning.{heaps_of};
 ghost use Rattle.k_types.specs.Cells.{entries, pins};

@@ -1,3 +1,4 @@
+//! Sound states with the same parts are one state.
 ghost use Rattle.std.specs.Prelude.{length, ◌<◌, ◌≡◌, ℕ};
 ghost use Rattle.k_laws.specs.Parts.{SameParts, SameState};
 ghost use Rattle.k_types.specs.Cells.{book_part, use_shown};

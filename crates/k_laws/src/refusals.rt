@@ -1,3 +1,4 @@
+//! Which fault an operation is refused with.
 ghost use Rattle.std.specs.Prelude.{IsFalse, IsTrue, Some, ◌+◌, ◌<◌, ◌≡◌, ◌⊎◌, ℕ};
 ghost use Rattle.k_laws.specs.Refusals.{is_fault_of_store};
 ghost use Rattle.k_types.specs.Limits.{full_limit};

@@ -1,3 +1,4 @@
+//! Every state of a legal history is sound.
 ghost use Rattle.std.specs.Prelude.{List};
 ghost use Rattle.k_types.specs.Effects.{step};
 ghost use Rattle.k_types.specs.Sound.{IsSound};

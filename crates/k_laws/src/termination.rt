@@ -1,3 +1,4 @@
+//! What the end of a process leaves, credits and passes on.
 ghost use Rattle.std.specs.Prelude.{IsTrue, ◌<◌, ◌↔◌, ◌≡◌, ℕ};
 ghost use Rattle.k_laws.specs.Termination.{CreditsTheCharge, LeavesTheRest, StaysOrPasses};
 ghost use Rattle.k_types.specs.Effects.{after_end_of, step};

@@ -1,22 +1,15 @@
 -- The facts on a row that is put after the others, as the code meets them.
-use Rattle.std.proofs.Common.{◌≡◌, ℕ, ◌+◌, ◌-◌, ◌*◌, ◌^◌, ◌<◌, Bool, false, refl, ap, ◌∙◌, sym, subst, List, [], ◌∷◌, ◌++◌, length, find, slice_index, Option, Some, None, option_map, is_some, arith}
+use Rattle.std.proofs.Common.{◌≡◌, ℕ, ◌+◌, ◌*◌, ◌^◌, ◌<◌, Bool, false, ap, ◌∙◌, sym, subst, List, [], ◌∷◌, ◌++◌, length, find, slice_index, Option, option_map, is_some, arith}
 use Rattle.k_types.specs.declared.names.LimitId.{LimitId}
 use Rattle.k_types.specs.declared.setup.LimitRow.{LimitRow}
 use Rattle.k_limits.specs.Limits.{ChargedLimits, charged_limits, is_full_at}
 use Rattle.k_limits.specs.Rows.{AreRows, is_refused}
 use Rattle.k_limits.specs.Paths.{InRows, is_over, path_from, reserved_from, times_on, AreUses}
+use Rattle.k_base.proofs.Lists.{mapped_some, none_is}
 use Rattle.k_limits.proofs.Reserves.{reserved_in, max_small, raise_small_from, found_from, refused_is, added}
 
 pub rows_in : (limits seen : ChargedLimits) (row : LimitRow) → limits ≡ seen → AreRows (seen.rows ++ row ∷ []) → AreRows (limits.rows ++ row ∷ [])
 rows_in limits seen row same fine = subst (λ (l : ChargedLimits). AreRows (l.rows ++ row ∷ [])) (sym same) fine
-
-mapped_some : {A B : Type 0} (f : A → B) (o : Option A) → is_some (option_map f o) ≡ is_some o
-mapped_some f None = refl
-mapped_some f (Some x) = refl
-
-none_of : {A : Type 0} (o : Option A) → is_some o ≡ false → o ≡ None
-none_of None no_value = refl
-none_of (Some x) no_value = absurd (cc)
 
 module _ (limits : ChargedLimits) (uses : List ℕ) (kept : AreUses limits uses) (row : LimitRow) (fine : AreRows (limits.rows ++ row ∷ [])) (rows' : List LimitRow) (uses' : List ℕ) (from : Option LimitId)
     (er : rows' ≡ limits.rows) (eu : uses' ≡ uses) (ef : from ≡ reserved_from row) where
@@ -44,7 +37,7 @@ module _ (limits : ChargedLimits) (uses : List ℕ) (kept : AreUses limits uses)
       → rows'' ≡ limits.rows ++ row ∷ [] → direct'' ≡ limits.direct ++ 0 ∷ [] → uses'' ≡ after ++ 0 ∷ [] → AreUses (charged_limits rows'' direct'') uses''
   added_row found rows2 uses2 after rows'' direct'' uses'' er2 eu2 is none few same raised er'' ed'' eu'' =
       subst (λ (p : List LimitRow × List ℕ × List ℕ). AreUses (charged_limits p.0 p.1) p.2) (λ i. (sym er'' i, sym ed'' i, sym eu'' i))
-      (added limits uses kept row fine after few (found_row (option_map (λ (m : LimitId). m.0) found) is ∙ ap (option_map (λ (m : LimitId). m.0)) (none_of found none)) (same ∙ ap length eu2)
+      (added limits uses kept row fine after few (found_row (option_map (λ (m : LimitId). m.0) found) is ∙ ap (option_map (λ (m : LimitId). m.0)) (none_is found none)) (same ∙ ap length eu2)
       (subst (λ (p : List LimitRow × List ℕ × Option LimitId). (m : ℕ) → m < length p.0 → slice_index after m ≡ slice_index p.1 m + row.max * times_on (path_from p.0 p.2) m) (λ i. (er2 i, eu2 i, ef i)) raised))
 
 -- the number of a row that is refused

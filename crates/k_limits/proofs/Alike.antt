@@ -1,7 +1,6 @@
 -- A tree of roots alone.
-use Rattle.std.proofs.Common.{◌≡◌, ◌<◌, ◌^◌, ℕ, zero, suc, refl, sym, ap, ◌∙◌, List, length, replicate, Option, Some, None, arith}
+use Rattle.std.proofs.Common.{◌≡◌, ◌<◌, ◌^◌, ℕ, zero, suc, refl, sym, ap, ◌∙◌, replicate, Some, None, arith}
 use Rattle.std.proofs.lemmas.List.{length-replicate}
-use Rattle.k_types.specs.declared.names.LimitId.{LimitId}
 use Rattle.k_types.specs.declared.setup.LimitRow.{LimitRow}
 use Rattle.k_types.specs.Trace.{row_of}
 use Rattle.k_limits.specs.Rows.{AreRows}

@@ -1,7 +1,6 @@
 -- What a charge at a limit does to the uses: each limit on its path has that much more, and no other.
-use Rattle.std.proofs.Common.{◌≡◌, ℕ, zero, suc, ◌+◌, ◌*◌, ◌<◌, ◌≤◌, ◌==◌, ◌&&◌, not, Bool, true, false, cond, refl, ap, ap₂, ◌∙◌, sym, List, length, Option, Some, None, arith}
+use Rattle.std.proofs.Common.{◌≡◌, ℕ, zero, suc, ◌+◌, ◌*◌, ◌<◌, ◌≤◌, ◌==◌, Bool, true, false, cond, refl, ap, ap₂, ◌∙◌, sym, List, length, Option, Some, None, arith}
 use Rattle.std.proofs.Math.Path.{fun_ext}
-use Rattle.std.proofs.lemmas.Bool.{and_right}
 use Rattle.std.proofs.lemmas.Bool.Decides.{nat_tests}
 use Rattle.k_types.specs.Totals.{total}
 use Rattle.k_types.specs.Numbers.{numbers_below}
@@ -9,19 +8,16 @@ use Rattle.k_types.specs.declared.names.LimitId.{LimitId}
 use Rattle.k_types.specs.declared.setup.LimitRow.{LimitRow}
 use Rattle.k_types.specs.Trace.{row_of}
 use Rattle.k_types.specs.TraceRules.{IsTree}
-use Rattle.k_types.specs.Limits.{use_within, path_within, path_above, children, max_of, is_parent}
+use Rattle.k_types.specs.Limits.{use_within, path_within, path_above, max_of, is_parent}
 use Rattle.k_limits.specs.Paths.{times_on}
-use Rattle.k_limits.proofs.Sums.{bit, total_same, total_scaled, total_both, total_filter, total_range, one_counts}
+use Rattle.k_base.proofs.Sums.{bit, sum-filter, same_below}
+use Rattle.k_base.proofs.Charges.{soft, soft_one, soft_both, is_soft_child, not_soft_hard, soft_child, not_soft_top, bit_turned, counted, use_added}
 use Rattle.k_limits.proofs.Walks.{path_low}
-
--- the sum of a count over the soft children of q
-unfoldable pub soft : List LimitRow → (ℕ → ℕ) → ℕ → ℕ
-soft rows f q = total (λ c. cond (row_of rows c).hard 0 (f c)) (children rows q)
 
 -- the same as a sum over all limits
 pub soft_all : (rows : List LimitRow) (f : ℕ → ℕ) (q : ℕ) → soft rows f q ≡ total (λ c. cond (is_parent (row_of rows c).parent q) (cond (row_of rows c).hard 0 (f c)) 0) (numbers_below (length rows))
 unfolding soft
-soft_all rows f q = total_filter (λ c. is_parent (row_of rows c).parent q) (λ c. cond (row_of rows c).hard 0 (f c)) (numbers_below (length rows))
+soft_all rows f q = sum-filter (λ c. is_parent (row_of rows c).parent q) (λ c. cond (row_of rows c).hard 0 (f c)) (numbers_below (length rows))
 
 -- what is said of a child needs to be so after the parent alone
 pub child_same : (rows : List LimitRow) → IsTree rows → (q c : ℕ) → c < length rows → (x y : ℕ) → (q < c → x ≡ y) → cond (is_parent (row_of rows c).parent q) x 0 ≡ cond (is_parent (row_of rows c).parent q) y 0
@@ -45,74 +41,10 @@ child_after rows tree q c known x none = child_same rows tree q c known x 0 none
 
 pub soft_same_after : (rows : List LimitRow) → IsTree rows → (f g : ℕ → ℕ) (q : ℕ) → ((c : ℕ) → q < c → c < length rows → f c ≡ g c) → soft rows f q ≡ soft rows g q
 soft_same_after rows tree f g q same =
-    soft_all rows f q ∙ total_range _ _ 0 (length rows) (λ c below. at c (omega (arith, below))) ∙ sym (soft_all rows g q)
+    soft_all rows f q ∙ same_below _ _ 0 (length rows) (λ c below. at c (omega (arith, below))) ∙ sym (soft_all rows g q)
   where
     at : (c : ℕ) → c < length rows → cond (is_parent (row_of rows c).parent q) (cond (row_of rows c).hard 0 (f c)) 0 ≡ cond (is_parent (row_of rows c).parent q) (cond (row_of rows c).hard 0 (g c)) 0
     at c known = child_same rows tree q c known (cond (row_of rows c).hard 0 (f c)) (cond (row_of rows c).hard 0 (g c)) (λ after. ap (λ n. cond (row_of rows c).hard 0 n) (same c after known))
-
-module _ (rows : List LimitRow) (m : ℕ) where
-  -- how often a charge at m counts at q
-  unfoldable pub counted : ℕ → ℕ → ℕ
-  counted zero q = 0
-  counted (suc depth) q = bit (q == m) + soft rows (counted depth) q
-
-  pub use_more : (d e : ℕ → ℕ) (n : ℕ) → ((q : ℕ) → e q ≡ d q + n * bit (q == m)) → (depth q : ℕ) → use_within rows e depth q ≡ use_within rows d depth q + n * counted depth q
-  unfolding use_within counted soft
-  use_more d e n at zero q = omega arith
-  use_more d e n at (suc depth) q =
-      let inner = total_same
-      (λ c. cond (row_of rows c).hard (max_of rows c) (use_within rows e depth c))
-      (λ c. cond (row_of rows c).hard (max_of rows c) (use_within rows d depth c) + n * cond (row_of rows c).hard 0 (counted depth c))
-      (child_more d e n depth (use_more d e n at depth)) (children rows q) in
-      let sums = total_scaled (λ c. cond (row_of rows c).hard (max_of rows c) (use_within rows d depth c)) (λ c. cond (row_of rows c).hard 0 (counted depth c)) n (children rows q) in
-      omega (arith, at q, inner, sums)
-    where
-      child_more : (d e : ℕ → ℕ) (n depth : ℕ) → ((q : ℕ) → use_within rows e depth q ≡ use_within rows d depth q + n * counted depth q) → (c : ℕ) →
-          cond (row_of rows c).hard (max_of rows c) (use_within rows e depth c)
-          ≡ cond (row_of rows c).hard (max_of rows c) (use_within rows d depth c) + n * cond (row_of rows c).hard 0 (counted depth c)
-      child_more d e n depth ih c =
-          elim (row_of rows c).hard as (λ b. cond b (max_of rows c) (use_within rows e depth c) ≡ cond b (max_of rows c) (use_within rows d depth c) + n * cond b 0 (counted depth c)) [
-            | true ↦ omega arith
-            | false ↦ ih c
-          ]
-
--- m is a soft child of q
-is_soft_child : List LimitRow → ℕ → ℕ → Bool
-is_soft_child rows q m = not (row_of rows m).hard && is_parent (row_of rows m).parent q
-
-soft_one_at : (rows : List LimitRow) (m q c : ℕ) →
-    cond (is_parent (row_of rows c).parent q) (cond (row_of rows c).hard 0 (bit (m == c))) 0 ≡ cond (c == m) (bit (is_soft_child rows q c)) 0
-unfolding is_soft_child
-soft_one_at rows m q c = grind (arith, nat_tests)
-
-soft_one : (rows : List LimitRow) (m q : ℕ) → m < length rows → soft rows (λ c. bit (m == c)) q ≡ bit (is_soft_child rows q m)
-soft_one rows m q known =
-    soft_all rows (λ c. bit (m == c)) q
-    ∙ total_same _ _ (soft_one_at rows m q) (numbers_below (length rows))
-    ∙ one_counts (λ c. bit (is_soft_child rows q c)) m 0 (length rows) (omega arith) (omega arith)
-
-soft_both : (rows : List LimitRow) (f g h : ℕ → ℕ) (q : ℕ) → ((c : ℕ) → h c ≡ f c + g c) → soft rows h q ≡ soft rows f q + soft rows g q
-unfolding soft
-soft_both rows f g h q both =
-    total_same _ _ at (children rows q) ∙ total_both (λ c. cond (row_of rows c).hard 0 (f c)) (λ c. cond (row_of rows c).hard 0 (g c)) (children rows q)
-  where
-    at : (c : ℕ) → cond (row_of rows c).hard 0 (h c) ≡ cond (row_of rows c).hard 0 (f c) + cond (row_of rows c).hard 0 (g c)
-    at c = elim (row_of rows c).hard as (λ b. cond b 0 (h c) ≡ cond b 0 (f c) + cond b 0 (g c)) [ true ↦ omega arith | false ↦ both c ]
-
-bit_turned : (m q : ℕ) → bit (m == q) ≡ bit (q == m)
-bit_turned m q = grind (arith, nat_tests)
-
-not_soft_hard : (rows : List LimitRow) (q m : ℕ) → (row_of rows m).hard ≡ true → is_soft_child rows q m ≡ false
-unfolding is_soft_child
-not_soft_hard rows q m h = ap (λ b. not b && is_parent (row_of rows m).parent q) h
-
-soft_child : (rows : List LimitRow) (q m : ℕ) (r : LimitId) → (row_of rows m).hard ≡ false → (row_of rows m).parent ≡ Some r → is_soft_child rows q m ≡ (r.0 == q)
-unfolding is_soft_child
-soft_child rows q m r h e = ap₂ (λ b o. not b && is_parent o q) h e
-
-not_soft_top : (rows : List LimitRow) (q m : ℕ) → (row_of rows m).parent ≡ None → is_soft_child rows q m ≡ false
-unfolding is_soft_child
-not_soft_top rows q m e = ap (λ o. not (row_of rows m).hard && is_parent o q) e ∙ and_right _ _ refl
 
 -- how often q stands on the path of m
 abbrev pub on_path : List LimitRow → ℕ → ℕ → ℕ → ℕ
@@ -130,12 +62,11 @@ path_counts rows tree (suc depth) m q deep known = go (row_of rows m).hard (row_
   where
     alone : ((c : ℕ) → on_path rows (suc depth) m c ≡ bit (m == c) + 0) → is_soft_child rows q m ≡ false → on_path rows (suc depth) m q ≡ bit (q == m) + soft rows (on_path rows (suc depth) m) q
     alone same none =
-        let each : (c : ℕ) → on_path rows (suc depth) m c ≡ bit (m == c) = λ c. omega (arith, same c) in
+        let each : (c : ℕ) → on_path rows (suc depth) m c ≡ bit (c == m) = λ c. omega (arith, same c, bit_turned m c) in
         let all = ap (λ f. soft rows f q) (fun_ext each) in
         let one = soft_one rows m q known in
         let none' = ap bit none in
-        let turned = bit_turned m q in
-        omega (arith, each q, all, one, none', turned)
+        omega (arith, each q, all, one, none')
 
     go : (b : Bool) (o : Option LimitId) → (row_of rows m).hard ≡ b → (row_of rows m).parent ≡ o →
         ((r q : ℕ) → r < depth → r < length rows → on_path rows depth r q ≡ bit (q == r) + soft rows (on_path rows depth r) q) →
@@ -144,18 +75,18 @@ path_counts rows tree (suc depth) m q deep known = go (row_of rows m).hard (row_
     go false None h e ih = alone (on_path_step rows depth m false None h e) (not_soft_top rows q m e)
     go false (Some r) h e ih =
         let lower = tree m r known e in
-        let each = on_path_step rows depth m false (Some r) h e in
-        let all = soft_both rows (λ c. bit (m == c)) (on_path rows depth r.0) (on_path rows (suc depth) m) q each in
+        let step = on_path_step rows depth m false (Some r) h e in
+        let each : (c : ℕ) → on_path rows (suc depth) m c ≡ bit (c == m) + on_path rows depth r.0 c = λ c. omega (arith, step c, bit_turned m c) in
+        let all = soft_both rows (λ c. bit (c == m)) (on_path rows depth r.0) (on_path rows (suc depth) m) q each in
         let one = soft_one rows m q known in
         let child = ap bit (soft_child rows q m r h e) in
         let turned = bit_turned r.0 q in
-        let turned' = bit_turned m q in
         let before = ih r.0 q (omega arith) (omega arith) in
-        omega (arith, each q, all, one, child, turned, turned', before)
+        omega (arith, each q, all, one, child, turned, before)
 
 -- a charge at m counts as often as the limit stands on its path
 pub counted_is : (rows : List LimitRow) → IsTree rows → (m : ℕ) → m < length rows → (depth q : ℕ) → length rows ≤ depth + q → counted rows m depth q ≡ on_path rows (length rows) m q
-unfolding counted
+unfolding counted soft
 counted_is rows tree m known zero q deep = sym (path_low rows tree (length rows) m q known (omega arith))
 counted_is rows tree m known (suc depth) q deep =
     let children_same = soft_same_after rows tree (counted rows m depth) (on_path rows (length rows) m) q (λ c after _. counted_is rows tree m known depth c (omega (arith, after, deep))) in
@@ -166,7 +97,7 @@ counted_is rows tree m known (suc depth) q deep =
 pub use_charged : (rows : List LimitRow) → IsTree rows → (m : ℕ) → m < length rows → (d e : ℕ → ℕ) (n : ℕ) → ((q : ℕ) → e q ≡ d q + n * bit (q == m)) → (q : ℕ) →
     use_within rows e (length rows) q ≡ use_within rows d (length rows) q + n * on_path rows (length rows) m q
 use_charged rows tree m known d e n at q =
-    use_more rows m d e n at (length rows) q ∙ ap (λ k. use_within rows d (length rows) q + n * k) (counted_is rows tree m known (length rows) q (omega arith))
+    use_added rows m d e n at (length rows) q ∙ ap (λ k. use_within rows d (length rows) q + n * k) (counted_is rows tree m known (length rows) q (omega arith))
 
 -- the use of a limit is whole at any depth that is enough
 pub use_deep : (rows : List LimitRow) → IsTree rows → (d : ℕ → ℕ) (depth more q : ℕ) → q < length rows → length rows ≤ depth + q → length rows ≤ more + q → use_within rows d depth q ≡ use_within rows d more q
@@ -176,8 +107,8 @@ use_deep rows tree d (suc depth) zero q inside deep deeper = absurd (omega (arit
 use_deep rows tree d (suc depth) (suc more) q inside deep deeper =
     let f : ℕ → ℕ = λ c. cond (row_of rows c).hard (max_of rows c) (use_within rows d depth c) in
     let g : ℕ → ℕ = λ c. cond (row_of rows c).hard (max_of rows c) (use_within rows d more c) in
-    let left = total_filter (λ c. is_parent (row_of rows c).parent q) f (numbers_below (length rows)) in
-    let right = total_filter (λ c. is_parent (row_of rows c).parent q) g (numbers_below (length rows)) in
-    let same = total_range (λ c. cond (is_parent (row_of rows c).parent q) (f c) 0) (λ c. cond (is_parent (row_of rows c).parent q) (g c) 0) 0 (length rows)
+    let left = sum-filter (λ c. is_parent (row_of rows c).parent q) f (numbers_below (length rows)) in
+    let right = sum-filter (λ c. is_parent (row_of rows c).parent q) g (numbers_below (length rows)) in
+    let same = same_below (λ c. cond (is_parent (row_of rows c).parent q) (f c) 0) (λ c. cond (is_parent (row_of rows c).parent q) (g c) 0) 0 (length rows)
     (λ c below. child_same rows tree q c (omega (arith, below)) (f c) (g c) (λ after. ap (λ used. cond (row_of rows c).hard (max_of rows c) used) (use_deep rows tree d depth more c (omega (arith, below)) (omega (arith, after, deep)) (omega (arith, after, deeper))))) in
     omega (arith, left, right, same)

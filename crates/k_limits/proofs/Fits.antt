@@ -11,8 +11,9 @@ use Rattle.k_limits.specs.Limits.{ChargedLimits, charged_limits, use_at, is_full
 use Rattle.k_limits.specs.Rows.{uncharged, is_refused, first_refused}
 use Rattle.k_limits.specs.Paths.{InRows, path_from, reserved_from, times_on}
 use Rattle.k_limits.specs.Laws.{ReservesFit}
+use Rattle.k_base.proofs.Lists.{length_push}
 use Rattle.k_limits.proofs.Uses.{cases_lt, room_for, none_full}
-use Rattle.k_limits.proofs.Reserves.{length_more, row_before, tree_before, reserved_in, refused_is, use_reserved, use_of_last}
+use Rattle.k_limits.proofs.Reserves.{row_before, tree_before, reserved_in, refused_is, use_reserved, use_of_last}
 use Rattle.k_limits.proofs.Making.{none_from, find_none_from, take_tree}
 use Rattle.k_limits.proofs.MachineUses.{use_same}
 
@@ -21,12 +22,12 @@ abbrev pub AllFit : List LimitRow → Type 0
 AllFit rows = (m : ℕ) → m < length rows → use_at (uncharged rows) m ≤ max_of rows m
 
 -- which is to say that all reserves fit
-use_uncharged : (rows : List LimitRow) (m : ℕ) → m < length rows → use_at (uncharged rows) m ≡ use_within rows (λ q. 0) (length rows) m
+pub use_uncharged : (rows : List LimitRow) (m : ℕ) → m < length rows → use_at (uncharged rows) m ≡ use_within rows (λ q. 0) (length rows) m
 use_uncharged rows m known = use_same rows (slice_index (replicate (length rows) 0)) (λ q. 0) (λ q inside. get_or-replicate (length rows) q 0 0 inside) (length rows) m known
 
 module _ (rows : List LimitRow) (row : LimitRow) (tree : IsTree (rows ++ row ∷ [])) where
   uncharged_more : uncharged (rows ++ row ∷ []) ≡ charged_limits (rows ++ row ∷ []) (replicate (length rows) 0 ++ 0 ∷ [])
-  uncharged_more = ap (charged_limits (rows ++ row ∷ [])) (ap (λ (k : ℕ). replicate k 0) (length_more rows row) ∙ sym (replicate-append-replicate (length rows) 1 0))
+  uncharged_more = ap (charged_limits (rows ++ row ∷ [])) (ap (λ (k : ℕ). replicate k 0) (length_push rows row) ∙ sym (replicate-append-replicate (length rows) 1 0))
 
   use_more_at : (m : ℕ) → m < length rows → use_at (uncharged (rows ++ row ∷ [])) m ≡ use_at (uncharged rows) m + row.max * times_on (path_from rows (reserved_from row)) m
   use_more_at m known = ap (λ (l : ChargedLimits). use_at l m) uncharged_more ∙ use_reserved (uncharged rows) row tree (length-replicate (length rows) 0) m known
@@ -56,11 +57,11 @@ module _ (rows : List LimitRow) (row : LimitRow) (tree : IsTree (rows ++ row ∷
       let none = none_of_false (find (is_full_at (uncharged rows) row.max) (path_from rows (reserved_from row))) (sym (refused_is (uncharged rows) row) ∙ not_refused) in
       elim (cases_lt m (length rows)) [
         | inl before ↦ (let room = room_from_fit fit (reserved_from row) (reserved_in rows row tree) none m before in omega (arith, use_more_at m before, room, max_before m before))
-        | inr after ↦ (let last : m ≡ length rows = (let more = length_more rows row in omega (arith, after, inside, more)) in let nothing = ap (use_at (uncharged (rows ++ row ∷ []))) last ∙ use_last_at in omega (arith, nothing))
+        | inr after ↦ (let last : m ≡ length rows = (let more = length_push rows row in omega (arith, after, inside, more)) in let nothing = ap (use_at (uncharged (rows ++ row ∷ []))) last ∙ use_last_at in omega (arith, nothing))
       ]
 
   fit_room : AllFit (rows ++ row ∷ []) → (m : ℕ) → m < length rows → use_at (uncharged rows) m + row.max * times_on (path_from rows (reserved_from row)) m ≤ max_of rows m
-  fit_room fit m known = let whole = fit m (let more = length_more rows row in omega (arith, known, more)) in omega (arith, whole, use_more_at m known, max_before m known)
+  fit_room fit m known = let whole = fit m (let more = length_push rows row in omega (arith, known, more)) in omega (arith, whole, use_more_at m known, max_before m known)
 
   pub fit_less : AllFit (rows ++ row ∷ []) → AllFit rows
   fit_less fit m known = omega (arith, fit_room fit m known)

@@ -1,4 +1,3 @@
-pub mod Sums
 pub mod Walks
 pub mod Charges
 pub mod Uses

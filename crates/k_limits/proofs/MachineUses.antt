@@ -1,5 +1,5 @@
 -- The machine's uses, and those over a list of what is charged directly.
-use Rattle.std.proofs.Common.{◌≡◌, ℕ, zero, suc, ◌+◌, ◌<◌, nat_lt, cond, refl, ap, ◌∙◌, sym, List, [], ◌∷◌, find, length, slice_index, arith}
+use Rattle.std.proofs.Common.{◌≡◌, ℕ, zero, suc, ◌+◌, ◌<◌, nat_lt, cond, refl, ap, List, find, length, slice_index, arith}
 use Rattle.k_types.specs.Numbers.{numbers_below}
 use Rattle.k_types.specs.declared.setup.LimitRow.{LimitRow}
 use Rattle.k_types.specs.Trace.{Trace, row_of}
@@ -10,7 +10,8 @@ use Rattle.k_types.specs.Limits.{max_of, is_parent, use_within, path_of, direct_
 use Rattle.k_limits.specs.Limits.{use_at, is_full_at, full_at}
 use Rattle.k_types.specs.Cells.{BookPart, use_shown}
 use Rattle.k_limits.specs.Laws.{limits_of, limits_by, AreCharges}
-use Rattle.k_limits.proofs.Sums.{total_filter, total_range}
+use Rattle.k_base.proofs.Sums.{sum-filter, same_below}
+use Rattle.k_base.proofs.Maxima.{length_in, tree_in}
 use Rattle.k_limits.proofs.Uses.{find_same, on_path_in}
 
 -- uses look at the charges of the tree's limits alone
@@ -20,33 +21,18 @@ use_same rows d e same zero m known = refl
 use_same rows d e same (suc depth) m known =
     let f : ℕ → ℕ = λ c. cond (row_of rows c).hard (max_of rows c) (use_within rows d depth c) in
     let g : ℕ → ℕ = λ c. cond (row_of rows c).hard (max_of rows c) (use_within rows e depth c) in
-    let left = total_filter (λ c. is_parent (row_of rows c).parent m) f (numbers_below (length rows)) in
-    let right = total_filter (λ c. is_parent (row_of rows c).parent m) g (numbers_below (length rows)) in
-    let mid = total_range (λ c. cond (is_parent (row_of rows c).parent m) (f c) 0) (λ c. cond (is_parent (row_of rows c).parent m) (g c) 0) 0 (length rows)
+    let left = sum-filter (λ c. is_parent (row_of rows c).parent m) f (numbers_below (length rows)) in
+    let right = sum-filter (λ c. is_parent (row_of rows c).parent m) g (numbers_below (length rows)) in
+    let mid = same_below (λ c. cond (is_parent (row_of rows c).parent m) (f c) 0) (λ c. cond (is_parent (row_of rows c).parent m) (g c) 0) 0 (length rows)
     (λ c below. ap (λ (used : ℕ). cond (is_parent (row_of rows c).parent m) (cond (row_of rows c).hard (max_of rows c) used) 0) (use_same rows d e same depth c (omega (arith, below)))) in
     omega (arith, same m known, left, right, mid)
 
--- other maxima leave the tree as it is
-pub length_with : (rows : List LimitRow) (maxima : List ℕ) → length (with_maxima rows maxima) ≡ length rows
-length_with [] maxima = refl
-length_with (row ∷ rows) [] = refl
-length_with (row ∷ rows) (max ∷ maxima) = ap suc (length_with rows maxima)
-
-parent_with : (rows : List LimitRow) (maxima : List ℕ) (m : ℕ) → (row_of (with_maxima rows maxima) m).parent ≡ (row_of rows m).parent
-parent_with [] maxima m = refl
-parent_with (row ∷ rows) [] m = refl
-parent_with (row ∷ rows) (max ∷ maxima) zero = refl
-parent_with (row ∷ rows) (max ∷ maxima) (suc m) = parent_with rows maxima m
-
-pub tree_with : (rows : List LimitRow) (maxima : List ℕ) → IsTree rows → IsTree (with_maxima rows maxima)
-tree_with rows maxima tree m parent known is = tree m parent (let same = length_with rows maxima in omega (arith, known, same)) (sym (parent_with rows maxima m) ∙ is)
-
 module _ (trace : Trace) (st : State) (direct : List ℕ) (charges : AreCharges trace st direct) where
   inside : (m : ℕ) → m < length (limits_in trace st) → m < length trace.limits
-  inside m known = let same = length_with trace.limits st.maxima in omega (arith, known, same)
+  inside m known = let same = length_in trace.limits st.maxima in omega (arith, known, same)
 
   inside_back : (m : ℕ) → m < length trace.limits → m < length (limits_in trace st)
-  inside_back m known = let same = length_with trace.limits st.maxima in omega (arith, known, same)
+  inside_back m known = let same = length_in trace.limits st.maxima in omega (arith, known, same)
 
   pub machine_use : (m : ℕ) → m < length trace.limits → use_at (limits_of trace st direct) m ≡ use_of trace st m
   machine_use m known =
@@ -56,7 +42,7 @@ module _ (trace : Trace) (st : State) (direct : List ℕ) (charges : AreCharges 
   machine_full tree m n known =
       find_same (is_full_at (limits_of trace st direct) n) (λ q. nat_lt (max_of (limits_in trace st) q) (use_of trace st q + n)) (path_of (limits_in trace st) m)
       (λ q there. ap (λ used. nat_lt (max_of (limits_in trace st) q) (used + n))
-      (machine_use q (inside q (on_path_in (limits_of trace st direct) (tree_with trace.limits st.maxima tree) m (inside_back m known) q there))))
+      (machine_use q (inside q (on_path_in (limits_of trace st direct) (tree_in trace.limits st.maxima tree) m (inside_back m known) q there))))
 
 pub machine_uses : (trace : Trace) (st : State) (direct : List ℕ) → AreCharges trace st direct → (m : ℕ) → m < length trace.limits → use_at (limits_of trace st direct) m ≡ use_of trace st m
 machine_uses trace st direct charges = machine_use trace st direct charges
@@ -66,8 +52,8 @@ machine_fulls trace st direct tree charges = machine_full trace st direct charge
 
 -- what the book's part shows
 pub shown_use : (trace : Trace) (book : BookPart) (m : ℕ) → use_at (limits_by trace book) m ≡ use_shown trace book m
-shown_use trace book m = ap (λ depth. use_within (with_maxima trace.limits book.maxima) (slice_index book.direct) depth m) (length_with trace.limits book.maxima)
+shown_use trace book m = ap (λ depth. use_within (with_maxima trace.limits book.maxima) (slice_index book.direct) depth m) (length_in trace.limits book.maxima)
 
 pub shown_full : (trace : Trace) (book : BookPart) (m n : ℕ) → full_at (limits_by trace book) m n ≡ find (λ q. nat_lt (max_of (limits_by trace book).rows q) (use_shown trace book q + n)) (path_of (limits_by trace book).rows m)
 shown_full trace book m n =
-    ap (λ depth. find (λ q. nat_lt (max_of (with_maxima trace.limits book.maxima) q) (use_within (with_maxima trace.limits book.maxima) (slice_index book.direct) depth q + n)) (path_of (with_maxima trace.limits book.maxima) m)) (length_with trace.limits book.maxima)
+    ap (λ depth. find (λ q. nat_lt (max_of (with_maxima trace.limits book.maxima) q) (use_within (with_maxima trace.limits book.maxima) (slice_index book.direct) depth q + n)) (path_of (with_maxima trace.limits book.maxima) m)) (length_in trace.limits book.maxima)

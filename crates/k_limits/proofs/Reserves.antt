@@ -1,10 +1,10 @@
 -- A row is put after the others: what its reservation does to the uses.
-use Rattle.std.proofs.Common.{◌≡◌, ℕ, zero, suc, ◌+◌, ◌*◌, ◌^◌, ◌<◌, ◌≤◌, ◌==◌, ◌&&◌, Bool, true, false, cond, refl, ap, ap₂, ◌∙◌, sym, List, [], ◌∷◌, ◌++◌, length, find, slice_index, Option, Some, None, is_some, arith, eq-eqb, ne_eqb, inl, inr, zero-le, length-append}
+use Rattle.std.proofs.Common.{◌≡◌, ℕ, zero, suc, ◌+◌, ◌*◌, ◌^◌, ◌<◌, ◌≤◌, ◌==◌, ◌&&◌, Bool, true, false, cond, refl, ap, ap₂, ◌∙◌, sym, List, [], ◌∷◌, ◌++◌, length, find, slice_index, Option, Some, None, is_some, arith, eq-eqb, ne_eqb, inl, inr, zero-le}
 use Rattle.std.proofs.Math.Path.{fun_ext}
 use Rattle.std.proofs.lemmas.Bool.{cases_eq}
 use Rattle.std.proofs.lemmas.List.{get_or_append_left, get_or-append-add, get_or_past}
 use Rattle.k_types.specs.Totals.{total}
-use Rattle.k_types.specs.Numbers.{numbers_below}
+use Rattle.k_types.specs.Numbers.{numbers_from, numbers_below}
 use Rattle.k_types.specs.declared.names.LimitId.{LimitId}
 use Rattle.k_types.specs.declared.setup.LimitRow.{LimitRow}
 use Rattle.k_types.specs.Trace.{row_of, no_row}
@@ -13,12 +13,13 @@ use Rattle.k_types.specs.Limits.{use_within, max_of, is_parent}
 use Rattle.k_limits.specs.Limits.{ChargedLimits, charged_limits, use_at, is_full_at}
 use Rattle.k_limits.specs.Rows.{AreRows, is_refused, is_parent_full}
 use Rattle.k_limits.specs.Paths.{InRows, is_over, path_from, reserved_from, times_on, AreUses}
-use Rattle.k_limits.proofs.Sums.{bit, total_filter, total_range, total_zero, total_append, numbers_more}
+use Rattle.k_base.proofs.Sums.{bit, sum-filter, same_below, zeros, total_append}
+use Rattle.k_base.proofs.Lists.{length_push, numbers_push}
 use Rattle.k_limits.proofs.Charges.{neither, child_after, use_charged, use_deep}
 use Rattle.k_limits.proofs.Uses.{cases_lt, use_small, found_full, raise_small, room_for}
 
-pub length_more : {A : Type 0} (xs : List A) (x : A) → length (xs ++ x ∷ []) ≡ length xs + 1
-length_more xs x = length-append xs (x ∷ [])
+numbers_more : (first n : ℕ) → numbers_from first (n + 1) ≡ numbers_from first n ++ (first + n) ∷ []
+numbers_more first n = let next : n + 1 ≡ suc n = omega arith in ap (λ (k : ℕ). numbers_from first k) next ∙ numbers_push first n
 
 pub row_before : (rows : List LimitRow) (row : LimitRow) (c : ℕ) → c < length rows → row_of (rows ++ row ∷ []) c ≡ row_of rows c
 row_before rows row c before = get_or_append_left rows (row ∷ []) no_row c before
@@ -33,14 +34,14 @@ reservation row q = cond (is_parent row.parent q) (cond row.hard row.max 0) 0
 module _ (rows : List LimitRow) (row : LimitRow) (tree : IsTree (rows ++ row ∷ [])) where
   pub tree_before : IsTree rows
   tree_before m parent known is =
-      tree m parent (let more = length_more rows row in omega (arith, known, more)) (ap (λ (r : LimitRow). r.parent) (row_before rows row m known) ∙ is)
+      tree m parent (let more = length_push rows row in omega (arith, known, more)) (ap (λ (r : LimitRow). r.parent) (row_before rows row m known) ∙ is)
 
   pub parent_before : InRows rows row.parent
   parent_before = go row.parent refl
     where
       go : (parent : Option LimitId) → row.parent ≡ parent → InRows rows parent
       go None is = tt
-      go (Some r) is = tree (length rows) r (let more = length_more rows row in omega (arith, more)) (ap (λ (x : LimitRow). x.parent) (row_last rows row) ∙ is)
+      go (Some r) is = tree (length rows) r (let more = length_push rows row in omega (arith, more)) (ap (λ (x : LimitRow). x.parent) (row_last rows row) ∙ is)
 
   pub reserved_in : InRows rows (reserved_from row)
   reserved_in = elim row.hard as (λ b. InRows rows (cond b row.parent None)) [ true ↦ parent_before | false ↦ tt ]
@@ -56,11 +57,11 @@ module _ (rows : List LimitRow) (row : LimitRow) (tree : IsTree (rows ++ row ∷
     use_last zero = refl
     use_last (suc depth) =
         let all = rows ++ row ∷ [] in
-        let zeros = total_range (λ c. cond (is_parent (row_of all c).parent (length rows)) (part_of all d depth c) 0) (λ c. 0) 0 (length all)
-        (λ c below. child_after all tree (length rows) c (omega (arith, below)) (part_of all d depth c) (λ after. absurd (let more = length_more rows row in omega (arith, below, after, more)))) in
-        let sums = total_filter (λ c. is_parent (row_of all c).parent (length rows)) (part_of all d depth) (numbers_below (length all)) in
-        let nothing = total_zero (numbers_below (length all)) in
-        omega (arith, none, sums, zeros, nothing)
+        let others = same_below (λ c. cond (is_parent (row_of all c).parent (length rows)) (part_of all d depth c) 0) (λ c. 0) 0 (length all)
+        (λ c below. child_after all tree (length rows) c (omega (arith, below)) (part_of all d depth c) (λ after. absurd (let more = length_push rows row in omega (arith, below, after, more)))) in
+        let sums = sum-filter (λ c. is_parent (row_of all c).parent (length rows)) (part_of all d depth) (numbers_below (length all)) in
+        let nothing = zeros (numbers_below (length all)) in
+        omega (arith, none, sums, others, nothing)
 
     -- the uses of the others are as if the reservation were charged at the parent
     pub use_before : (depth q : ℕ) → q < length rows → use_within (rows ++ row ∷ []) d depth q ≡ use_within rows (λ q. d q + reservation row q) depth q
@@ -69,12 +70,12 @@ module _ (rows : List LimitRow) (row : LimitRow) (tree : IsTree (rows ++ row ∷
     use_before (suc depth) q inside =
         let all = rows ++ row ∷ [] in
         let e : ℕ → ℕ = λ q. d q + reservation row q in
-        let sums = total_filter (λ c. is_parent (row_of all c).parent q) (part_of all d depth) (numbers_below (length all)) in
-        let numbers = ap (λ ns. total (λ c. cond (is_parent (row_of all c).parent q) (part_of all d depth c) 0) ns) (ap numbers_below (length_more rows row) ∙ numbers_more 0 (length rows)) in
+        let sums = sum-filter (λ c. is_parent (row_of all c).parent q) (part_of all d depth) (numbers_below (length all)) in
+        let numbers = ap (λ ns. total (λ c. cond (is_parent (row_of all c).parent q) (part_of all d depth c) 0) ns) (ap numbers_below (length_push rows row) ∙ numbers_more 0 (length rows)) in
         let split = total_append (λ c. cond (is_parent (row_of all c).parent q) (part_of all d depth c) 0) (numbers_below (length rows)) ((0 + length rows) ∷ []) in
-        let before = total_range (λ c. cond (is_parent (row_of all c).parent q) (part_of all d depth c) 0) (λ c. cond (is_parent (row_of rows c).parent q) (part_of rows e depth c) 0) 0 (length rows)
+        let before = same_below (λ c. cond (is_parent (row_of all c).parent q) (part_of all d depth c) 0) (λ c. cond (is_parent (row_of rows c).parent q) (part_of rows e depth c) 0) 0 (length rows)
         (λ c below. same_part depth c q (omega (arith, below)) (use_before depth c)) in
-        let after = total_filter (λ c. is_parent (row_of rows c).parent q) (part_of rows e depth) (numbers_below (length rows)) in
+        let after = sum-filter (λ c. is_parent (row_of rows c).parent q) (part_of rows e depth) (numbers_below (length rows)) in
         let last = last_part depth q in
         omega (arith, sums, numbers, split, before, after, last)
       where
@@ -131,7 +132,7 @@ module _ (limits : ChargedLimits) (row : LimitRow) (tree : IsTree (limits.rows +
   -- what the reservation adds to each use
   pub use_reserved : (m : ℕ) → m < length limits.rows → use_at (charged_limits (limits.rows ++ row ∷ []) (limits.direct ++ 0 ∷ [])) m ≡ use_at limits m + row.max * times_on (path_from limits.rows (reserved_from row)) m
   use_reserved m known =
-      let more = length_more limits.rows row in
+      let more = length_push limits.rows row in
       use_before limits.rows row tree (slice_index (limits.direct ++ 0 ∷ [])) (direct_same (length limits.rows) ∙ get_or_past limits.direct (length limits.rows) 0 (omega (arith, charges))) (length (limits.rows ++ row ∷ [])) m known
       ∙ use_deep limits.rows (tree_before limits.rows row tree) (λ q. slice_index (limits.direct ++ 0 ∷ []) q + reservation row q) (length (limits.rows ++ row ∷ [])) (length limits.rows) m known (omega (arith, more)) (omega arith)
       ∙ go row.hard row.parent (parent_before limits.rows row tree)
@@ -161,7 +162,7 @@ module _ (limits : ChargedLimits) (row : LimitRow) (tree : IsTree (limits.rows +
 module _ (limits : ChargedLimits) (uses : List ℕ) (kept : AreUses limits uses) (row : LimitRow) (fine : AreRows (limits.rows ++ row ∷ [])) where
   pub max_small : row.max < 2 ^ 40
   max_small =
-      let small = fine.small (length limits.rows) (let more = length_more limits.rows row in omega (arith, more)) in
+      let small = fine.small (length limits.rows) (let more = length_push limits.rows row in omega (arith, more)) in
       let last = ap (λ (r : LimitRow). r.max) (row_last limits.rows row) in omega (arith, small, last)
 
   pub added : (uses' : List ℕ) → length limits.rows + 1 < 2 ^ 32 → find (is_full_at limits row.max) (path_from limits.rows (reserved_from row)) ≡ None → length uses' ≡ length uses
@@ -169,15 +170,15 @@ module _ (limits : ChargedLimits) (uses : List ℕ) (kept : AreUses limits uses)
       → AreUses (charged_limits (limits.rows ++ row ∷ []) (limits.direct ++ 0 ∷ [])) (uses' ++ 0 ∷ [])
   added uses' few none same raised = record {
     rows = fine;
-    few = let more = length_more limits.rows row in omega (arith, few, more);
-    charges = (let more = length_more limits.rows row in let also = length_more limits.direct 0 in omega (arith, more, also, kept.charges));
-    all = (let more = length_more limits.rows row in let also = length_more uses' 0 in omega (arith, more, also, same, kept.all));
+    few = let more = length_push limits.rows row in omega (arith, few, more);
+    charges = (let more = length_push limits.rows row in let also = length_push limits.direct 0 in omega (arith, more, also, kept.charges));
+    all = (let more = length_push limits.rows row in let also = length_push uses' 0 in omega (arith, more, also, same, kept.all));
     each = each';
     fit = fit';
   }
     where
       at_last : (m : ℕ) → length limits.rows ≤ m → m < length (limits.rows ++ row ∷ []) → m ≡ length limits.rows
-      at_last m after inside = let more = length_more limits.rows row in omega (arith, after, inside, more)
+      at_last m after inside = let more = length_push limits.rows row in omega (arith, after, inside, more)
 
       each' : (m : ℕ) → m < length (limits.rows ++ row ∷ []) → slice_index (uses' ++ 0 ∷ []) m ≡ use_at (charged_limits (limits.rows ++ row ∷ []) (limits.direct ++ 0 ∷ [])) m
       each' m inside =

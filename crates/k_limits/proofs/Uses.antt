@@ -8,7 +8,7 @@ use Rattle.k_types.specs.TraceRules.{IsTree}
 use Rattle.k_types.specs.Limits.{use_within, path_of, max_of}
 use Rattle.k_limits.specs.Limits.{ChargedLimits, charged_limits, use_at, is_full_at, full_at}
 use Rattle.k_limits.specs.Paths.{is_over, times_on, AreUses}
-use Rattle.k_limits.proofs.Sums.{bit}
+use Rattle.k_base.proofs.Sums.{bit}
 use Rattle.k_limits.proofs.Walks.{path_low, path_once}
 use Rattle.k_limits.proofs.Charges.{use_charged}
 

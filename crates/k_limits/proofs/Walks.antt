@@ -10,7 +10,7 @@ use Rattle.k_types.specs.TraceRules.{IsTree}
 use Rattle.k_types.specs.Limits.{max_of, path_within, path_above, path_of}
 use Rattle.k_types.specs.Limits.{ancestors_within, ancestors_above, ancestors_of}
 use Rattle.k_limits.specs.Paths.{InRows, is_over, passed_to, path_from, ancestry_from, times_on, steps_left}
-use Rattle.k_limits.proofs.Sums.{bit}
+use Rattle.k_base.proofs.Sums.{bit}
 
 module _ (rows : List LimitRow) (tree : IsTree rows) where
   -- a path is whole at any depth that is enough

@@ -1,3 +1,4 @@
+//! Laws of the definitions.
 ghost use Rattle.std.specs.Prelude.{List, None, find, length, nat_lt, ◌+◌, ◌<◌, ◌≡◌, ◌↔◌, ℕ};
 ghost use Rattle.k_types.specs.Limits.{full_limit, max_of, path_of, use_of};
 ghost use Rattle.k_types.specs.Cells.{BookPart, use_shown};

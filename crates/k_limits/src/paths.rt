@@ -1,4 +1,4 @@
-// Walks up the path of a limit: the limit, and above each soft one its parent.
+//! Walks up the path of a limit: the limit, and above each soft one its parent.
 ghost use Rattle.std.specs.Prelude.{◌≡◌, ℕ, ◌+◌, ◌*◌, ◌^◌, ◌<◌, ◌≤◌, length, nat_lt, find, option_map, slice_index, Option, IsTrue};
 ghost use Rattle.k_types.specs.Names.{among};
 ghost use Rattle.k_types.specs.TraceRules.{IsTree};

@@ -1,5 +1,5 @@
-// Worked trees of limits below a root of 1,000 bytes. The first child is hard and has 120 bytes, the second is soft and
-// has 400 in most.
+//! Worked trees of limits below a root of 1,000 bytes. The first child is hard and has 120 bytes, the second is soft
+//! and has 400 in most.
 ghost use Rattle.std.specs.Prelude.{◌≡◌, Some, None, true, false};
 
 use crate::{LimitTree, MakeError};

@@ -1,3 +1,4 @@
+//! The tree of limits: what is charged, what is used, and whether there is room for more.
 ghost use Rattle.std.specs.Prelude.{◌≡◌, ℕ, ◌+◌, ◌-◌, ◌^◌, ◌<◌, ◌≤◌, [], ◌∷◌, ◌++◌, length, slice_index, slice_set, Some, None, IsTrue, IsFalse, IfOk, IfErr};
 ghost use Rattle.k_types.specs.Names.{among};
 ghost use Rattle.k_types.specs.Limits.{max_of};

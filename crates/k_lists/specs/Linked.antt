@@ -3,9 +3,11 @@ use Rattle.std.specs.Prelude.{◌≡◌, ℕ, zero, suc, ◌<◌, ◌^◌, List,
 use Rattle.k_lists.specs.declared.lists.Links.{Links}
 use Rattle.k_lists.specs.Lists.{ListsValue, AreApart, members}
 
+-- what is read where there is no number
 abbrev pub blank : Links
 blank = record { prev = 0; next = 0 }
 
+-- the links of the number
 abbrev pub at : List Links → ℕ → Links
 at links i = slice_index_or links i blank
 
@@ -15,6 +17,7 @@ walk links zero link = []
 walk links (suc n) zero = []
 walk links (suc n) (suc i) = i ∷ walk links n (at links i).next
 
+-- the lists that these links and heads are
 abbrev pub lists_of : List Links → List ℕ → ListsValue
 lists_of links heads = record { lists = map (walk links (length links)) heads; room = length links }
 

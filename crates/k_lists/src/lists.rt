@@ -1,3 +1,4 @@
+//! The lists, linked both ways through the numbers.
 ghost use Rattle.std.specs.Prelude.{◌≡◌, ◌<◌, ◌≤◌, ◌+◌, ◌∷◌, [], ℕ, Some, IfOk, IsTrue, length, replicate, slice_get, slice_set, vec_capacity};
 ghost use Rattle.k_lists.specs.Lists.{AreApart, IsFree, members, is_in, without};
 ghost use Rattle.k_lists.specs.Linked.{with_head, with_next, with_prev};

@@ -1,3 +1,4 @@
+//! Numbers that go from list to list, and lists over few and many numbers.
 use crate::Lists;
 use std::test::Fail;
 

@@ -1,8 +1,7 @@
 -- The end of a collection has the same numbers in two sound states where the heap's cell and the book have the same parts.
-use Rattle.std.proofs.Common.{◌≡◌, ℕ, ◌+◌, ◌==◌, ◌&&◌, ◌||◌, not, Bool, true, false, cond, refl, sym, ap, ap₂, ◌∙◌, List, [], ◌∷◌, map, filter, length, count_by, Option, Some, None, is_some, arith, IsTrue}
+use Rattle.std.proofs.Common.{◌≡◌, ℕ, ◌+◌, ◌==◌, ◌&&◌, ◌||◌, not, true, false, cond, refl, sym, ap, ap₂, ◌∙◌, List, [], ◌∷◌, map, filter, length, count_by, Option, Some, None, is_some, IsTrue}
 use Rattle.std.specs.List.{list_any}
 use Rattle.std.proofs.lemmas.Bool.{false≢true}
-use Rattle.std.proofs.lemmas.List.Recursion.{is_count_by}
 use Rattle.k_types.specs.declared.names.Name.{Name}
 use Rattle.k_types.specs.declared.names.Heap.{Heap}
 use Rattle.k_types.specs.declared.names.Heap.TheVariants.{Kernel, User, Shared}
@@ -25,29 +24,14 @@ use Rattle.k_changes.specs.BookChanges.{has_way_into}
 use Rattle.k_changes.proofs.SharedSums.{shares_sum}
 use Rattle.k_changes.proofs.WaysInto.{share_stays_so}
 use Rattle.k_base.proofs.NameTests.{heap_eq_refl, heap_eq-true}
-use Rattle.k_base.proofs.Sums.{bit, sum_same, sum-filter, zeros}
+use Rattle.k_base.proofs.Sums.{bit, sum_same, sum-filter, zeros, count_is_total, not_or_bit}
 use Rattle.k_laws.proofs.Means.{reach_is}
 use Rattle.k_locality.specs.Same.{SameToEvent}
 use Rattle.k_locality.proofs.SameRead.{owners_same}
 use Rattle.k_types.specs.TraceRules.{AreLimits}
 use Rattle.k_locality.proofs.SamePossible.{scan_same, scanned_same, done_possible, absorbed_possible, closing_possible}
-
--- a count is a sum
-pub counted : {A : Type 0} (p : A → Bool) (xs : List A) → count_by p xs ≡ total (λ x. bit (p x)) xs
-counted p xs = sym (is_count_by (total (λ x. bit (p x))) p refl (λ x xs. elim (p x) as (λ b. bit b + total (λ x. bit (p x)) xs ≡ cond b (1 + total (λ x. bit (p x)) xs) (total (λ x. bit (p x)) xs)) [ true ↦ omega arith | false ↦ omega arith ]) xs)
-
--- what passes both tests
-both_kept : (p q r : Object → Bool) → ((o : Object) → r o ≡ (p o && q o)) → (xs : List Object) → filter r xs ≡ filter q (filter p xs)
-both_kept p q r same [] = refl
-both_kept p q r same (x ∷ xs) = grind (arith, same x, both_kept p q r same xs)
-
-not_or : (a b : Bool) → not (not a || b) ≡ (a && not b)
-not_or true b = refl
-not_or false b = refl
-
-not_or_bit : (a b : Bool) → bit (not (not a || b)) ≡ cond a (bit (not b)) 0
-not_or_bit true b = refl
-not_or_bit false b = refl
+use Rattle.k_base.proofs.Lists.{both_kept}
+use Rattle.k_base.proofs.Tests.{not_or}
 
 -- the objects of the cell that its collection didn't reach, and whether it reached a reference to the name
 abbrev unreached : CellPart → List Object
@@ -74,7 +58,7 @@ module _ (trace : Trace) (st : State) (h : Heap) where
   exits_told : count_by (λ e. not (exit_stays trace st h e)) st.exits ≡ total (λ (e : ExitItem). cond (heap_eq e.heap h) (missed (part trace st h) e.target) 0) st.exits
   unfolding part exit_stays
   exits_told =
-      counted (λ e. not (exit_stays trace st h e)) st.exits
+      count_is_total (λ e. not (exit_stays trace st h e)) st.exits
       ∙ sum_same (λ e. bit (not (exit_stays trace st h e))) (λ (e : ExitItem). cond (heap_eq e.heap h) (missed (part trace st h) e.target) 0)
       (λ e. ap (λ set. bit (not (not (heap_eq e.heap h) || list_any (λ x. refers x e.target) set))) (reach_is trace st h (open_roots st h))
       ∙ not_or_bit (heap_eq e.heap h) (list_any (λ x. refers x e.target) (reached_in (part trace st h)))) st.exits
@@ -113,7 +97,7 @@ shares_told : (trace : Trace) (st : State) → IsSound trace st → (p : ℕ) (r
     count_by (λ e. not (share_stays trace st (user p) e)) st.shares ≡ shares_lost trace (owner_of trace st) (book_part trace st) (part trace st (user p)) p
 unfolding book_part
 shares_told trace st sound p roots opened =
-    counted (λ e. not (share_stays trace st (user p) e)) st.shares
+    count_is_total (λ e. not (share_stays trace st (user p) e)) st.shares
     ∙ sum_same (λ e. bit (not (share_stays trace st (user p) e))) (λ (e : Sharing). cond (e.process == p) (no_way (owner_of trace st) (book_part trace st) (part trace st (user p)) p e.heap) 0)
     (λ e. ap (λ b. bit (not b)) (share_stays_so trace st sound p roots opened e.heap e.process) ∙ not_or_bit (e.process == p) (has_way_into (owner_of trace st) (book_part trace st) (part trace st (user p)) p e.heap)) st.shares
     ∙ sym (sum-filter (λ (e : Sharing). e.process == p) (λ (e : Sharing). no_way (owner_of trace st) (book_part trace st) (part trace st (user p)) p e.heap) st.shares)
@@ -122,7 +106,7 @@ shares_told trace st sound p roots opened =
 -- other collections let no share go
 none_go : (trace : Trace) (st : State) (h : Heap) → ((e : Sharing) → not (share_stays trace st h e) ≡ false) → count_by (λ e. not (share_stays trace st h e)) st.shares ≡ 0
 none_go trace st h stays =
-    counted (λ e. not (share_stays trace st h e)) st.shares
+    count_is_total (λ e. not (share_stays trace st h e)) st.shares
     ∙ sum_same (λ e. bit (not (share_stays trace st h e))) (λ e. 0) (λ e. ap bit (stays e)) st.shares
     ∙ zeros st.shares
 

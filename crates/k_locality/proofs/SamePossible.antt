@@ -27,7 +27,7 @@ use Rattle.k_base.proofs.Tests.{same_test}
 use Rattle.k_laws.proofs.SoundSharing.{sharer_of}
 
 -- a shared heap has a sharer where some process shares it
-sharer_from : (shares : List Sharing) (s : ℕ) → IsTrue (has_sharer shares s) → (p : ℕ) × IsTrue (has_share shares p s)
+pub sharer_from : (shares : List Sharing) (s : ℕ) → IsTrue (has_sharer shares s) → (p : ℕ) × IsTrue (has_share shares p s)
 sharer_from [] s t = absurd (false≢true t)
 sharer_from (e ∷ shares) s t =
     elim (or_cases (e.heap == s) (has_sharer shares s) t) [

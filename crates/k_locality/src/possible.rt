@@ -1,3 +1,4 @@
+//! The same events are possible, and leave the same, in states with the same touched parts.
 ghost use Rattle.std.specs.Prelude.{List, ℕ};
 ghost use Rattle.k_locality.specs.Same.{SameToEvent};
 ghost use Rattle.k_types.specs.Sound.{IsSound};

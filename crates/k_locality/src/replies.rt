@@ -1,3 +1,4 @@
+//! Operations touch the same cells and get the same replies in states with the same touched parts.
 ghost use Rattle.std.specs.Prelude.{IsFalse, IsTrue, ◌<◌, ◌≡◌};
 ghost use Rattle.k_locality.specs.Same.{SameToEvent};
 ghost use Rattle.k_types.specs.Cells.{cells_touched};

@@ -1,6 +1,7 @@
 -- The three nodes, from their making to their marks.
 use Rattle.std.proofs.Common.{◌≡◌, ℕ, zero, suc, ◌↔◌, true, false, refl, sym, ap, ap₂, subst, ◌∙◌, List, [], ◌∷◌, length, map, get_or, slice_get, slice_set, Option, Some, None, option_map}
 use Rattle.std.proofs.lemmas.Bool.{false≢true, false_from_ne_true}
+use Rattle.k_base.proofs.Lists.{some_one}
 use Rattle.k_types.specs.declared.names.Name.{Name}
 use Rattle.k_types.specs.declared.names.Link.{Link}
 use Rattle.k_types.specs.declared.names.TypeId.{TypeId}
@@ -19,9 +20,6 @@ node_type = record { 0 = 0 }
 
 abbrev empty_segment : SegmentValue
 empty_segment = record { number = 1; room = 3; rows = None ∷ [] }
-
-same_row : {a b : Row} → ◌≡◌ {A = Option Row} (Some a) (Some b) → a ≡ b
-same_row e = cc
 
 has_both : (one other : Option Name) (row : Row) → Refers one ∷ Refers other ∷ Holds 0 ∷ [] ≡ row.fields → HasRef row.fields 0 × HasRef row.fields 1
 has_both one other row e =
@@ -47,9 +45,9 @@ module _ (s : SegmentValue) (x y z : ℕ) (one other back : Option Name) (is : s
   -- every object of the segment has two reference fields
   refers_by_serial : (serial : ℕ) (row : Row) → get_or (nodes_of x y z one other back).rows serial None ≡ Some row → HasRef row.fields 0 × HasRef row.fields 1
   refers_by_serial zero row e = absurd (cc)
-  refers_by_serial (suc zero) row e = has_both one other row (ap (λ (w : Row). w.fields) (same_row e))
-  refers_by_serial (suc (suc zero)) row e = has_both back None row (ap (λ (w : Row). w.fields) (same_row e))
-  refers_by_serial (suc (suc (suc zero))) row e = has_both None None row (ap (λ (w : Row). w.fields) (same_row e))
+  refers_by_serial (suc zero) row e = has_both one other row (ap (λ (w : Row). w.fields) (some_one e))
+  refers_by_serial (suc (suc zero)) row e = has_both back None row (ap (λ (w : Row). w.fields) (some_one e))
+  refers_by_serial (suc (suc (suc zero))) row e = has_both None None row (ap (λ (w : Row). w.fields) (some_one e))
   refers_by_serial (suc (suc (suc (suc serial)))) row e = absurd (cc)
 
   pub has_refs : (serial : ℕ) (row : Row) → row_at s serial ≡ Some row → HasRef row.fields 0 × HasRef row.fields 1

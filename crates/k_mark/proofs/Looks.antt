@@ -166,7 +166,7 @@ marked_gray White = refl
 marked_gray Gray = refl
 marked_gray Black = refl
 
-black_gray : (c : Color) → is_black (gray_or_black c) ≡ is_black c
+pub black_gray : (c : Color) → is_black (gray_or_black c) ≡ is_black c
 black_gray White = refl
 black_gray Gray = refl
 black_gray Black = refl

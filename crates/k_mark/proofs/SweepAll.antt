@@ -1,10 +1,11 @@
 -- One segment after another is swept.
-use Rattle.std.proofs.Common.{◌≡◌, ◌==◌, ℕ, zero, suc, ◌+◌, ◌<◌, ◌≤◌, refl, sym, ap, ap₂, ◌∙◌, inl, inr, List, [], ◌∷◌, ◌++◌, length, map, take, drop, get_or, set, slice_get, sum_by, Option, Some, add-one, arith}
+use Rattle.std.proofs.Common.{◌≡◌, ◌==◌, ℕ, zero, suc, ◌+◌, ◌<◌, ◌≤◌, refl, sym, ap, ap₂, ◌∙◌, inl, inr, List, [], ◌∷◌, ◌++◌, length, map, take, drop, get_or, set, slice_get, sum_by, Some, add-one, arith}
 use Rattle.std.proofs.lemmas.Bool.{cases_eq}
 use Rattle.std.proofs.lemmas.List.Edits.{map_over_more}
 use Rattle.std.proofs.lemmas.List.Folds.{position_or_len-set}
 use Rattle.std.proofs.lemmas.List.Sums.{sum_by-cons}
 use Rattle.std.proofs.lemmas.Option.{slice_get-get_or, slice_get_within, get_or_from_slice_get}
+use Rattle.k_base.proofs.Lists.{some_one}
 use Rattle.k_space.specs.Segments.{SegmentValue}
 use Rattle.k_space.specs.Areas.{place_of, segment_at, HasDistinct}
 use Rattle.k_space.proofs.AreaRows.{slice_get-set_same, slice_get-set_other}
@@ -36,16 +37,13 @@ next_one old now i e distinct within =
     let place = distinct i (get_or old i blank) is in
     record { s = get_or old i blank; was = was; is = is; place = place; found = ap (slice_get now) place ∙ is }
 
-same_segment : {x y : SegmentValue} → ◌≡◌ {A = Option SegmentValue} (Some x) (Some y) → x ≡ y
-same_segment e = cc
-
 -- another segment of the same number leaves the numbers distinct
 pub distinct_set : (xs : List SegmentValue) (i : ℕ) (s t : SegmentValue) → HasDistinct xs → slice_get xs i ≡ Some s → t.number ≡ s.number → HasDistinct (set xs i t)
 distinct_set xs i s t distinct at same j u e =
     position_or_len-set (λ (x : SegmentValue). x.number == u.number) xs i t s (ap (λ n. n == u.number) (same ∙ sym (ap (λ (x : SegmentValue). x.number) (get_or_from_slice_get xs i s s at))))
     ∙ elim (cases_eq j i) [
       | inl is ↦
-          let one : t ≡ u = same_segment (sym (slice_get-set_same xs i t (slice_get_within xs i s at)) ∙ ap (slice_get (set xs i t)) (sym is) ∙ e) in
+          let one : t ≡ u = some_one (sym (slice_get-set_same xs i t (slice_get_within xs i s at)) ∙ ap (slice_get (set xs i t)) (sym is) ∙ e) in
           ap (place_of xs) (sym (ap (λ (x : SegmentValue). x.number) one) ∙ same) ∙ distinct i s at ∙ sym is
       | inr differs ↦ distinct j u (sym (slice_get-set_other xs i j t differs) ∙ e)
     ]

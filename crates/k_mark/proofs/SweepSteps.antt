@@ -1,7 +1,8 @@
 -- What one sweep of a segment has done so far.
-use Rattle.std.proofs.Common.{◌≡◌, ℕ, zero, suc, ◌+◌, ◌<◌, true, cond, refl, sym, ap, ap₂, ◌∙◌, List, [], ◌∷◌, length, map, get_or, sum_by, Option, Some, None, arith}
+use Rattle.std.proofs.Common.{◌≡◌, ℕ, suc, ◌+◌, ◌<◌, true, cond, refl, sym, ap, ap₂, ◌∙◌, List, [], ◌∷◌, length, map, get_or, sum_by, Option, Some, None, arith, ◌≤◌, Bool, false}
 use Rattle.std.proofs.Math.Seq.{map-set_same}
 use Rattle.std.proofs.lemmas.List.Sums.{sum_by-cons, sum_by-set}
+use Rattle.k_base.proofs.Lists.{some_inside}
 use Rattle.k_types.specs.Types.{object_size}
 use Rattle.k_space.specs.declared.segment.Gone.{Gone}
 use Rattle.k_space.specs.Segments.{Row, SegmentValue, row_at, is_marked}
@@ -16,10 +17,18 @@ pub record IsSweeping (old now : SegmentValue) (objects bytes begun_objects begu
   pub objects_are : objects + sum_by dead_row now.rows ≡ begun_objects + sum_by dead_row old.rows
   pub bytes_are : bytes + sum_by dead_bytes_of now.rows ≡ begun_bytes + sum_by dead_bytes_of old.rows
 
-inside : (rows : List (Option Row)) (i : ℕ) (row : Row) → get_or rows i None ≡ Some row → i < length rows
-inside [] i row e = absurd (cc)
-inside (x ∷ xs) zero row e = omega arith
-inside (x ∷ xs) (suc i) row e = omega (arith, inside xs i row e)
+dead_once : (o : Option Row) → dead_row o ≤ 1
+dead_once None = omega arith
+dead_once (Some row) = by_mark (is_marked row.color)
+  where
+    by_mark : (b : Bool) → cond b 0 1 ≤ 1
+    by_mark true = omega arith
+    by_mark false = omega arith
+
+-- no more objects are dead than there are places for them
+pub dead_rows : (rows : List (Option Row)) → sum_by dead_row rows ≤ length rows
+dead_rows [] = omega arith
+dead_rows (o ∷ rows) = omega (arith, sum_by-cons dead_row o rows, dead_once o, dead_rows rows)
 
 pub goes_on : (old now after : SegmentValue) (objects bytes begun_objects begun_bytes : ℕ) (gone : Gone) → IsSweeping old now objects bytes begun_objects begun_bytes → IsTakenAway now after gone →
     IsSweeping old after (objects + 1) (bytes + gone.bytes) begun_objects begun_bytes × (sum_by dead_row after.rows < sum_by dead_row now.rows)
@@ -35,7 +44,7 @@ goes_on old now after objects bytes begun_objects begun_bytes gone was freed = (
 )
   where
     within : gone.serial.0 < length now.rows
-    within = inside now.rows gone.serial.0 freed.row freed.there
+    within = some_inside now.rows gone.serial.0 freed.row freed.there
 
     dead_survivor : survivor (get_or now.rows gone.serial.0 None) ≡ None
     dead_survivor = ap survivor freed.there ∙ ap (λ c. cond (is_marked c) (Some freed.row) None) freed.unmarked

@@ -1,5 +1,5 @@
 -- A trace of one object's fields.
-use Rattle.std.proofs.Common.{◌≡◌, ℕ, zero, suc, ◌+◌, ◌<◌, true, false, refl, sym, ap, ap₂, subst, ◌∙◌, inl, inr, List, [], ◌∷◌, ◌++◌, length, count_by, cond, take, slice_get, Option, Some, None, is_some, option_map, add-one, arith}
+use Rattle.std.proofs.Common.{◌≡◌, ℕ, zero, suc, ◌+◌, true, false, refl, sym, ap, ap₂, subst, ◌∙◌, inl, inr, List, [], ◌∷◌, ◌++◌, count_by, cond, take, slice_get, Option, Some, None, is_some, option_map, add-one}
 use Rattle.std.proofs.lemmas.Bool.{or_left, or_right, or_cases, false≢true}
 use Rattle.std.proofs.lemmas.List.Sums.{sum_by-append}
 use Rattle.k_types.specs.declared.names.Name.{Name}
@@ -51,21 +51,12 @@ traced_more area exits at i now after es items c traced at_i a e fields is =
     ∙ sym (looked_push (take i fields) c (record { area = area; exits = exits }))
     ∙ sym (ap (λ cs. looked_all cs (record { area = area; exits = exits })) (ap (λ k. take k fields) (add-one i) ∙ take_next fields i c (at_i fields is)))
 
-pub some_mapped : {A B : Type 0} (f : A → B) (o : Option A) → is_some (option_map f o) ≡ is_some o
-some_mapped f None = refl
-some_mapped f (Some x) = refl
-
 pub fields_live : (a : AreaValue) (n : Name) → is_some (row_of_name a.segments n) ≡ true → (fields : List Content) × (fields_at a n ≡ Some fields)
 fields_live a n live = by_row (row_of_name a.segments n) refl live
   where
     by_row : (o : Option Row) → row_of_name a.segments n ≡ o → is_some o ≡ true → (fields : List Content) × (fields_at a n ≡ Some fields)
     by_row None e l = absurd (false≢true l)
     by_row (Some row) e l = (row.fields, ap (option_map (λ (r : Row). r.fields)) e)
-
-pub inside_some : (fields : List Content) (i : ℕ) → i < length fields → None ≡ slice_get fields i → ⊥
-inside_some [] i within e = omega arith
-inside_some (x ∷ xs) zero within e = cc
-inside_some (x ∷ xs) (suc i) within e = inside_some xs i (omega (arith, within)) e
 
 pub count_next : (fields : List Content) (i : ℕ) (c : Content) → slice_get fields i ≡ Some c → count_by is_ref (take (i + 1) fields) ≡ count_by is_ref (take i fields) + count_by is_ref (c ∷ [])
 count_next fields i c e =

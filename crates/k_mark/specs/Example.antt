@@ -10,9 +10,11 @@ use Rattle.k_types.specs.Names.{name_of}
 use Rattle.k_space.specs.Segments.{Color, White, Row, SegmentValue}
 use Rattle.k_space.specs.Areas.{AreaValue}
 
+-- the one type: two references and an integer
 abbrev pub node_types : List (List Field)
 node_types = (Ref ∷ Ref ∷ Int ∷ []) ∷ []
 
+-- the name of the node of that serial
 abbrev pub node_name : ℕ → Name
 node_name serial = record { seg = record { 0 = 1 }; serial = record { 0 = serial } }
 

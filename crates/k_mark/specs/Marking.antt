@@ -12,6 +12,7 @@ use Rattle.k_mark.specs.Reached.{IsReached}
 abbrev pub fields_lead_to : List Content → Name → Bool
 fields_lead_to fields n = list_any (content_leads_to n) fields
 
+-- there is an object, and one of its fields is a reference to that name
 abbrev pub some_lead_to : Option (List Content) → Name → Bool
 some_lead_to None n = false
 some_lead_to (Some fields) n = fields_lead_to fields n
@@ -40,6 +41,7 @@ pub record Marks : Type 0 where
   pub area : AreaValue
   pub exits : List ExitRow
 
+-- a name that was looked at: its exit item is marked where it is foreign, else its object is gray
 abbrev pub looked_by : Bool → Marks → Name → Marks
 looked_by true m n = record m { exits = map (marked_if n) m.exits }
 looked_by false m n = record m { area = grayed m.area n }
@@ -50,10 +52,12 @@ looked m (Refers None) = m
 looked m (Refers (Some n)) = looked_by (is_foreign m.area n) m n
 looked m (Holds number) = m
 
+-- after a look at each of these fields
 abbrev pub looked_all : List Content → Marks → Marks
 looked_all [] m = m
 looked_all (c ∷ cs) m = looked_all cs (looked m c)
 
+-- the field is a reference
 abbrev pub is_ref : Content → Bool
 is_ref (Refers r) = true
 is_ref (Holds number) = false

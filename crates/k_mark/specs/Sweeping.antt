@@ -9,6 +9,7 @@ abbrev pub survivor : Option Row → Option Row
 survivor None = None
 survivor (Some row) = if is_marked row.color then Some row else None
 
+-- the segment without the objects that aren't marked
 abbrev pub swept_segment : SegmentValue → SegmentValue
 swept_segment s = record s { rows = map survivor s.rows }
 
@@ -16,10 +17,12 @@ swept_segment s = record s { rows = map survivor s.rows }
 abbrev pub swept : AreaValue → AreaValue
 swept a = record a { segments = map swept_segment a.segments }
 
+-- 1 for an object that isn't marked
 abbrev pub dead_row : Option Row → ℕ
 dead_row None = 0
 dead_row (Some row) = if is_marked row.color then 0 else 1
 
+-- the bytes of an object that isn't marked
 abbrev pub dead_bytes_of : Option Row → ℕ
 dead_bytes_of None = 0
 dead_bytes_of (Some row) = if is_marked row.color then 0 else object_size (length row.fields)

@@ -1,3 +1,4 @@
+//! Laws of the definitions.
 ghost use Rattle.std.specs.Prelude.{◌≡◌, ◌↔◌, ◌&&◌, not, Bool, List, length, filter, IsTrue};
 ghost use Rattle.std.specs.List.{list_any};
 ghost use Rattle.k_types.specs.declared.names.Name.{Name};

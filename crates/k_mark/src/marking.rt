@@ -1,3 +1,4 @@
+//! Marking: what references reach from the gray objects is black in the end.
 ghost use Rattle.std.specs.Prelude.{◌≡◌, ℕ, ◌<◌, ◌≤◌, ◌↔◌, IsTrue, IsFalse, IsSome, Some, None, List, length, slice_get, slice_index_or, is_some, ◌∷◌, [], ◌+◌, count_by};
 ghost use Rattle.k_types.specs.declared.names.Name.{Name as Named};
 ghost use Rattle.k_types.specs.State.{Content};

@@ -1,3 +1,4 @@
+//! The count of the steps of marking.
 ghost use Rattle.std.specs.Prelude.{◌≡◌, ◌+◌, ◌<◌};
 
 use std::marker::Model;

@@ -1,3 +1,4 @@
+//! Sweeping: the objects that aren't marked are freed.
 ghost use Rattle.std.specs.Prelude.{◌≡◌, ◌<◌, ◌+◌, ◌^◌, length};
 ghost use Rattle.std.specs.List.{sum_by};
 ghost use Rattle.k_space.specs.Areas.{HasDistinct};

@@ -1,3 +1,4 @@
+//! Three nodes, of which marking reaches two, and the third is freed.
 ghost use Rattle.std.specs.Prelude.{◌≡◌, ◌+◌, ◌<◌, [], IfOk};
 ghost use Rattle.k_space.specs.Segments.{White, Black};
 ghost use Rattle.k_mark.specs.Example.{AreConnected, AreNodes, ArePlaced, node_types};

@@ -6,21 +6,10 @@ use Rattle.k_types.specs.Owners.{object_bytes}
 use Rattle.k_types.specs.Types.{object_size}
 use Rattle.k_space.specs.Segments.{SegmentValue, Row, objects_from, segment_bytes, is_marked, made}
 use Rattle.k_space.specs.Areas.{AreaValue, rows_total, segment_at}
+use Rattle.k_mark.proofs.SweepSteps.{dead_rows}
 use Rattle.k_mark.specs.Sweeping.{dead_row, dead_bytes_of, dead_objects, dead_bytes}
 use Rattle.k_measure.specs.Inside.{IsOne}
 use Rattle.k_measure.proofs.Inside.{one_found}
-
-dead_once : (o : Option Row) → dead_row o ≤ 1
-dead_once None = omega arith
-dead_once (Some row) = by_mark (is_marked row.color)
-  where
-    by_mark : (b : Bool) → cond b 0 1 ≤ 1
-    by_mark true = omega arith
-    by_mark false = omega arith
-
-dead_rows : (rows : List (Option Row)) → sum_by dead_row rows ≤ length rows
-dead_rows [] = omega arith
-dead_rows (o ∷ rows) = omega (arith, sum_by-cons dead_row o rows, dead_once o, dead_rows rows)
 
 bytes_within : (row : Row) → dead_bytes_of (Some row) ≤ object_size (length row.fields)
 bytes_within row = by_mark (is_marked row.color)

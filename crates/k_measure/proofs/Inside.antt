@@ -19,7 +19,7 @@ use Rattle.k_mark.specs.Sweeping.{survivor, swept, swept_segment}
 use Rattle.k_space.proofs.AreaRows.{found, same_unmarked}
 use Rattle.k_space.proofs.Numbers.{distinct_from, found_at}
 use Rattle.k_base.proofs.NameTests.{name_eq-true}
-use Rattle.k_mark.proofs.Looks.{test_after}
+use Rattle.k_mark.proofs.Looks.{test_after, black_gray}
 use Rattle.k_mark.proofs.Marked.{refers_fields}
 use Rattle.k_measure.specs.Inside.{LeadNowhere, LeadInto, AreNew, KeepsInside, IsOne, HasNoBlack}
 
@@ -44,14 +44,6 @@ field_set (c ∷ fields) new content zero zero e = inr (cc)
 field_set (c ∷ fields) new content zero (suc j) e = inl e
 field_set (c ∷ fields) new content (suc i) zero e = inl e
 field_set (c ∷ fields) new content (suc i) (suc j) e = field_set fields new content i j e
-
--- a segment that has no object
-pub empty_inside : (s : SegmentValue) → s.rows ≡ None ∷ [] → KeepsInside s
-empty_inside s empty serial row at = absurd (none serial (ap (λ (rows : List (Option Row)). get_or rows serial None) (sym empty) ∙ at))
-  where
-    none : (i : ℕ) → get_or (None ∷ []) i None ≡ Some row → ⊥
-    none zero e = cc
-    none (suc i) e = cc
 
 -- new bodies refer to nothing
 kinds_nowhere : (kinds : List Field) → LeadNowhere (map fresh kinds)
@@ -151,9 +143,6 @@ single_distinct s = distinct_from (s ∷ []) same
     same zero (suc j) x y a b n = absurd (cc)
     same (suc i) j x y a b n = absurd (cc)
 
-pub one_distinct : (a : AreaValue) → IsOne a → HasDistinct a.segments
-one_distinct a one = subst (λ (xs : List SegmentValue). HasDistinct xs) (sym one.only) (single_distinct one.segment)
-
 -- a segment that an area of one segment finds is that one
 pub one_found : (a : AreaValue) (one : IsOne a) (number : ℕ) (t : SegmentValue) → segment_at a.segments number ≡ Some t → t ≡ one.segment
 one_found a one number t e =
@@ -241,16 +230,11 @@ black_of : (o : Option Row) → some_black (unmarked_row o) ≡ false
 black_of None = refl
 black_of (Some row) = refl
 
-gray_not_black : (c : Color) → is_black (gray_or_black c) ≡ is_black c
-gray_not_black White = refl
-gray_not_black Gray = refl
-gray_not_black Black = refl
-
 black_by : (a : AreaValue) (n : Name) (o : Option Row) → row_of_name a.segments n ≡ o → (m : Name) → black_at (grayed_row a n o) m ≡ black_at a m
 black_by a n None e m = refl
 black_by a n (Some row) e m =
     elim (test_after some_black a n row (gray_or_black row.color) e m) [
-      | inl t ↦ t.1 ∙ gray_not_black row.color ∙ sym t.2
+      | inl t ↦ t.1 ∙ black_gray row.color ∙ sym t.2
       | inr t ↦ t.1
     ]
 

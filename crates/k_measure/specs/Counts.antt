@@ -3,6 +3,7 @@ use Rattle.std.specs.Prelude.{ℕ, ◌≡◌, ◌<◌, List, count_by, slice_get
 use Rattle.k_types.specs.declared.names.Name.{Name}
 use Rattle.k_types.specs.Names.{name_eq}
 
+-- how often the name stands among these
 abbrev pub occurs : List Name → Name → ℕ
 occurs names n = count_by (λ t. name_eq t n) names
 

@@ -1,3 +1,4 @@
+//! The measurement of the exit items.
 ghost use Rattle.std.specs.Prelude.{◌≡◌, ◌≤◌, length};
 
 use crate::names::{ROUNDS, link_to, scattered};

@@ -1,3 +1,4 @@
+//! The measurements of a heap: creation, links, marking and sweeping.
 ghost use Rattle.std.specs.Prelude.{◌≡◌, ◌+◌, ◌<◌, ◌≤◌, length, IfOk, IfSome};
 ghost use Rattle.k_measure.specs.Inside.{AreNew, KeepsInside, IsOne, HasNoBlack};
 

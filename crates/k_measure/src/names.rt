@@ -1,3 +1,4 @@
+//! The names that the measurements of the tables take, in a scattered order.
 ghost use Rattle.std.specs.Prelude.{◌≡◌, ◌≤◌, ◌<◌, length, IfOk};
 ghost use Rattle.k_types.specs.Names.{name_of};
 ghost use Rattle.k_measure.specs.Counts.{AreBelow};

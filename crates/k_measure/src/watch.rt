@@ -1,3 +1,4 @@
+//! A watch on processor time.
 use std::time::{CpuClock, Duration};
 
 /// Tells the processor time of each phase on standard error, where it is asked to.

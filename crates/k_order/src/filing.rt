@@ -1,3 +1,4 @@
+//! The history in the order of the file: it is legal, complete and the only one.
 ghost use Rattle.k_types.specs.Complete.{IsComplete};
 ghost use Rattle.k_types.specs.FileOrder.{file_order};
 ghost use Rattle.k_types.specs.Steps.{IsLegalHistory};

@@ -1,3 +1,4 @@
+//! What is left where every process has ended.
 ghost use Rattle.std.specs.Prelude.{IsTrue, List};
 ghost use Rattle.k_order.specs.Reclaimed.{IsReclaimed};
 ghost use Rattle.k_types.specs.Complete.{IsComplete, all_ended};

@@ -1,5 +1,6 @@
 -- What the objects of an area are after one of them is changed.
 use Rattle.std.proofs.Common.{◌≡◌, ◌≢◌, ◌==◌, ℕ, zero, suc, ◌+◌, ◌<◌, not, false, refl, sym, ap, subst, ◌∙◌, inl, inr, List, [], ◌∷◌, length, map, get_or, set, slice_get, sum_by, Option, Some, None, is_some, eqb-true, arith}
+use Rattle.k_base.proofs.Lists.{some_one, some_inside}
 use Rattle.std.specs.List.{position_or_len}
 use Rattle.std.proofs.Math.Seq.{map-set_same}
 use Rattle.std.proofs.lemmas.Bool.{cases_eq, false≢true}
@@ -44,14 +45,6 @@ found a n row e = by_segment (segment_at a.segments n.seg.0) refl e
     by_segment : (o : Option SegmentValue) → segment_at a.segments n.seg.0 ≡ o → row_in_segment o n.serial.0 ≡ Some row → Found a n row
     by_segment None at e = absurd (cc)
     by_segment (Some s) at e = record { space = s; at = at; there = e }
-
-some_inside : (rows : List (Option Row)) (i : ℕ) (row : Row) → get_or rows i None ≡ Some row → i < length rows
-some_inside [] i row e = absurd (cc)
-some_inside (x ∷ xs) zero row e = omega arith
-some_inside (x ∷ xs) (suc i) row e = omega (arith, some_inside xs i row e)
-
-same_space : {x y : SegmentValue} → ◌≡◌ {A = Option SegmentValue} (Some x) (Some y) → x ≡ y
-same_space e = cc
 
 module _ (a : AreaValue) (n : Name) (row new : Row) (f : Found a n row) where
   put : SegmentValue
@@ -123,7 +116,7 @@ module _ (a : AreaValue) (n : Name) (row new : Row) (f : Found a n row) where
           place_same s.number ∙
           elim (cases_eq i (place_of a.segments n.seg.0)) [
             | inl same ↦
-                let one = same_space (sym (slice_get-set_same a.segments (place_of a.segments n.seg.0) (with_row f.space n.serial.0 (Some new)) inside) ∙ ap (slice_get (set a.segments (place_of a.segments n.seg.0) (with_row f.space n.serial.0 (Some new)))) (sym same) ∙ e) in
+                let one = some_one (sym (slice_get-set_same a.segments (place_of a.segments n.seg.0) (with_row f.space n.serial.0 (Some new)) inside) ∙ ap (slice_get (set a.segments (place_of a.segments n.seg.0) (with_row f.space n.serial.0 (Some new)))) (sym same) ∙ e) in
                 ap (λ (x : SegmentValue). place_of a.segments x.number) (sym one) ∙ ap (place_of a.segments) (number_found a.segments n.seg.0 f.space f.at) ∙ sym same
             | inr differs ↦ distinct i s (sym (slice_get-set_other a.segments (place_of a.segments n.seg.0) i (with_row f.space n.serial.0 (Some new)) differs) ∙ e)
           ]

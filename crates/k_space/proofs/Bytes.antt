@@ -1,8 +1,9 @@
 -- The bytes that a segment keeps, and the end of its slots.
-use Rattle.std.proofs.Common.{◌≡◌, ℕ, zero, suc, ◌+◌, ◌<◌, ◌≤◌, max, refl, sym, ap, ap₂, ◌∙◌, inl, inr, List, [], ◌∷◌, ◌++◌, length, map, get_or, set, Option, Some, None, arith}
+use Rattle.std.proofs.Common.{◌≡◌, ℕ, ◌+◌, ◌<◌, ◌≤◌, max, refl, sym, ap, ap₂, ◌∙◌, inl, inr, List, [], ◌∷◌, ◌++◌, length, map, get_or, set, Option, Some, None, arith}
+use Rattle.k_base.proofs.Sums.{total_set, total_push}
 use Rattle.std.proofs.Math.ListN.{get_or-map}
 use Rattle.std.proofs.lemmas.Bool.{cases_eq}
-use Rattle.std.proofs.lemmas.List.{length-set, length-append, get_or-set_other, get_or-set_same, map-set, map-append}
+use Rattle.std.proofs.lemmas.List.{length-set, length-append, get_or-set_other, get_or-set_same, map-set, map-append, length-map}
 use Rattle.slab.specs.Slab.{Slab, get, with_value, Updates}
 use Rattle.k_types.specs.Totals.{total}
 use Rattle.k_types.specs.Types.{object_size}
@@ -15,16 +16,6 @@ use Rattle.k_space.specs.declared.segment.Cell.{Cell}
 use Rattle.k_space.specs.Segments.{Row, objects_from}
 use Rattle.k_space.specs.Places.{row_of, row_in, row_bytes, AreBytes, AreBelow, white_place}
 use Rattle.k_space.proofs.GrayLists.{At_inside}
-use Rattle.k_space.proofs.Rows.{map_len}
-
-pub total-set : {A : Type 0} (f : A → ℕ) (xs : List A) (i : ℕ) (y d : A) → i < length xs → total f (set xs i y) + f (get_or xs i d) ≡ total f xs + f y
-total-set f [] i y d within = absurd (omega arith)
-total-set f (x ∷ xs) zero y d within = omega arith
-total-set f (x ∷ xs) (suc i) y d within = omega (arith, total-set f xs i y d (omega (arith, within)))
-
-pub total-push : {A : Type 0} (f : A → ℕ) (xs : List A) (y : A) → total f (xs ++ y ∷ []) ≡ total f xs + f y
-total-push f [] y = omega arith
-total-push f (x ∷ xs) y = omega (arith, total-push f xs y)
 
 total-maps : {A B : Type 0} (f : B → ℕ) (g h : A → B) (xs : List A) → ((x : A) → f (g x) ≡ f (h x)) → total f (map g xs) ≡ total f (map h xs)
 total-maps f g h [] same = refl
@@ -44,9 +35,9 @@ recolored_bytes slot m n (Some cell) = refl
 pub bytes_recolored : (places : List Place) (cells : Slab Cell) (bytes i slot : ℕ) (m n : Mark) → AreBytes places cells bytes → get_or places i Empty ≡ At slot m → AreBytes (set places i (At slot n)) cells bytes
 bytes_recolored places cells bytes i slot m n was here =
     let rows : map (row_of cells) (set places i (At slot n)) ≡ set (map (row_of cells) places) i (row_in slot n (get cells slot)) = map-set (row_of cells) places i (At slot n) in
-    let mapped : length (map (row_of cells) places) ≡ length places = map_len (row_of cells) places in
+    let mapped : length (map (row_of cells) places) ≡ length places = length-map places (row_of cells) in
     let within : i < length (map (row_of cells) places) = omega (arith, mapped, At_inside places i slot m here) in
-    let sum = total-set row_bytes (map (row_of cells) places) i (row_in slot n (get cells slot)) None within in
+    let sum = total_set row_bytes (map (row_of cells) places) i (row_in slot n (get cells slot)) None within in
     let had : row_bytes (get_or (map (row_of cells) places) i None) ≡ row_bytes (row_in slot m (get cells slot)) = ap row_bytes (get_or-map (row_of cells) places i Empty ∙ ap (row_of cells) here) in
     let all : total row_bytes (map (row_of cells) (set places i (At slot n))) ≡ total row_bytes (set (map (row_of cells) places) i (row_in slot n (get cells slot))) = ap (total row_bytes) rows in
     record {
@@ -67,7 +58,7 @@ pub bytes_whitened : (places : List Place) (cells : Slab Cell) (bytes : ℕ) →
 bytes_whitened places cells bytes was =
     record {
       counted = was.counted ∙ sym (total_whitened places cells);
-      small = omega (arith, was.small, map_len white_place places);
+      small = omega (arith, was.small, length-map places white_place);
     }
 
 -- another body of as many fields in one slot
@@ -98,7 +89,7 @@ bytes_pushed places cells after bytes slot cell was old here most =
     let rows : map (row_of after) (places ++ At slot MarkWhite ∷ []) ≡ map (row_of cells) places ++ row_in slot MarkWhite (Some cell) ∷ [] =
     map-append (row_of after) places (At slot MarkWhite ∷ []) ∙ ap₂ (λ front o. front ++ row_in slot MarkWhite o ∷ []) old here in
     let all : total row_bytes (map (row_of after) (places ++ At slot MarkWhite ∷ [])) ≡ total row_bytes (map (row_of cells) places ++ row_in slot MarkWhite (Some cell) ∷ []) = ap (total row_bytes) rows in
-    let sum = total-push row_bytes (map (row_of cells) places) (row_in slot MarkWhite (Some cell)) in
+    let sum = total_push row_bytes (map (row_of cells) places) (row_in slot MarkWhite (Some cell)) in
     record {
       counted = omega (arith, was.counted, all, sum);
       small = omega (arith, was.small, most, length-append places (At slot MarkWhite ∷ []));
@@ -111,8 +102,8 @@ size_there places cells i slot mark cell here found = ap (λ p. row_bytes (row_o
 pub bytes_freed : (places : List Place) (cells after : Slab Cell) (bytes i size : ℕ) → AreBytes places cells bytes → map (row_of after) (set places i Empty) ≡ set (map (row_of cells) places) i None → i < length places → row_bytes (row_of cells (get_or places i Empty)) ≡ size →
     (size ≤ bytes) × ((rest : ℕ) → rest + size ≡ bytes → AreBytes (set places i Empty) after rest)
 bytes_freed places cells after bytes i size was rows within had =
-    let mapped : length (map (row_of cells) places) ≡ length places = map_len (row_of cells) places in
-    let sum = total-set row_bytes (map (row_of cells) places) i None None (omega (arith, mapped, within)) in
+    let mapped : length (map (row_of cells) places) ≡ length places = length-map places (row_of cells) in
+    let sum = total_set row_bytes (map (row_of cells) places) i None None (omega (arith, mapped, within)) in
     let lost : row_bytes (get_or (map (row_of cells) places) i None) ≡ size = ap row_bytes (get_or-map (row_of cells) places i Empty) ∙ had in
     let all : total row_bytes (map (row_of after) (set places i Empty)) ≡ total row_bytes (set (map (row_of cells) places) i None) = ap (total row_bytes) rows in (
       omega (arith, was.counted, sum, lost),

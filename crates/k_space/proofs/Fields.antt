@@ -1,5 +1,5 @@
 -- The fields of a new body.
-use Rattle.std.proofs.Common.{◌≡◌, ℕ, zero, suc, ◌+◌, refl, sym, ap, ap₂, ◌∙◌, List, [], ◌∷◌, ◌++◌, map, take, replicate, slice_get, Option, Some, add-one}
+use Rattle.std.proofs.Common.{◌≡◌, ℕ, zero, suc, ◌+◌, sym, ap, ap₂, ◌∙◌, List, [], ◌∷◌, ◌++◌, map, take, slice_get, Option, Some, add-one}
 use Rattle.std.proofs.lemmas.List.{map-append}
 use Rattle.k_types.specs.declared.names.Field.{Field}
 use Rattle.k_types.specs.State.{fresh}
@@ -21,7 +21,3 @@ fields_more items kinds i new kind made at same =
     ∙ ap₂ (λ front x. front ++ x ∷ []) made same
     ∙ sym (map-append fresh (take i kinds) (kind ∷ []))
     ∙ ap (map fresh) (sym (ap (λ k. take k kinds) (add-one i) ∙ take_next kinds i kind at))
-
-pub map_replicate : {A B : Type 0} (f : A → B) (n : ℕ) (x : A) → map f (replicate n x) ≡ replicate n (f x)
-map_replicate f zero x = refl
-map_replicate f (suc n) x = ap (λ ys. f x ∷ ys) (map_replicate f n x)

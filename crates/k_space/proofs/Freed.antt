@@ -2,7 +2,7 @@
 use Rattle.std.proofs.Common.{◌≡◌, ◌≢◌, ℕ, zero, suc, ◌+◌, ◌<◌, true, false, refl, sym, ap, subst, ◌∙◌, inl, inr, List, [], ◌∷◌, length, map, get_or, set, Option, Some, None, is_some, count_by, arith}
 use Rattle.std.proofs.lemmas.Bool.{cases_eq}
 use Rattle.std.proofs.lemmas.List.Sums.{sum_by-cons}
-use Rattle.std.proofs.lemmas.List.{get_or-set_same, get_or-set_other, length-set, map-set}
+use Rattle.std.proofs.lemmas.List.{get_or-set_same, get_or-set_other, length-set, map-set, length-map}
 use Rattle.slab.specs.Slab.{Slab, get, slab_len, Updates}
 use Rattle.k_space.specs.declared.marks.Place.{Place}
 use Rattle.k_space.specs.declared.marks.Place.TheVariants.{Empty, At}
@@ -14,7 +14,7 @@ use Rattle.k_space.specs.Segments.{White, Row, SegmentValue, LiesAt, row_at, wit
 use Rattle.k_space.specs.Sweeping.{IsUnmarkedAt, IsFree, IsTakenAway}
 use Rattle.k_space.specs.Places.{row_of, row_in, color_of, IsSound, IsPlaced, IsKept, IsGrayList, is_gray_place, is_white_place}
 use Rattle.k_space.proofs.GrayLists.{At_inside, list_kept, count-set}
-use Rattle.k_space.proofs.Rows.{map_len, set_agree, row_at_view, same_At, lies_in, row_there, bit, same_cell}
+use Rattle.k_space.proofs.Rows.{set_agree, row_at_view, same_At, lies_in, row_there, bit, same_cell}
 
 -- the object of one slot is gone
 count_none : (slots : List (Option Cell)) (key : ℕ) (cell : Cell) → get_or slots key None ≡ Some cell → count_by is_some (set slots key None) + 1 ≡ count_by is_some slots
@@ -95,7 +95,7 @@ freed places cells after room capacity head i slot cell sound here found updates
 pub freed_rows : (places : List Place) (cells after : Slab Cell) (room capacity : ℕ) (head : ℕ) (i slot : ℕ) (mark : Mark) → IsSound places cells room capacity head → get_or places i Empty ≡ At slot mark →
     Updates cells after slot None → map (row_of after) (set places i Empty) ≡ set (map (row_of cells) places) i None
 freed_rows places cells after room capacity head i slot mark sound here updates =
-    map-set (row_of after) places i Empty ∙ sets (map (row_of after) places) (map (row_of cells) places) (map_len (row_of after) places ∙ sym (map_len (row_of cells) places)) agree
+    map-set (row_of after) places i Empty ∙ sets (map (row_of after) places) (map (row_of cells) places) (length-map places (row_of after) ∙ sym (length-map places (row_of cells))) agree
   where
     sets : (xs ys : List (Option Row)) → length xs ≡ length ys → ((j : ℕ) → j ≢ i → get_or xs j None ≡ get_or ys j None) → set xs i None ≡ set ys i None
     sets xs ys len agree = set_agree xs ys i None None len agree

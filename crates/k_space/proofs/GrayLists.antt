@@ -23,7 +23,7 @@ above_zero zero h = absurd (h refl)
 above_zero (suc n) h = omega arith
 
 -- what follows a place is one thing
-same_next : (places : List Place) (i s t m n : ℕ) → get_or places i Empty ≡ At s (Gray m) → get_or places i Empty ≡ At t (Gray n) → m ≡ n
+pub same_next : (places : List Place) (i s t m n : ℕ) → get_or places i Empty ≡ At s (Gray m) → get_or places i Empty ≡ At t (Gray n) → m ≡ n
 same_next places i s t m n p q = cc
 
 -- two lists from one head are as long
@@ -43,7 +43,7 @@ list_kept places (suc n) head i x apart (some, s, next, here, rest) =
     let other : head ≢ i = λ e. apart (suc n) (omega arith) (subst (λ (h : ℕ). IsGrayList places (suc n) h) e (some, s, next, here, rest)) in
     (some, s, next, get_or-set_other places i head x Empty other ∙ here, list_kept places n next i x (λ m within. apart m (omega (arith, within))) rest)
 
-abbrev bit : Bool → ℕ
+abbrev pub bit : Bool → ℕ
 bit b = cond b 1 0
 
 pub count-set : (places : List Place) (i : ℕ) (x : Place) → i < length places → count_by is_gray_place (set places i x) + bit (is_gray_place (get_or places i Empty)) ≡ count_by is_gray_place places + bit (is_gray_place x)

@@ -3,14 +3,13 @@ use Rattle.std.proofs.Common.{◌≡◌, ◌≢◌, ◌==◌, not, ℕ, ◌+◌,
 use Rattle.std.proofs.Math.Seq.{map-set_same}
 use Rattle.std.proofs.lemmas.Bool.{cases_eq, cases_lt, false≢true}
 use Rattle.std.proofs.lemmas.Bool.Decides.{nat_tests}
-use Rattle.std.proofs.lemmas.List.{length-map, length-set, get_or-set_same, get_or-set_other}
+use Rattle.std.proofs.lemmas.List.{length-map, length-set, get_or-set_same, get_or-set_other, get_or_default}
 use Rattle.std.proofs.lemmas.List.Sums.{prefix_len-le-length}
 use Rattle.std.proofs.lemmas.Option.{slice_get-map, slice_get-get_or, slice_get_within, get_or_from_slice_get}
 use Rattle.k_space.specs.Segments.{SegmentValue, unmarked_segment}
 use Rattle.k_space.specs.Areas.{place_of, segment_at, has_number}
 use Rattle.k_space.specs.Hints.{AreExact, numbers}
 use Rattle.k_space.proofs.AreaRows.{number_found}
-use Rattle.k_space.proofs.Rows.{any_default}
 
 -- another segment of the same number
 numbers_set : (segments : List SegmentValue) (i : ℕ) (old new : SegmentValue) → slice_get segments i ≡ Some old → new.number ≡ old.number → numbers (set segments i new) ≡ numbers segments
@@ -108,4 +107,4 @@ pub none_told : (segments : List SegmentValue) (hints : List ℕ) (number hint d
     has_number (slice_get segments hint) number ≡ false → length segments ≡ place_of segments number
 none_told segments hints number hint d exact test read fails =
     let within = below_test number (length hints) test in
-    none_exact segments hints number hint exact within (read ∙ any_default hints number d 0 within) fails
+    none_exact segments hints number hint exact within (read ∙ get_or_default hints number d 0 within) fails

@@ -3,6 +3,7 @@ pub mod StampLemmas
 pub mod GrayLists
 pub mod Rows
 pub mod Pushed
+pub mod GrayQueue
 pub mod ListedLemmas
 pub mod Freed
 pub mod AreaRows

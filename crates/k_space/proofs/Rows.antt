@@ -1,10 +1,12 @@
 -- What the rows of a segment are after a change.
-use Rattle.std.proofs.Common.{◌≡◌, ◌≢◌, ℕ, zero, suc, ◌<◌, Bool, true, false, cond, refl, sym, ap, ap₂, subst, ◌∙◌, inl, inr, List, [], ◌∷◌, ◌++◌, length, map, take, get_or, set, Option, Some, None, is_some, count_by, arith}
+use Rattle.std.proofs.Common.{◌≡◌, ◌≢◌, ℕ, zero, suc, ◌+◌, ◌-◌, ◌<◌, ◌≤◌, ◌^◌, Bool, true, false, cond, refl, sym, ap, ap₂, subst, ◌∙◌, inl, inr, List, [], ◌∷◌, ◌++◌, length, map, take, get_or, set, Option, Some, None, is_some, count_by, arith}
+use Rattle.k_base.proofs.Lists.{some_one}
 use Rattle.std.proofs.Math.ListN.{get_or-map}
+use Rattle.std.proofs.Math.Seq.{map-set_same}
 use Rattle.std.proofs.lemmas.Bool.{cases_eq}
 use Rattle.std.proofs.lemmas.List.Sums.{sum_by-cons}
-use Rattle.std.proofs.lemmas.List.{get_or-set_same, get_or-set_other, length-set, map-set, set-get_or}
-use Rattle.slab.specs.Slab.{Slab, get, with_value}
+use Rattle.std.proofs.lemmas.List.{get_or-set_same, get_or-set_other, length-set, map-set, set-get_or, length-map, get_or_default}
+use Rattle.slab.specs.Slab.{Slab, get, slab_len, with_value}
 use Rattle.k_space.specs.declared.marks.Place.{Place}
 use Rattle.k_space.specs.declared.marks.Place.TheVariants.{Empty, At}
 use Rattle.k_space.specs.declared.marks.Mark.{Mark}
@@ -13,10 +15,6 @@ use Rattle.k_space.specs.declared.segment.Cell.{Cell}
 use Rattle.k_space.specs.Segments.{Gray, Black, Row, SegmentValue, LiesAt, row_at, with_row, some_gray, unmarked_row}
 use Rattle.k_space.specs.Places.{row_of, row_in, color_of, IsSound, IsPlaced, IsKept, IsGrayList, is_gray_place, white_place}
 use Rattle.k_space.proofs.GrayLists.{At_inside}
-
-pub map_len : {A B : Type 0} (f : A → B) (xs : List A) → length (map f xs) ≡ length xs
-map_len f [] = refl
-map_len f (x ∷ xs) = ap suc (map_len f xs)
 
 pub front_whole : {A : Type 0} (xs ys : List A) (n : ℕ) → length xs ≡ n → take n (xs ++ ys) ≡ xs
 front_whole [] ys zero e = refl
@@ -57,10 +55,48 @@ row_at_view cells places i = get_or-map (row_of cells) places i Empty
 pub same_At : (s t : ℕ) (m n : Mark) → At s m ≡ At t n → (s ≡ t) × (m ≡ n)
 same_At s t m n e = (cc, cc)
 
+-- what holds of places and slots, but for the list of gray places
+pub record AreKept (places : List Place) (cells : Slab Cell) (room capacity : ℕ) : Type 0 where
+  pub first : get_or places 0 Empty ≡ Empty
+  pub begun : 0 < length places
+  pub within : length places ≤ room + 1
+  pub reserved : capacity ≡ room + 1
+  pub small : room < 2 ^ 32
+  pub keys : cells.capacity < 2 ^ 64
+  pub fits : slab_len cells + (room + 1 - length places) ≤ cells.capacity
+  pub placed : (i slot : ℕ) (mark : Mark) → get_or places i Empty ≡ At slot mark → IsPlaced cells i slot
+  pub kept : (slot : ℕ) (cell : Cell) → get cells slot ≡ Some cell → IsKept places slot cell
+
+pub kept_of : (places : List Place) (cells : Slab Cell) (room capacity head : ℕ) → IsSound places cells room capacity head → AreKept places cells room capacity
+kept_of places cells room capacity head sound = record {
+  first = sound.first;
+  begun = sound.begun;
+  within = sound.within;
+  reserved = sound.reserved;
+  small = sound.small;
+  keys = sound.keys;
+  fits = sound.fits;
+  placed = sound.placed;
+  kept = sound.kept;
+}
+
+pub sound_of : (places : List Place) (cells : Slab Cell) (room capacity head : ℕ) → AreKept places cells room capacity → IsGrayList places (count_by is_gray_place places) head → IsSound places cells room capacity head
+sound_of places cells room capacity head kept grays = record {
+  first = kept.first;
+  begun = kept.begun;
+  within = kept.within;
+  reserved = kept.reserved;
+  small = kept.small;
+  keys = kept.keys;
+  fits = kept.fits;
+  placed = kept.placed;
+  kept = kept.kept;
+  grays = grays;
+}
+
 -- another mark at one place
-pub recolored : (places : List Place) (cells : Slab Cell) (room capacity head after i slot : ℕ) (m n : Mark) → IsSound places cells room capacity head → get_or places i Empty ≡ At slot m →
-    IsGrayList (set places i (At slot n)) (count_by is_gray_place (set places i (At slot n))) after → IsSound (set places i (At slot n)) cells room capacity after
-recolored places cells room capacity head after i slot m n sound here grays =
+pub recolored_kept : (places : List Place) (cells : Slab Cell) (room capacity i slot : ℕ) (m n : Mark) → AreKept places cells room capacity → get_or places i Empty ≡ At slot m → AreKept (set places i (At slot n)) cells room capacity
+recolored_kept places cells room capacity i slot m n sound here =
     let not_first : 0 ≢ i = λ e. apart e in
     record {
       first = get_or-set_other places i 0 (At slot n) Empty not_first ∙ sound.first;
@@ -72,7 +108,6 @@ recolored places cells room capacity head after i slot m n sound here grays =
       fits = omega (arith, length-set places i (At slot n), sound.fits);
       placed = placed_after;
       kept = kept_after;
-      grays = grays;
     }
   where
     within : i < length places
@@ -104,14 +139,27 @@ recolored places cells room capacity head after i slot m n sound here grays =
           | inr differs ↦ record { mark = was.mark; there = get_or-set_other places i cell.serial.0 (At slot n) Empty differs ∙ was.there; few = was.few }
         ]
 
+pub recolored : (places : List Place) (cells : Slab Cell) (room capacity head after i slot : ℕ) (m n : Mark) → IsSound places cells room capacity head → get_or places i Empty ≡ At slot m →
+    IsGrayList (set places i (At slot n)) (count_by is_gray_place (set places i (At slot n))) after → IsSound (set places i (At slot n)) cells room capacity after
+recolored places cells room capacity head after i slot m n sound here grays =
+    sound_of (set places i (At slot n)) cells room capacity after (recolored_kept places cells room capacity i slot m n (kept_of places cells room capacity head sound) here) grays
+
+-- another gray place that follows changes no row
+pub followed_view : (number room : ℕ) (places : List Place) (cells : Slab Cell) (i slot next after : ℕ) → get_or places i Empty ≡ At slot (MarkGray next) →
+    ◌≡◌ {A = SegmentValue} (record { number = number; room = room; rows = map (row_of cells) (set places i (At slot (MarkGray after))) }) (record { number = number; room = room; rows = map (row_of cells) places })
+followed_view number room places cells i slot next after here =
+    ap (λ (rs : List (Option Row)). record { number = number; room = room; rows = rs })
+    (map-set_same (row_of cells) places i (At slot (MarkGray after)) Empty (same_gray slot after next (get cells slot) ∙ sym (ap (row_of cells) here)))
+  where
+    same_gray : (slot m n : ℕ) (o : Option Cell) → row_in slot (MarkGray m) o ≡ row_in slot (MarkGray n) o
+    same_gray slot m n None = refl
+    same_gray slot m n (Some cell) = refl
+
 row_in_recolored : (slot : ℕ) (m n : Mark) (row : Row) (o : Option Cell) → row_in slot m o ≡ Some row → row_in slot n o ≡ Some (record row { color = color_of n })
 row_in_recolored slot m n row None e = absurd (cc)
 row_in_recolored slot m n row (Some cell) e =
-    let same : record { slot = slot; color = color_of m; ty = cell.body.ty; fields = cell.body.fields } ≡ row = same_row e in
+    let same : record { slot = slot; color = color_of m; ty = cell.body.ty; fields = cell.body.fields } ≡ row = some_one e in
     ap (λ (r : Row). Some (record r { color = color_of n })) same
-  where
-    same_row : {x y : Row} → ◌≡◌ {A = Option Row} (Some x) (Some y) → x ≡ y
-    same_row e = cc
 
 -- what a contract sees of it
 pub recolored_view : (number room : ℕ) (places : List Place) (cells : Slab Cell) (i slot : ℕ) (m n : Mark) (s : SegmentValue) (row : Row) →
@@ -140,7 +188,7 @@ lies_place places cells slot serial row (At s mark) e r at = lies_cell (get cell
     lies_cell : (o : Option Cell) → get cells s ≡ o → row_in s mark o ≡ Some row → Lies places cells slot serial row
     lies_cell None g r = absurd (cc)
     lies_cell (Some cell) g r =
-        let same : record { slot = s; color = color_of mark; ty = cell.body.ty; fields = cell.body.fields } ≡ row = same_row r in
+        let same : record { slot = s; color = color_of mark; ty = cell.body.ty; fields = cell.body.fields } ≡ row = some_one r in
         let slots : s ≡ slot = ap (λ (x : Row). x.slot) same ∙ at in
         record {
           mark = mark;
@@ -149,9 +197,6 @@ lies_place places cells slot serial row (At s mark) e r at = lies_cell (get cell
           there = ap (get cells) (sym slots) ∙ g;
           row_is = sym same ∙ ap (λ t. record { slot = t; color = color_of mark; ty = cell.body.ty; fields = cell.body.fields }) slots;
         }
-      where
-        same_row : {x y : Row} → ◌≡◌ {A = Option Row} (Some x) (Some y) → x ≡ y
-        same_row e = cc
 
 pub lies_in : (number room : ℕ) (places : List Place) (cells : Slab Cell) (s : SegmentValue) (slot serial : ℕ) (row : Row) →
     record { number = number; room = room; rows = map (row_of cells) places } ≡ s → LiesAt s slot serial row → Lies places cells slot serial row
@@ -170,13 +215,6 @@ gray_row cells (At slot mark) e = by_cell mark (get cells slot) e
     by_cell (MarkGray next) (Some cell) e = absurd (cc)
     by_cell MarkBlack (Some cell) e = refl
 
-pub slot_of_row : (slot : ℕ) (mark : Mark) (o : Option Cell) (row : Row) → row_in slot mark o ≡ Some row → row.slot ≡ slot
-slot_of_row slot mark None row e = absurd (cc)
-slot_of_row slot mark (Some cell) row e = sym (ap (λ (x : Row). x.slot) (same_row e))
-  where
-    same_row : {x y : Row} → ◌≡◌ {A = Option Row} (Some x) (Some y) → x ≡ y
-    same_row e = cc
-
 -- the row of a place in use
 pub row_there : (number room : ℕ) (places : List Place) (cells : Slab Cell) (s : SegmentValue) (i slot : ℕ) (mark : Mark) (o : Option Cell) →
     record { number = number; room = room; rows = map (row_of cells) places } ≡ s → get_or places i Empty ≡ At slot mark → get cells slot ≡ o → row_at s i ≡ row_in slot mark o
@@ -191,14 +229,9 @@ no_row number room places cells s i is here = ap (λ (x : SegmentValue). row_at 
 pub kept_view : (s : SegmentValue) (i : ℕ) (row : Row) → row_at s i ≡ Some row → s ≡ with_row s i (Some row)
 kept_view s i row at = ap (λ (rs : List (Option Row)). record s { rows = rs }) (sym (set-get_or s.rows i None) ∙ ap (set s.rows i) at)
 
-pub any_default : {A : Type 0} (xs : List A) (i : ℕ) (d e : A) → i < length xs → get_or xs i d ≡ get_or xs i e
-any_default [] i d e within = absurd (omega arith)
-any_default (x ∷ xs) zero d e within = refl
-any_default (x ∷ xs) (suc i) d e within = any_default xs i d e (omega (arith, within))
-
 -- a place that was read
 pub read_at : (places : List Place) (i : ℕ) (p q : Place) → i < length places → p ≡ get_or places i p → p ≡ q → get_or places i Empty ≡ q
-read_at places i p q within read is = any_default places i Empty p within ∙ sym read ∙ is
+read_at places i p q within read is = get_or_default places i Empty p within ∙ sym read ∙ is
 
 -- the first gray object, made black
 pub taken : (number room : ℕ) (places : List Place) (cells : Slab Cell) (s : SegmentValue) (i k slot : ℕ) (next : ℕ) (cell : Cell) →
@@ -301,9 +334,6 @@ rewritten_view number room capacity places cells head s slot serial cell new row
             let one : a.cell ≡ b.cell = same_cell (sym a.there ∙ ap (get cells) same ∙ b.there) in
             differs (sym a.serial_is ∙ ap (λ (x : Cell). x.serial.0) one ∙ b.serial_is)
 
-pub same_row : {x y : Row} → ◌≡◌ {A = Option Row} (Some x) (Some y) → x ≡ y
-same_row e = cc
-
 -- no marks
 pub white_there : (places : List Place) (j s : ℕ) (mark : Mark) → get_or (map white_place places) j Empty ≡ At s mark → (was : Mark) × (get_or places j Empty ≡ At s was)
 white_there places j s mark e = by_place (get_or places j Empty) refl
@@ -326,12 +356,12 @@ pub whitened : (places : List Place) (cells : Slab Cell) (room capacity : ℕ) (
 whitened places cells room capacity head sound =
     record {
       first = get_or-map white_place places 0 Empty ∙ ap white_place sound.first;
-      begun = omega (arith, map_len white_place places, sound.begun);
-      within = omega (arith, map_len white_place places, sound.within);
+      begun = omega (arith, length-map places white_place, sound.begun);
+      within = omega (arith, length-map places white_place, sound.within);
       reserved = sound.reserved;
       small = sound.small;
       keys = sound.keys;
-      fits = omega (arith, map_len white_place places, sound.fits);
+      fits = omega (arith, length-map places white_place, sound.fits);
       placed = λ j s mark e. let was = white_there places j s mark e in sound.placed j s was.0 was.1;
       kept = λ s x e. let was = sound.kept s x e in record { mark = MarkWhite; there = get_or-map white_place places x.serial.0 Empty ∙ ap white_place was.there; few = was.few };
       grays = subst (λ (n : ℕ). IsGrayList (map white_place places) n 0) (sym (no_gray_left places)) refl;

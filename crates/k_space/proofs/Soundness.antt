@@ -1,19 +1,20 @@
 -- What holds of every segment.
 use Rattle.std.proofs.Common.{◌≡◌, ◌*◌, ℕ, ◌≤◌, refl, sym, ap, subst, ◌∙◌, List, length, map, Some, arith}
+use Rattle.std.proofs.lemmas.List.{length-map}
 use Rattle.slab.specs.Slab.{Slab, get}
 use Rattle.k_space.specs.declared.marks.Place.{Place}
 use Rattle.k_space.specs.declared.segment.Cell.{Cell}
 use Rattle.k_space.specs.Segments.{Row, SegmentValue, IsSegment, row_at, made, segment_bytes}
 use Rattle.k_space.specs.Places.{row_of, IsSound, AreBytes}
 use Rattle.k_space.proofs.Bytes.{bytes_shown}
-use Rattle.k_space.proofs.Rows.{map_len, lies_in, no_row, same_cell}
+use Rattle.k_space.proofs.Rows.{lies_in, no_row, same_cell}
 
 module _ (number room capacity : ℕ) (places : List Place) (cells : Slab Cell) (head bytes : ℕ) (sound : IsSound places cells room capacity head) (kept : AreBytes places cells bytes) where
   shown : SegmentValue
   shown = record { number = number; room = room; rows = map (row_of cells) places }
 
   rows : length (map (row_of cells) places) ≡ length places
-  rows = map_len (row_of cells) places
+  rows = length-map places (row_of cells)
 
   few : (serial : ℕ) (row : Row) → row_at (record { number = number; room = room; rows = map (row_of cells) places }) serial ≡ Some row → length row.fields ≤ 16
   few serial row at =

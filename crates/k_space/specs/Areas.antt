@@ -5,6 +5,7 @@ use Rattle.k_types.specs.declared.names.Name.{Name}
 use Rattle.k_types.specs.State.{Content}
 use Rattle.k_space.specs.Segments.{SegmentValue, Row, Black, Gray, row_at, with_row, some_gray, some_black, some_marked, unmarked_segment, gray_or_black}
 
+-- the segments, and how many there can be
 pub record AreaValue : Type 0 where
   pub segments : List SegmentValue
   pub room : ℕ
@@ -13,9 +14,11 @@ pub record AreaValue : Type 0 where
 abbrev pub place_of : List SegmentValue → ℕ → ℕ
 place_of segments number = position_or_len (λ s. s.number == number) segments
 
+-- the segment of that number
 abbrev pub segment_at : List SegmentValue → ℕ → Option SegmentValue
 segment_at segments number = slice_get segments (place_of segments number)
 
+-- there is a segment, and that is its number
 abbrev pub has_number : Option SegmentValue → ℕ → Bool
 has_number None number = false
 has_number (Some s) number = s.number == number
@@ -24,6 +27,7 @@ has_number (Some s) number = s.number == number
 abbrev pub HasDistinct : List SegmentValue → Type 0
 HasDistinct segments = (i : ℕ) (s : SegmentValue) → slice_get segments i ≡ Some s → place_of segments s.number ≡ i
 
+-- the live object of that serial, where there is a segment
 abbrev pub row_in_segment : Option SegmentValue → ℕ → Option Row
 row_in_segment None serial = None
 row_in_segment (Some s) serial = row_at s serial
@@ -36,6 +40,7 @@ row_of_name segments n = row_in_segment (segment_at segments n.seg.0) n.serial.0
 abbrev pub with_segment : AreaValue → ℕ → SegmentValue → AreaValue
 with_segment a number s = record a { segments = slice_set a.segments (place_of a.segments number) s }
 
+-- the area where the name has that object in its segment, if there is one
 abbrev pub with_row_in : AreaValue → Name → Option Row → Option SegmentValue → AreaValue
 with_row_in a n row None = a
 with_row_in a n row (Some s) = with_segment a n.seg.0 (with_row s n.serial.0 row)
@@ -52,12 +57,15 @@ fields_at a n = option_map (λ row. row.fields) (row_of_name a.segments n)
 abbrev pub is_foreign : AreaValue → Name → Bool
 is_foreign a n = not (is_some (segment_at a.segments n.seg.0))
 
+-- that object is gray
 abbrev pub gray_at : AreaValue → Name → Bool
 gray_at a n = some_gray (row_of_name a.segments n)
 
+-- that object is black
 abbrev pub black_at : AreaValue → Name → Bool
 black_at a n = some_black (row_of_name a.segments n)
 
+-- that object is marked
 abbrev pub marked_at : AreaValue → Name → Bool
 marked_at a n = some_marked (row_of_name a.segments n)
 
@@ -65,6 +73,7 @@ marked_at a n = some_marked (row_of_name a.segments n)
 abbrev pub unmarked : AreaValue → AreaValue
 unmarked a = record a { segments = map unmarked_segment a.segments }
 
+-- the area where that row, if there is one, is gray in place of white
 abbrev pub grayed_row : AreaValue → Name → Option Row → AreaValue
 grayed_row a n None = a
 grayed_row a n (Some row) = with_row_of a n (Some (record row { color = gray_or_black row.color }))

@@ -10,6 +10,7 @@ use Rattle.k_space.specs.declared.marks.Mark.TheVariants.{White as MarkWhite, Gr
 use Rattle.k_space.specs.declared.segment.Cell.{Cell}
 use Rattle.k_space.specs.Segments.{Color, White, Gray, Black, Row}
 
+-- the color that a mark is
 abbrev pub color_of : Mark → Color
 color_of MarkWhite = White
 color_of (MarkGray next) = Gray
@@ -20,10 +21,12 @@ abbrev pub row_in : ℕ → Mark → Option Cell → Option Row
 row_in slot mark None = None
 row_in slot mark (Some cell) = Some (record { slot = slot; color = color_of mark; ty = cell.body.ty; fields = cell.body.fields })
 
+-- the object of a place, which the slab has
 abbrev pub row_of : Slab Cell → Place → Option Row
 row_of cells Empty = None
 row_of cells (At slot mark) = row_in slot mark (get cells slot)
 
+-- the place has a gray object
 abbrev pub is_gray_place : Place → Bool
 is_gray_place (At slot (MarkGray next)) = true
 is_gray_place _ = false
@@ -33,6 +36,15 @@ abbrev pub IsGrayList : List Place → ℕ → ℕ → Type 0
 IsGrayList places zero head = head ≡ 0
 IsGrayList places (suc n) head = (0 < head) × (slot : ℕ) × (next : ℕ) × (slice_index_or places head Empty ≡ At slot (MarkGray next))
     × IsGrayList places n next
+
+-- the place there is gray, and names no next one
+pub record IsGrayEnd (places : List Place) (last : ℕ) : Type 0 where
+  pub slot : ℕ
+  pub there : slice_index_or places last Empty ≡ At slot (MarkGray 0)
+
+-- no other gray place names no next one
+abbrev pub IsLastGray : List Place → ℕ → Type 0
+IsLastGray places last = (i : ℕ) (slot : ℕ) → slice_index_or places i Empty ≡ At slot (MarkGray 0) → i ≡ last
 
 -- the slot has the object of that serial
 pub record IsPlaced (cells : Slab Cell) (serial slot : ℕ) : Type 0 where
@@ -46,6 +58,7 @@ pub record IsKept (places : List Place) (slot : ℕ) (cell : Cell) : Type 0 wher
   pub there : slice_index_or places cell.serial.0 Empty ≡ At slot mark
   pub few : length cell.body.fields ≤ 16
 
+-- the bytes of an object
 abbrev pub row_bytes : Option Row → ℕ
 row_bytes None = 0
 row_bytes (Some row) = object_size (length row.fields)
@@ -77,10 +90,12 @@ abbrev pub white_place : Place → Place
 white_place Empty = Empty
 white_place (At slot mark) = At slot MarkWhite
 
+-- the place has an object that isn't marked
 abbrev pub is_white_place : Place → Bool
 is_white_place (At slot MarkWhite) = true
 is_white_place _ = false
 
+-- the place has no object
 abbrev pub is_empty_place : Place → Bool
 is_empty_place Empty = true
 is_empty_place (At slot mark) = false

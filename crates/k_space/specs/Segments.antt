@@ -37,6 +37,7 @@ made s = length s.rows - 1
 abbrev pub with_row : SegmentValue → ℕ → Option Row → SegmentValue
 with_row s serial row = record s { rows = slice_set s.rows serial row }
 
+-- a new object, which is not marked
 abbrev pub new_row : ℕ → BodyValue → Row
 new_row slot body = record { slot = slot; color = White; ty = body.ty; fields = body.fields }
 
@@ -78,29 +79,35 @@ segment_objects s = objects_from s.number 0 s.rows
 abbrev pub segment_bytes : SegmentValue → ℕ
 segment_bytes s = total object_bytes (segment_objects s)
 
+-- the color is gray
 abbrev pub is_gray : Color → Bool
 is_gray Gray = true
 is_gray White = false
 is_gray Black = false
 
+-- the color is black
 abbrev pub is_black : Color → Bool
 is_black White = false
 is_black Gray = false
 is_black Black = true
 
+-- the color is gray or black
 abbrev pub is_marked : Color → Bool
 is_marked Gray = true
 is_marked White = false
 is_marked Black = true
 
+-- there is an object, and it is gray
 abbrev pub some_gray : Option Row → Bool
 some_gray None = false
 some_gray (Some row) = is_gray row.color
 
+-- there is an object, and it is black
 abbrev pub some_black : Option Row → Bool
 some_black None = false
 some_black (Some row) = is_black row.color
 
+-- there is an object, and it is marked
 abbrev pub some_marked : Option Row → Bool
 some_marked None = false
 some_marked (Some row) = is_marked row.color
@@ -116,6 +123,7 @@ abbrev pub unmarked_row : Option Row → Option Row
 unmarked_row None = None
 unmarked_row (Some row) = Some (record row { color = White })
 
+-- the segment with no marks
 abbrev pub unmarked_segment : SegmentValue → SegmentValue
 unmarked_segment s = record s { rows = map unmarked_row s.rows }
 

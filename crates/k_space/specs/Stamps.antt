@@ -5,6 +5,7 @@ use Rattle.k_space.specs.declared.marks.Place.TheVariants.{Empty, At}
 use Rattle.k_space.specs.declared.marks.Mark.TheVariants.{White as MarkWhite, Gray as MarkGray, Black as MarkBlack}
 use Rattle.k_space.specs.declared.marks.Spot.{Spot}
 
+-- the places, and how many there is memory for
 pub record PlacesValue : Type 0 where
   pub items : List Place
   pub capacity : ℕ
@@ -21,6 +22,7 @@ seen epoch spot =
 abbrev pub plain : Spot → Spot
 plain spot = record spot { stamp = if spot.stamp == 0 then 0 else 1 }
 
+-- what is read where there is no spot
 abbrev pub blank : Spot
 blank = record { slot = 0; stamp = 0; next = 0 }
 

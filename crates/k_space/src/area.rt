@@ -1,3 +1,4 @@
+//! Segments in an area, found by number.
 ghost use Rattle.std.specs.Prelude.{◌≡◌, ◌≢◌, ◌<◌, ◌≤◌, ◌+◌, ◌==◌, ◌++◌, ◌∷◌, [], ℕ, length, map, Some, None, IfOk, IfNone, IfSome, OnSome, slice_get, slice_set, slice_index_or, position, option_copied, not, IsFalse, IsTrue};
 ghost use Rattle.std.specs.Option.{option_copied_mut};
 ghost use Rattle.std.specs.Borrow.{sem};
@@ -211,6 +212,7 @@ impl Area {
     }
 
     /// The same, and tells whether the area has the segment of that name.
+    #[tactic(auto, using(crate::proofs::Segs::grayed_none))]
     pub fn gray_own(&mut self, target: Name) -> bool
         requires { HasDistinct self.old.segments }
         ensures grayed { self.new ≡ grayed self.old target }
@@ -259,6 +261,7 @@ impl Area {
     }
 
     /// Takes a gray object of the segment at that place.
+    #[tactic(auto, using(crate::proofs::Segs::as_before))]
     fn take_gray_at(&mut self, at: usize) -> Option<Name>
         requires { HasDistinct self.old.segments }
         ensures some { IfSome result (λ n. IsBlackened self.old self.new n) }

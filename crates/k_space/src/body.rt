@@ -1,3 +1,4 @@
+//! The fields of one object.
 ghost use Rattle.std.specs.Prelude.{◌≡◌, length, slice_get, slice_set, Some, slice_index_or, option_map, ℕ, ◌<◌, ◌≤◌, IfOk};
 ghost use Rattle.k_space.specs.declared.body.Stored.TheVariants.{Null as NoTarget};
 ghost use Rattle.k_types.specs.State.{Refers, Holds, field_kind, fresh};

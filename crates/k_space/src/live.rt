@@ -1,48 +1,58 @@
-ghost use Rattle.std.specs.Prelude.{◌≡◌, ◌<◌, ◌-◌, ◌≤◌, length, vec_capacity, slice_index_or, IsTrue};
+//! The list of live objects, and a sweep along it.
+ghost use Rattle.std.specs.Prelude.{◌≡◌, ◌<◌, ◌≤◌, length, vec_capacity, slice_index_or, IsTrue};
 ghost use Rattle.k_space.specs.declared.marks.Place.TheVariants.{Empty as NoPlace};
 ghost use Rattle.k_space.specs.Places.{is_white_place};
 ghost use Rattle.k_space.specs.Listed.{IsListed};
 
 use crate::marks::Places;
 
-/// Passes the listed serials below that place of the list, from above, up to the first with a white place, and takes those with
-/// no object off the list. It gives how many are left, of which that white one is the last.
-pub(crate) fn next_white(live: &mut Vec<u32>, places: &Places, from: usize) -> usize
-    requires { IsListed places.now.items live.old.items from }
-    ensures listed { IsListed places.now.items live.new.items result }
-    ensures white { 0 < result → IsTrue (is_white_place (slice_index_or places.now.items (slice_index_or live.new.items (result - 1) 0) NoPlace)) }
-    ensures capacity { vec_capacity live.new ≡ vec_capacity live.old }
-{
-    let mut left = from;
-    while left > 0 {
-        let at = left - 1;
-        let place = places.at(live[at] as usize);
-        if place.is_white() {
-            return left;
-        }
-        if place.is_empty() {
-            live.swap_remove(at);
-        }
-        left = at;
-    }
-    left
+/// How far a sweep has come on the list of live objects: those before the one place are marked, those from the other one
+/// on are not looked at yet, and what lies between them is left over.
+#[derive(Clone, Copy)]
+pub(crate) struct Pass {
+    pub(crate) kept: usize,
+    pub(crate) next: usize,
 }
 
-/// Takes the serial of an object that is gone off the list, where it is the last of those that are left. It gives how many are left
-/// then.
-pub(crate) fn unlist(live: &mut Vec<u32>, places: &Places, left: usize, serial: u32) -> usize
-    requires listed { IsListed places.now.items live.old.items left }
-    requires gone { slice_index_or places.now.items serial NoPlace ≡ NoPlace }
-    ensures listed { IsListed places.now.items live.new.items result }
+/// Passes the listed serials up to the first with a white place, keeps those of marked objects, and takes those with no
+/// object off the list. Where all are passed, the kept ones are the list.
+#[tactic(auto, using(crate::proofs::ListedLemmas::listed_ended))]
+pub(crate) fn next_white(live: &mut Vec<u32>, places: &Places, pass: Pass) -> Pass
+    requires { IsListed places.now.items live.old.items pass.kept pass.next }
+    ensures listed { IsListed places.now.items live.new.items result.kept result.next }
+    ensures white { result.next < length live.new.items → IsTrue (is_white_place (slice_index_or places.now.items (slice_index_or live.new.items result.next 0) NoPlace)) }
     ensures capacity { vec_capacity live.new ≡ vec_capacity live.old }
 {
-    if left == 0 {
-        return left;
+    let mut kept = pass.kept;
+    let mut next = pass.next;
+    while next < live.len() {
+        let place = places.at(live[next] as usize);
+        if place.is_white() {
+            return Pass { kept, next };
+        }
+        if !place.is_empty() {
+            live[kept] = live[next];
+            kept += 1;
+        }
+        next += 1;
     }
-    let at = left - 1;
-    if live[at] != serial {
-        return left;
+    live.truncate(kept);
+    Pass { kept, next: kept }
+}
+
+/// Passes the serial of an object that is gone, where it is the next one.
+pub(crate) fn passed(live: &[u32], places: &Places, pass: Pass, serial: u32) -> Pass
+    requires listed { IsListed places.now.items live.now pass.kept pass.next }
+    requires gone { slice_index_or places.now.items serial NoPlace ≡ NoPlace }
+    ensures { IsListed places.now.items live.now result.kept result.next }
+{
+    let Pass { kept, next } = pass;
+    if next < live.len() && live[next] == serial {
+        Pass {
+            kept,
+            next: next + 1,
+        }
+    } else {
+        pass
     }
-    live.swap_remove(at);
-    at
 }

@@ -1,6 +1,8 @@
-ghost use Rattle.std.specs.Prelude.{◌≡◌, ◌<◌, ◌≤◌, ◌+◌, ◌^◌, ◌++◌, ◌∷◌, [], length, map, slice_set, slice_index_or, IfOk};
-ghost use Rattle.k_space.specs.declared.marks.Place.TheVariants.{Empty as NoPlace};
-ghost use Rattle.k_space.specs.Places.{white_place, is_white_place, is_empty_place};
+//! The places of objects by serial, and their marks.
+ghost use Rattle.std.specs.Prelude.{◌≡◌, ◌<◌, ◌≤◌, ◌+◌, ◌^◌, ◌++◌, ◌∷◌, [], length, map, slice_set, slice_index_or, IfOk, ℕ};
+ghost use Rattle.k_space.specs.declared.marks.Place.TheVariants.{Empty as NoPlace, At as PlaceAt};
+ghost use Rattle.k_space.specs.declared.marks.Mark.TheVariants.{Gray as MarkGray};
+ghost use Rattle.k_space.specs.Places.{white_place, is_white_place, is_empty_place, IsGrayEnd};
 ghost use Rattle.k_space.specs.Stamps.{seen, plain};
 
 use k_io::NoMemory;
@@ -164,6 +166,7 @@ impl Places {
     }
 
     /// Makes it the place of that serial.
+    #[tactic(auto, using(crate::proofs::StampLemmas::stamped_set))]
     pub(crate) fn set(&mut self, serial: usize, place: Place)
         requires { serial < length self.old.items }
         ensures { self.new ≡ record self.old { items = slice_set self.old.items serial place } }
@@ -171,7 +174,19 @@ impl Places {
         self.spots[serial] = Spot::of(place, self.epoch);
     }
 
+    /// Has the gray place of the one serial, which names no next one, name the other.
+    pub(crate) fn follow(&mut self, last: usize, next: u32)
+        requires { IsGrayEnd self.old.items last }
+        ensures { (slot : ℕ) → slice_index_or self.old.items last NoPlace ≡ PlaceAt slot (MarkGray 0) → self.new ≡ record self.old { items = slice_set self.old.items last (PlaceAt slot (MarkGray next)) } }
+    {
+        match self.at(last) {
+            Place::At(slot, _) => self.set(last, Place::At(slot, Mark::Gray(next))),
+            Place::Empty => unreachable!(),
+        }
+    }
+
     /// Makes it the place of the next serial.
+    #[tactic(auto, using(crate::proofs::StampLemmas::stamped_push))]
     pub(crate) fn push_reserved(&mut self, place: Place)
         requires { length self.old.items < self.old.capacity }
         ensures { self.new ≡ record self.old { items = self.old.items ++ place ∷ [] } }
@@ -181,6 +196,7 @@ impl Places {
     }
 
     /// Takes the marks of all places away. Constant time, but for one pass at each 2,000,000,000th call.
+    #[tactic(auto, using(crate::proofs::StampLemmas::stamped_later))]
     pub(crate) fn whiten(&mut self)
         ensures { self.new ≡ record self.old { items = map white_place self.old.items } }
     {

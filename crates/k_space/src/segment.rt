@@ -1,3 +1,4 @@
+//! The objects made under one number.
 ghost use Rattle.std.specs.Prelude.{◌≡◌, ◌<◌, ◌≤◌, ◌+◌, ℕ, length, map, Some, None, option_map, IfOk, IfSome, IfNone, ◌∷◌, [], slice_set, slice_get, slice_index_or, ◌==◌, IsFalse, IsTrue, OnSome};
 ghost use Rattle.k_types.specs.State.{Refers, Holds, field_kind};
 ghost use Rattle.k_types.specs.Types.{object_size};
@@ -8,7 +9,7 @@ ghost use Rattle.k_space.specs.Segments.{Row, White, Black, Gray, LiesAt, IsLive
 ghost use Rattle.k_space.specs.Sweeping.{IsFreed, IsFree, IsFirstUnmarked, IsTakenAway, IsUnmarkedAt};
 
 use crate::body::{Body, Stored};
-use crate::live::{next_white, unlist};
+use crate::live::{Pass, next_white, passed};
 use crate::marks::{Mark, Place, Places};
 use k_io::NoMemory;
 use k_types::{Field, Link, Seg, Serial, Slot, TypeId};
@@ -38,16 +39,18 @@ pub struct Segment {
     room: u32,
     places: Places,
     cells: Slab<Cell>,
-    // The serial of the first gray object; 0 where there is none.
+    // The serial of the gray object that was made gray first; 0 where there is none.
     gray: u32,
+    // That of the one that was made gray last.
+    last: u32,
     // Those of the live objects.
     bytes: u64,
     // One more than the highest slot that was ever used.
     end: usize,
     // The serials of the live objects, in any order, and of some that are gone.
     live: Vec<u32>,
-    // None of them is white but of so many first ones.
-    left: usize,
+    // How far a sweep has come on that list.
+    pass: Pass,
 }
 
 impl Model for Segment {
@@ -56,16 +59,17 @@ impl Model for Segment {
     ghost Value = { SegmentValue };
 
     ghost use Rattle.std.specs.Prelude.{map, vec_capacity, ◌≡◌};
-    ghost use Rattle.k_space.specs.Places.{row_of, IsSound, AreBytes, AreBelow};
+    ghost use Rattle.k_space.specs.Places.{row_of, IsSound, IsLastGray, AreBytes, AreBelow};
     ghost use Rattle.k_space.specs.Listed.{IsListed};
 
     ghost view = { λ s. record { number = s.number.0; room = s.room; rows = map (row_of s.cells) s.places.items } };
 
     ghost invariant = { λ s. record {
       sound : IsSound s.places.items s.cells s.room s.places.capacity s.gray;
+      last : IsLastGray s.places.items s.last;
       bytes : AreBytes s.places.items s.cells s.bytes;
       end : AreBelow s.cells s.end;
-      listed : IsListed s.places.items s.live.items s.left;
+      listed : IsListed s.places.items s.live.items s.pass.kept s.pass.next;
       reserved : vec_capacity s.live ≡ s.room;
     } };
 }
@@ -87,10 +91,11 @@ impl Segment {
             places,
             cells,
             gray: 0,
+            last: 0,
             bytes: 0,
             end: 0,
             live: Vec::with_capacity(alloc, room as usize)?,
-            left: 0,
+            pass: Pass { kept: 0, next: 0 },
         })
     }
 
@@ -137,7 +142,6 @@ impl Segment {
         self.places.push_reserved(Place::At(slot, Mark::White));
         self.end = self.end.max(slot + 1);
         self.live.push_reserved(serial);
-        self.left = self.live.len();
         Link {
             seg: self.number,
             slot: Slot(slot),
@@ -262,6 +266,7 @@ impl Segment {
 
     /// Makes a white object gray. Other objects, and serials with no object, stay as they are. Constant
     /// time, and no memory.
+    #[tactic(auto, using(crate::proofs::Rows::kept_view))]
     pub fn make_gray(&mut self, serial: Serial)
         ensures grayed { (row : Row) → row_at self.old serial.0 ≡ Some row → self.new ≡ with_row self.old serial.0 (Some (record row { color = gray_or_black row.color })) }
         ensures gone { row_at self.old serial.0 ≡ None → self.new ≡ self.old }
@@ -275,8 +280,15 @@ impl Segment {
         match place {
             Place::At(slot, mark) => match mark {
                 Mark::White => {
-                    self.places.set(at, Place::At(slot, Mark::Gray(self.gray)));
-                    self.gray = serial.0;
+                    // Behind the others, so that objects are visited mostly in the order of their making.
+                    let last = self.last;
+                    self.last = serial.0;
+                    self.places.set(at, Place::At(slot, Mark::Gray(0)));
+                    if self.gray == 0 {
+                        self.gray = serial.0;
+                    } else {
+                        self.places.follow(last as usize, serial.0);
+                    }
                 }
                 Mark::Gray(_) => {}
                 Mark::Black => {}
@@ -319,7 +331,7 @@ impl Segment {
     {
         self.places.whiten();
         self.gray = 0;
-        self.left = self.live.len();
+        self.pass = Pass { kept: 0, next: 0 };
     }
 
     /// Frees the first object that isn't marked, by slots from that one on. It passes the slots up to
@@ -343,12 +355,12 @@ impl Segment {
         ensures none { IfNone result ((serial : ℕ) (row : Row) → row_at self.old serial ≡ Some row → IsTrue (is_marked row.color)) }
         ensures kept { IfNone result (self.new ≡ self.old) }
     {
-        let left = next_white(&mut self.live, &self.places, self.left);
-        self.left = left;
-        if left == 0 {
+        let pass = next_white(&mut self.live, &self.places, self.pass);
+        self.pass = pass;
+        if pass.next >= self.live.len() {
             return None;
         }
-        match self.places.at(self.live[left - 1] as usize) {
+        match self.places.at(self.live[pass.next] as usize) {
             Place::At(slot, _) => Some(self.free(slot)),
             Place::Empty => unreachable!(),
         }
@@ -403,7 +415,7 @@ impl Segment {
         let bytes = cell.body.bytes();
         self.places.set(cell.serial.0 as usize, Place::Empty);
         self.bytes -= bytes;
-        self.left = unlist(&mut self.live, &self.places, self.left, cell.serial.0);
+        self.pass = passed(&self.live, &self.places, self.pass, cell.serial.0);
         Gone {
             slot: Slot(slot),
             serial: cell.serial,

@@ -1,3 +1,4 @@
+//! Sizes, serials and slots at the corners.
 use crate::{Area, Body, Segment};
 use k_types::{Field, Seg, Serial, Slot, TypeId, TypeTable};
 use std::test::Fail;

@@ -1,12 +1,12 @@
 -- What is let go was counted.
-use Rattle.std.proofs.Common.{◌≡◌, ◌≢◌, ◌⊎◌, ℕ, zero, suc, length, ◌+◌, ◌<◌, ◌≤◌, ◌==◌, ◌&&◌, ◌||◌, not, Bool, true, false, cond, refl, sym, ap, ◌∙◌, inl, inr, List, [], ◌∷◌, filter, get_or, arith, Option, Some, None, eq-eqb, IsTrue, IsFalse}
-use Rattle.std.proofs.lemmas.Bool.{false≢true, and_parts, or_cases, cases_eq}
+use Rattle.std.proofs.Common.{◌≡◌, ◌≢◌, ◌⊎◌, ℕ, zero, suc, length, ◌+◌, ◌<◌, ◌≤◌, ◌==◌, ◌&&◌, ◌||◌, not, Bool, true, false, cond, refl, sym, ap, ◌∙◌, List, [], ◌∷◌, get_or, arith, Option, Some, None, eq-eqb, IsTrue, IsFalse}
+use Rattle.std.proofs.lemmas.Bool.{false≢true}
 use Rattle.k_types.specs.declared.names.Heap.{Heap}
 use Rattle.k_types.specs.declared.names.Name.{Name}
 use Rattle.k_types.specs.Cells.{BookPart, part, book_part, pins_of}
 use Rattle.k_types.specs.Limits.{direct_by}
 use Rattle.k_types.specs.Names.{heap_eq, leads_to, name_eq, among}
-use Rattle.k_types.specs.Numbers.{numbers_from, numbers_below}
+use Rattle.k_types.specs.Numbers.{numbers_below}
 use Rattle.k_types.specs.Owners.{charge_of, owner_of, user}
 use Rattle.k_types.specs.Sound.{IsSound}
 use Rattle.k_types.specs.State.{ExitItem, State, has_exit}
@@ -14,24 +14,14 @@ use Rattle.k_types.specs.Totals.{total}
 use Rattle.k_types.specs.Trace.{Trace, limit_of, process_count}
 use Rattle.k_types.specs.TraceRules.{AreLimits}
 use Rattle.k_base.proofs.NameTests.{heap_eq-true, name_eq_refl}
-use Rattle.k_bounds.proofs.Counting.{total_fewer, total_at_most}
+use Rattle.k_bounds.proofs.Counting.{total_fewer}
 use Rattle.k_changes.specs.BookChanges.{owner_in, has_way_into, shared_by}
 use Rattle.k_changes.proofs.EndsOnBook.{charge_told}
-use Rattle.k_changes.proofs.OnBook.{get_mapped, owner_told}
+use Rattle.k_changes.proofs.OnBook.{owner_told}
 use Rattle.k_squares.specs.Owed.{PinsAreCounted, EntriesAreCounted, ChargesAreCounted}
-
--- a number of a list is at most the sum of those that pass a test that it passes
-pub passing_within : (f : ℕ → ℕ) (test : ℕ → Bool) (p first n : ℕ) → test p ≡ true → first ≤ p → p < first + n → f p ≤ total f (filter test (numbers_from first n))
-passing_within f test p first zero t low high = absurd (omega (arith, low, high))
-passing_within f test p first (suc n) t low high =
-    go (λ ne. passing_within f test p (suc first) n t (omega (arith, low, ne)) (omega (arith, high))) (test first) refl (cases_eq first p)
-  where
-    go : (first ≢ p → f p ≤ total f (filter test (numbers_from (suc first) n))) → (b : Bool) → test first ≡ b → (first ≡ p) ⊎ (first ≢ p) →
-        f p ≤ total f (cond b (first ∷ filter test (numbers_from (suc first) n)) (filter test (numbers_from (suc first) n)))
-    go rest true e (inl same) = let here = ap f same in omega (arith, here)
-    go rest false e (inl same) = absurd (false≢true (sym e ∙ ap test same ∙ t))
-    go rest true e (inr ne) = let least = rest ne in omega (arith, least)
-    go rest false e (inr ne) = rest ne
+use Rattle.k_base.proofs.Sums.{total_at_most, passing_within}
+use Rattle.k_base.proofs.Lists.{get_mapped}
+use Rattle.k_base.proofs.Exits.{exit_counted}
 
 pub within_all : (f : ℕ → ℕ) (p n : ℕ) → p < n → f p ≤ total f (numbers_below n)
 within_all f p n low =
@@ -68,18 +58,6 @@ module _ (trace : Trace) (st : State) (p : ℕ) (known : p < process_count trace
         omega (arith, least, all);
     all = λ n apart. all_counted n (apart_of n apart);
   }
-
--- an exit item is counted
-pub exit_counted : (exits : List ExitItem) (h : Heap) (n : Name) → has_exit exits h n ≡ true → 0 < total (λ (e : ExitItem). cond (name_eq e.target n) 1 0) exits
-exit_counted [] h n t = absurd (false≢true t)
-exit_counted (e ∷ exits) h n t = go (exit_counted exits h n) (name_eq e.target n) t
-  where
-    go : (has_exit exits h n ≡ true → 0 < total (λ (e : ExitItem). cond (name_eq e.target n) 1 0) exits) → (b : Bool) → ((heap_eq e.heap h && b) || has_exit exits h n) ≡ true → 0 < cond b 1 0 + total (λ (e : ExitItem). cond (name_eq e.target n) 1 0) exits
-    go rest true u = omega arith
-    go rest false u = elim (or_cases (heap_eq e.heap h && false) (has_exit exits h n) u) [
-      | inl here ↦ absurd (false≢true (and_parts (heap_eq e.heap h) false here).1)
-      | inr there ↦ let least = rest there in omega (arith, least)
-    ]
 
 -- of two heaps the first exit item is of one at most, so that the other's is among the rest
 two_counted : (exits : List ExitItem) (h g : Heap) (n : Name) → IsFalse (heap_eq h g) → has_exit exits h n ≡ true → has_exit exits g n ≡ true → 1 < total (λ (e : ExitItem). cond (name_eq e.target n) 1 0) exits

@@ -25,7 +25,7 @@ use Rattle.k_frame.specs.PartUpdates.{with_done}
 use Rattle.k_frame.proofs.ElsewhereOther.{collected_elsewhere}
 use Rattle.k_frame.proofs.Sizes.{step_sized}
 use Rattle.k_laws.specs.Changes.{MayAbsorb}
-use Rattle.k_laws.proofs.SoundEffects.{Acts, none_is}
+use Rattle.k_laws.proofs.SoundEffects.{Acts}
 use Rattle.k_changes.specs.CellChanges.{collected}
 use Rattle.k_changes.specs.BookChanges.{when_collected}
 use Rattle.k_changes.proofs.Collected.{ended_on_cell}
@@ -38,6 +38,7 @@ use Rattle.k_squares.specs.CellAfter.{at_cell, unless_refused, cell_after, cells
 use Rattle.k_squares.proofs.AtCells.{one_cell, done_cells}
 use Rattle.k_squares.proofs.BookSquares.{effect_book, absorbed_book, closing_book}
 use Rattle.k_squares.proofs.CellSquares.{effect_cells, absorbed_effect, closing_effect}
+use Rattle.k_base.proofs.Lists.{none_is}
 
 -- an answer is no refusal
 pub answer_is_one : {A : Type 0} (trace : Trace) (st : State) (p : ℕ) (op : Op) (after before : A) → unless_refused (answer trace st p op) after before ≡ after

@@ -1,3 +1,4 @@
+//! What an operation is answered and touches, by the parts of the touched cells and of the book.
 ghost use Rattle.std.specs.Prelude.{IsFalse, ◌<◌, ◌≡◌, ℕ};
 ghost use Rattle.k_squares.specs.Answers.{reply_in};
 ghost use Rattle.k_squares.specs.Touches.{touched_in};

@@ -1,3 +1,4 @@
+//! What is let go was counted on the book.
 ghost use Rattle.std.specs.Prelude.{IsFalse, ◌<◌, ℕ};
 ghost use Rattle.k_squares.specs.Owed.{ChargesAreCounted, EntriesAreCounted, PinsAreCounted};
 ghost use Rattle.k_types.specs.Names.{among};

@@ -1,3 +1,4 @@
+//! What each event makes of the parts of the cells and of the book.
 ghost use Rattle.k_squares.specs.Follows.{BookFollows, CellsFollow, FindsTheSame, LeavesSameBook, LeavesSameCells};
 ghost use Rattle.k_types.specs.Sound.{IsSound};
 ghost use Rattle.k_types.specs.State.{State};

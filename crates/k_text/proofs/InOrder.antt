@@ -4,7 +4,9 @@ use Rattle.k_types.specs.declared.names.Name.{Name}
 use Rattle.k_types.specs.declared.names.Heap.{Heap}
 use Rattle.k_types.specs.Names.{name_eq, name_lt, name_among, heap_eq}
 use Rattle.k_types.specs.State.{ExitItem, has_exit}
-use Rattle.k_text.proofs.NameOrder.{lt_irrefl, lt_trans, lt_total, eq_refl, lt_not_eq_back, same_name}
+use Rattle.k_base.proofs.NameTests.{name_lt_trans, name_lt_total, name_eq_refl, name_lt_apart_back, name_eq-true}
+use Rattle.k_base.proofs.Tests.{or_swap}
+use Rattle.k_text.proofs.NameOrder.{lt_irrefl}
 use Rattle.k_text.specs.Shown.{with_name, in_order, exits_of, AreRising, AreRisingFrom}
 
 -- ---- putting a name in its place
@@ -18,7 +20,7 @@ rising_with k n (m ∷ names) lt h =
       | false ↦ λ f.
           (elim (name_eq m n) as (λ b. name_eq m n ≡ b → AreRisingFrom k (cond b (m ∷ names) (n ∷ m ∷ names))) [
             | true ↦ λ t. h
-            | false ↦ λ g. (lt, (lt_total m n f g, h.1))
+            | false ↦ λ g. (lt, (name_lt_total m n f g, h.1))
           ]) refl
     ]) refl
 
@@ -30,19 +32,13 @@ rising_with_first n (m ∷ names) h =
       | false ↦ λ f.
           (elim (name_eq m n) as (λ b. name_eq m n ≡ b → AreRising (cond b (m ∷ names) (n ∷ m ∷ names))) [
             | true ↦ λ t. h
-            | false ↦ λ g. (lt_total m n f g, h)
+            | false ↦ λ g. (name_lt_total m n f g, h)
           ]) refl
     ]) refl
 
 pub in_order_rises : (names : List Name) → AreRising (in_order names)
 in_order_rises [] = tt
 in_order_rises (n ∷ names) = rising_with_first n (in_order names) (in_order_rises names)
-
-or_swap : (a b c : Bool) → (a || (b || c)) ≡ (b || (a || c))
-or_swap true true c = refl
-or_swap true false c = refl
-or_swap false true c = refl
-or_swap false false c = refl
 
 or_same : (a b c : Bool) → a ≡ b → (a || c) ≡ (b || (a || c))
 or_same a true c e = rw e refl
@@ -55,7 +51,7 @@ among_with k n (m ∷ names) =
       | true ↦ ap (λ (b : Bool). name_eq m k || b) (among_with k n names) ∙ or_swap (name_eq m k) (name_eq n k) (name_among k names)
       | false ↦
           (elim (name_eq m n) as (λ b. name_eq m n ≡ b → name_among k (cond b (m ∷ names) (n ∷ m ∷ names)) ≡ (name_eq n k || (name_eq m k || name_among k names))) [
-            | true ↦ λ t. or_same (name_eq m k) (name_eq n k) (name_among k names) (ap (λ (x : Name). name_eq x k) (same_name m n t))
+            | true ↦ λ t. or_same (name_eq m k) (name_eq n k) (name_among k names) (ap (λ (x : Name). name_eq x k) (name_eq-true m n t))
             | false ↦ λ f. refl
           ]) refl
     ])
@@ -71,8 +67,8 @@ later : (n k : Name) (names : List Name) → AreRisingFrom n names → name_amon
 later n k [] h a = absurd cc
 later n k (m ∷ names) h a =
     (elim (name_eq m k) as (λ b. name_eq m k ≡ b → (b || name_among k names) ≡ true → name_lt n k ≡ true) [
-      | true ↦ λ t e. subst (λ (x : Name). name_lt n x ≡ true) (same_name m k t) h.0
-      | false ↦ λ f e. lt_trans n m k h.0 (later m k names h.1 e)
+      | true ↦ λ t e. subst (λ (x : Name). name_lt n x ≡ true) (name_eq-true m k t) h.0
+      | false ↦ λ f e. name_lt_trans n m k h.0 (later m k names h.1 e)
     ]) refl a
 
 -- a name does not come after itself
@@ -86,21 +82,21 @@ not_later n names h =
 heads : (n m : Name) (ns ms : List Name) → AreRisingFrom n ns → AreRisingFrom m ms → ((k : Name) → name_among k (n ∷ ns) ≡ name_among k (m ∷ ms)) → n ≡ m
 heads n m ns ms hn hm e =
     (elim (name_eq m n) as (λ b. name_eq m n ≡ b → n ≡ m) [
-      | true ↦ λ t. sym (same_name m n t)
+      | true ↦ λ t. sym (name_eq-true m n t)
       | false ↦ λ f.
-          let there : name_among n ms ≡ true = ap (λ (b : Bool). b || name_among n ms) (sym f) ∙ sym (e n) ∙ ap (λ (b : Bool). b || name_among n ns) (eq_refl n) in
+          let there : name_among n ms ≡ true = ap (λ (b : Bool). b || name_among n ms) (sym f) ∙ sym (e n) ∙ ap (λ (b : Bool). b || name_among n ns) (name_eq_refl n) in
           let less : name_lt m n ≡ true = later m n ms hm there in
           let back : name_among m ns ≡ true =
-          ap (λ (b : Bool). b || name_among m ns) (sym (lt_not_eq_back m n less)) ∙ e m ∙ ap (λ (b : Bool). b || name_among m ms) (eq_refl m) in
+          ap (λ (b : Bool). b || name_among m ns) (sym (name_lt_apart_back m n less)) ∙ e m ∙ ap (λ (b : Bool). b || name_among m ms) (name_eq_refl m) in
           let greater : name_lt n m ≡ true = later n m ns hn back in
-          let bad : true ≡ false = sym (lt_trans n m n greater less) ∙ lt_irrefl n in
+          let bad : true ≡ false = sym (name_lt_trans n m n greater less) ∙ lt_irrefl n in
           absurd cc
     ]) refl
 
 tails : (n : Name) (ns ms : List Name) → AreRisingFrom n ns → AreRisingFrom n ms → ((k : Name) → name_among k (n ∷ ns) ≡ name_among k (n ∷ ms)) → (k : Name) → name_among k ns ≡ name_among k ms
 tails n ns ms hn hm e k =
     (elim (name_eq n k) as (λ b. name_eq n k ≡ b → (b || name_among k ns) ≡ (b || name_among k ms) → name_among k ns ≡ name_among k ms) [
-      | true ↦ λ t _. subst (λ (x : Name). name_among x ns ≡ name_among x ms) (same_name n k t) (not_later n ns hn ∙ sym (not_later n ms hm))
+      | true ↦ λ t _. subst (λ (x : Name). name_among x ns ≡ name_among x ms) (name_eq-true n k t) (not_later n ns hn ∙ sym (not_later n ms hm))
       | false ↦ λ f d. d
     ]) refl (e k)
 
@@ -110,8 +106,8 @@ rising_tail n (m ∷ ns) h = h.1
 
 pub same_rising : (ns ms : List Name) → AreRising ns → AreRising ms → ((k : Name) → name_among k ns ≡ name_among k ms) → ns ≡ ms
 same_rising [] [] hn hm e = refl
-same_rising [] (m ∷ ms) hn hm e = let bad : false ≡ true = e m ∙ ap (λ (b : Bool). b || name_among m ms) (eq_refl m) in absurd cc
-same_rising (n ∷ ns) [] hn hm e = let bad : false ≡ true = sym (e n) ∙ ap (λ (b : Bool). b || name_among n ns) (eq_refl n) in absurd cc
+same_rising [] (m ∷ ms) hn hm e = let bad : false ≡ true = e m ∙ ap (λ (b : Bool). b || name_among m ms) (name_eq_refl m) in absurd cc
+same_rising (n ∷ ns) [] hn hm e = let bad : false ≡ true = sym (e n) ∙ ap (λ (b : Bool). b || name_among n ns) (name_eq_refl n) in absurd cc
 same_rising (n ∷ ns) (m ∷ ms) hn hm e =
     let same : n ≡ m = heads n m ns ms hn hm e in
     let hm2 : AreRisingFrom n ms = subst (λ (x : Name). AreRisingFrom x ms) (sym same) hm in

@@ -10,7 +10,8 @@ use Rattle.k_io.specs.Taking.{TakesFront}
 use Rattle.k_io.specs.Writing.{Writes}
 use Rattle.k_io.proofs.Takings.{takes_nothing, takes_then, takes_front_then, takes_front_longer}
 use Rattle.k_io.proofs.Writings.{rose_since, writes_same, writes_then}
-use Rattle.k_types.specs.Numbers.{numbers_from, numbers_below}
+use Rattle.k_types.specs.Numbers.{numbers_below}
+use Rattle.k_base.proofs.Lists.{numbers_push}
 use Rattle.k_words.specs.Words.{Text, line_text, text_of}
 use Rattle.k_text.specs.Spaced.{spaced}
 use Rattle.k_text.specs.Writing.{HasWritten}
@@ -49,14 +50,8 @@ text_of-append xs ys = flat_map-append line_text xs ys
 
 -- ---- numbers below a bound
 
-numbers_from_more : (first n : ℕ) → numbers_from first (suc n) ≡ numbers_from first n ++ (first + n) ∷ []
-numbers_from_more first zero = ap (λ (k : ℕ). k ∷ []) (let e : first ≡ first + 0 = omega arith in e)
-numbers_from_more first (suc n) =
-    let e : suc first + n ≡ first + suc n = omega arith in
-    ap (λ (ks : List ℕ). first ∷ ks) (numbers_from_more (suc first) n ∙ ap (λ (k : ℕ). numbers_from (suc first) n ++ k ∷ []) e)
-
 pub numbers_more : (n : ℕ) → numbers_below (n + 1) ≡ numbers_below n ++ n ∷ []
-numbers_more n = rw add-one (numbers_from_more 0 n ∙ ap (λ (k : ℕ). numbers_below n ++ k ∷ []) (zero-add n))
+numbers_more n = rw add-one (numbers_push 0 n ∙ ap (λ (k : ℕ). numbers_below n ++ k ∷ []) (zero-add n))
 
 numbers_begin : (n d : ℕ) → (rest : List ℕ) × (numbers_below (d + n) ≡ numbers_below n ++ rest)
 numbers_begin n zero = ([], rw zero-add (sym (append-nil (numbers_below n))))

@@ -1,10 +1,13 @@
 -- The objects, one after the other in the order of their names.
-use Rattle.std.proofs.Common.{◌≡◌, ◌∙◌, ℕ, ◌+◌, ◌-◌, ◌<◌, ◌||◌, not, Bool, true, false, IsTrue, List, [], ◌∷◌, ◌++◌, length, filter, find, Option, Some, None, refl, sym, ap, subst, arith, length-append, option_map, cond}
+use Rattle.std.proofs.Common.{◌≡◌, ◌∙◌, ℕ, ◌+◌, ◌-◌, ◌<◌, not, Bool, true, false, IsTrue, List, [], ◌∷◌, ◌++◌, length, filter, find, Option, Some, None, refl, sym, ap, subst, arith, length-append, option_map, cond}
 use Rattle.k_types.specs.declared.names.Name.{Name}
-use Rattle.k_types.specs.Names.{name_eq, name_lt}
+use Rattle.k_types.specs.Names.{name_lt}
 use Rattle.k_types.specs.State.{Object, object_at, has}
 use Rattle.k_types.specs.Sound.{IsOrdered, IsOrderedFrom}
-use Rattle.k_text.proofs.NameOrder.{lt_irrefl, lt_asym, lt_trans, eq_refl, lt_not_eq}
+use Rattle.k_base.proofs.NameTests.{name_lt_asym, name_lt_trans, name_eq_refl, name_lt_apart}
+use Rattle.k_base.proofs.Objects.{has_found}
+use Rattle.k_base.proofs.Ordered.{ordered_tail}
+use Rattle.k_text.proofs.NameOrder.{lt_irrefl}
 use Rattle.k_text.specs.Shown.{comes_after, next_name_after, shown_object}
 
 -- the objects that do not pass
@@ -15,29 +18,18 @@ before p objects = filter (λ o. not (p o)) objects
 abbrev pub IsRising : (Object → Bool) → Type 0
 IsRising p = (x y : Object) → p x ≡ true → name_lt x.name y.name ≡ true → p y ≡ true
 
-later_than : Name → Object → Bool
-later_than n o = name_lt n o.name
-
 after_rises : (after : Option Name) → IsRising (comes_after after)
 after_rises None x y h lt = refl
-after_rises (Some n) x y h lt = lt_trans n x.name y.name h lt
-
-ordered_tail : (n : Name) (objects : List Object) → IsOrderedFrom n objects → IsOrdered objects
-ordered_tail n [] h = tt
-ordered_tail n (x ∷ xs) h = h.1
+after_rises (Some n) x y h lt = name_lt_trans n x.name y.name h lt
 
 -- nothing stands before the first that passes
 none_before : (p : Object → Bool) (n : Name) (objects : List Object) → ((y : Object) → name_lt n y.name ≡ true → p y ≡ true) → IsOrderedFrom n objects → before p objects ≡ []
 none_before p n [] f h = refl
-none_before p n (y ∷ ys) f h = rw (f y h.0) (none_before p y.name ys (λ z l. f z (lt_trans n y.name z.name h.0 l)) h.1)
+none_before p n (y ∷ ys) f h = rw (f y h.0) (none_before p y.name ys (λ z l. f z (name_lt_trans n y.name z.name h.0 l)) h.1)
 
 found_by : (b : Bool) (x o : Object) (rest : Option Object) → b ≡ true → cond b (Some x) rest ≡ Some o → x ≡ o
 found_by true x o rest t e = cc
 found_by false x o rest t e = absurd cc
-
-found_past : (b : Bool) (x o : Object) (rest : Option Object) → b ≡ false → cond b (Some x) rest ≡ Some o → rest ≡ Some o
-found_past false x o rest t e = e
-found_past true x o rest t e = absurd cc
 
 -- the object that is found comes after what all come after
 found_later : (p : Object → Bool) (n : Name) (objects : List Object) (o : Object) → IsOrderedFrom n objects → find p objects ≡ Some o → name_lt n o.name ≡ true
@@ -45,7 +37,7 @@ found_later p n [] o h e = absurd cc
 found_later p n (x ∷ xs) o h e =
     elim (p x) as (λ b. cond b (Some x) (find p xs) ≡ Some o → name_lt n o.name ≡ true) [
       | true ↦ λ f. let same : x ≡ o = cc in subst (λ (y : Object). name_lt n y.name ≡ true) same h.0
-      | false ↦ λ f. lt_trans n x.name o.name h.0 (found_later p x.name xs o h.1 f)
+      | false ↦ λ f. name_lt_trans n x.name o.name h.0 (found_later p x.name xs o h.1 f)
     ] e
 
 -- the first object that passes, among objects in order: what stands before it, and what is found by its name
@@ -63,7 +55,7 @@ found_here p x xs rises h t =
       rest = xs;
       whole = rw (t, none) refl;
       next = rw (lt_irrefl x.name, t, none, none_later) refl;
-      at = rw (eq_refl x.name) refl;
+      at = rw (name_eq_refl x.name) refl;
     }
 
 found_there : (p : Object → Bool) (x : Object) (xs : List Object) (o : Object) → p x ≡ false → name_lt x.name o.name ≡ true → Found p xs o → Found p (x ∷ xs) o
@@ -71,8 +63,8 @@ found_there p x xs o f lt found =
     record {
       rest = found.rest;
       whole = rw f (ap (λ ys. x ∷ ys) found.whole);
-      next = rw (f, lt_asym x.name o.name lt) (ap (λ ys. x ∷ ys) found.next);
-      at = rw (lt_not_eq x.name o.name lt) found.at;
+      next = rw (f, name_lt_asym x.name o.name lt) (ap (λ ys. x ∷ ys) found.next);
+      at = rw (name_lt_apart x.name o.name lt) found.at;
     }
 
 pub found : (p : Object → Bool) (objects : List Object) (o : Object) → IsRising p → IsOrdered objects → find p objects ≡ Some o → Found p objects o
@@ -104,14 +96,6 @@ pub record Next (after : Option Name) (objects : List Object) (n : Name) : Type 
   pub next : up_to_name (Some n) objects ≡ up_to_name after objects ++ shown_object objects n ∷ []
   pub there : IsTrue (has objects n)
 
-has_at : (objects : List Object) (n : Name) (o : Object) → object_at objects n ≡ Some o → has objects n ≡ true
-has_at [] n o e = absurd cc
-has_at (x ∷ xs) n o e =
-    (elim (name_eq x.name n) as (λ b. cond b (Some x) (object_at xs n) ≡ Some o → (b || has xs n) ≡ true) [
-      | true ↦ λ f. refl
-      | false ↦ λ f. has_at xs n o f
-    ]) e
-
 shown_at : (objects : List Object) (o : Object) → object_at objects o.name ≡ Some o → shown_object objects o.name ≡ o
 shown_at objects o e = rw e refl
 
@@ -122,7 +106,7 @@ next_of after objects o f =
       rest = f.rest;
       whole = subst (λ (y : Object). objects ≡ (up_to_name after objects ++ y ∷ []) ++ f.rest) (sym same) f.whole;
       next = subst (λ (y : Object). up_to_name (Some o.name) objects ≡ up_to_name after objects ++ y ∷ []) (sym same) f.next;
-      there = has_at objects o.name o f.at;
+      there = has_found objects o.name o f.at;
     }
 
 pub next_object : (after : Option Name) (objects : List Object) (n : Name) → IsOrdered objects → next_name_after after objects ≡ Some n → Next after objects n

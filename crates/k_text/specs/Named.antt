@@ -4,8 +4,6 @@ use Rattle.k_types.specs.declared.names.Name.{Name}
 use Rattle.k_types.specs.declared.names.Heap.{Heap}
 use Rattle.k_types.specs.declared.names.Heap.TheVariants.{Kernel, User, Shared}
 use Rattle.k_types.specs.declared.names.TypeId.{TypeId}
-use Rattle.k_types.specs.declared.op.Op.{Op}
-use Rattle.k_types.specs.declared.op.Op.TheVariants.{New, KNew, SNew, Store, Load, Move, Clear, Dir, Put, Get, Collect, KCollect, Share, Freeze, Attach, Exit}
 use Rattle.k_types.specs.declared.event.Fault.{Fault}
 use Rattle.k_types.specs.declared.event.Fault.TheVariants.{Null, Foreign, NotSharer, NoField, WrongKind, Frozen, Segv, NotPopulating, NotFrozen, Taken, LimitFull, KernelFull}
 use Rattle.k_types.specs.Trace.{Trace, process_count}

@@ -1,3 +1,4 @@
+//! The history: one line for each event of the journal.
 ghost use Rattle.std.specs.Prelude.{◌≡◌, ℕ, ◌<◌, ◌≤◌, ◌+◌, ◌++◌, ◌∷◌, [], List, length};
 ghost use Rattle.k_io.specs.Writing.{Writes};
 ghost use Rattle.std.specs.List.{join_with_byte};

@@ -1,3 +1,4 @@
+//! The part of the faults: how many operations of each process were answered by one.
 ghost use Rattle.std.specs.Prelude.{◌≡◌, ℕ, ◌<◌, ◌≤◌, ◌+◌, ◌++◌, ◌∷◌, [], List, length, IfSome, IsTrue, slice_get, count_by, map, take};
 ghost use Rattle.std.specs.List.{flat_map};
 ghost use Rattle.k_io.specs.Writing.{Writes};

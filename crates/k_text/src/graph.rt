@@ -1,3 +1,4 @@
+//! The part of the graph: each object with its fields.
 ghost use Rattle.std.specs.Prelude.{◌≡◌, ℕ, ◌<◌, ◌≤◌, ◌+◌, ◌++◌, ◌∷◌, [], List, length, IfSome, IsTrue, slice_get, count_by, map, take};
 ghost use Rattle.std.specs.List.{flat_map};
 ghost use Rattle.k_io.specs.Writing.{Writes};

@@ -1,3 +1,4 @@
+//! The lines that are the same in every report.
 ghost use Rattle.std.specs.Prelude.{◌≡◌, ◌<◌, ◌++◌, ◌∷◌, [], length};
 ghost use Rattle.k_io.specs.Writing.{Writes};
 

@@ -1,3 +1,4 @@
+//! Laws of the definitions.
 ghost use Rattle.std.specs.Prelude.{◌≡◌, ℕ, List};
 ghost use Rattle.k_types.specs.declared.names.Name.{Name};
 ghost use Rattle.k_types.specs.declared.names.Heap.{Heap};

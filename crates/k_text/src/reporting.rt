@@ -1,3 +1,4 @@
+//! The report as a whole, part after part.
 ghost use Rattle.std.specs.Prelude.{◌≡◌, []};
 ghost use Rattle.k_io.specs.Writing.{Writes};
 ghost use Rattle.k_text.specs.Named.{AreNamed};

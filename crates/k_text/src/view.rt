@@ -1,3 +1,4 @@
+//! What a report asks of a final state.
 ghost use Rattle.std.specs.Prelude.{◌≡◌, ℕ, ◌<◌, ◌≤◌, ◌+◌, not, IsTrue, List, length, slice_get, slice_index_or, Option, Some, IfSome};
 
 use k_types::{Event, Field, Heap, LimitId, Name, Phase, Pid, Reg, Seg, SharedId, TypeId};

@@ -1,3 +1,4 @@
+//! The words of heaps, types, objects and references.
 ghost use Rattle.std.specs.Prelude.{◌≡◌, ℕ, ◌<◌, ◌≤◌, ◌+◌, ◌++◌, ◌∷◌, [], List, length, IfSome};
 ghost use Rattle.k_types.specs.Trace.{segment_count};
 ghost use Rattle.k_words.specs.Words.{word_at};

@@ -1,3 +1,4 @@
+//! The journal's seat, which alone adds events and sends notes out.
 ghost use Rattle.std.specs.Prelude.{◌≡◌, ◌+◌, ◌-◌, ◌^◌, ◌<◌, ◌≢◌, [], ◌∷◌, ◌++◌, length};
 ghost use Rattle.k_types.specs.Complete.{IsPrefixOf};
 ghost use Rattle.k_tie.specs.Rule.{total_of};

@@ -1,3 +1,4 @@
+//! A cell's note of the journal.
 use crate::view::View;
 use atomic_table::Seat;
 use std::marker::Model;

@@ -1,4 +1,4 @@
-// The rule of the journal's table, and the kinds of step on its word.
+//! The rule of the journal's table, and the kinds of step on its word.
 use crate::view::View;
 use atomic_table::{Join, Play, Split, TableRule};
 use k_types::Event;

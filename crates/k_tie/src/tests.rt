@@ -1,4 +1,4 @@
-// Two cells add events to one journal, each from a thread of its own.
+//! Two cells add events to one journal, each from a thread of its own.
 ghost use Rattle.std.specs.Prelude.{◌≡◌, ◌<◌, ◌≢◌, ◌-◌, ◌^◌, length};
 
 use crate::{JournalSeat, Note, Tie};

@@ -1,3 +1,4 @@
+//! The table of the journal's word, and the seat and notes that are made with it.
 ghost use Rattle.std.specs.Prelude.{◌≡◌, map, IfOk};
 ghost use Rattle.k_types.specs.Numbers.{numbers_below};
 ghost use Rattle.k_tie.specs.Values.{empty_journal, blank_note};

@@ -1,4 +1,4 @@
-// What the seats of the journal's table know.
+//! What the seats of the journal's table know.
 use k_types::Event;
 use std::collections::LinkedList;
 

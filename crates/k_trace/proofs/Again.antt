@@ -1,30 +1,25 @@
 -- A step is a line that is judged good.
-use Rattle.std.proofs.Common.{◌≡◌, ◌∙◌, ◌⊎◌, ℕ, suc, ◌+◌, ◌*◌, ◌<◌, ◌≤◌, ◌^◌, Bool, true, false, cond, not, ◌&&◌, ◌||◌, eqb, ltb, leb, List, [], ◌∷◌, ◌++◌, length, map, drop, get_or, Option, Some, None, Result, Ok, Err, refl, sym, ap, subst, arith, codes, decimal, inl, inr}
-use Rattle.std.proofs.lemmas.Bool.{ltb-true, lt-ltb, eqb-true, le-leb}
+use Rattle.std.proofs.Common.{◌≡◌, ◌∙◌, ◌⊎◌, ℕ, suc, ◌<◌, ◌≤◌, ◌^◌, Bool, true, false, not, ◌&&◌, ◌||◌, leb, List, [], ◌∷◌, length, map, get_or, Ok, refl, arith, codes, decimal, inl, inr}
+use Rattle.std.proofs.lemmas.Bool.{lt-ltb, le-leb}
 use Rattle.std.proofs.lemmas.List.{length-map}
-use Rattle.std.specs.List.{list_all, list_any}
+use Rattle.std.specs.List.{list_all}
 use Rattle.std.specs.Str.{bytes_eq}
 use Rattle.k_types.specs.declared.names.Field.{Field}
 use Rattle.k_types.specs.declared.names.Field.TheVariants.{Ref, Int}
-use Rattle.k_types.specs.declared.op.Op.{Op}
-use Rattle.k_types.specs.Trace.{operations_of}
 use Rattle.k_words.specs.Words.{Text, word_at}
-use Rattle.k_words.specs.Numbers.{is_below, value}
-use Rattle.k_words.specs.Names.{is_name, is_letter, is_name_byte, is_keyword, is_section, is_report_word, is_reserved, declares, number_of}
+use Rattle.k_words.specs.Names.{is_name, is_letter, is_name_byte, is_keyword, is_section, is_report_word, is_reserved}
 use Rattle.k_words.proofs.Spelled.{both}
 use Rattle.k_words.proofs.Again.{AreApart, number_of-at, declares-at, value-decimal, is_below-decimal}
 use Rattle.k_trace.specs.declared.place.Place.{Place}
 use Rattle.k_trace.specs.declared.place.Place.TheVariants.{Version, Kernel, Types, Limits, Procs, Shared, Operations}
 use Rattle.k_trace.specs.Named.{NamedTrace}
-use Rattle.k_trace.specs.Spelling.{field_word, limit_words, op_words}
+use Rattle.k_trace.specs.Spelling.{field_word}
 use Rattle.k_trace.specs.Demands.{demands}
-use Rattle.k_trace.specs.Forms.{op_of}
-use Rattle.k_trace.specs.Grown.{with_kernel, with_type, with_limit, with_proc, with_shared, with_op, has_exit, fits}
-use Rattle.k_trace.specs.Judgement.{SoFar, Judged, begins, leads, version_line, kernel_line, is_field, field_of, type_line, root_line, limit_line, limit_of_name, proc_line, shared_line, process_line, process_line_of, operation_line, later_line, line_of_types, line_of_limits, line_of_procs, line_in, has_process}
+use Rattle.k_trace.specs.Judgement.{SoFar, version_line, kernel_line, is_field, field_of, type_line, root_line, limit_line, proc_line, shared_line, process_line, operation_line, later_line, line_of_types, line_of_limits, line_of_procs, line_in, has_process}
 use Rattle.k_trace.proofs.OpForms.{AreNamed}
 use Rattle.k_trace.proofs.OpAgain.{AreDistinct, op_again}
 use Rattle.k_trace.proofs.Found.{not_true, hardness, limit_words_are}
-use Rattle.k_trace.proofs.Steps.{at_place, version_words, kernel_words, root_row, limit_row, VersionStep, KernelStep, TypeStep, RootStep, LimitStep, ProcStep, SharedStep, OperationStep, Step, OfVersion, OfKernel, OfType, OfRoot, OfLimit, OfProc, OfShared, OfOperation}
+use Rattle.k_trace.proofs.Steps.{VersionStep, KernelStep, TypeStep, RootStep, LimitStep, ProcStep, SharedStep, OperationStep, Step, OfVersion, OfKernel, OfType, OfRoot, OfLimit, OfProc, OfShared, OfOperation}
 
 -- the names are names, and apart
 pub record IsOrderly (t : NamedTrace) : Type 0 where
@@ -34,7 +29,8 @@ pub record IsOrderly (t : NamedTrace) : Type 0 where
   pub procs : AreApart t.names.procs
   pub each : (p : ℕ) → p < length t.names.procs → is_name (word_at t.names.procs p) ≡ true
 
-nor : (a b : Bool) → (a || b) ≡ false → (a ≡ false) × (b ≡ false)
+-- neither holds
+pub nor : (a b : Bool) → (a || b) ≡ false → (a ≡ false) × (b ≡ false)
 nor true b e = absurd cc
 nor false b e = (refl, e)
 

@@ -1,5 +1,5 @@
 -- Which processes have an exit.
-use Rattle.std.proofs.Common.{◌≡◌, ◌∙◌, ℕ, ◌+◌, ◌<◌, ◌≤◌, Bool, true, false, ◌||◌, eqb, List, [], ◌∷◌, ◌++◌, length, map, set, get_or, replicate, refl, sym, ap, arith}
+use Rattle.std.proofs.Common.{◌≡◌, ◌∙◌, ℕ, ◌<◌, Bool, false, ◌||◌, List, [], ◌∷◌, ◌++◌, length, map, set, get_or, replicate, refl, sym, ap, arith}
 use Rattle.std.proofs.lemmas.Grind.{common_steps}
 use Rattle.std.proofs.lemmas.List.{map-set, get_or-map, get_or-replicate, map-append, length-map}
 use Rattle.std.proofs.Math.Seq.{map-set_same}
@@ -23,9 +23,6 @@ items_of_set ops p v = map-set (λ (o : Vec Op). o.items) ops p v
 pub AreEnded_push : (operations : List (List Op)) (ended : List Bool) (p : ℕ) (op : Op) → p < length operations → length ended ≡ 64 → p < 64 → AreEnded operations ended
     → AreEnded (set operations p (get_or operations p [] ++ op ∷ [])) (set ended p (get_or ended p false || is_exit op))
 AreEnded_push operations ended p op lt len few good q below = grind (arith, common_steps, good q below, has_exit_push (get_or operations p []) op, good p few)
-
-pub AreEnded_process : (operations : List (List Op)) (ended : List Bool) → AreEnded operations ended → AreEnded (operations ++ [] ∷ []) ended
-AreEnded_process operations ended good q below = grind (arith, common_steps, good q below)
 
 -- an element that was read at its place
 pub AreEnded_unchanged : (ops : List (Vec Op)) (ended : List Bool) (p : ℕ) (v w : Vec Op) → v ≡ get_or ops p v → w.items ≡ v.items

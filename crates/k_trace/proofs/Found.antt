@@ -1,28 +1,24 @@
 -- A line that is judged good is a step.
-use Rattle.std.proofs.Common.{◌≡◌, ◌∙◌, ◌⊎◌, ℕ, suc, ◌+◌, ◌*◌, ◌<◌, ◌≤◌, ◌^◌, Bool, true, false, cond, not, ◌&&◌, ◌||◌, eqb, ltb, leb, List, [], ◌∷◌, ◌++◌, length, map, drop, get_or, Option, Some, None, Result, Ok, Err, refl, sym, ap, subst, arith, codes, decimal, inl, inr}
-use Rattle.std.proofs.lemmas.Bool.{ltb-true, lt-ltb, eqb-true, leb-true}
+use Rattle.std.proofs.Common.{◌≡◌, ◌∙◌, ◌⊎◌, ℕ, ◌≤◌, ◌^◌, Bool, true, false, cond, not, ◌||◌, eqb, ltb, leb, List, [], ◌∷◌, length, map, drop, Result, Ok, Err, refl, sym, arith, codes, decimal, inl, inr}
+use Rattle.std.proofs.lemmas.Bool.{ltb-true, eqb-true, leb-true}
 use Rattle.std.proofs.lemmas.List.{length-map, length-drop}
 use Rattle.std.specs.List.{list_all}
 use Rattle.std.specs.Str.{bytes_eq}
-use Rattle.k_types.specs.declared.names.Field.{Field}
-use Rattle.k_types.specs.declared.names.Field.TheVariants.{Ref, Int}
 use Rattle.k_types.specs.declared.op.Op.{Op}
-use Rattle.k_types.specs.Trace.{operations_of}
 use Rattle.k_words.specs.Words.{Text, word_at}
 use Rattle.k_words.specs.Numbers.{is_below, value}
-use Rattle.k_words.specs.Names.{is_name, is_keyword, declares, number_of}
+use Rattle.k_words.specs.Names.{is_keyword, declares, number_of}
 use Rattle.k_words.proofs.Spelled.{both, same, name_at, number_word}
 use Rattle.k_trace.specs.declared.place.Place.{Place}
 use Rattle.k_trace.specs.declared.place.Place.TheVariants.{Version, Kernel, Types, Limits, Procs, Shared, Operations}
 use Rattle.k_trace.specs.Named.{NamedTrace}
-use Rattle.k_trace.specs.Spelling.{field_word, place_words, limit_words, proc_words, shared_words, line_words, type_words}
-use Rattle.k_trace.specs.Demands.{demands}
+use Rattle.k_trace.specs.Spelling.{field_word, limit_words}
 use Rattle.k_trace.specs.Forms.{op_of, register_op, bare_op, sharing_op}
-use Rattle.k_trace.specs.Grown.{with_kernel, with_type, with_limit, with_proc, with_shared, with_op, has_exit, fits}
+use Rattle.k_trace.specs.Grown.{with_kernel, with_type, with_limit, with_proc, with_shared, with_op}
 use Rattle.k_trace.specs.Judgement.{SoFar, Judged, begins, version_line, kernel_line, is_field, field_of, type_line, root_line, limit_line, limit_of_name, proc_line, shared_line, process_line, process_line_of, operation_line, later_line, line_of_types, line_of_limits, line_of_procs, line_in, has_process}
 use Rattle.k_trace.proofs.Readers.{demands_ok, ok_is}
-use Rattle.k_trace.proofs.OpForms.{two, three, five, number_below, AreNamed, IsFound, op_found}
-use Rattle.k_trace.proofs.Steps.{at_place, version_words, kernel_words, root_row, limit_row, VersionStep, KernelStep, TypeStep, RootStep, LimitStep, ProcStep, SharedStep, OperationStep, Step, OfVersion, OfKernel, OfType, OfRoot, OfLimit, OfProc, OfShared, OfOperation}
+use Rattle.k_trace.proofs.OpForms.{two, three, five, number_below, AreNamed, op_found}
+use Rattle.k_trace.proofs.Steps.{at_place, root_row, limit_row, Step, OfVersion, OfKernel, OfType, OfRoot, OfLimit, OfProc, OfShared, OfOperation}
 use Rattle.k_trace.specs.declared.reasons.Reason.{Reason}
 use Rattle.k_trace.specs.declared.reasons.Reason.TheVariants.{NoForm}
 

@@ -1,8 +1,8 @@
 -- A run is judged good.
-use Rattle.std.proofs.Common.{◌≡◌, ◌∙◌, ℕ, ◌+◌, List, [], ◌∷◌, ◌++◌, map, Result, Ok, refl, sym, ap, subst, append_assoc}
+use Rattle.std.proofs.Common.{◌≡◌, ◌∙◌, ℕ, ◌+◌, List, [], ◌∷◌, ◌++◌, Result, Ok, ap}
 use Rattle.std.specs.List.{join_with_byte}
 use Rattle.k_words.specs.Words.{Text}
-use Rattle.k_words.proofs.Proper.{IsProper, AllProper, joins, proper_words, proper_printable, proper_short, proper_are_words}
+use Rattle.k_words.proofs.Proper.{AllProper, joins, proper_words, proper_printable, proper_short, proper_are_words}
 use Rattle.k_trace.specs.Demands.{demands}
 use Rattle.k_trace.specs.Judgement.{SoFar, BadLine, judged_line, judged_lines, then_lines}
 use Rattle.k_trace.proofs.Again.{step_again}

@@ -1,8 +1,8 @@
 -- One more line is judged.
-use Rattle.std.proofs.Common.{◌≡◌, ◌∙◌, ℕ, ◌+◌, ◌≤◌, List, [], ◌∷◌, Result, Ok, Err, refl, sym, ap, length, arith}
+use Rattle.std.proofs.Common.{◌≡◌, ◌∙◌, ℕ, ◌+◌, List, [], ◌∷◌, Ok, Err, refl, ap, length}
 use Rattle.k_words.specs.Words.{Text, lines_of}
 use Rattle.k_trace.specs.Reasons.{reason_number}
-use Rattle.k_trace.specs.Judgement.{SoFar, BadLine, Judged, then_lines, judged_line, judged_lines}
+use Rattle.k_trace.specs.Judgement.{SoFar, then_lines, judged_line, judged_lines}
 use Rattle.k_trace.specs.declared.reasons.Reason.{Reason}
 
 pub one_more : (n : ℕ) (c d : SoFar) (lines rest : List Text) (line : Text) → lines ≡ line ∷ rest → judged_line c line ≡ Ok d → judged_lines n c lines ≡ judged_lines (n + 1) d rest

@@ -1,35 +1,32 @@
 -- Each step keeps what the lines so far keep.
-use Rattle.std.proofs.Common.{◌≡◌, ◌≢◌, ◌∙◌, ◌⊎◌, ℕ, zero, suc, ◌+◌, ◌*◌, ◌^◌, ◌<◌, ◌≤◌, Bool, true, false, cond, not, ◌&&◌, ◌||◌, eqb, ltb, List, [], ◌∷◌, ◌++◌, length, map, drop, get_or, set, Option, Some, None, refl, sym, ap, subst, arith, inl, inr, append_assoc}
-use Rattle.std.proofs.lemmas.Bool.{cases_lt, lt-ltb, ltb-true}
-use Rattle.std.proofs.lemmas.List.{get_or_append_left, length-append, append-nil, map-append, length-map}
+use Rattle.std.proofs.Common.{◌≡◌, ◌∙◌, ◌⊎◌, ℕ, ◌+◌, ◌*◌, ◌^◌, ◌<◌, ◌≤◌, Bool, true, false, not, ◌||◌, List, [], ◌∷◌, ◌++◌, length, map, get_or, Option, Some, None, refl, sym, ap, subst, arith, inl, inr, append_assoc}
+use Rattle.std.proofs.lemmas.Bool.{cases_lt}
+use Rattle.std.proofs.lemmas.List.{get_or_append_left, append-nil, map-append}
 use Rattle.std.proofs.Math.Seq.{get_or-append_seam}
-use Rattle.std.specs.List.{list_all}
 use Rattle.k_types.specs.declared.names.Field.{Field}
 use Rattle.k_types.specs.declared.names.LimitId.{LimitId}
-use Rattle.k_types.specs.declared.names.TypeId.{TypeId}
 use Rattle.k_types.specs.declared.setup.LimitRow.{LimitRow}
 use Rattle.k_types.specs.declared.op.Op.{Op}
-use Rattle.k_types.specs.Types.{HaveFewFields, type_row, object_size}
-use Rattle.k_types.specs.Trace.{Trace, operations_of, process_count, row_of, no_row, limit_of}
+use Rattle.k_types.specs.Trace.{operations_of, row_of, no_row}
 use Rattle.k_types.specs.Steps.{in_range}
 use Rattle.k_types.specs.TraceRules.{AreOperations, IsTree, is_spelled}
-use Rattle.k_types.specs.Limits.{use_within, max_of}
-use Rattle.k_words.specs.Words.{Text, word_at}
+use Rattle.k_words.specs.Words.{Text}
 use Rattle.k_words.specs.Names.{is_name, declares}
 use Rattle.k_trace.specs.declared.place.Place.{Place}
 use Rattle.k_trace.specs.declared.place.Place.TheVariants.{Version, Kernel, Types, Limits, Procs, Shared, Operations}
 use Rattle.k_trace.specs.Named.{DeclaredNames, NamedTrace}
-use Rattle.k_trace.specs.Rules.{AreNames}
-use Rattle.k_trace.specs.Spelling.{declarations, type_words, limit_words, proc_words, shared_words, operation_lines, line_words, words}
+use Rattle.k_trace.specs.Spelling.{declarations, type_words, limit_words, proc_words, shared_words, operation_lines, line_words}
 use Rattle.k_trace.specs.Grown.{blank, fits, has_exit, with_kernel, with_type, with_limit, with_proc, with_shared, with_op}
 use Rattle.k_trace.specs.Judgement.{SoFar, has_process}
-use Rattle.k_trace.proofs.OpForms.{AreNamed}
-use Rattle.k_trace.proofs.Steps.{at_place, version_words, kernel_words, root_row, limit_row, VersionStep, KernelStep, TypeStep, RootStep, LimitStep, ProcStep, SharedStep, OperationStep, Step, OfVersion, OfKernel, OfType, OfRoot, OfLimit, OfProc, OfShared, OfOperation}
-use Rattle.k_trace.proofs.Pushed.{length_push, AreNames_push, AreNames_nil, AreNames_front, neither_declares, declarations_push, declarations_same, word_before}
+use Rattle.k_trace.proofs.Steps.{version_words, kernel_words, root_row, limit_row, VersionStep, KernelStep, TypeStep, RootStep, LimitStep, ProcStep, SharedStep, OperationStep, Step, OfVersion, OfKernel, OfType, OfRoot, OfLimit, OfProc, OfShared, OfOperation}
+use Rattle.k_limits.proofs.Reserves.{row_before}
+use Rattle.k_base.proofs.Lists.{length_push}
+use Rattle.k_trace.proofs.Pushed.{AreNames_push, AreNames_nil, AreNames_front, neither_declares, declarations_push, declarations_same, word_before}
+use Rattle.k_trace.proofs.Readers.{few_push}
 use Rattle.k_trace.proofs.OpLists.{lines_push}
 use Rattle.k_trace.proofs.OpRules.{none_each, no_operations, operation_kept, op_added}
 use Rattle.k_trace.proofs.Reserved.{AllFit, fit_none, fit_root, fit_limit}
-use Rattle.k_trace.proofs.Kept.{IsKernel, AreTypes, AreRows, limit_at, AreHeaps, IsBegun, NoLimits, NoProcs, NoShared, NoOperations, IsSaid, Holds}
+use Rattle.k_trace.proofs.Kept.{AreTypes, AreRows, limit_at, AreHeaps, NoShared, NoOperations, IsSaid, Holds}
 
 -- lines of words, as the header has them
 abbrev lined : List (List Text) → List (List Text) → List (List Text) → List (List Text) → List (List Text) → List (List Text)
@@ -52,20 +49,6 @@ behind_all a b c d e x = simp append_assoc
 
 -- ---- the parts, grown
 
-few_push : (rows : List (List Field)) (row : List Field) → HaveFewFields rows → length row ≤ 16 → HaveFewFields (rows ++ row ∷ [])
-few_push rows row few le ty = elim (cases_lt ty.0 (length rows)) [
-  | inl below ↦ rw (get_or_append_left rows (row ∷ []) [] ty.0 below) (few ty)
-  | inr above ↦ elim (cases_lt (length rows) ty.0) [
-    | inl past ↦ past_few (rows ++ row ∷ []) ty.0 (omega (arith, length_push rows row))
-    | inr at ↦ let e : ty.0 ≡ length rows = omega arith in rw (e, get_or-append_seam rows row [] []) le
-  ]
-]
-  where
-    past_few : (xs : List (List Field)) (i : ℕ) → length xs ≤ i → length (get_or xs i []) ≤ 16
-    past_few [] i past = omega arith
-    past_few (x ∷ xs) zero past = absurd (omega (arith, past))
-    past_few (x ∷ xs) (suc i) past = past_few xs i (omega (arith, past))
-
 types_push : (names : List Text) (types : List (List Field)) (name : Text) (fields : List Field) → AreTypes names types → is_name name ≡ true → declares names name ≡ false
     → length fields ≤ 16 → length names < 256 → AreTypes (names ++ name ∷ []) (types ++ fields ∷ [])
 types_push names types name fields old good fresh few room = record {
@@ -74,9 +57,6 @@ types_push names types name fields old good fresh few room = record {
   are_names = AreNames_push names name old.are_names good fresh;
   named = rw (length_push names name, length_push types fields, old.named) refl;
 }
-
-row_before : (rows : List LimitRow) (row : LimitRow) (m : ℕ) → m < length rows → row_of (rows ++ row ∷ []) m ≡ row_of rows m
-row_before rows row m lt = get_or_append_left rows (row ∷ []) no_row m lt
 
 row_last : (rows : List LimitRow) (row : LimitRow) (m : ℕ) → m ≡ length rows → row_of (rows ++ row ∷ []) m ≡ row
 row_last rows row m e = rw e (get_or-append_seam rows row [] no_row)
@@ -89,11 +69,6 @@ each_row P rows row old last m lt = elim (cases_lt m (length rows)) [
   | inr above ↦ let e : m ≡ length rows = omega (arith, length_push rows row) in
       subst (P m) (sym (row_last rows row m e)) (subst (λ (k : ℕ). P k row) (sym e) last)
 ]
-
-root_push : (rows : List LimitRow) (added : LimitRow) → (row_of rows 0).hard ≡ true → (0 < length rows) ⊎ (added.hard ≡ true) → 0 < length rows ⊎ (rows ≡ []) → (row_of (rows ++ added ∷ []) 0).hard ≡ true
-root_push rows added old (inl lt) some = rw (row_before rows added 0 lt) old
-root_push rows added old (inr hard) (inl lt) = rw (row_before rows added 0 lt) old
-root_push rows added old (inr hard) (inr none) = rw none hard
 
 pub tree_push : (rows : List LimitRow) (row : LimitRow) → IsTree rows → ((parent : LimitId) → row.parent ≡ Some parent → parent.0 < length rows) → IsTree (rows ++ row ∷ [])
 tree_push rows row old known m parent lt is = each_row (λ k r. (p : LimitId) → r.parent ≡ Some p → p.0 < k) rows row (λ k below p. old k p below) known m lt parent is

@@ -1,34 +1,22 @@
 -- What the lines so far keep.
-use Rattle.std.proofs.Common.{◌≡◌, ◌≢◌, ◌∙◌, ◌⊎◌, ℕ, zero, suc, ◌+◌, ◌*◌, ◌^◌, ◌<◌, ◌≤◌, Bool, true, false, cond, not, ◌&&◌, ◌||◌, eqb, ltb, List, [], ◌∷◌, ◌++◌, length, map, drop, get_or, set, Option, Some, None, refl, sym, ap, subst, arith, inl, inr, append_assoc}
-use Rattle.std.proofs.lemmas.Bool.{cases_lt, lt-ltb, ltb-true}
-use Rattle.std.proofs.lemmas.List.{get_or_append_left, length-append, append-nil, map-append, length-map}
-use Rattle.std.proofs.Math.Seq.{get_or-append_seam}
-use Rattle.std.specs.List.{list_all}
+use Rattle.std.proofs.Common.{◌≡◌, ℕ, ◌^◌, ◌<◌, ◌≤◌, true, List, [], ◌∷◌, ◌++◌, length, get_or, None}
 use Rattle.k_types.specs.declared.names.Field.{Field}
 use Rattle.k_types.specs.declared.names.LimitId.{LimitId}
-use Rattle.k_types.specs.declared.names.TypeId.{TypeId}
 use Rattle.k_types.specs.declared.setup.LimitRow.{LimitRow}
-use Rattle.k_types.specs.declared.op.Op.{Op}
-use Rattle.k_types.specs.Types.{HaveFewFields, type_row, object_size}
-use Rattle.k_types.specs.Trace.{Trace, operations_of, process_count, row_of, no_row, limit_of}
-use Rattle.k_types.specs.Steps.{in_range}
-use Rattle.k_types.specs.TraceRules.{AreOperations, IsTree, is_spelled}
-use Rattle.k_types.specs.Limits.{use_within, max_of}
-use Rattle.k_words.specs.Words.{Text, word_at}
-use Rattle.k_words.specs.Names.{is_name, declares}
+use Rattle.k_types.specs.Types.{HaveFewFields, object_size}
+use Rattle.k_types.specs.Trace.{row_of}
+use Rattle.k_types.specs.TraceRules.{AreOperations, IsTree}
+use Rattle.k_types.specs.Limits.{max_of}
+use Rattle.k_words.specs.Words.{Text}
 use Rattle.k_trace.specs.declared.place.Place.{Place}
 use Rattle.k_trace.specs.declared.place.Place.TheVariants.{Version, Kernel, Types, Limits, Procs, Shared, Operations}
-use Rattle.k_trace.specs.Named.{DeclaredNames, NamedTrace}
+use Rattle.k_trace.specs.Named.{NamedTrace}
 use Rattle.k_trace.specs.Rules.{AreNames}
-use Rattle.k_trace.specs.Spelling.{declarations, type_words, limit_words, proc_words, shared_words, operation_lines, line_words, words}
-use Rattle.k_trace.specs.Grown.{blank, fits, has_exit, with_kernel, with_type, with_limit, with_proc, with_shared, with_op}
-use Rattle.k_trace.specs.Judgement.{SoFar, has_process}
-use Rattle.k_trace.proofs.OpForms.{AreNamed}
-use Rattle.k_trace.proofs.Steps.{at_place, version_words, kernel_words, root_row, limit_row, VersionStep, KernelStep, TypeStep, RootStep, LimitStep, ProcStep, SharedStep, OperationStep, Step, OfVersion, OfKernel, OfType, OfRoot, OfLimit, OfProc, OfShared, OfOperation}
-use Rattle.k_trace.proofs.Pushed.{length_push, AreNames_push, AreNames_nil, AreNames_front, neither_declares, declarations_push, declarations_same, word_before}
-use Rattle.k_trace.proofs.OpLists.{lines_push}
-use Rattle.k_trace.proofs.OpRules.{none_each, no_operations, operation_kept, op_added}
-use Rattle.k_trace.proofs.Reserved.{AllFit, fit_none, fit_root, fit_limit}
+use Rattle.k_trace.specs.Spelling.{words}
+use Rattle.k_trace.specs.Grown.{blank}
+use Rattle.k_trace.proofs.Steps.{version_words}
+use Rattle.k_trace.proofs.OpRules.{none_each}
+use Rattle.k_trace.proofs.Reserved.{AllFit}
 
 pub record IsKernel (ceiling dir_fields : ℕ) : Type 0 where
   pub small : ceiling < 2 ^ 40

@@ -1,27 +1,27 @@
 -- The limits, processes and shared heaps of a trace are a run.
-use Rattle.std.proofs.Common.{◌≡◌, ◌≢◌, ◌∙◌, ◌⊎◌, ℕ, zero, suc, ◌+◌, ◌*◌, ◌^◌, ◌<◌, ◌≤◌, Bool, true, false, cond, not, ◌&&◌, ◌||◌, eqb, ltb, leb, List, [], ◌∷◌, ◌++◌, length, map, drop, get_or, Option, Some, None, refl, sym, ap, subst, arith, codes, decimal, inl, inr, append_assoc}
-use Rattle.std.proofs.lemmas.List.{get_or-append-add, get_or_append_left, length-append, length-map, append-nil, map-append}
-use Rattle.std.proofs.Math.Seq.{get_or-append_seam}
+use Rattle.std.proofs.Common.{◌≡◌, ◌∙◌, ◌⊎◌, ℕ, ◌+◌, ◌^◌, ◌<◌, ◌≤◌, true, not, ◌||◌, List, [], ◌∷◌, ◌++◌, length, map, Option, Some, None, refl, sym, ap, subst, arith, inl, inr, append_assoc}
+use Rattle.std.proofs.lemmas.List.{length-append, append-nil}
 use Rattle.k_types.specs.declared.names.LimitId.{LimitId}
 use Rattle.k_types.specs.declared.setup.LimitRow.{LimitRow}
 use Rattle.k_types.specs.declared.op.Op.{Op}
-use Rattle.k_types.specs.Trace.{Trace, row_of, no_row}
+use Rattle.k_types.specs.Trace.{row_of}
 use Rattle.k_types.specs.TraceRules.{IsTree}
-use Rattle.k_types.specs.Limits.{max_of}
-use Rattle.k_words.specs.Words.{Text, word_at}
-use Rattle.k_words.specs.Names.{is_name, declares}
+use Rattle.k_words.specs.Words.{Text}
+use Rattle.k_words.specs.Names.{declares}
 use Rattle.k_trace.specs.declared.place.Place.{Place}
-use Rattle.k_trace.specs.declared.place.Place.TheVariants.{Version, Kernel, Types, Limits, Procs, Shared, Operations}
+use Rattle.k_trace.specs.declared.place.Place.TheVariants.{Limits, Procs, Shared}
 use Rattle.k_trace.specs.Named.{DeclaredNames, NamedTrace}
 use Rattle.k_trace.specs.Rules.{AreNames}
 use Rattle.k_trace.specs.Spelling.{declarations, limit_words, proc_words, shared_words}
 use Rattle.k_trace.specs.Grown.{fits, with_limit, with_proc, with_shared}
-use Rattle.k_trace.specs.Judgement.{SoFar, has_process}
+use Rattle.k_trace.specs.Judgement.{SoFar}
 use Rattle.k_trace.proofs.OpRules.{none_each}
-use Rattle.k_trace.proofs.Pushed.{length_push, AreNames_front, declares_append}
+use Rattle.k_base.proofs.Lists.{length_push}
+use Rattle.k_trace.proofs.Pushed.{declares_append}
+use Rattle.k_trace.proofs.Again.{nor}
 use Rattle.k_trace.proofs.Reserved.{AllFit, fit_room}
-use Rattle.k_trace.proofs.Steps.{at_place, limit_row, ProcStep, SharedStep, Step, OfProc, OfShared, Run}
-use Rattle.k_trace.proofs.Runs.{run_to, run_then, good_at, fresh_at, moved, with_limits, limits_more, row_is, AreLater, limit_step, seam, front_tree, fit_front}
+use Rattle.k_trace.proofs.Steps.{at_place, Step, OfProc, OfShared, Run}
+use Rattle.k_trace.proofs.Runs.{run_to, good_at, fresh_at, moved, with_limits, limits_more, row_is, AreLater, limit_step, seam, front_tree, fit_front}
 
 -- the next row fits
 room_at : (xs : List LimitRow) (row : LimitRow) (ys : List LimitRow) (p : LimitId) → row.parent ≡ Some p → AreLater (xs ++ row ∷ ys) → p.0 < length xs → (not row.hard || fits xs p.0 row.max) ≡ true
@@ -149,10 +149,6 @@ shareds_more t n ns = let e : t.trace.shared_heaps + 1 + length ns ≡ t.trace.s
 heaps_moved : (ps xs : List Text) (n : Text) (ns : List Text) → AreNames (ps ++ (xs ++ n ∷ ns)) → AreNames (ps ++ ((xs ++ n ∷ []) ++ ns))
 heaps_moved ps xs n ns all = subst (λ (us : List Text). AreNames (ps ++ us)) (sym (append_assoc xs (n ∷ []) ns)) all
 
-or_false : (a b : Bool) → (a || b) ≡ false → (a ≡ false) × (b ≡ false)
-or_false true b e = absurd cc
-or_false false b e = (refl, e)
-
 abbrev pub IsEarly : Place → Type 0
 IsEarly p = (p ≡ Procs) ⊎ (p ≡ Shared)
 
@@ -160,7 +156,7 @@ shared_step : (p : Place) (t : NamedTrace) (n : Text) (ns : List Text) → IsEar
     → Step (at_place p t) (shared_words n) (at_place Shared (with_shared t n))
 shared_step p t n ns at all few =
     let flat : AreNames ((t.names.procs ++ t.names.shared) ++ n ∷ ns) = subst AreNames (sym (append_assoc t.names.procs t.names.shared (n ∷ ns))) all in
-    let fresh = or_false (declares t.names.procs n) (declares t.names.shared n) (sym (declares_append t.names.procs t.names.shared n) ∙ fresh_at (t.names.procs ++ t.names.shared) n ns flat) in
+    let fresh = nor (declares t.names.procs n) (declares t.names.shared n) (sym (declares_append t.names.procs t.names.shared n) ∙ fresh_at (t.names.procs ++ t.names.shared) n ns flat) in
     OfShared (record {
       name = n;
       at = at;

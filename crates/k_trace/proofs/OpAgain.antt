@@ -1,7 +1,6 @@
 -- The spelling of an operation is read as that operation.
-use Rattle.std.proofs.Common.{◌≡◌, ◌∙◌, ℕ, suc, ◌+◌, ◌<◌, ◌≤◌, ◌^◌, Bool, true, false, cond, not, ◌&&◌, ◌||◌, eqb, ltb, List, [], ◌∷◌, ◌++◌, length, drop, get_or, Result, Ok, Err, refl, sym, ap, subst, arith, codes, decimal, rules}
-use Rattle.std.proofs.lemmas.Bool.{ltb-true, lt-ltb, eqb-true}
-use Rattle.std.specs.Str.{bytes_eq}
+use Rattle.std.proofs.Common.{◌≡◌, ℕ, ◌<◌, ◌^◌, true, ◌&&◌, ltb, length, Ok, refl, arith}
+use Rattle.std.proofs.lemmas.Bool.{ltb-true}
 use Rattle.k_types.specs.declared.op.Op.{Op}
 use Rattle.k_types.specs.declared.op.Op.TheVariants.{New, KNew, SNew, Store, Load, Move, Clear, Dir, Put, Get, Collect, KCollect, Share, Freeze, Attach, Exit}
 use Rattle.k_types.specs.declared.names.Reg.{Reg}
@@ -9,15 +8,13 @@ use Rattle.k_types.specs.declared.names.TypeId.{TypeId}
 use Rattle.k_types.specs.declared.names.SharedId.{SharedId}
 use Rattle.k_types.specs.Steps.{in_range}
 use Rattle.k_types.specs.TraceRules.{is_spelled}
-use Rattle.k_words.specs.Words.{Text, word_at}
-use Rattle.k_words.specs.Numbers.{is_below, value, is_register, register, register_word}
-use Rattle.k_words.specs.Names.{declares, number_of}
+use Rattle.k_words.specs.Numbers.{value}
 use Rattle.k_words.proofs.Spelled.{both}
 use Rattle.k_words.proofs.Again.{AreApart, number_of-at, declares-at, value-decimal, is_below-decimal, is_register-word}
-use Rattle.k_trace.specs.Named.{DeclaredNames, NamedTrace}
+use Rattle.k_trace.specs.Named.{NamedTrace}
 use Rattle.k_trace.specs.Spelling.{op_words}
 use Rattle.k_trace.specs.Demands.{demands}
-use Rattle.k_trace.specs.Forms.{form, new_form, knew_form, snew_form, store_form, load_form, move_form, drop_form, dir_form, put_form, get_form, share_form, freeze_form, attach_form, bare_form, has_verb, reg, type_of, shared_of, sharing_op, bare_op, register_op, op_of}
+use Rattle.k_trace.specs.Forms.{new_form, knew_form, snew_form, store_form, load_form, move_form, drop_form, dir_form, put_form, get_form, share_form, freeze_form, attach_form, sharing_op, bare_op, register_op, op_of}
 use Rattle.k_trace.proofs.OpForms.{AreNamed}
 
 -- no two types and no two shared heaps have one name
@@ -28,10 +25,10 @@ pub record AreDistinct (t : NamedTrace) : Type 0 where
 abbrev IsRead : NamedTrace → Op → Type 0
 IsRead t op = op_of t.names (op_words t.names op) ≡ Ok op
 
-type_below : (t : NamedTrace) (ty : TypeId) → AreNamed t → ltb ty.0 (length t.trace.types) ≡ true → ty.0 < length t.names.types
+pub type_below : (t : NamedTrace) (ty : TypeId) → AreNamed t → ltb ty.0 (length t.trace.types) ≡ true → ty.0 < length t.names.types
 type_below t ty named h = rw named.types (ltb-true _ _ h)
 
-shared_below : (t : NamedTrace) (s : SharedId) → AreNamed t → ltb s.0 t.trace.shared_heaps ≡ true → s.0 < length t.names.shared
+pub shared_below : (t : NamedTrace) (s : SharedId) → AreNamed t → ltb s.0 t.trace.shared_heaps ≡ true → s.0 < length t.names.shared
 shared_below t s named h = rw named.shared (ltb-true _ _ h)
 
 new_again : (t : NamedTrace) (r : Reg) (ty : TypeId) → AreNamed t → AreDistinct t → in_range t.trace (New r ty) ≡ true → is_spelled (New r ty) ≡ true → IsRead t (New r ty)

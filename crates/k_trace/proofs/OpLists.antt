@@ -1,18 +1,13 @@
 -- Operations and the order of the file, with one operation more.
-use Rattle.std.proofs.Common.{◌≡◌, ◌≢◌, ◌∙◌, ◌⊎◌, ℕ, zero, suc, ◌+◌, ◌<◌, ◌≤◌, ◌^◌, Bool, true, false, cond, not, ◌&&◌, ◌||◌, eqb, ltb, List, [], ◌∷◌, ◌++◌, length, map, drop, get_or, set, refl, sym, ap, subst, arith, inl, inr, append_assoc, eq-eqb, ne_eqb}
-use Rattle.std.proofs.lemmas.Bool.{cases_lt, eqb-true, cases_eq, lt-ltb, ltb-true}
-use Rattle.std.proofs.lemmas.Bool.Decides.{nat_tests}
+use Rattle.std.proofs.Common.{◌≡◌, ◌∙◌, ℕ, ◌+◌, ◌<◌, Bool, true, false, cond, ◌||◌, eqb, List, [], ◌∷◌, ◌++◌, length, drop, refl, sym, ap, arith, append_assoc, eq-eqb}
+use Rattle.std.proofs.lemmas.Bool.{eqb-true}
 use Rattle.std.proofs.lemmas.Grind.{common_steps}
-use Rattle.std.proofs.lemmas.List.{get_or_append_left, length-append, append-nil, map-append, length-map, get_or-set_same, get_or-set_other, length-set}
-use Rattle.std.proofs.lemmas.List.Folds.{list_all-append}
-use Rattle.std.specs.List.{list_all, list_any, count_by}
+use Rattle.std.specs.List.{list_all, count_by}
 use Rattle.k_types.specs.declared.op.Op.{Op}
 use Rattle.k_types.specs.declared.op.Op.TheVariants.{New, KNew, SNew, Store, Load, Move, Clear, Dir, Put, Get, Collect, KCollect, Share, Freeze, Attach, Exit}
-use Rattle.k_types.specs.declared.names.LimitId.{LimitId}
-use Rattle.k_types.specs.Trace.{Trace, operations_of, process_count}
+use Rattle.k_types.specs.Trace.{Trace}
 use Rattle.k_types.specs.Steps.{in_range}
-use Rattle.k_types.specs.TraceRules.{EndsWithExit, AreOperations, is_exit, is_spelled}
-use Rattle.k_words.specs.Words.{Text}
+use Rattle.k_types.specs.TraceRules.{EndsWithExit, is_exit}
 use Rattle.k_trace.specs.Named.{DeclaredNames}
 use Rattle.k_trace.specs.Spelling.{first_line, after_first, operation_lines, line_words}
 use Rattle.k_trace.specs.Grown.{has_exit}

@@ -1,16 +1,16 @@
 -- The rules of operations are kept by a new process and by one operation more.
-use Rattle.std.proofs.Common.{◌≡◌, ◌≢◌, ◌∙◌, ◌⊎◌, ℕ, zero, suc, ◌+◌, ◌<◌, ◌≤◌, Bool, true, false, cond, not, ◌&&◌, ◌||◌, eqb, ltb, List, [], ◌∷◌, ◌++◌, length, map, drop, get_or, set, refl, sym, ap, subst, arith, inl, inr, eq-eqb, ne_eqb}
-use Rattle.std.proofs.lemmas.Bool.{cases_lt, eqb-true, cases_eq, lt-ltb, ltb-true}
-use Rattle.std.proofs.lemmas.List.{length-append, map-append, length-map, get_or-set_same, get_or-set_other, length-set, get_or_past}
+use Rattle.std.proofs.Common.{◌≡◌, ◌∙◌, ℕ, zero, suc, ◌+◌, ◌<◌, Bool, true, false, cond, eqb, ltb, List, [], ◌∷◌, ◌++◌, length, map, get_or, set, refl, sym, ap, subst, arith, inl, inr, eq-eqb, ne_eqb}
+use Rattle.std.proofs.lemmas.Bool.{eqb-true, cases_eq, lt-ltb}
+use Rattle.std.proofs.lemmas.List.{length-append, length-map, get_or-set_same, get_or-set_other, length-set}
 use Rattle.std.proofs.lemmas.List.Folds.{list_all-append}
-use Rattle.std.specs.List.{list_all, list_any, count_by}
+use Rattle.std.specs.List.{list_all}
 use Rattle.k_types.specs.declared.op.Op.{Op}
 use Rattle.k_types.specs.declared.names.LimitId.{LimitId}
 use Rattle.k_types.specs.Trace.{Trace, operations_of, process_count}
 use Rattle.k_types.specs.Steps.{in_range}
-use Rattle.k_types.specs.TraceRules.{EndsWithExit, AreOperations, is_exit, is_spelled}
+use Rattle.k_types.specs.TraceRules.{EndsWithExit, AreOperations, is_spelled}
 use Rattle.k_trace.specs.Grown.{has_exit}
-use Rattle.k_trace.proofs.OpLists.{times, times_push, Adds, in_range_same, all_same, ends_push, ends_nil}
+use Rattle.k_trace.proofs.OpLists.{times_push, Adds, in_range_same, all_same, ends_push, ends_nil}
 
 -- no operation of any process
 abbrev pub none_each : List LimitId → List (List Op)

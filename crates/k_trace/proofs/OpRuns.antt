@@ -1,9 +1,9 @@
 -- The operations of a trace are a run.
-use Rattle.std.proofs.Common.{◌≡◌, ◌≢◌, ◌∙◌, ◌⊎◌, ℕ, zero, suc, ◌+◌, ◌<◌, ◌≤◌, Bool, true, false, cond, not, ◌&&◌, ◌||◌, eqb, ltb, List, [], ◌∷◌, ◌++◌, length, map, drop, get_or, set, refl, sym, ap, subst, arith, inl, inr, append_assoc, eq-eqb, ne_eqb}
-use Rattle.std.proofs.lemmas.Bool.{cases_lt, eqb-true, cases_eq, ltb-true}
+use Rattle.std.proofs.Common.{◌≡◌, ◌≢◌, ◌∙◌, ℕ, suc, ◌+◌, ◌<◌, ◌≤◌, Bool, true, false, cond, ◌&&◌, ◌||◌, ltb, List, [], ◌∷◌, ◌++◌, length, get_or, refl, sym, ap, subst, arith, inl, inr, append_assoc, eq-eqb, ne_eqb}
+use Rattle.std.proofs.lemmas.Bool.{cases_eq, ltb-true}
 use Rattle.std.proofs.lemmas.List.{length-append, append-nil, length-set}
 use Rattle.std.proofs.lemmas.List.Folds.{list_all-append}
-use Rattle.std.specs.List.{list_all, list_any, count_by}
+use Rattle.std.specs.List.{list_all}
 use Rattle.k_types.specs.declared.op.Op.{Op}
 use Rattle.k_types.specs.Trace.{Trace, operations_of}
 use Rattle.k_types.specs.Steps.{in_range}
@@ -12,13 +12,13 @@ use Rattle.k_words.specs.Words.{Text}
 use Rattle.k_words.proofs.Spelled.{both}
 use Rattle.k_trace.specs.declared.place.Place.{Place}
 use Rattle.k_trace.specs.declared.place.Place.TheVariants.{Operations}
-use Rattle.k_trace.specs.Named.{DeclaredNames, NamedTrace}
+use Rattle.k_trace.specs.Named.{NamedTrace}
 use Rattle.k_trace.specs.Spelling.{first_line, after_first, operation_lines, line_words}
 use Rattle.k_trace.specs.Grown.{with_op, has_exit}
 use Rattle.k_trace.specs.Judgement.{SoFar, has_process}
-use Rattle.k_trace.proofs.OpLists.{times, times_head, Adds, in_range_same}
+use Rattle.k_trace.proofs.OpLists.{times, times_head, in_range_same}
 use Rattle.k_trace.proofs.OpRules.{op_added}
-use Rattle.k_trace.proofs.Steps.{at_place, OperationStep, Step, OfOperation, Run}
+use Rattle.k_trace.proofs.Steps.{at_place, Step, OfOperation, Run}
 
 -- no exit stands before another operation
 pub no_exit_before : (xs : List Op) (y : Op) (ys : List Op) → EndsWithExit (xs ++ y ∷ ys) → has_exit xs ≡ false

@@ -1,18 +1,15 @@
 -- Lists with one element more.
-use Rattle.std.proofs.Common.{◌≡◌, ◌≢◌, ◌∙◌, ◌⊎◌, ℕ, suc, ◌+◌, ◌<◌, ◌≤◌, Bool, true, false, cond, not, ◌||◌, eqb, ltb, List, [], ◌∷◌, ◌++◌, length, map, drop, get_or, refl, sym, ap, subst, arith, inl, inr, append_assoc}
-use Rattle.std.proofs.lemmas.Bool.{cases_lt, eqb-true, cases_eq}
-use Rattle.std.proofs.lemmas.List.{get_or_append_left, length-append, append-nil, map-append}
+use Rattle.std.proofs.Common.{◌≡◌, ◌∙◌, ℕ, suc, ◌<◌, Bool, true, false, ◌||◌, List, [], ◌∷◌, ◌++◌, length, get_or, refl, sym, ap, arith, inl, inr}
+use Rattle.std.proofs.lemmas.Bool.{cases_lt}
+use Rattle.std.proofs.lemmas.List.{get_or_append_left, length-append}
 use Rattle.std.proofs.Math.Seq.{get_or-append_seam}
-use Rattle.std.specs.List.{list_all, list_any}
 use Rattle.std.specs.Str.{bytes_eq}
 use Rattle.k_words.specs.Words.{Text, word_at}
 use Rattle.k_words.specs.Names.{is_name, declares}
+use Rattle.k_base.proofs.Lists.{length_push}
 use Rattle.k_words.proofs.Again.{declares-at}
 use Rattle.k_trace.specs.Rules.{AreNames}
 use Rattle.k_trace.specs.Spelling.{declarations}
-
-pub length_push : {A : Type 0} (xs : List A) (x : A) → length (xs ++ x ∷ []) ≡ length xs + 1
-length_push xs x = length-append xs (x ∷ [])
 
 pub word_before : (names : List Text) (n : Text) (i : ℕ) → i < length names → word_at (names ++ n ∷ []) i ≡ word_at names i
 word_before names n i lt = get_or_append_left names (n ∷ []) [] i lt

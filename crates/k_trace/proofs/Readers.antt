@@ -1,24 +1,20 @@
 -- What a reader keeps beside what the lines say.
-use Rattle.std.proofs.Common.{◌≡◌, ◌∙◌, ℕ, ◌+◌, ◌<◌, ◌≤◌, ◌^◌, Bool, true, false, cond, not, ◌&&◌, ◌||◌, eqb, ltb, leb, List, [], ◌∷◌, ◌++◌, length, map, drop, get_or, Option, Some, None, Result, Ok, Err, refl, sym, ap, subst, arith, codes}
+use Rattle.std.proofs.Common.{◌≡◌, ◌≤◌, Bool, true, false, List, [], ◌∷◌, ◌++◌, length, map, Result, Ok, Err, refl, arith}
 use Rattle.std.proofs.lemmas.Grind.{common_steps}
-use Rattle.std.proofs.lemmas.List.{map-append, length-append}
+use Rattle.std.proofs.lemmas.List.{map-append}
 use Rattle.std.specs.Global.{Vec}
-use Rattle.std.specs.Str.{bytes_eq}
 use Rattle.k_types.specs.declared.names.Field.{Field}
-use Rattle.k_types.specs.declared.names.TypeId.{TypeId}
-use Rattle.k_types.specs.Types.{HaveFewFields, type_row}
+use Rattle.k_types.specs.Types.{HaveFewFields}
 use Rattle.k_words.specs.Words.{Text, word_at}
 use Rattle.k_trace.specs.Named.{NamedTrace}
 use Rattle.k_trace.specs.Forms.{op_of, register_op, bare_op, sharing_op}
 use Rattle.k_types.specs.declared.op.Op.{Op}
-use Rattle.k_types.specs.declared.setup.LimitRow.{LimitRow}
-use Rattle.k_words.specs.Numbers.{value}
 use Rattle.k_trace.specs.Demands.{demands}
 use Rattle.k_trace.specs.Judgement.{operation_line, process_line}
 use Rattle.k_trace.specs.declared.reasons.Reason.{Reason}
 use Rattle.k_trace.specs.declared.reasons.Reason.TheVariants.{NoForm}
 
-few_push : (rows : List (List Field)) (row : List Field) → HaveFewFields rows → length row ≤ 16 → HaveFewFields (rows ++ row ∷ [])
+pub few_push : (rows : List (List Field)) (row : List Field) → HaveFewFields rows → length row ≤ 16 → HaveFewFields (rows ++ row ∷ [])
 few_push rows row few le ty = grind (arith, common_steps, few ty)
 
 pub few_fields_push : (rows : List (Vec Field)) (v : Vec Field) → HaveFewFields (map (λ r. r.items) rows) → length v.items ≤ 16

@@ -1,12 +1,12 @@
 -- What the lines are judged, the bytes are judged.
-use Rattle.std.proofs.Common.{◌≡◌, ◌∙◌, ℕ, ◌+◌, ◌≤◌, true, length, Result, Ok, Err, refl, sym, ap}
+use Rattle.std.proofs.Common.{◌≡◌, ◌≤◌, true, length, Result, Ok, refl, sym, ap}
 use Rattle.std.proofs.lemmas.Bool.{le-leb}
 use Rattle.k_words.specs.Words.{Text, lines_of}
 use Rattle.k_trace.specs.declared.errors.TraceError.{TraceError}
 use Rattle.k_trace.specs.declared.errors.TraceError.TheVariants.{NoMemory, Bad}
 use Rattle.k_trace.specs.Named.{NamedTrace}
 use Rattle.k_trace.specs.Rules.{Spells}
-use Rattle.k_trace.specs.Judgement.{SoFar, BadLine, start, judged_lines, has_process, at_end, judgement}
+use Rattle.k_trace.specs.Judgement.{SoFar, BadLine, start, judged_lines, has_process, judgement}
 use Rattle.k_trace.specs.Reading.{Refuses, IsRefused}
 use Rattle.k_trace.proofs.Sound.{sound}
 

@@ -1,32 +1,28 @@
 -- Whether what a limit reserves fits, by the tree of limits and by the machine.
-use Rattle.std.proofs.Common.{◌≡◌, ◌∙◌, ℕ, ◌+◌, ◌<◌, ◌≤◌, ◌^◌, Bool, true, false, not, ◌||◌, ◌&&◌, List, [], ◌∷◌, ◌++◌, length, replicate, slice_index, Option, Some, None, is_some, cond, ltb, refl, sym, ap, subst, arith}
+use Rattle.std.proofs.Common.{◌≡◌, ◌∙◌, ℕ, ◌<◌, ◌^◌, Bool, true, false, not, ◌||◌, List, [], ◌∷◌, ◌++◌, length, replicate, Option, Some, None, is_some, cond, ltb, refl, sym, ap, arith}
 use Rattle.std.proofs.lemmas.Bool.{and_parts, ltb-true}
-use Rattle.std.proofs.lemmas.List.{get_or-replicate, length-append}
+use Rattle.std.proofs.lemmas.List.{get_or-replicate}
 use Rattle.k_types.specs.declared.setup.LimitRow.{LimitRow}
-use Rattle.k_types.specs.declared.names.Field.{Field}
 use Rattle.k_words.specs.Words.{Text}
 use Rattle.k_words.specs.Numbers.{is_number, is_below, value, below_of}
-use Rattle.k_trace.specs.Named.{DeclaredNames}
 use Rattle.k_types.specs.declared.names.LimitId.{LimitId}
-use Rattle.k_types.specs.Trace.{row_of}
 use Rattle.k_types.specs.State.{opening}
 use Rattle.k_types.specs.TraceRules.{IsTree}
-use Rattle.k_types.specs.Limits.{use_within, max_of, full_limit}
-use Rattle.k_limits.specs.Limits.{ChargedLimits, charged_limits, use_at, full_at}
-use Rattle.k_limits.specs.Rows.{AreRows, uncharged, is_refused, first_refused}
-use Rattle.k_limits.proofs.MachineUses.{use_same, machine_fulls}
-use Rattle.k_limits.proofs.Reserves.{tree_before}
-use Rattle.k_limits.proofs.Fits.{AllFit, fit_more, none_refused}
+use Rattle.k_types.specs.Limits.{full_limit}
+use Rattle.k_limits.specs.Limits.{charged_limits, full_at}
+use Rattle.k_limits.specs.Rows.{uncharged, is_refused, first_refused}
+use Rattle.k_limits.proofs.MachineUses.{machine_fulls}
+use Rattle.k_limits.proofs.Fits.{AllFit, use_uncharged, fit_more, none_refused}
 use Rattle.k_trace.specs.Grown.{bare_trace, fits, fits_by}
 use Rattle.k_trace.specs.Outcome.{AreReserved}
 use Rattle.k_trace.proofs.Steps.{root_row, limit_row}
-use Rattle.k_trace.proofs.Reserved.{maxima_same}
+use Rattle.k_base.proofs.Maxima.{own_maxima}
 use Rattle.k_trace.proofs.Keeps.{each_row, tree_push}
 
 -- the full limit of the tree is that of the machine
 same_full : (rows : List LimitRow) → IsTree rows → (m n : ℕ) → m < length rows → full_at (uncharged rows) m n ≡ full_limit (bare_trace rows) (opening (bare_trace rows)) m n
 same_full rows tree m n known =
-    ap (λ (rs : List LimitRow). full_at (charged_limits rs (replicate (length rows) 0)) m n) (sym (maxima_same rows))
+    ap (λ (rs : List LimitRow). full_at (charged_limits rs (replicate (length rows) 0)) m n) (sym (own_maxima rows))
     ∙ machine_fulls (bare_trace rows) (opening (bare_trace rows)) (replicate (length rows) 0) tree (λ q there. get_or-replicate (length rows) q 0 0 there) m n known
 
 pub room_found : (rows : List LimitRow) (m n : ℕ) → AreReserved rows → m < length rows → full_at (uncharged rows) m n ≡ None → fits rows m n ≡ true
@@ -34,9 +30,6 @@ room_found rows m n are known none = ap fits_by (sym (same_full rows are.ordered
 
 pub no_room_found : (rows : List LimitRow) (m n q : ℕ) → AreReserved rows → m < length rows → full_at (uncharged rows) m n ≡ Some q → fits rows m n ≡ false
 no_room_found rows m n q are known some = ap fits_by (sym (same_full rows are.ordered.tree m n known) ∙ some)
-
-use_uncharged : (rows : List LimitRow) (m : ℕ) → m < length rows → use_at (uncharged rows) m ≡ use_within rows (λ q. 0) (length rows) m
-use_uncharged rows m known = use_same rows (slice_index (replicate (length rows) 0)) (λ q. 0) (λ q inside. get_or-replicate (length rows) q 0 0 inside) (length rows) m known
 
 none_of : (rows : List LimitRow) → IsTree rows → AllFit rows → first_refused rows ≡ None
 none_of rows tree fit = (none_refused rows tree).1 (λ m known. omega (arith, fit m known, use_uncharged rows m known))

@@ -1,20 +1,18 @@
 -- What hard limits reserve fits.
-use Rattle.std.proofs.Common.{◌≡◌, ◌≢◌, ◌∙◌, ◌⊎◌, ℕ, zero, suc, ◌+◌, ◌*◌, ◌^◌, ◌<◌, ◌≤◌, Bool, true, false, cond, not, ◌||◌, eqb, ltb, List, [], ◌∷◌, ◌++◌, length, map, replicate, find, get_or, Option, Some, None, refl, sym, ap, subst, arith, inl, inr, eq-eqb, ne_eqb, length-append}
-use Rattle.std.proofs.Math.Path.{fun_ext}
-use Rattle.std.proofs.lemmas.Bool.{cases_lt, cases_eq, ltb-true, le-ltb}
+use Rattle.std.proofs.Common.{◌≡◌, ◌∙◌, ℕ, zero, suc, ◌+◌, ◌*◌, ◌<◌, ◌≤◌, Bool, true, false, cond, not, ◌||◌, eqb, ltb, List, [], ◌∷◌, ◌++◌, length, find, Option, Some, None, refl, sym, ap, arith, inl, inr, eq-eqb, ne_eqb, length-append}
+use Rattle.std.proofs.lemmas.Bool.{cases_lt, cases_eq, le-ltb}
 use Rattle.std.proofs.lemmas.Bool.Decides.{nat_tests}
 use Rattle.k_types.specs.declared.setup.LimitRow.{LimitRow}
-use Rattle.k_types.specs.declared.names.LimitId.{LimitId}
-use Rattle.k_types.specs.Trace.{row_of, no_row}
 use Rattle.k_types.specs.State.{opening}
-use Rattle.k_types.specs.Limits.{use_within, max_of, path_of, with_maxima, full_limit}
+use Rattle.k_types.specs.Limits.{use_within, max_of, path_of, full_limit}
 use Rattle.k_types.specs.TraceRules.{IsTree}
 use Rattle.k_limits.specs.Paths.{times_on}
-use Rattle.k_limits.proofs.Sums.{bit}
+use Rattle.k_base.proofs.Sums.{bit}
+use Rattle.k_base.proofs.Maxima.{own_maxima}
 use Rattle.k_limits.proofs.Walks.{path_low, path_once}
 use Rattle.k_limits.proofs.Charges.{use_charged, use_deep}
-use Rattle.k_limits.proofs.Reserves.{reservation, use_before, use_last, tree_before, row_before, row_last}
-use Rattle.k_limits.proofs.Uses.{none_found}
+use Rattle.k_limits.proofs.Reserves.{reservation, use_before, use_last, tree_before, row_before}
+use Rattle.k_limits.proofs.Uses.{none_found, none_finds}
 use Rattle.k_trace.specs.Grown.{fits, fits_by, bare_trace}
 use Rattle.k_trace.proofs.Steps.{root_row, limit_row}
 
@@ -33,13 +31,9 @@ fit_root max m lt = omega arith
 abbrev over : List LimitRow → ℕ → ℕ → Bool
 over rows n q = ltb (max_of rows q) (use_within rows (λ m. 0) (length rows) q + n)
 
-pub maxima_same : (rows : List LimitRow) → with_maxima rows (map (λ row. row.max) rows) ≡ rows
-maxima_same [] = refl
-maxima_same (row ∷ rows) = ap (λ (rs : List LimitRow). row ∷ rs) (maxima_same rows)
-
 -- the machine's full limit, where nothing is charged
 full_is : (rows : List LimitRow) (parent n : ℕ) → full_limit (bare_trace rows) (opening (bare_trace rows)) parent n ≡ find (over rows n) (path_of rows parent)
-full_is rows parent n = ap (λ (rs : List LimitRow). find (λ q. ltb (max_of rs q) (use_within rs (λ m. 0) (length rs) q + n)) (path_of rs parent)) (maxima_same rows)
+full_is rows parent n = ap (λ (rs : List LimitRow). find (λ q. ltb (max_of rs q) (use_within rs (λ m. 0) (length rs) q + n)) (path_of rs parent)) (own_maxima rows)
 
 none_full : (found : Option ℕ) → fits_by found ≡ true → found ≡ None
 none_full None e = refl
@@ -47,12 +41,6 @@ none_full (Some q) e = absurd cc
 
 not_less : (a b : ℕ) → ltb a b ≡ false → b ≤ a
 not_less a b e = grind (arith, nat_tests, e)
-
-none_of : (p : ℕ → Bool) (xs : List ℕ) → ((x : ℕ) → 0 < times_on xs x → p x ≡ false) → find p xs ≡ None
-none_of p [] none = refl
-none_of p (x ∷ xs) none =
-    let here : 0 < times_on (x ∷ xs) x = (let b = ap bit (eq-eqb x x refl) in omega (arith, b)) in
-    rw (none x here) (none_of p xs (λ y there. none y (omega (arith, there))))
 
 module _ (rows : List LimitRow) (parent : ℕ) (hard : Bool) (max : ℕ) (tree : IsTree (rows ++ limit_row parent hard max ∷ [])) (known : parent < length rows) where
   row : LimitRow
@@ -133,7 +121,7 @@ module _ (rows : List LimitRow) (parent : ℕ) (hard : Bool) (max : ℕ) (tree :
       le-ltb (max_of rows q) (use_within rows (λ m. 0) (length rows) q + max) (omega (arith, whole, use_grown q lt, max_before q lt, part))
 
   room_in : (b : Bool) → hard ≡ b → AllFit (rows ++ limit_row parent hard max ∷ []) → (not hard || fits rows parent max) ≡ true
-  room_in true h all = rw (h, full_is rows parent max, none_of (over rows max) (path_of rows parent) (not_over all h)) refl
+  room_in true h all = rw (h, full_is rows parent max, none_finds (over rows max) (path_of rows parent) (not_over all h)) refl
   room_in false h all = rw h refl
 
   -- and its reservation does

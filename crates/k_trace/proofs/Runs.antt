@@ -1,30 +1,26 @@
 -- The header of a trace is a run.
-use Rattle.std.proofs.Common.{◌≡◌, ◌≢◌, ◌∙◌, ◌⊎◌, ℕ, zero, suc, ◌+◌, ◌*◌, ◌^◌, ◌<◌, ◌≤◌, Bool, true, false, cond, not, ◌&&◌, ◌||◌, eqb, ltb, leb, List, [], ◌∷◌, ◌++◌, length, map, drop, get_or, Option, Some, None, refl, sym, ap, subst, arith, codes, decimal, inl, inr, append_assoc}
-use Rattle.std.proofs.lemmas.Bool.{cases_lt, ltb-true, lt-ltb}
-use Rattle.std.proofs.lemmas.List.{get_or-append-add, get_or_append_left, length-append, length-map, append-nil}
+use Rattle.std.proofs.Common.{◌≡◌, ◌∙◌, ℕ, ◌+◌, ◌^◌, ◌<◌, ◌≤◌, Bool, true, false, not, ◌||◌, List, [], ◌∷◌, ◌++◌, length, Option, Some, None, refl, sym, ap, subst, arith, append_assoc}
+use Rattle.std.proofs.lemmas.List.{get_or_append_left, length-append, append-nil}
 use Rattle.std.proofs.Math.Seq.{get_or-append_seam}
 use Rattle.k_types.specs.declared.names.Field.{Field}
 use Rattle.k_types.specs.declared.names.LimitId.{LimitId}
 use Rattle.k_types.specs.declared.setup.LimitRow.{LimitRow}
-use Rattle.k_types.specs.declared.op.Op.{Op}
-use Rattle.k_types.specs.Trace.{Trace, row_of, no_row}
+use Rattle.k_types.specs.Trace.{row_of, no_row}
 use Rattle.k_types.specs.TraceRules.{IsTree}
 use Rattle.k_types.specs.Limits.{max_of}
 use Rattle.k_words.specs.Words.{Text, word_at}
 use Rattle.k_words.specs.Names.{is_name, declares, number_of}
 use Rattle.k_words.proofs.Spelled.{name_at}
-use Rattle.k_trace.specs.declared.place.Place.{Place}
-use Rattle.k_trace.specs.declared.place.Place.TheVariants.{Version, Kernel, Types, Limits, Procs, Shared, Operations}
+use Rattle.k_trace.specs.declared.place.Place.TheVariants.{Types, Limits}
 use Rattle.k_trace.specs.Named.{DeclaredNames, NamedTrace}
 use Rattle.k_trace.specs.Rules.{AreNames}
-use Rattle.k_trace.specs.Spelling.{declarations, type_words, limit_words, proc_words, shared_words}
-use Rattle.k_trace.specs.Grown.{fits, with_type, with_limit, with_proc, with_shared}
+use Rattle.k_trace.specs.Spelling.{declarations, type_words, limit_words}
+use Rattle.k_trace.specs.Grown.{fits, with_type, with_limit}
 use Rattle.k_trace.specs.Judgement.{SoFar}
 use Rattle.k_trace.proofs.OpForms.{number_below}
-use Rattle.k_trace.proofs.OpRules.{none_each}
-use Rattle.k_trace.proofs.Pushed.{length_push, AreNames_front}
-use Rattle.k_trace.proofs.Reserved.{AllFit, fit_none, fit_before, fit_room}
-use Rattle.k_trace.proofs.Steps.{at_place, limit_row, TypeStep, LimitStep, ProcStep, SharedStep, Step, OfType, OfLimit, OfProc, OfShared, Run}
+use Rattle.k_base.proofs.Lists.{length_push}
+use Rattle.k_trace.proofs.Reserved.{AllFit, fit_none, fit_before}
+use Rattle.k_trace.proofs.Steps.{at_place, limit_row, Step, OfType, OfLimit, Run}
 
 pub run_to : (c d e : SoFar) (wss : List (List Text)) → Run c wss d → d ≡ e → Run c wss e
 run_to c d e wss run same = subst (λ (x : SoFar). Run c wss x) same run
@@ -96,9 +92,6 @@ types_run (n ∷ ns) (r ∷ rs) t e all few small =
 
 abbrev pub with_limits : NamedTrace → List Text → List LimitRow → NamedTrace
 with_limits t ns rows = record { names = record t.names { limits = t.names.limits ++ ns }; trace = record t.trace { limits = t.trace.limits ++ rows } }
-
-limits_none : (t : NamedTrace) → t ≡ with_limits t [] []
-limits_none t = rw (append-nil t.names.limits, append-nil t.trace.limits) refl
 
 pub limits_more : (t : NamedTrace) (n : Text) (ns : List Text) (r : LimitRow) (rs : List LimitRow) → with_limits (with_limit t n r) ns rs ≡ with_limits t (n ∷ ns) (r ∷ rs)
 limits_more t n ns r rs = rw (append_assoc t.names.limits (n ∷ []) ns, append_assoc t.trace.limits (r ∷ []) rs) refl

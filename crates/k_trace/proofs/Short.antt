@@ -1,7 +1,7 @@
 -- Names are short.
-use Rattle.std.proofs.Common.{◌≡◌, ℕ, ◌+◌, ◌<◌, ◌≤◌, Bool, true, false, ◌&&◌, List, [], ◌∷◌, ◌++◌, length, refl, arith}
+use Rattle.std.proofs.Common.{◌≡◌, ◌≤◌, true, List, [], ◌∷◌, ◌++◌, length, arith}
 use Rattle.std.proofs.lemmas.Grind.{common_steps}
-use Rattle.k_words.specs.Words.{Text, word_at}
+use Rattle.k_words.specs.Words.{Text}
 use Rattle.k_words.specs.Names.{is_name}
 use Rattle.k_trace.specs.Numbered.{AllShort}
 

@@ -1,19 +1,16 @@
 -- What is judged good is a trace, and is spelled by the bytes.
-use Rattle.std.proofs.Common.{◌≡◌, ◌∙◌, ◌⊎◌, ℕ, ◌+◌, ◌<◌, ◌≤◌, Bool, true, false, cond, ◌&&◌, leb, List, [], ◌∷◌, ◌++◌, length, map, Result, Ok, Err, refl, sym, ap, subst, arith, inl, inr, append_assoc}
-use Rattle.std.proofs.lemmas.Bool.{leb-true, le-leb}
+use Rattle.std.proofs.Common.{◌≡◌, ℕ, ◌+◌, ◌≤◌, Bool, true, false, cond, leb, List, [], ◌∷◌, ◌++◌, length, map, Result, Ok, Err, refl, sym, subst, append_assoc}
+use Rattle.std.proofs.lemmas.Bool.{leb-true}
 use Rattle.std.proofs.lemmas.List.{append-nil}
-use Rattle.std.specs.List.{list_all}
-use Rattle.k_types.specs.TraceRules.{KeepsRules, AreLimits}
-use Rattle.k_words.specs.Words.{Text, lines_of, words_of, are_words, is_printable, text_of, AreText}
+use Rattle.k_words.specs.Words.{Text, lines_of, words_of, text_of, AreText}
 use Rattle.k_words.proofs.Proper.{text_of_lines}
 use Rattle.k_trace.specs.declared.place.Place.{Place}
 use Rattle.k_trace.specs.declared.place.Place.TheVariants.{Version, Kernel, Types, Limits, Procs, Shared, Operations}
 use Rattle.k_trace.specs.Named.{NamedTrace}
 use Rattle.k_trace.specs.Rules.{IsTrace, Spells}
-use Rattle.k_trace.specs.Spelling.{words, text}
 use Rattle.k_trace.specs.Grown.{blank}
-use Rattle.k_trace.specs.Judgement.{SoFar, Judged, BadLine, start, line_in, judged_line, judged_lines, then_lines, has_process, at_end, judgement}
-use Rattle.k_trace.proofs.Readers.{demands_ok, ok_is}
+use Rattle.k_trace.specs.Judgement.{SoFar, Judged, BadLine, start, judged_line, judged_lines, then_lines, has_process, at_end, judgement}
+use Rattle.k_trace.proofs.Readers.{demands_ok}
 use Rattle.k_trace.proofs.OpForms.{AreNamed}
 use Rattle.k_trace.proofs.Found.{step_found}
 use Rattle.k_trace.proofs.Kept.{Holds, IsSaid}

@@ -1,6 +1,6 @@
 -- The names that were said, and the words of each step.
-use Rattle.std.proofs.Common.{◌≡◌, ◌≢◌, ◌∙◌, ◌⊎◌, ℕ, suc, ◌+◌, ◌*◌, ◌^◌, ◌<◌, ◌≤◌, Bool, true, false, cond, not, ◌&&◌, ◌||◌, eqb, ltb, leb, List, [], ◌∷◌, ◌++◌, length, map, drop, get_or, Option, Some, None, refl, sym, ap, subst, arith, codes, decimal, inl, inr}
-use Rattle.std.proofs.lemmas.Bool.{cases_lt, ltb-true, lt-ltb}
+use Rattle.std.proofs.Common.{◌≡◌, ◌∙◌, ℕ, ◌+◌, ◌^◌, ◌<◌, ◌≤◌, Bool, true, false, ◌&&◌, ltb, List, [], ◌∷◌, ◌++◌, length, map, refl, sym, arith, codes, decimal}
+use Rattle.std.proofs.lemmas.Bool.{ltb-true}
 use Rattle.std.proofs.lemmas.List.{get_or-append-add, length-append, length-map}
 use Rattle.std.specs.List.{list_all}
 use Rattle.k_types.specs.declared.names.Field.{Field}
@@ -13,24 +13,22 @@ use Rattle.k_types.specs.declared.names.Reg.{Reg}
 use Rattle.k_types.specs.Steps.{in_range}
 use Rattle.k_types.specs.TraceRules.{is_spelled}
 use Rattle.k_words.specs.Words.{Text, word_at}
-use Rattle.k_words.specs.Names.{is_name, declares}
 use Rattle.k_words.specs.Numbers.{register_word}
 use Rattle.k_words.proofs.Spelled.{both}
 use Rattle.k_words.proofs.Proper.{is_word, IsProper, decimal_word, register_is_word, name_word}
 use Rattle.k_trace.specs.declared.place.Place.{Place}
 use Rattle.k_trace.specs.declared.place.Place.TheVariants.{Version, Kernel, Types, Limits, Procs, Shared, Operations}
-use Rattle.k_trace.specs.Named.{DeclaredNames, NamedTrace}
+use Rattle.k_trace.specs.Named.{NamedTrace}
 use Rattle.k_trace.specs.Rules.{AreNames}
 use Rattle.k_trace.specs.Spelling.{field_word, op_words}
 use Rattle.k_trace.specs.Grown.{blank}
 use Rattle.k_trace.specs.Judgement.{SoFar}
 use Rattle.k_trace.proofs.OpForms.{AreNamed}
-use Rattle.k_trace.proofs.OpAgain.{AreDistinct}
 use Rattle.k_trace.proofs.Found.{hardness, limit_words_are}
 use Rattle.k_trace.proofs.Again.{IsOrderly}
 use Rattle.k_trace.proofs.Pushed.{AreNames_nil, AreNames_front}
 use Rattle.k_trace.proofs.Kept.{Holds, IsSaid}
-use Rattle.k_trace.proofs.Steps.{version_words, kernel_words, limit_row, VersionStep, KernelStep, TypeStep, RootStep, LimitStep, ProcStep, SharedStep, OperationStep, Step, OfVersion, OfKernel, OfType, OfRoot, OfLimit, OfProc, OfShared, OfOperation}
+use Rattle.k_trace.proofs.Steps.{version_words, kernel_words, Step, OfVersion, OfKernel, OfType, OfRoot, OfLimit, OfProc, OfShared, OfOperation}
 
 -- the names are names, each distinct from those that it must differ from
 pub record IsTidy (t : NamedTrace) : Type 0 where

@@ -1,27 +1,27 @@
 -- A trace is a run from the start, so that bytes that spell it are judged good.
-use Rattle.std.proofs.Common.{◌≡◌, ◌∙◌, ◌⊎◌, ℕ, zero, suc, ◌+◌, ◌*◌, ◌^◌, ◌<◌, ◌≤◌, Bool, true, false, cond, List, [], ◌∷◌, ◌++◌, length, map, get_or, leb, Option, Some, None, Result, Ok, Err, refl, sym, ap, subst, arith, inl, inr, append_assoc}
+use Rattle.std.proofs.Common.{◌≡◌, ◌∙◌, ℕ, suc, ◌+◌, ◌<◌, ◌≤◌, Bool, true, List, [], ◌∷◌, ◌++◌, length, map, Option, Some, None, Result, Ok, refl, sym, ap, subst, arith, inl, inr}
 use Rattle.std.proofs.lemmas.Bool.{le-leb}
-use Rattle.std.proofs.lemmas.List.{length-append, length-map, append-nil, ext_get_or}
+use Rattle.std.proofs.lemmas.List.{length-map, ext_get_or}
 use Rattle.k_types.specs.declared.names.Field.{Field}
 use Rattle.k_types.specs.declared.names.LimitId.{LimitId}
 use Rattle.k_types.specs.declared.setup.LimitRow.{LimitRow}
 use Rattle.k_types.specs.declared.op.Op.{Op}
 use Rattle.k_types.specs.Types.{HaveFewFields}
 use Rattle.k_types.specs.Trace.{Trace, operations_of, row_of}
-use Rattle.k_words.specs.Words.{Text, lines_of, text_of, AreText}
-use Rattle.k_words.proofs.Proper.{AllProper, joins, lines_of_bytes}
+use Rattle.k_words.specs.Words.{Text, lines_of}
+use Rattle.k_words.proofs.Proper.{lines_of_bytes}
 use Rattle.k_trace.specs.declared.place.Place.{Place}
-use Rattle.k_trace.specs.declared.place.Place.TheVariants.{Version, Kernel, Types, Limits, Procs, Shared, Operations}
+use Rattle.k_trace.specs.declared.place.Place.TheVariants.{Kernel, Types, Limits, Procs}
 use Rattle.k_trace.specs.Named.{DeclaredNames, NamedTrace}
 use Rattle.k_trace.specs.Rules.{AreNames, IsTrace, Spells}
-use Rattle.k_trace.specs.Spelling.{declarations, type_words, limit_words, proc_words, shared_words, operation_lines, header_words, words, text}
+use Rattle.k_trace.specs.Spelling.{declarations, type_words, limit_words, proc_words, shared_words, operation_lines, header_words, words}
 use Rattle.k_trace.specs.Grown.{blank, with_kernel, with_limit}
 use Rattle.k_trace.specs.Judgement.{SoFar, BadLine, start, judged_lines, has_process, at_end, judgement}
-use Rattle.k_trace.proofs.OpRules.{none_each, none_at}
+use Rattle.k_trace.proofs.OpRules.{none_at}
 use Rattle.k_trace.proofs.Kept.{limit_at}
 use Rattle.k_trace.proofs.Pushed.{AreNames_front}
 use Rattle.k_trace.proofs.Steps.{at_place, version_words, kernel_words, root_row, Step, OfVersion, OfKernel, OfRoot, Run}
-use Rattle.k_trace.proofs.Runs.{run_to, run_then, good_at, fresh_at, AllSmall, types_run, with_types, with_limits, limits_more, AreLater}
+use Rattle.k_trace.proofs.Runs.{run_to, run_then, good_at, AllSmall, types_run, with_types, with_limits, limits_more, AreLater}
 use Rattle.k_trace.proofs.LaterRuns.{limits_run, AllBelow, with_procs, all_procs_run, with_shareds, shared_run, IsEarly}
 use Rattle.k_trace.proofs.OpRuns.{IsLeft, AreRuled, OpRun, ops_run}
 use Rattle.k_trace.proofs.Judged.{run_again, run_proper}

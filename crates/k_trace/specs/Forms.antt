@@ -30,55 +30,68 @@ shared_of names w = record { 0 = number_of names.shared w }
 abbrev pub form : List Text → ℕ → Bool → Bool → Op → Result Op Reason
 form ws count fits known op = demands NoForm (length ws == count) (demands NoNumber fits (demands Undeclared known (Ok op)))
 
+-- `new`, a register and a type
 unfoldable pub new_form : DeclaredNames → List Text → Result Op Reason
 new_form names ws =
     form ws 3 (is_register (word_at ws 1)) (declares names.types (word_at ws 2)) (New (reg (word_at ws 1)) (type_of names (word_at ws 2)))
 
+-- `knew`, a register and a type
 unfoldable pub knew_form : DeclaredNames → List Text → Result Op Reason
 knew_form names ws =
     form ws 3 (is_register (word_at ws 1)) (declares names.types (word_at ws 2)) (KNew (reg (word_at ws 1)) (type_of names (word_at ws 2)))
 
+-- `snew`, a register, a shared heap and a type
 unfoldable pub snew_form : DeclaredNames → List Text → Result Op Reason
 snew_form names ws =
     form ws 4 (is_register (word_at ws 1)) (declares names.shared (word_at ws 2) && declares names.types (word_at ws 3))
     (SNew (reg (word_at ws 1)) (shared_of names (word_at ws 2)) (type_of names (word_at ws 3)))
 
+-- `store`, a register, a field and a register
 unfoldable pub store_form : List Text → Result Op Reason
 store_form ws =
     form ws 4 (is_register (word_at ws 1) && is_below 16 (word_at ws 2) && is_register (word_at ws 3)) true
     (Store (reg (word_at ws 1)) (value (word_at ws 2)) (reg (word_at ws 3)))
 
+-- `load`, two registers and a field
 unfoldable pub load_form : List Text → Result Op Reason
 load_form ws =
     form ws 4 (is_register (word_at ws 1) && is_register (word_at ws 2) && is_below 16 (word_at ws 3)) true
     (Load (reg (word_at ws 1)) (reg (word_at ws 2)) (value (word_at ws 3)))
 
+-- `move` and two registers
 unfoldable pub move_form : List Text → Result Op Reason
 move_form ws =
     form ws 3 (is_register (word_at ws 1) && is_register (word_at ws 2)) true (Move (reg (word_at ws 1)) (reg (word_at ws 2)))
 
+-- `drop` and a register
 unfoldable pub drop_form : List Text → Result Op Reason
 drop_form ws = form ws 2 (is_register (word_at ws 1)) true (Clear (reg (word_at ws 1)))
 
+-- `dir` and a register
 unfoldable pub dir_form : List Text → Result Op Reason
 dir_form ws = form ws 2 (is_register (word_at ws 1)) true (Dir (reg (word_at ws 1)))
 
+-- `put`, a register, a field and a number of 64 bits
 unfoldable pub put_form : List Text → Result Op Reason
 put_form ws =
     form ws 4 (is_register (word_at ws 1) && is_below 16 (word_at ws 2) && is_below (2 ^ 64) (word_at ws 3)) true
     (Put (reg (word_at ws 1)) (value (word_at ws 2)) (value (word_at ws 3)))
 
+-- `get`, a register and a field
 unfoldable pub get_form : List Text → Result Op Reason
 get_form ws =
     form ws 3 (is_register (word_at ws 1) && is_below 16 (word_at ws 2)) true (Get (reg (word_at ws 1)) (value (word_at ws 2)))
 
+-- `share` and a shared heap
 unfoldable pub share_form : DeclaredNames → List Text → Result Op Reason
 share_form names ws = form ws 2 true (declares names.shared (word_at ws 1)) (Share (shared_of names (word_at ws 1)))
 
+-- `freeze`, a shared heap and a register
 unfoldable pub freeze_form : DeclaredNames → List Text → Result Op Reason
 freeze_form names ws =
     form ws 3 (is_register (word_at ws 2)) (declares names.shared (word_at ws 1)) (Freeze (shared_of names (word_at ws 1)) (reg (word_at ws 2)))
 
+-- `attach`, a register and a shared heap
 unfoldable pub attach_form : DeclaredNames → List Text → Result Op Reason
 attach_form names ws =
     form ws 3 (is_register (word_at ws 1)) (declares names.shared (word_at ws 2)) (Attach (reg (word_at ws 1)) (shared_of names (word_at ws 2)))

@@ -20,6 +20,7 @@ bare_trace rows = record { version = 1; ceiling = 0; dir_fields = 0; types = [];
 abbrev pub blank : NamedTrace
 blank = record { names = no_names; trace = bare_trace [] }
 
+-- no limit is full
 abbrev pub fits_by : Option ℕ → Bool
 fits_by None = true
 fits_by (Some full) = false
@@ -28,15 +29,18 @@ fits_by (Some full) = false
 abbrev pub fits : List LimitRow → ℕ → ℕ → Bool
 fits rows m n = fits_by (full_limit (bare_trace rows) (opening (bare_trace rows)) m n)
 
+-- the trace with the kernel's ceiling and the fields of its directory
 abbrev pub with_kernel : NamedTrace → ℕ → ℕ → NamedTrace
 with_kernel t ceiling dir_fields = record t { trace = record t.trace { ceiling = ceiling; dir_fields = dir_fields } }
 
+-- a type more, of that name and these fields
 abbrev pub with_type : NamedTrace → Text → List Field → NamedTrace
 with_type t name fields = record {
   names = record t.names { types = t.names.types ++ name ∷ [] };
   trace = record t.trace { types = t.trace.types ++ fields ∷ [] };
 }
 
+-- a limit more
 abbrev pub with_limit : NamedTrace → Text → LimitRow → NamedTrace
 with_limit t name row = record {
   names = record t.names { limits = t.names.limits ++ name ∷ [] };
@@ -50,6 +54,7 @@ with_proc t name limit = record {
   trace = record t.trace { procs = t.trace.procs ++ limit ∷ []; operations = t.trace.operations ++ [] ∷ [] };
 }
 
+-- a shared heap more
 abbrev pub with_shared : NamedTrace → Text → NamedTrace
 with_shared t name = record {
   names = record t.names { shared = t.names.shared ++ name ∷ [] };

@@ -1,5 +1,5 @@
 -- Each line is judged after the lines before it: what is demanded of it, in the order of the reasons, and what it adds.
-use Rattle.std.specs.Prelude.{◌≡◌, ℕ, ◌+◌, ◌*◌, ◌^◌, ◌==◌, ◌&&◌, ◌||◌, not, nat_lt, nat_le, Bool, true, false, List, [], ◌∷◌, map, length, drop, Some, None, Result, Ok, Err, if◌then◌else◌, codes}
+use Rattle.std.specs.Prelude.{◌≡◌, ℕ, ◌+◌, ◌*◌, ◌==◌, ◌&&◌, ◌||◌, not, nat_lt, nat_le, Bool, true, false, List, [], ◌∷◌, map, length, drop, Some, None, Result, Ok, Err, if◌then◌else◌, codes}
 use Rattle.std.specs.List.{list_all}
 use Rattle.std.specs.Str.{bytes_eq}
 use Rattle.k_types.specs.declared.names.Field.{Field}
@@ -26,6 +26,7 @@ pub record SoFar : Type 0 where
   pub place : Place
   pub said : NamedTrace
 
+-- before the first line
 abbrev pub start : SoFar
 start = record { place = Version; said = blank }
 
@@ -41,9 +42,11 @@ leads place said = Ok (record { place = place; said = said })
 abbrev pub begins : List Text → ℕ → Text → Bool
 begins ws count keyword = (length ws == count) && bytes_eq (word_at ws 0) keyword
 
+-- the first line
 unfoldable pub version_line : NamedTrace → List Text → Judged
 version_line t ws = demands NoForm (begins ws 2 (codes "kaffe") && bytes_eq (word_at ws 1) (codes "1")) (leads Kernel t)
 
+-- the line of the kernel's ceiling and of how many fields its directory has
 unfoldable pub kernel_line : NamedTrace → List Text → Judged
 kernel_line t ws =
     demands NoForm (begins ws 3 (codes "kernel"))
@@ -51,12 +54,15 @@ kernel_line t ws =
     (demands NoRoom (nat_le (16 + 8 * value (word_at ws 2)) (value (word_at ws 1)))
     (leads Types (with_kernel t (value (word_at ws 1)) (value (word_at ws 2))))))
 
+-- the word is a kind of field
 abbrev pub is_field : Text → Bool
 is_field w = bytes_eq w (codes "ref") || bytes_eq w (codes "int")
 
+-- the kind of field that the word is
 abbrev pub field_of : Text → Field
 field_of w = if bytes_eq w (codes "ref") then Ref else Int
 
+-- the line of a type
 unfoldable pub type_line : NamedTrace → List Text → Judged
 type_line t ws =
     demands NoForm (nat_le 2 (length ws) && list_all is_field (drop 2 ws))
@@ -65,6 +71,7 @@ type_line t ws =
     (demands TooMany (nat_le (length ws) most_words && nat_lt (length t.names.types) most_types)
     (leads Types (with_type t (word_at ws 1) (map field_of (drop 2 ws)))))))
 
+-- the line of the first limit, which has no parent
 unfoldable pub root_line : NamedTrace → List Text → Judged
 root_line t ws =
     demands NoForm (length ws == 3)
@@ -78,6 +85,7 @@ root_line t ws =
 abbrev pub limit_of_name : NamedTrace → Text → LimitId
 limit_of_name t name = record { 0 = number_of t.names.limits name }
 
+-- the line of a limit below another
 unfoldable pub limit_line : NamedTrace → List Text → Judged
 limit_line t ws =
     let hard = bytes_eq (word_at ws 3) (codes "hard") in
@@ -90,6 +98,7 @@ limit_line t ws =
     (demands NoRoom (not hard || fits t.trace.limits (number_of t.names.limits (word_at ws 2)) (value (word_at ws 4)))
     (leads Limits (with_limit t (word_at ws 1) (record { parent = Some (limit_of_name t (word_at ws 2)); hard = hard; max = value (word_at ws 4) })))))))))
 
+-- the line of a process
 unfoldable pub proc_line : NamedTrace → List Text → Judged
 proc_line t ws =
     demands NoForm (length ws == 3)
@@ -99,6 +108,7 @@ proc_line t ws =
     (demands TooMany (nat_lt (length t.names.procs) most_processes)
     (leads Procs (with_proc t (word_at ws 1) (limit_of_name t (word_at ws 2))))))))
 
+-- the line of a shared heap
 unfoldable pub shared_line : NamedTrace → List Text → Judged
 shared_line t ws =
     demands NoForm (length ws == 2)
@@ -115,10 +125,12 @@ process_line t name op =
     (demands AfterExit (not (has_exit (operations_of t.trace (number_of t.names.procs name))))
     (leads Operations (with_op t (number_of t.names.procs name) op))))
 
+-- and the reason of the operation's words where they are none
 abbrev pub process_line_of : NamedTrace → Text → Result Op Reason → Judged
 process_line_of t name (Err reason) = Err reason
 process_line_of t name (Ok op) = process_line t name op
 
+-- the line of an operation
 unfoldable pub operation_line : NamedTrace → List Text → Judged
 operation_line t ws = process_line_of t (word_at ws 0) (op_of t.names (drop 1 ws))
 
@@ -129,21 +141,25 @@ later_line t ws =
     else if is_keyword (word_at ws 0) then Err NoForm
     else operation_line t ws
 
+-- the line after the kernel or a type
 unfoldable pub line_of_types : NamedTrace → List Text → Judged
 line_of_types t ws =
     if bytes_eq (word_at ws 0) (codes "type") then type_line t ws
     else if bytes_eq (word_at ws 0) (codes "limit") then root_line t ws
     else Err NoForm
 
+-- the line after a limit
 unfoldable pub line_of_limits : NamedTrace → List Text → Judged
 line_of_limits t ws =
     if bytes_eq (word_at ws 0) (codes "limit") then limit_line t ws
     else if bytes_eq (word_at ws 0) (codes "proc") then proc_line t ws
     else Err NoForm
 
+-- the line after a process
 unfoldable pub line_of_procs : NamedTrace → List Text → Judged
 line_of_procs t ws = if bytes_eq (word_at ws 0) (codes "proc") then proc_line t ws else later_line t ws
 
+-- the line that stands at that place
 unfoldable pub line_in : Place → NamedTrace → List Text → Judged
 line_in Version t ws = version_line t ws
 line_in Kernel t ws = kernel_line t ws
@@ -153,6 +169,7 @@ line_in Procs t ws = line_of_procs t ws
 line_in Shared t ws = later_line t ws
 line_in Operations t ws = operation_line t ws
 
+-- a line by its bytes
 unfoldable pub judged_line : SoFar → Text → Judged
 judged_line c line =
     demands LongLine (nat_le (length line) most_line_bytes)
@@ -165,6 +182,7 @@ pub record BadLine : Type 0 where
   pub line : ℕ
   pub reason : ℕ
 
+-- the lines after a good line, or the bad line
 abbrev pub then_lines : (SoFar → Result SoFar BadLine) → ℕ → Judged → Result SoFar BadLine
 then_lines next n (Ok c) = next c
 then_lines next n (Err reason) = Err (record { line = n; reason = reason_number reason })

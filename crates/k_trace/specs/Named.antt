@@ -1,8 +1,7 @@
 -- A trace with the names that it declares.
-use Rattle.std.specs.Prelude.{ℕ, List, [], map}
+use Rattle.std.specs.Prelude.{List, []}
 use Rattle.k_words.specs.Words.{Text, word_at}
-use Rattle.k_types.specs.Trace.{Trace, trace_of}
-use Rattle.k_types.specs.declared.op.Op.{Op}
+use Rattle.k_types.specs.Trace.{Trace}
 use Rattle.k_types.specs.declared.names.TypeId.{TypeId}
 use Rattle.k_types.specs.declared.names.LimitId.{LimitId}
 use Rattle.k_types.specs.declared.names.Pid.{Pid}
@@ -15,6 +14,7 @@ pub record DeclaredNames : Type 0 where
   pub procs : List Text
   pub shared : List Text
 
+-- nothing is declared
 abbrev pub no_names : DeclaredNames
 no_names = record { types = []; limits = []; procs = []; shared = [] }
 

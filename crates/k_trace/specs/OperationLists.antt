@@ -8,6 +8,7 @@ pub record OperationLists : Type 0 where
   pub operations : List (List Op)
   pub order : List ℕ
 
+-- there is no process
 abbrev pub no_operations : OperationLists
 no_operations = record { operations = []; order = [] }
 

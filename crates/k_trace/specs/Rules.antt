@@ -1,5 +1,5 @@
 -- Which traces have a spelling, and which bytes spell them.
-use Rattle.std.specs.Prelude.{◌≡◌, ◌≢◌, ℕ, ◌<◌, ◌≤◌, ◌++◌, List, length, IsTrue, IsFalse, None, All}
+use Rattle.std.specs.Prelude.{◌≡◌, ◌≢◌, ℕ, ◌<◌, ◌≤◌, ◌++◌, List, length, IsTrue}
 use Rattle.k_types.specs.TraceRules.{KeepsRules}
 use Rattle.k_words.specs.Words.{Text, word_at, AreText}
 use Rattle.k_words.specs.Names.{is_name}

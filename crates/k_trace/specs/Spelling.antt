@@ -1,12 +1,12 @@
 -- The one spelling of a trace.
-use Rattle.std.specs.Prelude.{ℕ, ◌+◌, ◌==◌, Bool, true, false, List, [], ◌∷◌, ◌++◌, map, drop, decimal, codes, if◌then◌else◌, Option, Some, None}
+use Rattle.std.specs.Prelude.{ℕ, ◌==◌, Bool, true, false, List, [], ◌∷◌, ◌++◌, map, drop, decimal, codes, if◌then◌else◌, Option, Some, None}
 use Rattle.k_types.specs.declared.names.Field.{Field}
 use Rattle.k_types.specs.declared.names.Field.TheVariants.{Ref, Int}
 use Rattle.k_types.specs.declared.names.LimitId.{LimitId}
 use Rattle.k_types.specs.declared.setup.LimitRow.{LimitRow}
 use Rattle.k_types.specs.declared.op.Op.{Op}
 use Rattle.k_types.specs.declared.op.Op.TheVariants.{New, KNew, SNew, Store, Load, Move, Clear, Dir, Put, Get, Collect, KCollect, Share, Freeze, Attach, Exit}
-use Rattle.k_types.specs.Trace.{Trace, operations_of}
+use Rattle.k_types.specs.Trace.{operations_of}
 use Rattle.k_words.specs.Words.{Text, word_at, text_of}
 use Rattle.k_words.specs.Numbers.{register_word}
 use Rattle.k_trace.specs.Named.{DeclaredNames, NamedTrace, type_name, limit_name, shared_name}
@@ -21,6 +21,7 @@ abbrev pub declarations : {A : Type 0} → (Text → A → List Text) → List T
 declarations words (name ∷ names) (x ∷ xs) = words name x ∷ declarations words names xs
 declarations words _ _ = []
 
+-- the words of a type
 abbrev pub type_words : Text → List Field → List Text
 type_words name fields = codes "type" ∷ name ∷ map field_word fields
 
@@ -30,12 +31,15 @@ place_words names None hard = []
 place_words names (Some parent) true = limit_name names parent ∷ codes "hard" ∷ []
 place_words names (Some parent) false = limit_name names parent ∷ codes "soft" ∷ []
 
+-- the words of a limit
 abbrev pub limit_words : DeclaredNames → Text → LimitRow → List Text
 limit_words names name row = codes "limit" ∷ name ∷ place_words names row.parent row.hard ++ decimal row.max ∷ []
 
+-- the words of a process
 abbrev pub proc_words : DeclaredNames → Text → LimitId → List Text
 proc_words names name limit = codes "proc" ∷ name ∷ limit_name names limit ∷ []
 
+-- the words of a shared heap
 abbrev pub shared_words : Text → List Text
 shared_words name = codes "shared" ∷ name ∷ []
 
@@ -91,5 +95,6 @@ header_words t =
 abbrev pub words : NamedTrace → List (List Text)
 words t = header_words t ++ operation_lines t.names (operations_of t.trace) t.trace.order
 
+-- the whole text
 abbrev pub text : NamedTrace → Text
 text t = text_of (words t)

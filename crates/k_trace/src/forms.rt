@@ -1,3 +1,4 @@
+//! The operation that the words of a line are, or why they are none.
 ghost use Rattle.std.specs.Prelude.{◌≡◌};
 ghost use Rattle.k_words.specs.Words.{words_of};
 ghost use Rattle.k_trace.specs.Forms.{new_form, knew_form, snew_form, store_form, load_form, move_form, drop_form, dir_form, put_form, get_form, share_form, freeze_form, attach_form, bare_form, sharing_op, bare_op, register_op, op_of};

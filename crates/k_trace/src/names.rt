@@ -1,3 +1,4 @@
+//! The names that a trace declares.
 ghost use Rattle.std.specs.Prelude.{◌≡◌, ◌<◌, ◌≤◌, ◌++◌, ◌∷◌, [], length, OnOk, OnErr, IfSome, IsTrue, IsFalse};
 ghost use Rattle.k_words.specs.Names.{declares, is_name};
 ghost use Rattle.k_trace.specs.Named.{no_names, type_name, limit_name, proc_name, shared_name};

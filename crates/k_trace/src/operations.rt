@@ -1,3 +1,4 @@
+//! The operations of each process, and their order in the file.
 ghost use Rattle.std.specs.Prelude.{◌≡◌, ◌<◌, ◌++◌, ◌∷◌, ◌||◌, [], length, map, OnOk, OnErr, slice_index_or};
 ghost use Rattle.k_types.specs.TraceRules.{is_exit};
 ghost use Rattle.k_trace.specs.Grown.{has_exit};

@@ -1,3 +1,4 @@
+//! What the lines so far say, and the step to the next line.
 ghost use Rattle.std.specs.Prelude.{◌≡◌, ◌<◌, ◌≤◌, IfOk, OnOk, OnErr, IsTrue, IsFalse, drop, length, map, [], ◌∷◌, ◌++◌, ◌+◌};
 ghost use Rattle.k_types.specs.Bounds.{most_limits};
 ghost use Rattle.std.specs.List.{list_all};

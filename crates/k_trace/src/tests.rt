@@ -1,3 +1,4 @@
+//! Traces that are read, and lines that are judged by the lowest reason.
 use crate::{Trace, TraceError, read_trace};
 use k_types::{LimitId, Op, Pid, TypeId};
 use std::alloc::Global;

@@ -1,3 +1,4 @@
+//! A trace that was read, with its names.
 use crate::names::Names;
 use k_types::{Op, Pid, Setup};
 

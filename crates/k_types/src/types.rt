@@ -1,3 +1,4 @@
+//! The table of the types that a trace declares.
 ghost use Rattle.std.specs.Prelude.{◌≡◌, ◌<◌, ◌≤◌, length, map, slice_get, IfOk};
 ghost use Rattle.k_types.specs.Bounds.{most_fields};
 ghost use Rattle.k_types.specs.Types.{HaveFewFields, object_size, type_row};

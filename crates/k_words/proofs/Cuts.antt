@@ -1,5 +1,5 @@
 -- Where a text is cut at the start of a line.
-use Rattle.std.proofs.Common.{◌≡◌, ◌∙◌, ◌⊎◌, ℕ, suc, ◌+◌, ◌-◌, ◌<◌, ◌≤◌, Bool, true, false, cond, ◌||◌, eqb, List, [], ◌∷◌, ◌++◌, length, take, drop, get_or, refl, sym, ap, subst, arith, inl, inr, append_assoc, length-append}
+use Rattle.std.proofs.Common.{◌≡◌, ◌∙◌, ◌⊎◌, ℕ, ◌+◌, ◌-◌, ◌<◌, Bool, true, false, ◌||◌, eqb, List, [], ◌∷◌, ◌++◌, length, take, drop, get_or, refl, sym, ap, subst, arith, inl, inr, append_assoc, length-append}
 use Rattle.std.specs.List.{list_any, onto_first, position_or_len, before_first, after_first}
 use Rattle.std.specs.Str.{bytes_eq}
 use Rattle.std.proofs.lemmas.Bool.{eqb-true}
@@ -76,9 +76,6 @@ pub record IsCut (wanted bytes front rest : Text) : Type 0 where
 abbrev pub AreCut : Text → Text → Text → Type 0
 AreCut wanted bytes rest = (front : Text) × IsCut wanted bytes front rest
 
-pub none_cut : (wanted bytes : Text) → AreCut wanted bytes bytes
-none_cut wanted bytes = ([], record { whole = refl; before = refl; ends = inl refl })
-
 ends_true : (front rest : Text) → (ends_line front ≡ true) ⊎ (rest ≡ []) → 0 < length rest → ends_line front ≡ true
 ends_true front rest (inl e) some = e
 ends_true front rest (inr e) some = absurd (omega (arith, ap length e))
@@ -130,13 +127,3 @@ cut_found wanted bytes rest line after cut some lines is =
       before = cut.1.before;
       found = inr (lines_of after, lines ∙ ap (λ (l : Text). l ∷ lines_of after) (same line wanted (sym is)));
     })
-
-nothing_left : (rest : Text) → length rest ≡ 0 → rest ≡ []
-nothing_left [] e = refl
-nothing_left (b ∷ rest) e = absurd cc
-
--- no line is the wanted one
-pub cut_none : (wanted bytes rest : Text) → AreCut wanted bytes rest → length rest ≡ 0 → IsSplitAt wanted bytes bytes []
-cut_none wanted bytes rest cut none =
-    let all : bytes ≡ cut.0 = cut.1.whole ∙ ap (λ (t : Text). cut.0 ++ t) (nothing_left rest none) ∙ append-nil cut.0 in
-    record { whole = sym (append-nil bytes); lines = sym (append-nil (lines_of bytes)); before = rw all cut.1.before; found = inl refl }

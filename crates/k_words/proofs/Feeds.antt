@@ -1,5 +1,5 @@
 -- Lines and their line feeds.
-use Rattle.std.proofs.Common.{◌≡◌, ◌∙◌, ℕ, Bool, true, false, cond, eqb, List, [], ◌∷◌, ◌++◌, refl, sym, ap, inl, inr}
+use Rattle.std.proofs.Common.{◌≡◌, ℕ, Bool, true, false, eqb, List, [], ◌∷◌, ◌++◌, refl, ap, inl, inr}
 use Rattle.std.specs.List.{flat_map, onto_first}
 use Rattle.std.proofs.lemmas.Bool.{eqb-true}
 use Rattle.k_words.specs.Words.{Text, lines_of, AreText}
@@ -10,9 +10,6 @@ fed lines = flat_map (λ line. line ++ 10 ∷ []) lines
 
 abbrev pub Joined : Text → Type 0
 Joined bytes = AreText bytes (fed (lines_of bytes))
-
-fed-onto_first : (b : ℕ) (l : Text) (ls : List Text) → fed (onto_first b (l ∷ ls)) ≡ b ∷ fed (l ∷ ls)
-fed-onto_first b l ls = refl
 
 onto : (b : ℕ) (bytes : Text) (lines : List Text) → AreText bytes (fed lines) → AreText (b ∷ bytes) (fed (onto_first b lines))
 onto b [] [] (inl e) = inr refl

@@ -1,13 +1,13 @@
 -- Lines of words that are short and visible.
-use Rattle.std.proofs.Common.{◌≡◌, ◌∙◌, ◌⊎◌, ℕ, suc, ◌+◌, ◌*◌, ◌<◌, ◌≤◌, ◌^◌, Bool, true, false, cond, not, ◌&&◌, ◌||◌, eqb, ltb, leb, List, [], ◌∷◌, ◌++◌, length, map, drop, get_or, refl, sym, ap, arith, decimal, inl, inr, length-append, append_assoc}
+use Rattle.std.proofs.Common.{◌≡◌, ◌∙◌, ℕ, ◌*◌, ◌<◌, ◌≤◌, ◌^◌, Bool, true, false, not, ◌&&◌, eqb, ltb, leb, List, [], ◌∷◌, ◌++◌, length, map, refl, sym, ap, arith, decimal, inl, inr, length-append, append_assoc}
 use Rattle.std.proofs.lemmas.List.Splits.{join_with_byte-slice_split}
 use Rattle.std.proofs.lemmas.List.{append-nil}
-use Rattle.std.proofs.lemmas.Bool.{ltb-true, lt-ltb, eqb-true, le-leb, leb-true}
+use Rattle.std.proofs.lemmas.Bool.{ltb-true, lt-ltb, le-leb, leb-true}
 use Rattle.std.proofs.lemmas.Bool.Decides.{nat_tests}
 use Rattle.std.proofs.lemmas.Fmt.{decimal_nonempty, digits_decimal, length-decimal-le}
 use Rattle.std.specs.Char.{is_ascii_digit}
-use Rattle.std.specs.List.{list_all, join_with_byte, flat_map, onto_first}
-use Rattle.k_words.specs.Words.{Text, word_at, words_of, lines_of, are_words, is_printable, line_text, text_of, AreText}
+use Rattle.std.specs.List.{list_all, join_with_byte, flat_map}
+use Rattle.k_words.specs.Words.{Text, words_of, lines_of, are_words, is_printable, text_of, AreText}
 use Rattle.k_words.specs.Numbers.{register_word}
 use Rattle.k_words.specs.Names.{is_name, is_letter, is_name_byte, is_reserved}
 use Rattle.k_words.proofs.Spelled.{both, digits}
@@ -39,7 +39,7 @@ both_are a b e f = rw (e, f) refl
 three : (a b c : Bool) → (a && b && c) ≡ true → (a ≡ true) × (b ≡ true) × (c ≡ true)
 three a b c h = let e = both (a && b) c h in let f = both a b e.0 in (f.0, f.1, e.1)
 
-visible_no_space : (b : ℕ) → is_visible b ≡ true → not (eqb b 32) ≡ true
+pub visible_no_space : (b : ℕ) → is_visible b ≡ true → not (eqb b 32) ≡ true
 visible_no_space b h = grind (arith, nat_tests)
 
 visible_printable : (b : ℕ) → is_visible b ≡ true → is_printable b ≡ true

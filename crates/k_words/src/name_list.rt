@@ -1,3 +1,4 @@
+//! The declared names of one kind, numbered in the order of their declaration.
 ghost use Rattle.std.specs.Prelude.{◌≡◌, ◌<◌, ◌++◌, ◌∷◌, [], length, OnOk, OnErr, IfSome, IsFalse};
 ghost use Rattle.k_words.specs.Words.{word_at};
 ghost use Rattle.k_words.specs.Names.{declares, numbered};

@@ -1,3 +1,4 @@
+//! Which words are names, and which are the words of a header or of a report.
 ghost use Rattle.std.specs.Prelude.{◌≡◌};
 ghost use Rattle.std.specs.List.{list_all};
 ghost use Rattle.k_words.specs.Names.{is_letter, is_name_byte, is_keyword, is_section, is_report_word, is_reserved, is_name};

@@ -1,3 +1,4 @@
+//! Names, numbers and split texts.
 use crate::{NameList, number, register, split_at_line};
 use std::test::Fail;
 

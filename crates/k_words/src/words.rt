@@ -1,3 +1,4 @@
+//! Texts cut into lines, and lines cut into words.
 ghost use Rattle.std.specs.Prelude.{◌≡◌, ◌<◌, ◌∷◌, ◌==◌, [], length, count_by, take, IfSome, IfNone};
 ghost use Rattle.std.specs.List.{list_all, position_or_len};
 ghost use Rattle.std.specs.Str.{bytes_eq};

@@ -1,4 +1,5 @@
 pub mod Answered
+pub mod Contract
 pub mod Inputs
 pub mod Lines
 pub mod Lists

@@ -1,20 +1,25 @@
--- Lists of one word.
-use Rattle.std.proofs.Common.{◌≡◌, ◌<◌, ◌≤◌, List, [], ◌∷◌, Bool, length, get_or, map, ap, sym, ◌∙◌, arith}
-use Rattle.std.specs.Prelude.{IsTrue}
+-- Lists of one word, and which command they are.
+use Rattle.std.proofs.Common.{◌≡◌, ◌<◌, ◌≤◌, List, [], ◌∷◌, length, get_or, map, ap, sym, refl, arith, Bool, true, false, Some, None}
+use Rattle.std.specs.Prelude.{codes, if◌then◌else◌}
 use Rattle.std.specs.Str.{bytes_eq}
 use Rattle.std.proofs.lemmas.Slice.Eq.{bytes_eq-Decides}
+use Rattle.kaffe.specs.declared.commands.Command.TheVariants.{Run, Replay}
 use Rattle.k_words.specs.Words.{Text}
+use Rattle.kaffe.specs.Commands.{command_of, command_named}
 
-head : List Text → Text
-head [] = []
-head (w ∷ ws) = w
+-- The command of a list of one word is the command that the word names.
+pub of_one : {A : Type 0} (f : A → Text) (xs : List A) (x : A) → 1 ≤ length xs → length xs < 2 → x ≡ get_or xs 0 x → command_of (map f xs) ≡ command_named (f x)
+of_one f [] x lo hi e = absurd (omega (arith, lo))
+of_one f (y ∷ []) x lo hi e = ap (λ z. command_named (f z)) (sym e)
+of_one f (y ∷ z ∷ ys) x lo hi e = absurd (omega (arith, hi))
 
-only : (u w : Text) (b : Bool) → b ≡ bytes_eq u w → (IsTrue b → u ∷ [] ≡ w ∷ []) × (u ∷ [] ≡ w ∷ [] → IsTrue b)
-unfolding head
-only u w b e = (λ t. ap (λ (v : Text). v ∷ []) ((bytes_eq-Decides u w).0 (sym e ∙ t)), λ p. e ∙ (bytes_eq-Decides u w).1 (ap head p))
+neither : (b c : Bool) → (b ≡ true → ⊥) → (c ≡ true → ⊥) → (if b then Some Run else if c then Some Replay else None) ≡ None
+neither true c f g = absurd (f refl)
+neither false true f g = absurd (g refl)
+neither false false f g = refl
 
-pub one_word : {A : Type 0} (f : A → Text) (xs : List A) (x : A) (b : Bool) (w : Text) → 1 ≤ length xs → length xs < 2 → x ≡ get_or xs 0 x → b ≡ bytes_eq (f x) w
-    → (IsTrue b → map f xs ≡ w ∷ []) × (map f xs ≡ w ∷ [] → IsTrue b)
-one_word f [] x b w lo hi e h = absurd (omega (arith, lo))
-one_word f (y ∷ []) x b w lo hi e h = only (f y) w b (h ∙ ap (λ z. bytes_eq (f z) w) e)
-one_word f (y ∷ z ∷ ys) x b w lo hi e h = absurd (omega (arith, hi))
+-- A word that is no command's names none.
+pub of_other : (word : Text) → (word ≡ codes "run" → ⊥) → (word ≡ codes "replay" → ⊥) → command_named word ≡ None
+of_other word f g =
+    neither (bytes_eq word (codes "run")) (bytes_eq word (codes "replay"))
+    (λ t. f ((bytes_eq-Decides word (codes "run")).0 t)) (λ t. g ((bytes_eq-Decides word (codes "replay")).0 t))

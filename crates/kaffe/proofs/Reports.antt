@@ -1,5 +1,5 @@
 -- What is written of a run of a trace.
-use Rattle.std.proofs.Common.{◌≡◌, ◌∙◌, List, [], ap}
+use Rattle.std.proofs.Common.{◌≡◌, ◌∙◌, List, [], ap, refl, subst}
 use Rattle.k_types.specs.declared.event.Event.{Event}
 use Rattle.k_types.specs.FileOrder.{file_order}
 use Rattle.k_types.specs.Steps.{state_after}
@@ -12,6 +12,13 @@ use Rattle.k_trace.specs.Rules.{IsTrace}
 use Rattle.k_text.specs.Named.{AreNamed}
 use Rattle.k_text.specs.Report.{text_over, report_text}
 use Rattle.k_text.proofs.Setups.{setup_alone}
+use Rattle.k_types.specs.Steps.{IsLegalHistory}
+use Rattle.k_types.specs.Complete.{IsComplete}
+use Rattle.k_history.proofs.Refusals.{proper}
+use Rattle.k_history.proofs.ReportLines.{history_of_text}
+use Rattle.k_reports.proofs.Spelled.{all_spelled}
+use Rattle.k_laws.proofs.Laws.{collections_free_nothing_live}
+use Rattle.kaffe.specs.Reports.{IsReportOf}
 
 -- What is written of a run in the order of the file is the report of that order.
 pub report_of_run : (names : DeclaredNames) (trace : Trace) (run : Run) → IsFiled trace run → text_over names run.machine.setup run.events run.machine.state ≡ report_text names trace (file_order trace)
@@ -24,3 +31,14 @@ report_of_run names trace run filed =
 -- What a trace declares has its names in a run of it.
 pub named_in_run : (t : NamedTrace) (setup : Trace) → IsTrace t → setup ≡ setup_of t.trace → AreNamed t.names setup
 named_in_run t setup is e = rw e (record { types = is.types_named; limits = is.limits_named; procs = is.procs_named; shared = is.shared_named })
+
+-- The report of a legal and complete history can be read back, and the history frees nothing live.
+pub report_is : (t : NamedTrace) (history : List Event) → IsTrace t → IsLegalHistory t.trace history → IsComplete t.trace history → IsReportOf t history (report_text t.names t.trace history)
+report_is t history is legal complete = record {
+  whole = refl;
+  read_back = history_of_text t.names t.trace history (state_after t.trace history) (proper t is) (all_spelled t is history (record { legal = legal; in_order = complete.in_order }));
+  legal = legal;
+  complete = complete;
+  safe = λ before rest h objects bytes exits shares parted n live.
+      collections_free_nothing_live t.trace before rest h objects bytes exits shares is.rules.limits (subst (IsLegalHistory t.trace) parted legal) n live;
+}

@@ -3,15 +3,17 @@ use Rattle.std.proofs.Common.{◌≡◌, ℕ, List, Result, Ok, Err, inl, inr, r
 use Rattle.k_io.specs.Writing.{Writes}
 use Rattle.k_words.specs.Words.{Text}
 use Rattle.kaffe.specs.declared.status.Status.{Status}
-use Rattle.kaffe.specs.Answers.{IsWritten}
-use Rattle.kaffe.specs.Parts.{status_after}
+use Rattle.kaffe.specs.Answers.{IsUnwritten}
+use Rattle.kaffe.specs.Parts.{IsWritten, status_after}
 
-written : {E : Type 0} (old new : List ℕ → List ℕ → Type 0) (before now : ℕ) (r : Result (Unit {0}) E) (text : Text) (status : Status)
-    → Writes {T = Unit {0}} {E = E} old new before now r text → IsWritten old new before now status text (status_after status r)
-written old new before now (Ok v) text status w = inl (refl, w.ok, w.steady)
-written old new before now (Err e) text status w = inr (refl, w.err, w.cause.failed)
+written : {E : Type 0} (old new : List ℕ → List ℕ → Type 0) (before now : ℕ) (r : Result (Unit {0}) E) (text : Text) (status : Status) → ¬ IsUnwritten status
+    → Writes {T = Unit {0}} {E = E} old new before now r text
+    → IsWritten (record { agreed = old; agrees = new; failed_before = before; failed_after = now }) status text (status_after status r)
+written old new before now (Ok v) text status some w = inl (refl, record { whole = w.ok; steady = w.steady })
+written old new before now (Err e) text status some w = inr (refl, some, record { front = w.err; failed = w.cause.failed })
 
 pub written_by : {E : Type 0} (old new : List ℕ → List ℕ → Type 0) (before now : ℕ) (r : Result (Unit {0}) E) (text : Text) (status answer : Status)
-    → answer ≡ status_after status r → Writes {T = Unit {0}} {E = E} old new before now r text → IsWritten old new before now status text answer
-written_by old new before now r text status answer e w =
-    subst (λ (a : Status). IsWritten old new before now status text a) (sym e) (written old new before now r text status w)
+    → ¬ IsUnwritten status → answer ≡ status_after status r → Writes {T = Unit {0}} {E = E} old new before now r text
+    → IsWritten (record { agreed = old; agrees = new; failed_before = before; failed_after = now }) status text answer
+written_by old new before now r text status answer some e w =
+    subst (λ (a : Status). IsWritten (record { agreed = old; agrees = new; failed_before = before; failed_after = now }) status text a) (sym e) (written old new before now r text status some w)

@@ -1,75 +1,77 @@
--- What a call of the program answers, and what it has written then.
-use Rattle.std.specs.Prelude.{◌≡◌, ◌⊎◌, ℕ, ◌≤◌, List, [], length, Option}
+-- What the program answers: the contract of its top call, a field for each status.
+use Rattle.std.specs.Prelude.{◌≡◌, ◌≢◌, ◌⊎◌, ℕ, ◌+◌, ◌≤◌, List, length, Some}
 use Rattle.std.specs.Io.KnownBytes.{Consumes, IsAtEnd}
-use Rattle.k_io.specs.Causes.{RoseOrLast}
-use Rattle.k_io.specs.Taking.{Takes, TakesFront}
+use Rattle.k_types.specs.declared.event.Event.{Event}
+use Rattle.k_types.specs.Bounds.{most_trace_bytes}
 use Rattle.k_types.specs.FileOrder.{file_order}
-use Rattle.k_types.specs.Steps.{IsLegalHistory}
-use Rattle.k_types.specs.Complete.{IsComplete}
 use Rattle.k_words.specs.Words.{Text}
 use Rattle.k_trace.specs.Named.{NamedTrace}
 use Rattle.k_trace.specs.Rules.{Spells}
-use Rattle.k_plain.specs.FirstForm.{IsFirstForm}
-use Rattle.k_text.specs.Report.{report_text}
+use Rattle.kaffe.specs.declared.commands.Command.{Command}
+use Rattle.kaffe.specs.declared.commands.Command.TheVariants.{Replay}
 use Rattle.kaffe.specs.declared.status.Status.{Status}
 use Rattle.kaffe.specs.declared.status.Status.TheVariants.{Good, BadTrace, Usage, WantOfMemory, ReadFault, WriteFault, Refused}
-use Rattle.kaffe.specs.Commands.{IsRun}
+use Rattle.kaffe.specs.Commands.{command_of, IsCommand, IsNoCommand}
+use Rattle.kaffe.specs.Ends.{Input, Output, SourceFailed, SinkFailed, Took, TookFront, TookNothing}
+use Rattle.kaffe.specs.NotBuilt.{IsBadAt, IsRunSoFar}
+use Rattle.kaffe.specs.Reports.{IsReportOf}
 use Rattle.kaffe.specs.Texts.{usage_text, bad_trace_text}
 
--- The source gave these bytes, to the end of input or to one byte more than a trace may have.
-pub record WasRead (left rest : Option Text) (bytes : Text) : Type 0 where
-  pub given : Consumes left rest bytes
-  pub ended : length bytes ≤ 16777216 → IsAtEnd rest
+-- The source gave these bytes: all to the end of input, or one more than the limit where there are more.
+pub record WasRead (limit : ℕ) (input : Input) (bytes : Text) : Type 0 where
+  pub given : Consumes input.left input.rest bytes
+  pub few : length bytes ≤ limit + 1
+  pub ended : length bytes ≤ limit → IsAtEnd input.rest
 
--- The bytes spell the trace, and it has the form that is run so far.
-pub record IsInput (bytes : Text) (t : NamedTrace) : Type 0 where
-  pub spelled : Spells bytes t
-  pub built : IsFirstForm t.trace
-
--- The text is the report of the history in the order of the file, which is legal and complete.
-pub record IsReport (t : NamedTrace) (text : Text) : Type 0 where
-  pub whole : text ≡ report_text t.names t.trace (file_order t.trace)
-  pub legal : IsLegalHistory t.trace (file_order t.trace)
-  pub complete : IsComplete t.trace (file_order t.trace)
-
--- The command was `run`, the source was read to its end, its bytes spell a trace, and the text is the report of that.
-pub record IsDone (words : List Text) (left rest : Option Text) (text : Text) : Type 0 where
-  pub command : IsRun words
+-- A trace was read and run, and the text is the report of a history of it. By `replay` that is the one in the order of the file.
+pub record IsDone (words : List Text) (input : Input) (text : Text) : Type 0 where
+  pub command : Command
+  pub said : command_of words ≡ Some command
   pub bytes : Text
-  pub read : WasRead left rest bytes
+  pub read : WasRead most_trace_bytes input bytes
   pub trace : NamedTrace
-  pub input : IsInput bytes trace
-  pub report : IsReport trace text
+  pub spelled : Spells bytes trace
+  pub history : List Event
+  pub report : IsReportOf trace history text
+  pub in_order : command ≡ Replay → history ≡ file_order trace.trace
 
--- The command was `run`, the source was read, its bytes are no trace, and the text says so.
-pub record IsBadInput (words : List Text) (left rest : Option Text) (text : Text) : Type 0 where
-  pub command : IsRun words
+-- What was read is no trace, and the text tells the first bad line and its lowest reason.
+pub record IsBadInput (words : List Text) (input : Input) (text : Text) : Type 0 where
+  pub command : IsCommand words
   pub bytes : Text
-  pub read : WasRead left rest bytes
-  pub no_trace : (t : NamedTrace) → IsInput bytes t → ⊥
-  pub says : text ≡ bad_trace_text 0 13
+  pub read : WasRead most_trace_bytes input bytes
+  pub line : ℕ
+  pub reason : ℕ
+  pub bad : IsBadAt bytes line reason
+  pub says : text ≡ bad_trace_text line reason
 
--- What each status tells but for the sink: of the words, of the source before and after, and of the text to be written.
-abbrev pub Tells : List Text → Option Text → Option Text → ℕ → ℕ → Status → Text → Type 0
-Tells words left rest before now Good text = IsDone words left rest text
-Tells words left rest before now BadTrace text = IsBadInput words left rest text
-Tells words left rest before now Usage text = (IsRun words → ⊥) × (text ≡ usage_text)
-Tells words left rest before now WantOfMemory text = IsRun words × (text ≡ [])
-Tells words left rest before now ReadFault text = IsRun words × RoseOrLast before now × (text ≡ [])
-Tells words left rest before now WriteFault text = ⊥
-Tells words left rest before now Refused text = ⊥
+-- The words are no command, and the text is the usage line.
+pub record IsMisused (words : List Text) (text : Text) : Type 0 where
+  pub no_command : IsNoCommand words
+  pub says : text ≡ usage_text
 
--- The text was taken without a fault and the status is the answer; or the sink failed, a front of the text was taken, and the answer is WriteFault.
-abbrev pub IsWritten : (List ℕ → List ℕ → Type 0) → (List ℕ → List ℕ → Type 0) → ℕ → ℕ → Status → Text → Status → Type 0
-IsWritten old new before now status text answer =
-    ((answer ≡ status) × Takes old new text × (now ≡ before)) ⊎ ((answer ≡ WriteFault) × TakesFront old new text × RoseOrLast before now)
+-- The text is what a call without a fault of the sink would have written.
+abbrev pub IsDue : List Text → Input → Text → Type 0
+IsDue words input text = IsDone words input text ⊎ IsBadInput words input text ⊎ IsMisused words text
 
--- Some status tells the truth, and its text was written, up to a fault of the sink.
-pub record IsAnswered (tells : Status → Text → Type 0) (old new : List ℕ → List ℕ → Type 0) (before now : ℕ) (answer : Status) : Type 0 where
-  pub status : Status
-  pub text : Text
-  pub told : tells status text
-  pub written : IsWritten old new before now status text answer
+-- Where neither source nor sink fails, the words and the bytes decide the answer, up to want of memory.
+pub record IsDecided (words : List Text) (input : Input) (output : Output) (answer : Status) : Type 0 where
+  pub of_no_command : IsNoCommand words → ¬ SinkFailed output → answer ≡ Usage
+  pub of_trace : (bytes : Text) (t : NamedTrace) → IsCommand words → input.left ≡ Some bytes → Spells bytes t → IsRunSoFar t
+      → ¬ SourceFailed input → ¬ SinkFailed output → (answer ≡ Good) ⊎ (answer ≡ WantOfMemory)
+  pub of_no_trace : (bytes : Text) (line reason : ℕ) → IsCommand words → input.left ≡ Some bytes → IsBadAt bytes line reason
+      → ¬ SourceFailed input → ¬ SinkFailed output → (answer ≡ BadTrace) ⊎ (answer ≡ WantOfMemory)
+
+-- What each status means where it is the answer, and which answer comes.
+pub record IsAnswered (words : List Text) (input : Input) (output : Output) (answer : Status) : Type 0 where
+  pub good : answer ≡ Good → (text : Text) × IsDone words input text × Took output text
+  pub bad_trace : answer ≡ BadTrace → (text : Text) × IsBadInput words input text × Took output text
+  pub usage : answer ≡ Usage → IsNoCommand words × Took output usage_text
+  pub want_of_memory : answer ≡ WantOfMemory → IsCommand words × TookNothing output
+  pub read_fault : answer ≡ ReadFault → IsCommand words × SourceFailed input × TookNothing output
+  pub write_fault : answer ≡ WriteFault → (text : Text) × IsDue words input text × TookFront output text
+  pub refused : answer ≢ Refused
+  pub complete : IsDecided words input output answer
 
 -- The answer is one of those that nothing is written for.
 abbrev pub IsUnwritten : Status → Type 0

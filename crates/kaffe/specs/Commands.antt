@@ -1,7 +1,24 @@
 -- The commands of the program.
-use Rattle.std.specs.Prelude.{◌≡◌, List, [], ◌∷◌, codes}
+use Rattle.std.specs.Prelude.{◌≡◌, List, [], ◌∷◌, Option, Some, None, if◌then◌else◌, codes}
+use Rattle.std.specs.Str.{bytes_eq}
 use Rattle.k_words.specs.Words.{Text}
+use Rattle.kaffe.specs.declared.commands.Command.{Command}
+use Rattle.kaffe.specs.declared.commands.Command.TheVariants.{Run, Replay}
 
--- The words are the command `run`.
-abbrev pub IsRun : List Text → Type 0
-IsRun words = words ≡ codes "run" ∷ []
+-- The command that the word names. The words `check` and `big` name none yet.
+abbrev pub command_named : Text → Option Command
+command_named word = if bytes_eq word (codes "run") then Some Run else if bytes_eq word (codes "replay") then Some Replay else None
+
+-- The command that the words are: one word that names it. The words are those after the program's name.
+abbrev pub command_of : List Text → Option Command
+command_of [] = None
+command_of (word ∷ []) = command_named word
+command_of (word ∷ next ∷ words) = None
+
+-- The words are a command.
+abbrev pub IsCommand : List Text → Type 0
+IsCommand words = (command : Command) × (command_of words ≡ Some command)
+
+-- The words are no command.
+abbrev pub IsNoCommand : List Text → Type 0
+IsNoCommand words = command_of words ≡ None

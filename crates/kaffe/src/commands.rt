@@ -1,12 +1,26 @@
-ghost use Rattle.std.specs.Prelude.{◌↔◌, IsTrue, map, string_bytes};
-ghost use Rattle.kaffe.specs.Commands.{IsRun};
+//! The commands, by their words.
+ghost use Rattle.std.specs.Prelude.{◌≡◌, map, string_bytes};
+ghost use Rattle.kaffe.specs.Commands.{command_of};
 
-/// Whether the words, those after the program's name, are the command `run`. Source: own.
-pub fn is_run(words: &[String]) -> bool
-    ensures { IsTrue result ↔ IsRun (map string_bytes words.now) }
+/// What the program is asked to do.
+#[derive(Clone, Copy, Debug, PartialEq, Eq)]
+pub enum Command {
+    /// Runs a trace and writes its report.
+    Run,
+    /// The same in the order of the file, so that the report is a function of the trace.
+    Replay,
+}
+
+/// The command that the words, those after the program's name, are; `None` where they are none.
+pub fn command_of(words: &[String]) -> Option<Command>
+    ensures { result ≡ command_of (map string_bytes words.now) }
 {
     match words {
-        [word] => word.as_str() == "run",
-        _ => false,
+        [word] => match word.as_str() {
+            "run" => Some(Command::Run),
+            "replay" => Some(Command::Replay),
+            _ => None,
+        },
+        _ => None,
     }
 }

@@ -1,3 +1,4 @@
+//! How a call ends, and the number that the program ends with.
 ghost use Rattle.std.specs.Prelude.{◌≡◌};
 ghost use Rattle.std.specs.Process.{exit_status};
 ghost use Rattle.kaffe.specs.Numbers.{number_of};
@@ -5,7 +6,7 @@ ghost use Rattle.kaffe.specs.Numbers.{number_of};
 use k_io::NoMemory;
 use std::process::ExitCode;
 
-/// How a call ended. As a number from 0 to 6, in this order, it is the program's exit status. Source: own.
+/// How a call ended. As a number from 0 to 6, in this order, it is the program's exit status.
 #[derive(Clone, Copy, Debug, PartialEq, Eq)]
 pub enum Status {
     /// The command was done, and its text was written.
@@ -18,7 +19,7 @@ pub enum Status {
     WantOfMemory,
     /// The source failed before anything was written.
     ReadFault,
-    /// The sink failed. It took a front of the text of another status.
+    /// The sink failed. It took a front of a text that another status would have written whole.
     WriteFault,
     /// A report is not that of its trace. No command answers it yet.
     Refused,
@@ -31,7 +32,7 @@ pub fn want_of_memory(_refused: NoMemory) -> Status
     Status::WantOfMemory
 }
 
-/// The exit status of the program. Source: own.
+/// The exit status of the program.
 pub fn exit_code(status: Status) -> ExitCode
     ensures { exit_status result ≡ number_of status }
 {

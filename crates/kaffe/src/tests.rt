@@ -1,6 +1,9 @@
+//! The top call as tables: words, traces, bad traces, and each read and write that fails in turn.
 use crate::call::kaffe;
 use crate::status::Status;
-use k_io::{MemSink, MemSource, NoGate};
+use k_io::{DripSink, MemSink, MemSource, NoGate, Sink};
+use std::alloc::Global;
+use std::process::Abort;
 use std::test::Fail;
 
 const TRACE: &str = "kaffe 1
@@ -44,85 +47,224 @@ end
 
 const USAGE: &str = "usage: kaffe run | replay | check | big N\n";
 
-const BAD_TRACE: &str = "bad trace: line 0 reason 13\n";
+/// A header with a tree of limits, two processes and a shared heap; an operation behind it stands on line 10.
+const HEADER: &str = "kaffe 1
+kernel 200 2
+type Node ref ref int
+limit root 1000
+limit a root hard 120
+limit b root soft 400
+proc p1 a
+proc p2 b
+shared s
+";
 
-/// Calls the program with these words and this input. The read and the write of those numbers fail;
-/// none where the number is 0.
-fn call(
-    rt: &HostRuntime,
+/// Calls the program with these words and this input. The read of that number fails; none where it is 0.
+fn call<K: Sink, R: Sync>(
+    rt: &R,
+    alloc: Global,
     words: &str,
     input: &str,
     failing_read: u32,
-    failing_write: u32,
-) -> Result<(Status, MemSink), Fail> {
-    let mut given = Vec::new(rt.alloc());
+    sink: &mut K,
+) -> Result<Status, Fail> {
+    let mut given = Vec::new(alloc);
     for word in words.split_whitespace() {
-        given.push(String::from_str(rt.alloc(), word)?)?;
+        given.push(String::from_str(alloc, word)?)?;
     }
-    let bytes = Vec::from_slice(rt.alloc(), input.as_bytes())?;
-    let mut source = MemSource::of(bytes, vec![in rt.alloc(); failing_read]?);
-    let mut sink = MemSink::make(rt.alloc(), 4096, vec![in rt.alloc(); failing_write]?)?;
-    let status = kaffe(rt, rt.alloc(), &given, &mut source, &mut sink, &NoGate);
-    Ok((status, sink))
+    let bytes = Vec::from_slice(alloc, input.as_bytes())?;
+    let mut source = MemSource::of(bytes, vec![in alloc; failing_read]?);
+    Ok(kaffe(rt, alloc, &given, &mut source, sink, &NoGate))
+}
+
+/// A sink that takes whole pieces. The write of that number fails; none where it is 0.
+fn sink(alloc: Global, failing_write: u32) -> Result<MemSink, Fail> {
+    Ok(MemSink::make(alloc, 4096, vec![in alloc; failing_write]?)?)
+}
+
+/// Calls the program without a fault, and compares the status and what was written.
+fn check_call<R: Abort + Sync>(
+    rt: &R,
+    alloc: Global,
+    words: &str,
+    input: &str,
+    want: Status,
+    text: &str,
+) -> Result<(), Fail> {
+    let mut out = sink(alloc, 0)?;
+    let status = call(rt, alloc, words, input, 0, &mut out)?;
+    assert_eq!(rt; status, want, "{words}: {input}");
+    assert_eq!(rt; str::from_utf8(out.bytes()), Ok(text), "{words}: {input}");
+    Ok(())
 }
 
 #[test]
 fn reports_the_first_trace(rt: HostRuntime) -> Result<(), Fail> {
-    for input in [TRACE, TRACE.trim_end()] {
-        let (status, sink) = call(&rt, "run", input, 0, 0)?;
-        assert_eq!(rt; status, Status::Good);
-        assert_eq!(rt; str::from_utf8(sink.bytes()), Ok(REPORT));
+    for words in ["run", "replay"] {
+        for input in [TRACE, TRACE.trim_end()] {
+            check_call(&rt, rt.alloc(), words, input, Status::Good, REPORT)?;
+        }
     }
     Ok(())
 }
 
 #[test]
 fn refuses_other_words(rt: HostRuntime) -> Result<(), Fail> {
-    for words in ["", "run x", "big 0", "big 007"] {
-        let (status, sink) = call(&rt, words, TRACE, 1, 0)?;
+    for words in [
+        "", "run x", "x run", "runs", "Replay", "big 0", "big 007", "big 10", "check",
+    ] {
+        let mut out = sink(rt.alloc(), 0)?;
+        let status = call(&rt, rt.alloc(), words, TRACE, 1, &mut out)?;
         assert_eq!(rt; status, Status::Usage, "{words}");
-        assert_eq!(rt; str::from_utf8(sink.bytes()), Ok(USAGE));
+        assert_eq!(rt; str::from_utf8(out.bytes()), Ok(USAGE));
     }
     Ok(())
 }
 
 #[test]
-fn refuses_what_is_no_trace_of_the_first_form(rt: HostRuntime) -> Result<(), Fail> {
-    for input in [
-        "",
-        "kaffe 1\nkernel 32 2\nlimit a 80\nproc p1 a\nproc p2 a\n",
-        "kaffe 1\nkernel 32 2\nlimit a 80\nproc p1 a\np1 dir r0\n",
-    ] {
-        let (status, sink) = call(&rt, "run", input, 0, 0)?;
-        assert_eq!(rt; status, Status::BadTrace, "{input}");
-        assert_eq!(rt; str::from_utf8(sink.bytes()), Ok(BAD_TRACE));
-    }
-    Ok(())
-}
-
-#[test]
-fn tells_faults_of_source_and_sink(rt: HostRuntime) -> Result<(), Fail> {
-    for (words, input, failing_read, failing_write, want, text) in [
-        ("run", TRACE, 1, 0, Status::ReadFault, ""),
-        ("run", TRACE, 0, 1, Status::WriteFault, ""),
+fn tells_the_first_bad_line_of_a_header(rt: HostRuntime) -> Result<(), Fail> {
+    for (input, text) in [
+        ("", "bad trace: line 1 reason 12\n"),
+        ("\n", "bad trace: line 1 reason 4\n"),
+        ("kaffe 2\n", "bad trace: line 1 reason 4\n"),
+        ("kaffe 1\nkernel 32\t2\n", "bad trace: line 2 reason 3\n"),
+        ("kaffe 1\nkernel 32 17\n", "bad trace: line 2 reason 5\n"),
+        ("kaffe 1\nkernel 31 2\n", "bad trace: line 2 reason 10\n"),
         (
-            "run",
-            TRACE,
-            0,
-            3,
-            Status::WriteFault,
-            "report 1\np1 new r0 Node = p1.1\n",
+            "kaffe 1\nkernel 32 2\ntype end ref\n",
+            "bad trace: line 3 reason 6\n",
         ),
-        ("run", "", 0, 1, Status::WriteFault, ""),
-        ("help", TRACE, 0, 1, Status::WriteFault, ""),
+        (
+            "kaffe 1\nkernel 32 2\ntype A ref\ntype A\n",
+            "bad trace: line 4 reason 7\n",
+        ),
+        (
+            "kaffe 1\nkernel 32 2\ntype A ref ref ref ref ref ref ref ref ref ref ref ref ref ref ref ref ref\n",
+            "bad trace: line 3 reason 9\n",
+        ),
+        (
+            "kaffe 1\nkernel 32 2\nlimit a 80\nproc p1 b\n",
+            "bad trace: line 4 reason 8\n",
+        ),
+        (
+            "kaffe 1\nkernel 32 2\nlimit a 80\n",
+            "bad trace: line 4 reason 12\n",
+        ),
     ] {
-        let (status, sink) = call(&rt, words, input, failing_read, failing_write)?;
+        check_call(&rt, rt.alloc(), "run", input, Status::BadTrace, text)?;
+    }
+    Ok(())
+}
+
+#[test]
+fn tells_the_first_bad_operation(rt: HostRuntime) -> Result<(), Fail> {
+    for (rest, text) in [
+        ("p1 new r0 No", "bad trace: line 10 reason 8\n"),
+        ("p1 new r16 No\n", "bad trace: line 10 reason 5\n"),
+        ("p1  collect\n", "bad trace: line 10 reason 4\n"),
+        ("p1 collect \n", "bad trace: line 10 reason 4\n"),
+        ("shared p2\n", "bad trace: line 10 reason 7\n"),
+        (
+            "p1 exit\np1 new r0 Node\n",
+            "bad trace: line 11 reason 11\n",
+        ),
+        (
+            "p1 collect\np3 collect\np4\n",
+            "bad trace: line 11 reason 8\n",
+        ),
+        // a good trace whose form is not built yet
+        ("p1 dir r0\n", "bad trace: line 0 reason 13\n"),
+    ] {
+        let mut input = String::from_str(rt.alloc(), HEADER)?;
+        input.push_str(rest)?;
+        check_call(&rt, rt.alloc(), "replay", &input, Status::BadTrace, text)?;
+    }
+    Ok(())
+}
+
+#[test]
+fn tells_a_line_that_is_too_long(rt: HostRuntime) -> Result<(), Fail> {
+    let mut input = String::from_str(rt.alloc(), "kaffe 1\nkernel 32 2\ntype ")?;
+    for _ in 0..4092 {
+        input.push_str("x")?;
+    }
+    // a line of 4,097 bytes, whose name is too long as well
+    check_call(
+        &rt,
+        rt.alloc(),
+        "run",
+        &input,
+        Status::BadTrace,
+        "bad trace: line 3 reason 2\n",
+    )
+}
+
+#[test]
+fn tells_each_read_that_fails(rt: HostRuntime) -> Result<(), Fail> {
+    // the first read gives the trace, the second the end of input, and there is no third
+    for (failing_read, want, text) in [
+        (1, Status::ReadFault, ""),
+        (2, Status::ReadFault, ""),
+        (3, Status::Good, REPORT),
+    ] {
+        let mut out = sink(rt.alloc(), 0)?;
+        let status = call(&rt, rt.alloc(), "run", TRACE, failing_read, &mut out)?;
+        assert_eq!(rt; status, want, "read {failing_read}");
         assert_eq!(rt;
-            status,
-            want,
-            "{words}: read {failing_read}, write {failing_write}"
+            str::from_utf8(out.bytes()),
+            Ok(text),
+            "read {failing_read}"
         );
-        assert_eq!(rt; str::from_utf8(sink.bytes()), Ok(text));
+    }
+    Ok(())
+}
+
+#[test]
+fn tells_each_line_that_is_not_taken(rt: HostRuntime) -> Result<(), Fail> {
+    let mut written = String::new(rt.alloc());
+    let mut number = 1u32;
+    for line in REPORT.split_inclusive('\n') {
+        let mut out = sink(rt.alloc(), number)?;
+        let status = call(&rt, rt.alloc(), "replay", TRACE, 0, &mut out)?;
+        assert_eq!(rt; status, Status::WriteFault, "write {number}");
+        assert_eq!(rt;
+            str::from_utf8(out.bytes()),
+            Ok(written.as_str()),
+            "write {number}"
+        );
+        written.push_str(line)?;
+        number = number.saturating_add(1);
+    }
+    let mut out = sink(rt.alloc(), number)?;
+    assert_eq!(rt;
+        call(&rt, rt.alloc(), "replay", TRACE, 0, &mut out)?,
+        Status::Good
+    );
+    for (words, input) in [("run", ""), ("help", TRACE)] {
+        let mut out = sink(rt.alloc(), 1)?;
+        assert_eq!(rt;
+            call(&rt, rt.alloc(), words, input, 0, &mut out)?,
+            Status::WriteFault,
+            "{words}"
+        );
+        assert_eq!(rt; out.bytes().len(), 0);
+    }
+    Ok(())
+}
+
+#[test]
+fn tells_each_byte_that_is_not_taken(rt: HostRuntime) -> Result<(), Fail> {
+    for taken in 0..=REPORT.len() {
+        let fails = vec![in rt.alloc(); taken as u32 + 1]?;
+        let mut out = DripSink::make(rt.alloc(), 4096, fails)?;
+        let status = call(&rt, rt.alloc(), "run", TRACE, 0, &mut out)?;
+        let want = if taken < REPORT.len() {
+            Status::WriteFault
+        } else {
+            Status::Good
+        };
+        assert_eq!(rt; status, want, "byte {taken}");
+        assert!(rt; out.bytes() == &REPORT.as_bytes()[..taken], "byte {taken}");
     }
     Ok(())
 }

@@ -1,13 +1,13 @@
+//! The texts that are no reports, and the status after a text was written.
 ghost use Rattle.std.specs.Prelude.{◌≡◌};
-ghost use Rattle.kaffe.specs.Answers.{IsWritten};
-ghost use Rattle.kaffe.specs.Parts.{status_after};
+ghost use Rattle.kaffe.specs.Parts.{IsWritten, status_after};
 ghost use Rattle.kaffe.specs.Texts.{usage_text, bad_trace_text};
 
 use crate::status::Status;
 use k_io::{Sink, WriteFailed, write_all};
 use k_words::LineBuffer;
 
-/// The status of a call whose text is written: the given one, unless the sink failed. Source: own.
+/// The status of a call whose text is written: the given one, unless the sink failed.
 pub fn after_writing(status: Status, written: Result<(), WriteFailed>) -> Status
     ensures { result ≡ status_after status written }
 {
@@ -17,18 +17,22 @@ pub fn after_writing(status: Status, written: Result<(), WriteFailed>) -> Status
     }
 }
 
-/// Writes the usage line, as one piece. Source: own.
+/// Writes the usage line, as one piece.
 pub fn write_usage<K: Sink>(out: &mut K) -> Status
-    ensures { IsWritten (K.Holds out.old) (K.Holds out.new) (K.faults out.old) (K.faults out.new) Status.Usage usage_text result }
+    ensures { IsWritten
+        (record { agreed = K.Holds out.old; agrees = K.Holds out.new; failed_before = K.faults out.old; failed_after = K.faults out.new })
+        Status.Usage usage_text result }
 {
     let written = write_all(out, b"usage: kaffe run | replay | check | big N\n");
     after_writing(Status::Usage, written)
 }
 
 /// Writes the line of a bad trace, as one piece. Lines are counted from 1, and line 0 stands for the
-/// whole input. Source: own.
+/// whole input.
 pub fn write_bad_trace<K: Sink>(out: &mut K, line: u32, reason: u32) -> Status
-    ensures { IsWritten (K.Holds out.old) (K.Holds out.new) (K.faults out.old) (K.faults out.new) Status.BadTrace (bad_trace_text line reason) result }
+    ensures { IsWritten
+        (record { agreed = K.Holds out.old; agrees = K.Holds out.new; failed_before = K.faults out.old; failed_after = K.faults out.new })
+        Status.BadTrace (bad_trace_text line reason) result }
 {
     let mut text = LineBuffer::new();
     text.push_text(b"bad trace: line");

@@ -1,7 +1,8 @@
 use Rattle.std.proofs.Common.{◌≡◌, ◌<◌, ◌+◌, ℕ, suc, List, refl, sym, ap, ap₂, subst, ◌∙◌, inl, length, map, get_or, set, add-one, arith}
+use Rattle.std.proofs.lemmas.List.{get_or_default}
 use Rattle.k_exit.specs.declared.chains.Item.{Item}
 use Rattle.k_exit.specs.Chains.{IsLinked, IsNextAbove, HasNoneAbove, at, row_of, with_next}
-use Rattle.k_exit.proofs.Relinks.{linked_at, linked_head, read_at, next_rows, any_default}
+use Rattle.k_exit.proofs.Relinks.{linked_at, linked_head, read_at, next_rows}
 use Rattle.k_exit.proofs.chains.link_in.Goals as goal
 
 -- the place is one of the items
@@ -41,7 +42,7 @@ returns-in-None-clause-linked c =
     let items = c.args.items.now.items in
     let heads = c.args.heads.now.items in
     let none : HasNoneAbove items heads c.args.end c.args.chain c.args.i = rw (c.deref.ensures.value, c.deref-2.ensures.value) at c.in-None.ensures.none in
-    let next : c.index-next.result.now ≡ get_or heads c.args.chain 0 = c.index-next.ensures ∙ any_default heads c.args.chain c.index-next.result.now 0 c.requires.within in
+    let next : c.index-next.result.now ≡ get_or heads c.args.chain 0 = c.index-next.ensures ∙ get_or_default heads c.args.chain c.index-next.result.now 0 c.requires.within in
     let new : c.set_next-in-None.new.items.items ≡ with_next items c.args.i c.index-next.result.now = c.set_next-in-None.ensures.items in
     subst (λ (xs : List Item). IsLinked xs (set heads c.args.chain (c.args.i + 1)) c.args.end c.args.end) (sym new)
     (subst (λ n. IsLinked (with_next items c.args.i c.index-next.result.now) (set heads c.args.chain n) c.args.end c.args.end) (sym (add-one c.args.i))

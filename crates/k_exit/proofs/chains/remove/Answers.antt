@@ -1,10 +1,11 @@
 use Rattle.std.proofs.Common.{◌≡◌, ◌+◌, ◌-◌, ◌<◌, ℕ, List, sym, ap, ap₂, subst, ◌∙◌, length, map, take, get_or, set, arith}
 use Rattle.std.proofs.Math.ListN.{get_or-map}
+use Rattle.std.proofs.lemmas.List.{length-map}
 use Rattle.k_exit.specs.declared.chains.Item.{Item}
 use Rattle.k_exit.specs.Chains.{IsLinked, IsChained, row_of, blank}
 use Rattle.k_exit.specs.Exits.{ExitRow}
 use Rattle.k_exit.proofs.Relinks.{read_at}
-use Rattle.k_exit.proofs.Removes.{cut_off, same_len, map_len, map_front, set_front, front_at, front_len}
+use Rattle.k_exit.proofs.Removes.{cut_off, same_len, map_front, set_front, front_at, front_len}
 use Rattle.k_exit.proofs.chains.remove.Goals as goal
 
 -- the items without the last one are chained
@@ -47,7 +48,7 @@ returns-then-i-last-clause-rows c =
     ∙ sym (get_or-map row_of other (c.len-last.result - 1) blank) ∙ ap (λ (rs : List ExitRow). get_or rs (c.len-last.result - 1) (row_of blank)) c.unlink.ensures.rows in
     let front : map row_of c.truncate.new.self.items ≡ take (c.len-last.result - 1) (map row_of items) =
     ap (λ (xs : List Item). map row_of xs) c.truncate.ensures.items ∙ map_front row_of (c.len-last.result - 1) other ∙ ap (take (c.len-last.result - 1)) c.unlink.ensures.rows in
-    let n : c.len-last.result - 1 ≡ length (map row_of items) - 1 = ap (λ k. k - 1) (len ∙ sym (map_len row_of items)) in
+    let n : c.len-last.result - 1 ≡ length (map row_of items) - 1 = ap (λ k. k - 1) (len ∙ sym (length-map items row_of)) in
     c.replace.ensures.rows
     ∙ ap₂ (λ (rs : List ExitRow) (r : ExitRow). set rs c.args.i r) front moved
     ∙ set_front (c.len-last.result - 1) c.args.i (map row_of items) (get_or (map row_of items) (c.len-last.result - 1) (row_of blank)) c.if-i-last.true

@@ -1,18 +1,13 @@
-use Rattle.std.proofs.Common.{◌≡◌, List, sym, ap, subst, ◌∙◌, length, map, set, arith}
+use Rattle.std.proofs.Common.{◌≡◌, List, sym, ap, subst, ◌∙◌, length, set, arith}
 use Rattle.std.proofs.lemmas.List.{get_or-set_other, length-set, map-set}
-use Rattle.k_exit.specs.declared.chains.Item.{Item}
 use Rattle.k_exit.specs.Chains.{IsLinked, row_of, blank}
 use Rattle.k_exit.specs.Exits.{ExitRow}
-use Rattle.k_exit.proofs.Removes.{relinked, map_len}
+use Rattle.k_exit.proofs.Removes.{relinked, same_len}
 use Rattle.k_exit.proofs.chains.replace.Goals as goal
-
--- as many items as there were
-lens : (xs ys : List Item) → map row_of xs ≡ map row_of ys → length xs ≡ length ys
-lens xs ys e = sym (map_len row_of xs) ∙ ap (λ (rs : List ExitRow). length rs) e ∙ map_len row_of ys
 
 pub link-requires : goal.link-requires
 link-requires c =
-    let len = lens c.unlink.new.items.items c.args.items.now.items c.unlink.ensures.rows in
+    let len = same_len c.unlink.new.items.items c.args.items.now.items c.unlink.ensures.rows in
     let len_is : c.len.result ≡ length c.args.items.now.items = omega (arith, c.len.ensures, c.unlink.new.items.ok.0, len) in
     let set_len = length-set c.unlink.new.items.items c.args.i c.args.moved in
     let linked = c.unlink.ensures.linked in
@@ -26,11 +21,11 @@ link-requires c =
 
 pub returns-clause-linked : goal.returns-clause-linked
 returns-clause-linked c =
-    let len = lens c.unlink.new.items.items c.args.items.now.items c.unlink.ensures.rows in
+    let len = same_len c.unlink.new.items.items c.args.items.now.items c.unlink.ensures.rows in
     let len_is : c.len.result ≡ length c.args.items.now.items = omega (arith, c.len.ensures, c.unlink.new.items.ok.0, len) in
     let set_len = length-set c.unlink.new.items.items c.args.i c.args.moved in
     let all : c.len.result ≡ length c.link.new.items.items =
-    omega (arith, len_is, len, set_len, lens c.link.new.items.items (set c.unlink.new.items.items c.args.i c.args.moved) c.link.ensures.rows) in
+    omega (arith, len_is, len, set_len, same_len c.link.new.items.items (set c.unlink.new.items.items c.args.i c.args.moved) c.link.ensures.rows) in
     subst (λ n. IsLinked c.link.new.items.items c.link.new.heads.items n n) all c.link.ensures.linked
 
 pub returns-clause-rows : goal.returns-clause-rows

@@ -1,12 +1,10 @@
-use Rattle.std.proofs.Common.{◌≡◌, ◌+◌, ℕ, Option, Some, None, ap, ◌∙◌, sum_by, slice_get, arith}
+use Rattle.std.proofs.Common.{◌≡◌, ◌+◌, ℕ, Some, None, ap, ◌∙◌, sum_by, slice_get, arith}
+use Rattle.k_base.proofs.Lists.{some_one}
 use Rattle.k_space.specs.Segments.{SegmentValue}
 use Rattle.k_space.specs.Areas.{segment_at, place_of}
 use Rattle.k_mark.specs.Sweeping.{swept_segment, dead_row, dead_bytes_of}
 use Rattle.k_mark.proofs.SweepAll.{next_one, distinct_set, swept_more, sum_more, sum_within}
 use Rattle.k_mark.proofs.sweeping.sweep.Goals as goal
-
-same_segment : {x y : SegmentValue} → ◌≡◌ {A = Option SegmentValue} (Some x) (Some y) → x ≡ y
-same_segment e = cc
 
 pub unreachable-requires : goal.unreachable-requires
 unreachable-requires c =
@@ -19,7 +17,7 @@ pub sweep_segment-requires-clause-objects : goal.sweep_segment-requires-clause-o
 sweep_segment-requires-clause-objects c =
     let n = next_one c.args.area.now.segments c.loop-i.area.segments c.loop-i.i c.loop-i.invariant.segments c.loop-i.invariant.distinct (omega (arith, c.loop-i.invariant.len)) in
     let seg = c.seg_at-seg.ensures n.s n.is in
-    let s : c.in-Some.segment.now ≡ n.s = same_segment (c.in-Some.ensures.value ∙ ap (segment_at c.loop-i.area.segments) seg ∙ n.found) in
+    let s : c.in-Some.segment.now ≡ n.s = some_one (c.in-Some.ensures.value ∙ ap (segment_at c.loop-i.area.segments) seg ∙ n.found) in
     let f : SegmentValue → ℕ = λ t. sum_by dead_row t.rows in
     let here : sum_by dead_row c.in-Some.segment.now.rows ≡ sum_by dead_row n.s.rows = ap (λ (t : SegmentValue). sum_by dead_row t.rows) s in
     omega (arith, here, c.requires.objects, c.loop-i.invariant.objects, sum_more (λ (t : SegmentValue). sum_by dead_row t.rows) c.args.area.now.segments c.loop-i.i n.s n.was, sum_within (λ (t : SegmentValue). sum_by dead_row t.rows) c.args.area.now.segments (c.loop-i.i + 1))
@@ -28,7 +26,7 @@ pub sweep_segment-requires-clause-bytes : goal.sweep_segment-requires-clause-byt
 sweep_segment-requires-clause-bytes c =
     let n = next_one c.args.area.now.segments c.loop-i.area.segments c.loop-i.i c.loop-i.invariant.segments c.loop-i.invariant.distinct (omega (arith, c.loop-i.invariant.len)) in
     let seg = c.seg_at-seg.ensures n.s n.is in
-    let s : c.in-Some.segment.now ≡ n.s = same_segment (c.in-Some.ensures.value ∙ ap (segment_at c.loop-i.area.segments) seg ∙ n.found) in
+    let s : c.in-Some.segment.now ≡ n.s = some_one (c.in-Some.ensures.value ∙ ap (segment_at c.loop-i.area.segments) seg ∙ n.found) in
     let here : sum_by dead_bytes_of c.in-Some.segment.now.rows ≡ sum_by dead_bytes_of n.s.rows = ap (λ (t : SegmentValue). sum_by dead_bytes_of t.rows) s in
     omega (arith, here, c.requires.bytes, c.loop-i.invariant.bytes, sum_more (λ (t : SegmentValue). sum_by dead_bytes_of t.rows) c.args.area.now.segments c.loop-i.i n.s n.was, sum_within (λ (t : SegmentValue). sum_by dead_bytes_of t.rows) c.args.area.now.segments (c.loop-i.i + 1))
 
@@ -37,7 +35,7 @@ loop-i-preserved c =
     let i = c.loop-i.invariant in
     let n = next_one c.args.area.now.segments c.loop-i.area.segments c.loop-i.i i.segments i.distinct (omega (arith, i.len)) in
     let seg = c.seg_at-seg.ensures n.s n.is in
-    let s : c.in-Some.segment.now ≡ n.s = same_segment (c.in-Some.ensures.value ∙ ap (segment_at c.loop-i.area.segments) seg ∙ n.found) in
+    let s : c.in-Some.segment.now ≡ n.s = some_one (c.in-Some.ensures.value ∙ ap (segment_at c.loop-i.area.segments) seg ∙ n.found) in
     let place : place_of c.loop-i.area.segments c.seg_at-seg.result.0 ≡ c.loop-i.i = ap (place_of c.loop-i.area.segments) seg ∙ n.place in
     let new : c.sweep_segment.new.segment ≡ swept_segment n.s = c.sweep_segment.ensures.segment ∙ ap (λ (t : SegmentValue). swept_segment t) s in
     let objects : sum_by dead_row c.in-Some.segment.now.rows ≡ sum_by dead_row n.s.rows = ap (λ (t : SegmentValue). sum_by dead_row t.rows) s in

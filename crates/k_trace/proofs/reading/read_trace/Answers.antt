@@ -1,6 +1,4 @@
-use Rattle.std.proofs.Common.{◌≡◌, ◌≤◌, ◌∙◌, length, arith, ap, subst, true, Ok}
-use Rattle.k_words.specs.Words.{lines_of}
-use Rattle.k_trace.specs.Judgement.{SoFar, judged_lines, start}
+use Rattle.std.proofs.Common.{◌≤◌, length, arith}
 use Rattle.k_trace.specs.Meaning.{meaning_of}
 use Rattle.k_trace.specs.Rules.{Spells}
 use Rattle.k_trace.proofs.Refused.{whole_refused, whole_spelled}

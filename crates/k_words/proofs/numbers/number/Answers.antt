@@ -1,4 +1,4 @@
-use Rattle.std.proofs.Common.{arith, ◌≡◌, ◌∙◌}
+use Rattle.std.proofs.Common.{arith}
 use Rattle.k_words.proofs.Digits.{value_more, too_great}
 use Rattle.k_words.proofs.numbers.number.Goals as goal
 

@@ -1,4 +1,4 @@
-use Rattle.std.proofs.Common.{◌≡◌, eq-eqb, ◌<◌, arith, eqb, sym, get_or, length}
+use Rattle.std.proofs.Common.{eq-eqb, arith, eqb, sym, length}
 use Rattle.std.proofs.lemmas.List.Sums.{position_or_len_is}
 use Rattle.k_words.proofs.words.find.Goals as goal
 

@@ -1,12 +1,12 @@
 use Rattle.std.proofs.Common.{◌≡◌, ◌<◌, ◌+◌, ◌⊎◌, inl, inr, ℕ, suc, true, false, List, [], ◌∷◌, ◌++◌, map, length, sym, ap, subst, ◌∙◌, arith}
-use Rattle.std.proofs.lemmas.List.{get_or_append_left, length-append, map-append}
+use Rattle.std.proofs.lemmas.List.{get_or_append_left, length-append, map-append, length-map}
 use Rattle.std.proofs.lemmas.Bool.{false≢true}
 use Rattle.k_types.specs.declared.names.Name.{Name}
 use Rattle.k_types.specs.Names.{name_of}
 use Rattle.k_exit.specs.declared.chains.Item.{Item}
 use Rattle.k_exit.specs.Chains.{IsLinked, IsChained, row_of, blank}
 use Rattle.k_exit.specs.Exits.{ExitRow, ExitList, AreDistinct, has_target}
-use Rattle.k_exit.proofs.Removes.{relinked, one_more, same_len, map_len}
+use Rattle.k_exit.proofs.Removes.{relinked, one_more, same_len}
 use Rattle.k_exit.proofs.Lists.{passed_end, distinct_push}
 use Rattle.k_exit.proofs.table.ExitTable.add.Goals as goal
 
@@ -26,7 +26,7 @@ room_left e items heads t is (inl there) none = absurd (false≢true (sym none �
 room_left e items heads t is (inr room) none =
     let a : length (map row_of items) ≡ length e.items = ap (λ (x : ExitList). length x.items) is in
     let b : length heads ≡ e.room = ap (λ (x : ExitList). x.room) is in
-    omega (arith, a, b, room, map_len row_of items)
+    omega (arith, a, b, room, length-map items row_of)
 
 pub link_in-requires-clause-linked : goal.link_in-requires-clause-linked
 link_in-requires-clause-linked c =
@@ -57,5 +57,5 @@ invariant_of-self c =
       reserved = omega (arith, c.link_in.ensures.capacity, c.link_in.ensures.room, c.push_reserved.ensures.capacity, c.self.invariant.reserved);
       heads_reserved = omega (arith, c.link_in.ensures.heads_capacity, c.link_in.ensures.room, c.self.invariant.heads_reserved);
       distinct = subst (λ (rs : List ExitRow). AreDistinct rs) (sym rows) (distinct_push (map row_of items) (row_of new) c.self.invariant.distinct had);
-      passed = passed_end (map row_of c.link_in.new.items.items) c.self.inside.wanted (c.len-i.result + 1) (all ∙ sym (map_len row_of c.link_in.new.items.items));
+      passed = passed_end (map row_of c.link_in.new.items.items) c.self.inside.wanted (c.len-i.result + 1) (all ∙ sym (length-map c.link_in.new.items.items row_of));
     }

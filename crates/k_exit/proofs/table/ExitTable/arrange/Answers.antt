@@ -9,8 +9,8 @@ use Rattle.k_exit.specs.Chains.{row_of, blank}
 use Rattle.k_exit.specs.Exits.{ExitRow, ExitList, AreDistinct}
 use Rattle.std.specs.Ordering.{ordering_then}
 use Rattle.std.proofs.lemmas.Option.{slice_get_within}
+use Rattle.std.proofs.lemmas.List.{length-map}
 use Rattle.k_exit.proofs.Order.{comes_first, apart_next, key_at}
-use Rattle.k_exit.proofs.Removes.{map_len}
 use Rattle.k_exit.proofs.Lists.{distinct_same, passed_end}
 use Rattle.k_exit.proofs.table.ExitTable.arrange.Goals as goal
 
@@ -24,7 +24,7 @@ invariant_of-self c =
       reserved = omega (arith, c.relink.ensures.capacity, c.relink.ensures.room, c.sort_unstable_by_key.ensures.capacity, c.self.invariant.reserved);
       heads_reserved = omega (arith, c.relink.ensures.heads_capacity, c.relink.ensures.room, c.self.invariant.heads_reserved);
       distinct = distinct_same (map row_of items) (map row_of c.relink.new.items.items) same c.self.invariant.distinct;
-      passed = passed_end (map row_of c.relink.new.items.items) c.self.inside.wanted c.len-self-inside.result (c.len-self-inside.ensures ∙ c.relink.new.items.ok.0 ∙ sym (map_len row_of c.relink.new.items.items));
+      passed = passed_end (map row_of c.relink.new.items.items) c.self.inside.wanted c.len-self-inside.result (c.len-self-inside.ensures ∙ c.relink.new.items.ok.0 ∙ sym (length-map c.relink.new.items.items row_of));
     }
 
 pub returns-clause-items : goal.returns-clause-items
@@ -55,7 +55,7 @@ returns-clause-order c = λ i x y at next.
     let there : slice_get (map row_of c.sort_unstable_by_key.new.self.items) i ≡ Some x = ap (λ (rs : List ExitRow). slice_get rs i) (sym rows) ∙ at in
     let after : slice_get (map row_of c.sort_unstable_by_key.new.self.items) (i + 1) ≡ Some y = ap (λ (rs : List ExitRow). slice_get rs (i + 1)) (sym rows) ∙ next in
     let within = slice_get_within (map row_of c.sort_unstable_by_key.new.self.items) (i + 1) y after in
-    let test = sorted i blank (omega arith) (omega (arith, within, map_len row_of c.sort_unstable_by_key.new.self.items)) in
+    let test = sorted i blank (omega arith) (omega (arith, within, length-map c.sort_unstable_by_key.new.self.items row_of)) in
     let x_is = key_at c.sort_unstable_by_key.new.self.items i x there in
     let y_is = key_at c.sort_unstable_by_key.new.self.items (i + 1) y after in
     comes_first x.target y.target

@@ -1,6 +1,6 @@
 use Rattle.std.proofs.Common.{◌≡◌, ◌<◌, true, false, List, Some, None, map, set, length, refl, sym, ap, subst, ◌∙◌, arith}
 use Rattle.std.proofs.lemmas.Bool.{false≢true}
-use Rattle.std.proofs.lemmas.List.{length-set, map-set}
+use Rattle.std.proofs.lemmas.List.{length-set, map-set, length-map}
 use Rattle.std.proofs.Math.ListN.{get_or-map}
 use Rattle.std.proofs.lemmas.Option.{slice_get-get_or}
 use Rattle.k_exit.specs.declared.chains.Item.{Item}
@@ -8,7 +8,6 @@ use Rattle.k_exit.specs.Chains.{HasPassed, row_of, at, blank}
 use Rattle.k_exit.specs.Exits.{ExitRow, ExitList, AreDistinct, has_target, marked_if, with_marked}
 use Rattle.k_base.proofs.NameTests.{name_eq-same}
 use Rattle.k_exit.proofs.Relinks.{read_at}
-use Rattle.k_exit.proofs.Removes.{map_len}
 use Rattle.k_exit.proofs.Lists.{has_by, marked_set, linked_marks, distinct_marked, passed_marked, mark_same}
 use Rattle.k_exit.proofs.table.ExitTable.mark.Goals as goal
 
@@ -28,7 +27,7 @@ rows c =
     let target : (at items c.in-Some.i).target ≡ c.args.target = subst (λ (xs : List Item). (at xs c.in-Some.i).target ≡ c.args.target) c.deref.ensures.value c.in-Some.ensures.there in
     map-set row_of items c.in-Some.i (record { target = c.index_mut.result.now.target; marked = true; next = c.index_mut.result.now.next })
     ∙ marked_set (map row_of items) c.in-Some.i (row_of c.index_mut.result.now) c.args.target c.self.invariant.distinct
-    (slice_get-get_or (map row_of items) c.in-Some.i (row_of blank) (omega (arith, within, map_len row_of items)) ∙ ap Some (get_or-map row_of items c.in-Some.i blank ∙ ap row_of (sym x)))
+    (slice_get-get_or (map row_of items) c.in-Some.i (row_of blank) (omega (arith, within, length-map items row_of)) ∙ ap Some (get_or-map row_of items c.in-Some.i blank ∙ ap row_of (sym x)))
     (name_eq-same c.index_mut.result.now.target c.args.target (ap (λ (y : Item). y.target) x ∙ target))
 
 pub invariant_of-self : goal.invariant_of-self

@@ -6,17 +6,17 @@ use Rattle.std.specs.List.Sorted.{IsPermutation}
 use Rattle.k_exit.specs.declared.chains.Item.{Item}
 use Rattle.k_exit.specs.Chains.{HasPassed, IsLastWanted, row_of, at, blank, rows_without}
 use Rattle.k_exit.specs.Exits.{ExitRow, ExitList, AreDistinct, has_target, target_marked}
-use Rattle.k_exit.proofs.Removes.{map_len}
 use Rattle.k_exit.proofs.Lists.{without_is, distinct_taken, passed_without}
 use Rattle.k_exit.proofs.Takes.{left_over, one_fewer}
 use Rattle.k_types.specs.Names.{name_eq}
 use Rattle.std.proofs.lemmas.Bool.{and_parts}
+use Rattle.std.proofs.lemmas.List.{length-map}
 use Rattle.k_exit.proofs.table.ExitTable.take.Goals as goal
 
 pub last_wanted-found-requires : goal.last_wanted-found-requires
 last_wanted-found-requires c =
     let rows : length (map row_of c.self.inside.items.items) ≡ length c.args.self.now.items = ap (λ (e : ExitList). length e.items) c.self.view_is in
-    omega (arith, c.start-end.ensures.within, rows, map_len row_of c.self.inside.items.items, c.deref.ensures.len, c.self.inside.items.ok.0)
+    omega (arith, c.start-end.ensures.within, rows, length-map c.self.inside.items.items row_of, c.deref.ensures.len, c.self.inside.items.ok.0)
 
 pub invariant_of-self : goal.invariant_of-self
 invariant_of-self c =

@@ -1,9 +1,8 @@
-use Rattle.std.proofs.Common.{◌≡◌, ◌<◌, not, List, length, slice_get, Option, Some, None, is_some, sym, ap, ap₂, ◌∙◌, arith}
-use Rattle.std.proofs.lemmas.Option.{slice_get_past}
+use Rattle.std.proofs.Common.{◌≡◌, ◌<◌, not, List, length, slice_get, Option, Some, is_some, sym, ap, ap₂, ◌∙◌, arith}
 use Rattle.k_space.specs.Segments.{SegmentValue}
-use Rattle.k_space.specs.Areas.{AreaValue, place_of, segment_at}
+use Rattle.k_space.specs.Areas.{AreaValue}
 use Rattle.k_space.proofs.Hinted.{exact_set, got}
-use Rattle.k_space.proofs.Segs.{grayed_at, grayed_none}
+use Rattle.k_space.proofs.Segs.{grayed_at}
 use Rattle.k_space.proofs.area.Area.gray_own.Goals as goal
 
 pub invariant_of-self : goal.invariant_of-self

@@ -1,4 +1,4 @@
-use Rattle.std.proofs.Common.{◌≡◌, length, slice_get, sym, ap, ◌∙◌, arith, inl, inr}
+use Rattle.std.proofs.Common.{◌≡◌, length, slice_get, ap, ◌∙◌, arith, inl, inr}
 use Rattle.std.proofs.lemmas.Bool.{cases_lt}
 use Rattle.k_space.specs.Areas.{AreaValue}
 use Rattle.k_space.proofs.Segs.{no_grays, if_none}

@@ -1,8 +1,9 @@
 use Rattle.std.proofs.Common.{◌≡◌, ℕ, List, map, sym, ap, subst, ◌∙◌, length, take, drop, ◌++◌}
+use Rattle.std.proofs.lemmas.List.{length-map}
 use Rattle.k_space.specs.Segments.{SegmentValue, unmarked_segment}
 use Rattle.k_space.specs.Areas.{AreaValue, unmarked}
 use Rattle.k_space.specs.Hints.{AreExact, numbers}
-use Rattle.k_space.proofs.Rows.{front_whole, map_len}
+use Rattle.k_space.proofs.Rows.{front_whole}
 use Rattle.k_space.proofs.Hinted.{exact_unmarked}
 use Rattle.k_space.proofs.area.Area.unmark_all.Goals as goal
 
@@ -10,7 +11,7 @@ use Rattle.k_space.proofs.area.Area.unmark_all.Goals as goal
 items : (segments looked after : List SegmentValue) (len : ℕ) → after ≡ map unmarked_segment looked → looked ≡ segments → len ≡ length segments → take len (after ++ drop (length after) segments) ≡ map unmarked_segment segments
 items segments looked after len new read whole =
     let is : after ≡ map unmarked_segment segments = new ∙ ap (λ (ss : List SegmentValue). map unmarked_segment ss) read in
-    front_whole after (drop (length after) segments) len (ap (λ (ss : List SegmentValue). length ss) is ∙ map_len unmarked_segment segments ∙ sym whole) ∙ is
+    front_whole after (drop (length after) segments) len (ap (λ (ss : List SegmentValue). length ss) is ∙ length-map segments unmarked_segment ∙ sym whole) ∙ is
 
 pub invariant_of-self : goal.invariant_of-self
 invariant_of-self c =

@@ -1,8 +1,8 @@
 use Rattle.std.proofs.Common.{◌≡◌, None, List, map, replicate, ap, ◌∙◌}
+use Rattle.k_base.proofs.Lists.{map_replicate}
 use Rattle.k_space.specs.Objects.{content_of}
 use Rattle.k_space.specs.declared.body.Stored.{Stored}
 use Rattle.k_space.specs.declared.body.Stored.TheVariants.{Null as StoredNull}
-use Rattle.k_space.proofs.Fields.{map_replicate}
 use Rattle.k_space.proofs.body.Body.directory.Goals as goal
 
 pub returns : goal.returns

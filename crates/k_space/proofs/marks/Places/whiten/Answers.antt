@@ -1,9 +1,10 @@
 use Rattle.std.proofs.Common.{◌≡◌, ◌++◌, List, map, length, take, drop, sym, ap, subst, ◌∙◌}
+use Rattle.std.proofs.lemmas.List.{length-map}
 use Rattle.k_space.specs.declared.marks.Place.{Place}
 use Rattle.k_space.specs.declared.marks.Spot.{Spot}
 use Rattle.k_space.specs.Places.{white_place}
 use Rattle.k_space.specs.Stamps.{PlacesValue, AreStamped, seen, plain}
-use Rattle.k_space.proofs.Rows.{front_whole, map_len}
+use Rattle.k_space.proofs.Rows.{front_whole}
 use Rattle.k_space.proofs.StampLemmas.{seen_later, seen_plain, stamped_plain}
 use Rattle.k_space.proofs.marks.Places.whiten.Goals as goal
 
@@ -12,7 +13,7 @@ after : (c : goal.After-self-else-self-lt4294967290-2-1) → take c.self.inside.
 after c =
     let spots = c.self.inside.spots.items in
     let new : c.restamp.new.spots ≡ map plain spots = c.restamp.ensures ∙ ap (λ (xs : List Spot). map plain xs) c.deref_mut.ensures.value in
-    let len : length c.restamp.new.spots ≡ c.self.inside.spots.len = ap (λ (xs : List Spot). length xs) new ∙ map_len plain spots ∙ sym c.self.inside.spots.ok.0 in
+    let len : length c.restamp.new.spots ≡ c.self.inside.spots.len = ap (λ (xs : List Spot). length xs) new ∙ length-map spots plain ∙ sym c.self.inside.spots.ok.0 in
     front_whole c.restamp.new.spots (drop (length c.restamp.new.spots) spots) c.self.inside.spots.len len ∙ new
 
 pub invariant_of-self-else-self-lt4294967290 : goal.invariant_of-self-else-self-lt4294967290

@@ -1,8 +1,9 @@
-use Rattle.std.proofs.Common.{refl, ℕ, ◌≡◌, ◌-◌, None, is_some, sym, ap, subst, ◌∙◌, arith, length, get_or}
+use Rattle.std.proofs.Common.{refl, ℕ, ◌≡◌, ◌-◌, None, is_some, sym, ap, subst, ◌∙◌, arith, length, get_or, set, List}
 use Rattle.k_types.specs.Types.{object_size}
 use Rattle.k_space.specs.declared.marks.Place.TheVariants.{Empty, At}
 use Rattle.k_space.specs.declared.marks.Mark.TheVariants.{White as MarkWhite}
 use Rattle.k_space.specs.declared.marks.Mark.{Mark}
+use Rattle.k_space.proofs.GrayQueue.{last_set}
 use Rattle.k_space.proofs.ListedLemmas.{listed_set}
 use Rattle.k_space.specs.Listed.{IsListed}
 use Rattle.k_space.specs.Stamps.{PlacesValue}
@@ -31,11 +32,11 @@ overflow_sub-self c =
     let size = size_there c.self.inside.places.items c.self.inside.cells c.remove-cell.result.serial.0 c.args.slot kept.mark c.remove-cell.result kept.there c.remove-cell.ensures.value ∙ sym c.bytes-bytes.ensures.size in
     (bytes_freed c.self.inside.places.items c.self.inside.cells c.remove-cell.new.self c.self.inside.bytes c.remove-cell.result.serial.0 c.bytes-bytes.result c.self.invariant.bytes rows within size).0
 
-pub unlist-self-inside-requires-clause-listed : goal.unlist-self-inside-requires-clause-listed
-unlist-self-inside-requires-clause-listed c =
+pub passed-self-inside-requires-clause-listed : goal.passed-self-inside-requires-clause-listed
+passed-self-inside-requires-clause-listed c =
     let kept = c.self.invariant.sound.kept c.args.slot c.remove-cell.result c.remove-cell.ensures.value in
     let within = At_inside c.self.inside.places.items c.remove-cell.result.serial.0 c.args.slot kept.mark kept.there in
-    rw c.set.ensures (listed_set c.self.inside.places.items _ _ c.remove-cell.result.serial.0 Empty c.self.invariant.listed within refl (λ s m e. nowhere s m e))
+    rw (c.set.ensures, c.deref.ensures.value) (listed_set c.self.inside.places.items _ _ _ c.remove-cell.result.serial.0 Empty c.self.invariant.listed within refl (λ s m e. nowhere s m e))
   where
     nowhere : {A : Type 0} (s : ℕ) (m : Mark) → Empty ≡ At s m → A
     nowhere s m e = absurd (cc)
@@ -56,8 +57,11 @@ invariant_of-self c =
       sound = freed c.self.inside.places.items c.self.inside.cells c.remove-cell.new.self c.self.inside.room _ c.self.inside.gray c.remove-cell.result.serial.0 c.args.slot c.remove-cell.result c.self.invariant.sound here c.remove-cell.ensures.value updates c.remove-cell.ensures.len c.remove-cell.ensures.capacity;
       bytes = bytes.1 (c.self.inside.bytes - c.bytes-bytes.result) (omega (arith, bytes.0));
       end = below_freed c.self.inside.cells c.remove-cell.new.self c.args.slot c.self.inside.end c.self.invariant.end updates;
-      listed = subst (λ (p : PlacesValue). IsListed p.items c.unlist-self-inside.new.live.items c.unlist-self-inside.result) c.set.ensures c.unlist-self-inside.ensures.listed;
-      reserved = c.unlist-self-inside.ensures.capacity ∙ c.self.invariant.reserved;
+      listed =
+          subst (λ (live : List ℕ). IsListed (set c.self.inside.places.items c.remove-cell.result.serial.0 Empty) live c.passed-self-inside.result.kept c.passed-self-inside.result.next) c.deref.ensures.value
+          (subst (λ (p : PlacesValue). IsListed p.items c.deref.result.now c.passed-self-inside.result.kept c.passed-self-inside.result.next) c.set.ensures c.passed-self-inside.ensures);
+      reserved = c.self.invariant.reserved;
+      last = last_set c.self.inside.places.items c.self.inside.last c.remove-cell.result.serial.0 Empty c.self.invariant.last within refl;
     })
 
 pub returns-clause-freed : goal.returns-clause-freed

@@ -1,10 +1,11 @@
-use Rattle.std.proofs.Common.{ℕ, ◌≡◌, ◌+◌, ◌≤◌, List, map, sym, ap, subst, ◌∙◌, length, arith}
+use Rattle.std.proofs.Common.{◌≡◌, ◌+◌, ◌≤◌, List, map, sym, ap, subst, ◌∙◌, length, arith}
 use Rattle.k_space.specs.Segments.{SegmentValue}
 use Rattle.k_space.specs.Places.{row_of, AreBytes, AreBelow}
 use Rattle.k_types.specs.Types.{object_size}
 use Rattle.k_space.specs.declared.marks.Place.{Place}
 use Rattle.k_space.specs.Stamps.{PlacesValue}
 use Rattle.k_space.proofs.Pushed.{pushed, pushed_view, rows_kept}
+use Rattle.k_space.proofs.GrayQueue.{last_pushed}
 use Rattle.k_space.proofs.ListedLemmas.{listed_pushed}
 use Rattle.k_space.proofs.Bytes.{bytes_pushed, below_pushed}
 use Rattle.k_space.proofs.segment.Segment.place.Goals as goal
@@ -17,9 +18,6 @@ overflow_add-self c =
 
 pub overflow_add-slot : goal.overflow_add-slot
 overflow_add-slot c = omega (arith, c.insert_reserved-slot.ensures.key_in_range, c.insert_reserved-slot.ensures.capacity, c.self.invariant.sound.keys)
-
-whole : (n m : ℕ) (xs ys : List ℕ) → n ≡ m → m ≡ length xs → xs ≡ ys → n ≡ length ys
-whole n m xs ys a b e = a ∙ b ∙ ap (λ (zs : List ℕ). length zs) e
 
 pub invariant_of-self : goal.invariant_of-self
 invariant_of-self c =
@@ -45,8 +43,9 @@ invariant_of-self c =
       end =
           subst (λ n. AreBelow c.insert_reserved-slot.new.self n) (sym c.max-self-inside.ensures)
           (below_pushed c.self.inside.cells c.insert_reserved-slot.new.self c.insert_reserved-slot.result _ c.self.inside.end c.self.invariant.end updates);
-      listed = rw (c.push_reserved.ensures, c.push_reserved-2.ensures.items) (listed_pushed places c.self.inside.live.items c.self.inside.left c.insert_reserved-slot.result c.len-serial.result c.len-self-inside.result c.self.invariant.listed serial (whole c.len-self-inside.result c.push_reserved-2.new.self.len _ _ c.len-self-inside.ensures c.push_reserved-2.new.self.ok.0 c.push_reserved-2.ensures.items));
+      listed = rw (c.push_reserved.ensures, c.push_reserved-2.ensures.items) (listed_pushed places c.self.inside.live.items _ _ c.insert_reserved-slot.result c.len-serial.result c.self.invariant.listed serial);
       reserved = omega (arith, c.push_reserved-2.ensures.capacity, c.self.invariant.reserved);
+      last = rw c.push_reserved.ensures (last_pushed places c.self.inside.last c.insert_reserved-slot.result c.self.invariant.last);
     }
 
 pub returns-clause-placed : goal.returns-clause-placed

@@ -4,6 +4,7 @@ use Rattle.k_space.specs.declared.marks.Place.TheVariants.{Empty, At}
 use Rattle.k_space.specs.declared.marks.Mark.TheVariants.{White as MarkWhite, Gray as MarkGray, Black as MarkBlack}
 use Rattle.k_space.specs.Segments.{SegmentValue, row_at, some_gray}
 use Rattle.k_space.specs.Places.{IsGrayList, is_gray_place}
+use Rattle.k_space.proofs.GrayQueue.{last_set}
 use Rattle.k_space.proofs.ListedLemmas.{listed_set}
 use Rattle.k_space.proofs.Bytes.{bytes_recolored}
 use Rattle.k_space.proofs.GrayLists.{above_zero, first_left, head_gray, none_gray, no_head, At_inside}
@@ -31,8 +32,9 @@ invariant_of-self c =
           (first_left places _ at c.in-At.slot c.in-Gray.next (At c.in-At.slot MarkBlack) refl here some c.self.invariant.sound.grays refl);
       bytes = bytes_recolored places c.self.inside.cells c.self.inside.bytes at c.in-At.slot (MarkGray c.in-Gray.next) MarkBlack c.self.invariant.bytes here;
       end = c.self.invariant.end;
-      listed = listed_set places _ _ at (At c.in-At.slot MarkBlack) c.self.invariant.listed (At_inside places at c.in-At.slot (MarkGray c.in-Gray.next) here) refl (λ s m e. c.self.invariant.listed.covers at c.in-At.slot (MarkGray c.in-Gray.next) here);
+      listed = listed_set places _ _ _ at (At c.in-At.slot MarkBlack) c.self.invariant.listed (At_inside places at c.in-At.slot (MarkGray c.in-Gray.next) here) refl (λ s m e. c.self.invariant.listed.covers at c.in-At.slot (MarkGray c.in-Gray.next) here);
       reserved = c.self.invariant.reserved;
+      last = last_set places c.self.inside.last at (At c.in-At.slot MarkBlack) c.self.invariant.last (At_inside places at c.in-At.slot (MarkGray c.in-Gray.next) here) refl;
     })
 
 pub unreachable-requires : goal.unreachable-requires

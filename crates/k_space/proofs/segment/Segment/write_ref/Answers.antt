@@ -39,6 +39,7 @@ invariant_of-self c =
       end = below_rewritten c.self.inside.cells c.args.slot.0 cell new c.self.inside.end c.self.invariant.end found;
       listed = c.self.invariant.listed;
       reserved = c.self.invariant.reserved;
+      last = c.self.invariant.last;
     }
 
 pub returns : goal.returns

@@ -1,7 +1,7 @@
-use Rattle.std.proofs.Common.{◌≡◌, ◌∙◌, ℕ, ◌<◌, List, [], ◌∷◌, ◌++◌, length, map, refl, sym, ap, arith, rules}
+use Rattle.std.proofs.Common.{◌∙◌, ◌<◌, length, ap, arith}
 use Rattle.std.proofs.lemmas.List.{length-map}
 use Rattle.k_trace.specs.OperationLists.{with_operation}
-use Rattle.k_trace.proofs.Exits.{items_of, items_pushed, AreEnded_pushed, AreEnded_unchanged, lists_are, order_pushed}
+use Rattle.k_trace.proofs.Exits.{items_pushed, AreEnded_pushed, AreEnded_unchanged, lists_are, order_pushed}
 use Rattle.k_trace.proofs.operations.Operations.push.Goals as goal
 
 pub invariant_of-self-in_err-push-2 : goal.invariant_of-self-in_err-push-2

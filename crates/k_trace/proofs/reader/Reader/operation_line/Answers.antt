@@ -1,4 +1,4 @@
-use Rattle.k_trace.proofs.Readers.{no_operation, bad_operation, good_operation}
+use Rattle.k_trace.proofs.Readers.{no_operation}
 use Rattle.k_trace.proofs.reader.Reader.operation_line.Goals as goal
 
 pub returns-in_default : goal.returns-in_default

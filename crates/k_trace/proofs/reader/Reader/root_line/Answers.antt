@@ -1,5 +1,3 @@
-use Rattle.std.proofs.Common.{◌++◌, ◌∷◌, []}
-use Rattle.k_trace.specs.Outcome.{AreReserved}
 use Rattle.k_trace.proofs.Reservations.{root_reserved, is_small}
 use Rattle.k_trace.proofs.reader.Reader.root_line.Goals as goal
 

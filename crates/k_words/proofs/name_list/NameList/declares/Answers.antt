@@ -1,4 +1,4 @@
-use Rattle.std.proofs.Common.{◌≡◌, ◌∙◌, ap, List, ℕ}
+use Rattle.std.proofs.Common.{◌∙◌, ap, List, ℕ}
 use Rattle.k_words.specs.Names.{declares}
 use Rattle.k_words.proofs.Places.{declares-texts}
 use Rattle.k_words.proofs.name_list.NameList.declares.Goals as goal

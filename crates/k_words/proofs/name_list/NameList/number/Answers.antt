@@ -1,4 +1,4 @@
-use Rattle.std.proofs.Common.{◌≡◌, ◌∙◌, ap, List, ℕ}
+use Rattle.std.proofs.Common.{◌∙◌, ap, List, ℕ}
 use Rattle.k_words.specs.Names.{numbered}
 use Rattle.k_words.proofs.Places.{numbered-texts}
 use Rattle.k_words.proofs.name_list.NameList.number.Goals as goal

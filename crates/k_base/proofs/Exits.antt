@@ -1,0 +1,20 @@
+-- Exit items, counted by what they lead to.
+use Rattle.std.proofs.Common.{◌≡◌, ◌&&◌, ◌||◌, ℕ, ◌+◌, ◌<◌, Bool, true, false, cond, inl, inr, List, [], ◌∷◌, arith}
+use Rattle.std.proofs.lemmas.Bool.{false≢true, and_parts, or_cases}
+use Rattle.k_types.specs.declared.names.Heap.{Heap}
+use Rattle.k_types.specs.declared.names.Name.{Name}
+use Rattle.k_types.specs.Names.{heap_eq, name_eq}
+use Rattle.k_types.specs.State.{ExitItem, has_exit}
+use Rattle.k_types.specs.Totals.{total}
+
+-- an exit item is counted
+pub exit_counted : (exits : List ExitItem) (h : Heap) (n : Name) → has_exit exits h n ≡ true → 0 < total (λ (e : ExitItem). cond (name_eq e.target n) 1 0) exits
+exit_counted [] h n t = absurd (false≢true t)
+exit_counted (e ∷ exits) h n t = go (exit_counted exits h n) (name_eq e.target n) t
+  where
+    go : (has_exit exits h n ≡ true → 0 < total (λ (e : ExitItem). cond (name_eq e.target n) 1 0) exits) → (b : Bool) → ((heap_eq e.heap h && b) || has_exit exits h n) ≡ true → 0 < cond b 1 0 + total (λ (e : ExitItem). cond (name_eq e.target n) 1 0) exits
+    go rest true u = omega arith
+    go rest false u = elim (or_cases (heap_eq e.heap h && false) (has_exit exits h n) u) [
+      | inl here ↦ absurd (false≢true (and_parts (heap_eq e.heap h) false here).1)
+      | inr there ↦ let least = rest there in omega (arith, least)
+    ]

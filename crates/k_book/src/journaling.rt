@@ -1,0 +1,66 @@
+//! The journal of the book.
+ghost use Rattle.std.specs.Prelude.{◌≡◌, ◌≢◌, ◌+◌, ◌<◌, ◌≤◌, Some, length, slice_get};
+ghost use Rattle.k_types.specs.Complete.{IsPrefixOf};
+ghost use Rattle.k_tie.specs.Rule.{total_of};
+ghost use Rattle.k_journal.specs.Kept.{with_event, with_touch};
+
+use crate::parts::Book;
+use k_tie::Note;
+use k_types::Event;
+
+impl Book {
+    /// The number of events of the journal.
+    pub fn len(&self) -> u32
+        ensures length { result ≡ length self.now.journal.list }
+        ensures room { length self.now.journal.list ≤ self.now.event_room }
+    {
+        self.journal.len()
+    }
+
+    /// The event of that number, from 0.
+    pub fn event(&self, number: u32) -> &Event
+        requires { number < length self.now.journal.list }
+        ensures { slice_get self.now.journal.list number ≡ Some result.now }
+    {
+        self.journal.event(number)
+    }
+
+    /// Adds an event at the end of the journal. Which cells it touches is said by `touch`.
+    pub fn append(&mut self, event: Event)
+        requires { length self.old.journal.list < self.old.event_room }
+        ensures { self.new ≡ record self.old { journal = with_event event self.old.journal } }
+    {
+        self.journal.append(event);
+    }
+
+    /// TellsTheMachine that the note's list is a prefix of the journal and that its share is its cell's total, so that no event has
+    /// touched the cell unseen. The note has the whole journal afterwards.
+    pub fn meet(&mut self, note: &mut Note)
+        requires { note.old.table ≡ self.old.journal.table }
+        ensures same { self.new ≡ self.old }
+        ensures note { note.new ≡ record note.old { list = self.old.journal.list } }
+        ensures prefix { IsPrefixOf note.old.list self.old.journal.list }
+        ensures share { note.old.share ≡ total_of self.old.journal.touches note.old.cell }
+    {
+        self.journal.meet_in_place(note);
+    }
+
+    /// Counts one more event that touches the note's cell.
+    pub fn touch(&mut self, note: &mut Note)
+        requires { note.old.table ≡ self.old.journal.table }
+        ensures total { self.new ≡ record self.old { journal = with_touch note.old.cell self.old.journal } }
+        ensures note { note.new ≡ record note.old { share = note.old.share + 1 } }
+    {
+        self.journal.touch_in_place(note);
+    }
+
+    /// TellsTheMachine that two notes have different cells, and leaves both as they were.
+    pub fn apart(&mut self, one: &mut Note, other: &mut Note)
+        requires { (one.old.table ≡ self.old.journal.table) × (other.old.table ≡ self.old.journal.table) }
+        ensures same { self.new ≡ self.old }
+        ensures notes { (one.new ≡ one.old) × (other.new ≡ other.old) }
+        ensures apart { one.old.cell ≢ other.old.cell }
+    {
+        self.journal.apart_in_place(one, other);
+    }
+}

@@ -1,0 +1,4 @@
+pub mod Places
+pub mod BitTests
+pub mod Opened
+pub mod Walks

@@ -1,0 +1,2 @@
+pub mod Sharers
+pub mod Places

@@ -1,0 +1,11 @@
+use Rattle.std.proofs.Common.{◌∙◌, ℕ, List, ◌++◌, ◌∷◌, ap, codes, decimal}
+use Rattle.k_spell.proofs.Added.{heading_added}
+use Rattle.k_spell.proofs.declared.add_heading.Goals as goal
+
+pub returns : goal.returns
+returns c =
+    let kernel = c.push_text-2.ensures ∙ ap (λ (t : List ℕ). t ++ codes "kernel") c.append_to.ensures.empty in
+    let ceiling = c.push_number.ensures.text ∙ ap (λ (t : List ℕ). t ++ 32 ∷ decimal c.args.setup.now.ceiling) kernel in
+    let fields = c.push_number-2.ensures.text ∙ ap (λ (t : List ℕ). t ++ 32 ∷ decimal c.from.result) ceiling in
+    heading_added c.append_to-2.result _ _ _ _ _ (decimal c.args.setup.now.ceiling) (decimal c.args.setup.now.dir_fields) (rw c.new-line.ensures at c.push_text.ensures) c.in_ok-append_to.ensures.added
+    (rw c.from.ensures at fields) c.append_to-2.ensures.added

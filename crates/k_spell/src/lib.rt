@@ -1,0 +1,18 @@
+//! The spelling of a trace: its one text.
+//!
+//! [`trace_text`] spells a trace as the definition of a trace's text says, and such a text, where it is short enough to be read,
+//! is judged to be that trace. Below stand `k_trace`, with traces and what spells them, `k_words`, with lines that are being
+//! made, and `k_text` for lemmas on lines.
+#![tactic(auto)]
+
+mod declared;
+mod laws;
+mod lines;
+mod operations;
+mod texts;
+
+pub use laws::texts_are_read_as_their_trace;
+pub use texts::trace_text;
+
+#[cfg(test)]
+mod tests;

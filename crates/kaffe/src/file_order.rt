@@ -1,0 +1,82 @@
+//! The commands that run a trace: today both do its operations in the order of the file.
+ghost use Rattle.std.specs.Prelude.{◌≡◌};
+ghost use Rattle.k_types.specs.FileOrder.{file_order};
+ghost use Rattle.k_plain.specs.Runs.{IsFiled};
+ghost use Rattle.k_text.specs.Report.{report_text};
+ghost use Rattle.k_trace.specs.Meaning.{meaning_of};
+ghost use Rattle.k_trace.specs.Rules.{IsTrace};
+ghost use Rattle.kaffe.specs.Answers.{IsUnwritten};
+ghost use Rattle.kaffe.specs.NotBuilt.{IsRunSoFar};
+ghost use Rattle.kaffe.specs.Parts.{Answers, IsWritten, TellsOfBytes, TellsOfSource, TellsOfTrace};
+
+use crate::not_built::write_not_built;
+use crate::status::{Status, want_of_memory};
+use crate::texts::{after_writing, write_bad_trace};
+use k_io::{ReadAllError, Sink, Source, read_all};
+use k_plain::{PlainEnd, is_first_form, solo};
+use k_text::report;
+use k_trace::{Trace, TraceError, read_trace};
+use k_types::MOST_TRACE_BYTES;
+use std::alloc::Global;
+
+/// Reads a trace from the source, runs it, and writes its report. It reads at most one byte past the
+/// most bytes of a trace.
+pub fn run_file<S: Source, K: Sink>(alloc: Global, src: &mut S, out: &mut K) -> Status
+    ensures answered { Answers
+        (TellsOfSource (record { left = S.left src.old; rest = S.left src.new; failed_before = S.faults src.old; failed_after = S.faults src.new }))
+        (record { agreed = K.Holds out.old; agrees = K.Holds out.new; failed_before = K.faults out.old; failed_after = K.faults out.new })
+        result }
+    ensures unwritten { IsUnwritten result → out.new ≡ out.old }
+{
+    match read_all(alloc, src, MOST_TRACE_BYTES) {
+        Ok(bytes) => run_bytes(alloc, &bytes, out),
+        Err(ReadAllError::NoMemory(refused)) => want_of_memory(refused),
+        Err(ReadAllError::ReadFault) => Status::ReadFault,
+    }
+}
+
+/// Runs the trace that the bytes spell, or says where they are none.
+fn run_bytes<K: Sink>(alloc: Global, bytes: &[u8], out: &mut K) -> Status
+    ensures answered { Answers (TellsOfBytes bytes.now)
+        (record { agreed = K.Holds out.old; agrees = K.Holds out.new; failed_before = K.faults out.old; failed_after = K.faults out.new })
+        result }
+    ensures unwritten { IsUnwritten result → out.new ≡ out.old }
+{
+    match read_trace(alloc, bytes) {
+        Ok(trace) => {
+            if is_first_form(&trace) {
+                run_trace(alloc, &trace, out)
+            } else {
+                write_not_built(out)
+            }
+        }
+        Err(TraceError::NoMemory(refused)) => want_of_memory(refused),
+        Err(TraceError::Bad { line, reason }) => write_bad_trace(out, line, reason),
+    }
+}
+
+/// Runs the trace and writes its report.
+fn run_trace<K: Sink>(alloc: Global, trace: &Trace, out: &mut K) -> Status
+    requires good { IsTrace (meaning_of trace.now) }
+    requires built { IsRunSoFar (meaning_of trace.now) }
+    ensures answered { Answers (TellsOfTrace (meaning_of trace.now))
+        (record { agreed = K.Holds out.old; agrees = K.Holds out.new; failed_before = K.faults out.old; failed_after = K.faults out.new })
+        result }
+    ensures unwritten { IsUnwritten result → out.new ≡ out.old }
+{
+    match solo(alloc, trace) {
+        Ok(end) => write_report(out, trace, &end),
+        Err(refused) => want_of_memory(refused),
+    }
+}
+
+/// Writes the report of the trace.
+fn write_report<K: Sink>(out: &mut K, trace: &Trace, end: &PlainEnd) -> Status
+    requires good { IsTrace (meaning_of trace.now) }
+    requires run { IsFiled (meaning_of trace.now).trace end.now }
+    ensures { IsWritten
+        (record { agreed = K.Holds out.old; agrees = K.Holds out.new; failed_before = K.faults out.old; failed_after = K.faults out.new })
+        Status.Good (report_text (meaning_of trace.now).names (meaning_of trace.now).trace (file_order (meaning_of trace.now).trace)) result }
+{
+    after_writing(Status::Good, report(out, &trace.names, end))
+}
