@@ -44,7 +44,7 @@ no_scans (s ∷ scans) = inr (λ e. absurd cc)
 -- ---- the last two events
 
 -- The events are the opening of the last collection and its end.
-abbrev IsClosing : List Event → Type 0
+abbrev pub IsClosing : List Event → Type 0
 IsClosing events = (a : ℕ) × (b : ℕ) × (c : ℕ) × (d : ℕ) × (events ≡ Closing ∷ Ended Kernel a b c d ∷ [])
 
 closing_end : (f : Event) → Decided (IsClosing (Closing ∷ f ∷ []))
@@ -72,7 +72,7 @@ ends_here e events w = ([], w.0, w.1, w.2, w.3, w.4)
 ends_later : (e : Event) (events : List Event) → EndsWithClosing events → EndsWithClosing (e ∷ events)
 ends_later e events w = (e ∷ w.0, w.1, w.2, w.3, w.4, ap (λ (es : List Event). e ∷ es) w.5)
 
-ends_either : (e : Event) (events before : List Event) (a b c d : ℕ) → e ∷ events ≡ before ++ Closing ∷ Ended Kernel a b c d ∷ [] → ¬ IsClosing (e ∷ events) → ¬ EndsWithClosing events → ⊥
+pub ends_either : (e : Event) (events before : List Event) (a b c d : ℕ) → e ∷ events ≡ before ++ Closing ∷ Ended Kernel a b c d ∷ [] → ¬ IsClosing (e ∷ events) → ¬ EndsWithClosing events → ⊥
 ends_either e events [] a b c d is here later = here (a, b, c, d, is)
 ends_either e events (f ∷ before) a b c d is here later = later (before, a, b, c, d, (let g : events ≡ before ++ Closing ∷ Ended Kernel a b c d ∷ [] = cc in g))
 

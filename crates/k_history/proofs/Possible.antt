@@ -94,12 +94,12 @@ decide_possible trace st Closing = decide_closing trace st
 
 -- ---- one event more
 
-same_front : {A : Type 0} (xs ys zs : List A) → xs ++ ys ≡ xs ++ zs → ys ≡ zs
+pub same_front : {A : Type 0} (xs ys zs : List A) → xs ++ ys ≡ xs ++ zs → ys ≡ zs
 same_front [] ys zs e = e
 same_front {A} (x ∷ xs) ys zs e = same_front {A = A} xs ys zs (let f : xs ++ ys ≡ xs ++ zs = cc in f)
 
 -- The next operation is that one.
-next_op : (done ops : List Op) (op : Op) (rest : List Op) → done ++ rest ≡ ops → Decided (IsPrefixOf (done ++ op ∷ []) ops)
+pub next_op : (done ops : List Op) (op : Op) (rest : List Op) → done ++ rest ≡ ops → Decided (IsPrefixOf (done ++ op ∷ []) ops)
 next_op done ops op [] e = inr (λ w. absurd (let f : op ∷ w.0 ≡ [] = same_front done (op ∷ w.0) [] (sym (append_assoc done (op ∷ []) w.0) ∙ w.1 ∙ sym e) in cc))
 next_op done ops op (o ∷ rest) e = decide_as
     (λ same. (rest, append_assoc done (op ∷ []) rest ∙ ap (λ (x : Op). done ++ x ∷ rest) same ∙ e))
@@ -112,13 +112,13 @@ decide_then (inl p) d = decide_both (inl p) (d p)
 decide_then (inr p) d = inr (λ w. p w.0)
 
 -- The process's operations so far, with what is done now, are the first of its own.
-at_process : (trace : Trace) (history : List Event) (pid p : ℕ) (op : Op) (now : List Op) (t : Bool) → eqb pid p ≡ t → now ≡ cond t (op ∷ []) []
+pub at_process : (trace : Trace) (history : List Event) (pid p : ℕ) (op : Op) (now : List Op) (t : Bool) → eqb pid p ≡ t → now ≡ cond t (op ∷ []) []
     → IsPrefixOf (done_by pid history ++ op ∷ []) (operations_of trace pid) → IsPrefixOf (done_by p history) (operations_of trace p) → IsPrefixOf (done_by p history ++ now) (operations_of trace p)
 at_process trace history pid p op now true e is w so_far =
     rw is (subst (λ (q : ℕ). IsPrefixOf (done_by q history ++ op ∷ []) (operations_of trace q)) (eqb-true pid p e) w)
 at_process trace history pid p op now false e is w so_far = rw is (subst (λ (ops : List Op). IsPrefixOf ops (operations_of trace p)) (sym (append-nil (done_by p history))) so_far)
 
-itself : (n : ℕ) → eqb n n ≡ true
+pub itself : (n : ℕ) → eqb n n ≡ true
 itself n = grind (arith, nat_tests)
 
 event_in_order : (trace : Trace) (history : List Event) (pid : ℕ) (op : Op) (doing : ℕ → List Op) → ((p : ℕ) → doing p ≡ cond (eqb pid p) (op ∷ []) []) → pid < process_count trace

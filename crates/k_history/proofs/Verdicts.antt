@@ -27,11 +27,11 @@ use Rattle.k_history.proofs.Completed.{decide_complete}
 abbrev pub Verdict : NamedTrace → Text → Type 0
 Verdict t report = IsGoodReport t report ⊎ ((n : ℕ) × IsRefusedAt t report n)
 
-other_text : (a b : Text) → bytes_eq a b ≡ false → a ≢ b
+pub other_text : (a b : Text) → bytes_eq a b ≡ false → a ≢ b
 other_text a b e is = absurd (let f : true ≡ false = sym ((bytes_eq-Decides a b).1 is) ∙ e in cc)
 
 -- At the line `graph`.
-compared : (t : NamedTrace) (report : Text) (history : List Event) (behind : List Text) (d : Option ℕ) → IsReadUpTo t report history (codes "graph" ∷ behind) → IsComplete t.trace history
+pub compared : (t : NamedTrace) (report : Text) (history : List Event) (behind : List Text) (d : Option ℕ) → IsReadUpTo t report history (codes "graph" ∷ behind) → IsComplete t.trace history
     → difference (report_text t.names t.trace history) report ≡ d → Verdict t report
 compared t report history behind None read complete e =
     inl (record { history = history; legal = read.begun.legal; complete = complete; text = sym (same_text 1 (report_text t.names t.trace history) report e) })
@@ -44,26 +44,26 @@ at_graph t report history behind read = elim (decide_complete t.trace history re
 ]
 
 -- At another line.
-wrong_event : (t : NamedTrace) (report : Text) (history : List Event) (line : Text) (behind : List Text) → IsReadUpTo t report history (line ∷ behind) → bytes_eq line (codes "graph") ≡ false → IsNoNextEvent t history line → Verdict t report
+pub wrong_event : (t : NamedTrace) (report : Text) (history : List Event) (line : Text) (behind : List Text) → IsReadUpTo t report history (line ∷ behind) → bytes_eq line (codes "graph") ≡ false → IsNoNextEvent t history line → Verdict t report
 wrong_event t report history line behind read other none =
     inr (length history + 2, OfEvent (record { history = history; line = line; behind = behind; read = read; not_graph = other_text line (codes "graph") other; none = none; number = refl }))
 
-no_event : (t : NamedTrace) (history : List Event) (line : Text) → AreProper t.names → event_of t.names (words_of line) ≡ None → IsNoNextEvent t history line
+pub no_event : (t : NamedTrace) (history : List Event) (line : Text) → AreProper t.names → event_of t.names (words_of line) ≡ None → IsNoNextEvent t history line
 no_event t history line proper none e spelled is begun =
     absurd (let f : Some e ≡ None = sym (line_read t.names e proper spelled) ∙ ap (λ (l : Text). event_of t.names (words_of l)) is ∙ none in cc)
 
-not_begun : (t : NamedTrace) (history : List Event) (line : Text) (e : Event) → AreProper t.names → event_of t.names (words_of line) ≡ Some e → ¬ IsBegun t.trace (history ++ e ∷ []) → IsNoNextEvent t history line
+pub not_begun : (t : NamedTrace) (history : List Event) (line : Text) (e : Event) → AreProper t.names → event_of t.names (words_of line) ≡ Some e → ¬ IsBegun t.trace (history ++ e ∷ []) → IsNoNextEvent t history line
 not_begun t history line e proper read not f spelled is begun =
     not (subst (λ (g : Event). IsBegun t.trace (history ++ g ∷ [])) (some_is f e (sym (line_read t.names f proper spelled) ∙ ap (λ (l : Text). event_of t.names (words_of l)) is ∙ read)) begun)
 
-line_of_event : (t : NamedTrace) (line : Text) (e : Event) → event_of t.names (words_of line) ≡ Some e → event_line t.names e ≡ line
+pub line_of_event : (t : NamedTrace) (line : Text) (e : Event) → event_of t.names (words_of line) ≡ Some e → event_line t.names e ≡ line
 line_of_event t line e read = ap (join_with_byte 32) (read_event_words t.names (words_of line) e read).1 ∙ join_with_byte-slice_split 32 line
 
 all_more : (P : Event → Type 0) (xs : List Event) (x : Event) → AllByRecursion P xs → P x → AllByRecursion P (xs ++ x ∷ [])
 all_more P [] x h p = (p, tt)
 all_more P (y ∷ xs) x h p = (h.0, all_more P xs x h.1 p)
 
-read_more : (t : NamedTrace) (report : Text) (history : List Event) (line : Text) (behind : List Text) (e : Event) → IsReadUpTo t report history (line ∷ behind) → event_of t.names (words_of line) ≡ Some e
+pub read_more : (t : NamedTrace) (report : Text) (history : List Event) (line : Text) (behind : List Text) (e : Event) → IsReadUpTo t report history (line ∷ behind) → event_of t.names (words_of line) ≡ Some e
     → IsBegun t.trace (history ++ e ∷ []) → IsReadUpTo t report (history ++ e ∷ []) behind
 read_more t report history line behind e read is begun = record {
   lines = read.lines
