@@ -1,8 +1,0 @@
-use Rattle.std.proofs.Common.{◌≡◌, map, take}
-use Rattle.k_types.specs.State.{fresh}
-use Rattle.k_types.specs.Types.{type_row}
-use Rattle.k_plain.specs.Contents.{content}
-use Rattle.k_plain.proofs.allocation.fresh_fields.Given as goal
-
-abbrev pub invariant-loop-i : goal.invariant-loop-i
-invariant-loop-i l = map content l.fields.items ≡ map fresh (take l.i (type_row l.types l.ty))

@@ -1,0 +1,52 @@
+//! Whether the numbers in an operation are those of the trace.
+ghost use Rattle.std.specs.Prelude.{◌≡◌, nat_lt, length};
+ghost use Rattle.k_types.specs.Bounds.{register_count};
+ghost use Rattle.k_types.specs.Steps.{in_range};
+
+use k_state::PlainLists;
+use k_types::{Op, REGISTERS, Reg, SharedId, TypeId};
+
+fn is_register(reg: Reg) -> bool
+    ensures { result ≡ nat_lt reg.0 register_count }
+{
+    reg.0 < REGISTERS
+}
+
+fn is_shared(lists: &PlainLists, shared: SharedId) -> bool
+    ensures { result ≡ nat_lt shared.0 lists.now.setup.shared_heaps }
+{
+    shared.0 < lists.shared_count()
+}
+
+fn is_type(lists: &PlainLists, ty: TypeId) -> bool
+    ensures { result ≡ nat_lt ty.0 (length lists.now.setup.types) }
+{
+    (ty.0 as usize) < lists.setup().types.len()
+}
+
+/// Whether the numbers in the operation are those of the trace.
+#[tactic(auto, unfolding(k_types::specs::Steps::in_range))]
+pub fn is_in_range(lists: &PlainLists, op: &Op) -> bool
+    ensures { result ≡ in_range lists.now.setup op.now }
+{
+    match *op {
+        Op::New { reg, ty } => is_register(reg) && is_type(lists, ty),
+        Op::KNew { reg, ty } => is_register(reg) && is_type(lists, ty),
+        Op::SNew { reg, shared, ty } => {
+            is_register(reg) && is_shared(lists, shared) && is_type(lists, ty)
+        }
+        Op::Store { base, value, .. } => is_register(base) && is_register(value),
+        Op::Load { reg, base, .. } => is_register(reg) && is_register(base),
+        Op::Move { reg, from } => is_register(reg) && is_register(from),
+        Op::Clear { reg } => is_register(reg),
+        Op::Dir { reg } => is_register(reg),
+        Op::Put { base, .. } => is_register(base),
+        Op::Get { base, .. } => is_register(base),
+        Op::Collect => true,
+        Op::KCollect => true,
+        Op::Share { shared } => is_shared(lists, shared),
+        Op::Freeze { shared, root } => is_shared(lists, shared) && is_register(root),
+        Op::Attach { reg, shared } => is_register(reg) && is_shared(lists, shared),
+        Op::Exit => true,
+    }
+}

@@ -1,0 +1,95 @@
+-- What a view gives names only what the trace declares, and no process is charged more than is used at its limit.
+use Rattle.std.proofs.Common.{◌≡◌, ◌⊎◌, inl, inr, ℕ, zero, suc, ◌+◌, ◌<◌, ◌≤◌, ◌==◌, ◌||◌, cond, Bool, true, false, refl, ap, subst, sym, ◌∙◌, List, [], ◌∷◌, filter, find, length, get_or, Option, Some, None, arith}
+use Rattle.std.specs.Prelude.{IfSome, IsTrue, option_map}
+use Rattle.std.specs.List.{list_any}
+use Rattle.std.proofs.lemmas.Bool.{cases_eq, false≢true, or_left, or_right}
+use Rattle.std.proofs.lemmas.Bool.Decides.{nat_tests}
+use Rattle.k_types.specs.declared.names.Name.{Name}
+use Rattle.k_types.specs.declared.setup.LimitRow.{LimitRow}
+use Rattle.k_types.specs.Totals.{total}
+use Rattle.k_types.specs.Numbers.{numbers_from}
+use Rattle.k_types.specs.Names.{name_eq, leads_to}
+use Rattle.k_types.specs.Trace.{Trace, limit_of, process_count}
+use Rattle.k_types.specs.TraceRules.{AreLimits}
+use Rattle.k_types.specs.State.{Content, Refers, Holds, Object, State, content_leads_to, fields_of, has, object_at, refers, refers_in}
+use Rattle.k_types.specs.Limits.{direct_by, limits_in, use_of, use_within}
+use Rattle.k_types.specs.Owners.{charge_of}
+use Rattle.k_types.specs.Replies.{field_at, reference}
+use Rattle.k_types.specs.Sound.{IsSound}
+use Rattle.k_types.specs.Known.{IsKnownName}
+use Rattle.k_base.proofs.Maxima.{length_in}
+use Rattle.k_base.proofs.NameTests.{name_eq_refl}
+use Rattle.k_text.specs.Shown.{comes_after, next_name_after}
+
+-- an object lies in a segment of the trace
+pub object_known : (trace : Trace) (st : State) → IsSound trace st → (n : Name) → IsTrue (has st.objects n) → IsKnownName trace n
+object_known trace st sound n there = (sound.shape.placed n there).1
+
+pub if_known : {A : Type 0} (P : A → Type 0) (o : Option A) → ((a : A) → o ≡ Some a → P a) → IfSome o P
+if_known P None gives = tt
+if_known P (Some a) gives = gives a refl
+
+refers_found : (xs : List Object) (x y : Name) (o : Object) → object_at xs x ≡ Some o → refers o y ≡ true → refers_in xs x y ≡ true
+refers_found [] x y o found leads = grind arith
+refers_found (z ∷ zs) x y o found leads = grind (arith, refers_found zs x y o)
+
+leads_from : (contents : List Content) (i : ℕ) (y : Name) → reference (get_or contents i (Holds 0)) ≡ Some y → list_any (content_leads_to y) contents ≡ true
+leads_from [] i y e = absurd (cc e)
+leads_from (Refers r ∷ contents) zero y e = or_left _ _ (ap (λ m. leads_to m y) e ∙ name_eq_refl y)
+leads_from (Holds n ∷ contents) zero y e = absurd (cc e)
+leads_from (c ∷ contents) (suc i) y e = or_right (content_leads_to y c) _ (leads_from contents i y e)
+
+-- so does what a field refers to
+pub field_known : (trace : Trace) (st : State) → IsSound trace st → (x : Name) (i : ℕ) (y : Name) → reference (field_at st x i) ≡ Some y → IsKnownName trace y
+field_known trace st sound x i y e = object_known trace st sound y (sound.no_dangling.fields x y (go (object_at st.objects x) refl e))
+  where
+    go : (o : Option Object) → object_at st.objects x ≡ o → reference (get_or (fields_of o) i (Holds 0)) ≡ Some y → refers_in st.objects x y ≡ true
+    go None found leads = absurd (cc leads)
+    go (Some o) found leads = refers_found st.objects x y o found (leads_from o.fields i y leads)
+
+find_has : (test : Object → Bool) (xs : List Object) (o : Object) → find test xs ≡ Some o → has xs o.name ≡ true
+find_has test [] o found = grind arith
+find_has test (x ∷ xs) o found = go (test x) (find_has test xs o) found
+  where
+    go : (b : Bool) → (find test xs ≡ Some o → has xs o.name ≡ true) → cond b (Some x) (find test xs) ≡ Some o → (name_eq x.name o.name || has xs o.name) ≡ true
+    go true later is = let same : x ≡ o = cc in or_left (name_eq x.name o.name) (has xs o.name) (ap (λ (y : Object). name_eq x.name y.name) (sym same) ∙ name_eq_refl x.name)
+    go false later is = or_right (name_eq x.name o.name) (has xs o.name) (later is)
+
+-- and the next object's name
+pub next_known : (trace : Trace) (st : State) → IsSound trace st → (after next : Option Name) → next ≡ next_name_after after st.objects → IfSome next (IsKnownName trace)
+next_known trace st sound after next is = subst (λ (r : Option Name). IfSome r (IsKnownName trace)) (sym is) (go (find (comes_after after) st.objects) refl)
+  where
+    go : (o : Option Object) → find (comes_after after) st.objects ≡ o → IfSome (option_map (λ (x : Object). x.name) o) (IsKnownName trace)
+    go None e = tt
+    go (Some o) e = object_known trace st sound o.name (find_has (comes_after after) st.objects o e)
+
+total_at : (f : ℕ → ℕ) (g : ℕ → Bool) (first n p : ℕ) → first ≤ p → p < first + n → g p ≡ true → f p ≤ total f (filter g (numbers_from first n))
+total_at f g first zero p low high on = absurd (omega arith)
+total_at f g first (suc n) p low high on =
+    first_or (cases_eq first p) (g first) refl
+    (λ other. total_at f g (suc first) n p (omega arith) (omega arith) on)
+  where
+    rest : (b : Bool) → f p ≤ total f (filter g (numbers_from (suc first) n)) → f p ≤ total f (cond b (first ∷ filter g (numbers_from (suc first) n)) (filter g (numbers_from (suc first) n)))
+    rest true le = omega arith
+    rest false le = le
+
+    first_or : (first ≡ p) ⊎ (first ≡ p → ⊥) → (b : Bool) → g first ≡ b → ((first ≡ p → ⊥) → f p ≤ total f (filter g (numbers_from (suc first) n))) →
+        f p ≤ total f (cond b (first ∷ filter g (numbers_from (suc first) n)) (filter g (numbers_from (suc first) n)))
+    first_or (inl same) true e later = let here = ap f same in omega arith
+    first_or (inl same) false e later = absurd (false≢true (sym e ∙ ap g same ∙ on))
+    first_or (inr other) b e later = rest b (later other)
+
+direct_at_most : (rows : List LimitRow) (direct : ℕ → ℕ) (depth m : ℕ) → 0 < depth → direct m ≤ use_within rows direct depth m
+unfolding use_within
+direct_at_most rows direct zero m positive = absurd (omega arith)
+direct_at_most rows direct (suc depth) m positive = omega arith
+
+-- a process is charged no more than is used at its limit
+pub charge_at_most : (trace : Trace) (st : State) (p : ℕ) → p < process_count trace → AreLimits trace → charge_of trace st p ≤ use_of trace st (limit_of trace p)
+charge_at_most trace st p known rules =
+    let limited = rules.limited p known in
+    let long = length_in trace.limits st.maxima in
+    let direct = direct_at_most (limits_in trace st) (direct_by trace (charge_of trace st)) (length (limits_in trace st)) (limit_of trace p) (omega arith) in
+    let own : (limit_of trace p == limit_of trace p) ≡ true = grind (arith, nat_tests) in
+    let here = total_at (charge_of trace st) (λ q. limit_of trace q == limit_of trace p) 0 (process_count trace) p (omega arith) (omega arith) own in
+    omega (arith, here, direct)

@@ -1,0 +1,80 @@
+-- What one operation of the file adds, and what the loop over the file's order asks of it.
+use Rattle.std.proofs.Common.{◌≡◌, ℕ, zero, suc, ◌+◌, ◌*◌, ◌^◌, ◌<◌, ◌≤◌, nat_lt, Bool, true, false, cond, refl, ap, sym, subst, ◌∙◌, List, [], ◌∷◌, ◌++◌, map, length, get_or, slice_get, drop, Option, Some, None, arith}
+use Rattle.std.specs.Prelude.{IsTrue}
+use Rattle.std.specs.List.{list_all}
+use Rattle.std.proofs.lemmas.Bool.{and_parts}
+use Rattle.std.proofs.lemmas.Bool.Decides.{nat_tests}
+use Rattle.std.proofs.lemmas.List.{at_drop_all, drop_more, length-append, length-map}
+use Rattle.k_types.specs.declared.event.Event.{Event}
+use Rattle.k_types.specs.declared.event.Event.TheVariants.{Done}
+use Rattle.k_types.specs.declared.names.Heap.{Heap}
+use Rattle.k_types.specs.declared.names.Pid.{Pid}
+use Rattle.k_types.specs.declared.op.Op.{Op}
+use Rattle.k_types.specs.FileOrder.{events_of, heap_begun, with_end}
+use Rattle.k_types.specs.Replies.{reply_to}
+use Rattle.k_types.specs.State.{State}
+use Rattle.k_types.specs.Steps.{run}
+use Rattle.k_types.specs.Trace.{Trace}
+use Rattle.k_types.specs.TraceRules.{KeepsRules}
+use Rattle.k_state.specs.Machines.{AreSetupRules, setup_of}
+use Rattle.k_solo.specs.Taken.{first_events}
+use Rattle.k_solo.proofs.Absorptions.{few_first}
+
+end_length : (trace : Trace) (st : State) (event : Event) (begun : Option Heap) → length (with_end trace st event begun) ≤ 2
+end_length trace st event None = omega arith
+end_length trace st event (Some h) = omega arith
+
+-- an operation is at most two events, after an absorption of each shared heap
+pub few_events : (setup : Trace) (st : State) (p : ℕ) (op : Op) → setup.shared_heaps ≤ 64 → length (events_of setup st p (Some op)) ≤ 66
+few_events setup st p op few =
+    let first = first_events setup st op in
+    let now = run setup st first in
+    let rest = with_end setup now (Done (record { 0 = p }) op (reply_to setup now p op)) (heap_begun p op) in
+    let le : length rest ≤ 2 = end_length setup now (Done (record { 0 = p }) op (reply_to setup now p op)) (heap_begun p op) in
+    let le2 : length first ≤ setup.shared_heaps = few_first setup st op in
+    let both : length (first ++ rest) ≡ length first + length rest = length-append first rest in
+    omega (arith, le, le2, both, few)
+
+-- the journal of one operation more
+pub few_more : (old new taken : List Event) (i : ℕ) → new ≡ old ++ taken → length taken ≤ 66 → length old ≤ 66 * i → length new ≤ 66 * (i + 1)
+few_more old new taken i is few before = omega (arith, ap (λ (es : List Event). length es) is, length-append old taken, few, before)
+
+-- the setup keeps the rules that speak of it alone
+pub setup_rules : (trace : Trace) → KeepsRules trace → AreSetupRules (setup_of trace)
+setup_rules trace rules = record {
+  directory = rules.directory;
+  fields = rules.fields;
+  limit_count = rules.limit_count;
+  processes = rules.processes;
+  some_process = rules.some_process;
+  shared = rules.shared;
+  limits = record {
+    tree = rules.limits.tree;
+    rooted = rules.limits.rooted;
+    root = rules.limits.root;
+    limited = rules.limits.limited;
+    fits = rules.limits.fits;
+    small = rules.limits.small;
+  };
+}
+
+-- each process of the order is one of the trace's
+pub process_known : (n : ℕ) (pids : List Pid) (i : ℕ) (d : Pid) → list_all (λ p. nat_lt p n) (map (λ (pid : Pid). pid.0) pids) ≡ true → i < length pids → (get_or pids i d).0 < n
+process_known n [] i d all inside = absurd (omega arith)
+process_known n (pid ∷ pids) zero d all inside =
+    let parts = and_parts (nat_lt pid.0 n) (list_all (λ p. nat_lt p n) (map (λ (q : Pid). q.0) pids)) all in
+    grind (arith, nat_tests)
+process_known n (pid ∷ pids) (suc i) d all inside =
+    process_known n pids i d (and_parts (nat_lt pid.0 n) (list_all (λ p. nat_lt p n) (map (λ (q : Pid). q.0) pids)) all).1 (omega arith)
+
+-- the next process of what is left of the order
+pub order_next : (pids : List Pid) (i : ℕ) (d : Pid) → i < length pids →
+    map (λ (pid : Pid). pid.0) (drop i pids) ≡ (get_or pids i d).0 ∷ map (λ (pid : Pid). pid.0) (drop (i + 1) pids)
+order_next pids i d inside = ap (map (λ (pid : Pid). pid.0)) (drop_more pids i d inside)
+
+pub order_over : (pids : List Pid) (i : ℕ) → length pids ≤ i → map (λ (pid : Pid). pid.0) (drop i pids) ≡ []
+order_over pids i past = at_drop_all (map (λ (pid : Pid). pid.0)) pids i past
+
+-- the order is as long as its processes
+pub order_length : (pids : List Pid) (order : List ℕ) → map (λ (pid : Pid). pid.0) pids ≡ order → length pids ≡ length order
+order_length pids order is = sym (length-map pids (λ (pid : Pid). pid.0)) ∙ ap (λ (ps : List ℕ). length ps) is

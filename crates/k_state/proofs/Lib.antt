@@ -1,0 +1,15 @@
+pub mod Changes
+pub mod Fields
+pub mod Heaps
+pub mod Kept
+pub mod Marked
+pub mod Openings
+pub mod Paths
+pub mod Placed
+pub mod RoomLaws
+pub mod Rows
+pub mod Shapes
+pub mod Sums
+pub mod Totals
+pub mod Uses
+pub mod Views

@@ -1,0 +1,5 @@
+pub mod Machines
+pub mod Contents
+pub mod Marks
+pub mod Places
+pub mod Rooms

@@ -1,0 +1,32 @@
+//! The state of the one-thread machine over plain lists, with the setup of its trace.
+//!
+//! [`PlainLists`] holds what the machine's state of `k_types` holds, and its contracts speak of that state alone: each reader
+//! gives what the definition of its name says of the state, and each change leaves what its definition says. Its invariant is
+//! the shape of the lists, not the soundness of the state, which whoever uses it proves. Objects stand in the order of their
+//! names and are found by halving; beside them stands the total of the bytes of each segment. Limits and charges are summed
+//! afresh from those totals.
+#![tactic(auto)]
+
+mod accounts;
+mod creation;
+mod items;
+mod keeping;
+mod limits;
+mod lists;
+mod names;
+mod objects;
+mod opening;
+mod ordered;
+mod owners;
+mod readers;
+mod registers;
+mod rooms;
+mod turning;
+mod updates;
+mod writing;
+
+pub use items::{ExitItem, Scan, Share};
+pub use lists::PlainLists;
+pub use names::{is_before, is_same_heap, is_same_name, kind_of};
+pub use objects::{FieldValue, PlainObject};
+pub use rooms::{room_is_ample_at_first, room_is_left};

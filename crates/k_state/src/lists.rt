@@ -1,0 +1,71 @@
+//! The lists of a state, and the shape that they keep.
+
+use crate::items::{ExitItem, Scan, Share};
+use crate::objects::PlainObject;
+use crate::registers::Registers;
+use k_types::{Phase, Setup};
+use std::marker::Model;
+
+/// A state of the machine over plain lists, with the setup of its trace.
+///
+/// Contracts see the setup, as the trace that has it and no operations, and the machine's state. Objects stand in the order of
+/// their names. The invariant is the shape of the lists alone.
+#[derive(Drop)]
+pub struct PlainLists {
+    pub(crate) setup: Setup,
+    pub(crate) objects: Vec<PlainObject>,
+    pub(crate) made: Vec<u32>,
+    pub(crate) registers: Vec<Registers>,
+    pub(crate) done: Vec<u32>,
+    pub(crate) exits: Vec<ExitItem>,
+    pub(crate) shares: Vec<Share>,
+    pub(crate) phases: Vec<Phase>,
+    pub(crate) ended: Vec<u32>,
+    pub(crate) scans: Vec<Scan>,
+    pub(crate) closed: bool,
+    pub(crate) maxima: Vec<u64>,
+    // The bytes of the objects of each segment.
+    pub(crate) totals: Vec<u64>,
+}
+
+impl Model for PlainLists {
+    ghost use Rattle.std.specs.Prelude.{[]};
+    ghost use Rattle.k_state.specs.Machines.{IsKept, Machine};
+    ghost use Rattle.k_types.specs.Trace.{trace_of};
+
+    ghost Value = { Machine };
+
+    ghost view = { λ s. record {
+      setup = trace_of s.setup [] [];
+      state = record {
+        objects = s.objects.items;
+        made = s.made.items;
+        registers = s.registers.items;
+        done = s.done.items;
+        exits = s.exits.items;
+        shares = s.shares.items;
+        phases = s.phases.items;
+        ended = s.ended.items;
+        scans = s.scans.items;
+        closed = s.closed;
+        maxima = s.maxima.items;
+      };
+    } };
+
+    ghost invariant = { λ s. IsKept (record {
+      setup = trace_of s.setup [] [];
+      state = record {
+        objects = s.objects.items;
+        made = s.made.items;
+        registers = s.registers.items;
+        done = s.done.items;
+        exits = s.exits.items;
+        shares = s.shares.items;
+        phases = s.phases.items;
+        ended = s.ended.items;
+        scans = s.scans.items;
+        closed = s.closed;
+        maxima = s.maxima.items;
+      };
+    }) s.totals.items };
+}
