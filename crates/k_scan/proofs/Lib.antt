@@ -1,0 +1,10 @@
+pub mod Marks
+pub mod Looks
+pub mod References
+pub mod Reaches
+pub mod Numbers
+pub mod Chosen
+pub mod Counts
+pub mod Turning
+pub mod Referred
+pub mod Ends

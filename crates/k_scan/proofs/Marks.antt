@@ -1,0 +1,102 @@
+-- Marks beside the objects.
+use Rattle.std.proofs.Common.{◌≡◌, ℕ, zero, suc, ◌+◌, ◌<◌, ◌&&◌, ◌||◌, not, cond, Bool, true, false, refl, sym, ap, ap₂, ◌∙◌, inl, inr, List, [], ◌∷◌, map, replicate, length, get_or, set, count_by, arith}
+use Rattle.std.proofs.lemmas.Bool.{and_parts, and_from, or_left, or_right, or_cases, false≢true, cases_Bool}
+use Rattle.std.proofs.lemmas.List.{get_or-map}
+use Rattle.std.proofs.lemmas.List.Sums.{sum_by-set}
+use Rattle.k_types.specs.declared.names.Name.{Name}
+use Rattle.k_types.specs.Names.{name_eq, name_lt}
+use Rattle.k_types.specs.State.{Object, has}
+use Rattle.k_types.specs.Sound.{IsOrdered, IsOrderedFrom}
+use Rattle.k_base.proofs.NameTests.{name_eq-true, name_eq_refl, name_lt_irrefl, name_lt_trans}
+use Rattle.k_scan.specs.Marks.{is_marked}
+
+set_first : (a b m : Bool) → ((a && true) || m) ≡ (((a && b) || m) || a)
+set_first true b m = grind arith
+set_first false b m = grind arith
+
+set_later : (a b m s e : Bool) → s ≡ (m || e) → ((a && b) || s) ≡ (((a && b) || m) || e)
+set_later a b m s e ih = grind (arith, ih)
+
+-- one more mark
+pub marked-set : (xs : List Object) (marks : List Bool) (k : ℕ) (d : Object) → k < length xs → k < length marks →
+    (n : Name) → is_marked xs (set marks k true) n ≡ (is_marked xs marks n || name_eq (get_or xs k d).name n)
+marked-set [] marks k d inside there n = absurd (omega arith)
+marked-set (x ∷ xs) [] k d inside there n = absurd (omega arith)
+marked-set (x ∷ xs) (b ∷ marks) zero d inside there n = set_first (name_eq x.name n) b (is_marked xs marks n)
+marked-set (x ∷ xs) (b ∷ marks) (suc k) d inside there n =
+    set_later (name_eq x.name n) b (is_marked xs marks n) _ (name_eq (get_or xs k d).name n) (marked-set xs marks k d (omega arith) (omega arith) n)
+
+-- the object at a marked place is marked
+pub marked_at : (xs : List Object) (marks : List Bool) (k : ℕ) (d : Object) (n : Name) → k < length xs → get_or marks k false ≡ true → name_eq (get_or xs k d).name n ≡ true → is_marked xs marks n ≡ true
+marked_at [] marks k d n inside t e = absurd (omega arith)
+marked_at (x ∷ xs) [] k d n inside t e = absurd (false≢true t)
+marked_at (x ∷ xs) (b ∷ marks) zero d n inside t e = or_left _ _ (and_from _ _ e t)
+marked_at (x ∷ xs) (b ∷ marks) (suc k) d n inside t e = or_right _ _ (marked_at xs marks k d n (omega arith) t e)
+
+-- what is marked is there
+pub marked_has : (xs : List Object) (marks : List Bool) (n : Name) → is_marked xs marks n ≡ true → has xs n ≡ true
+marked_has [] marks n t = t
+marked_has (x ∷ xs) [] n t = absurd (false≢true t)
+marked_has (x ∷ xs) (b ∷ marks) n t =
+    elim (or_cases (name_eq x.name n && b) (is_marked xs marks n) t) [
+      | inl here ↦ or_left _ _ (and_parts (name_eq x.name n) b here).0
+      | inr there ↦ or_right (name_eq x.name n) _ (marked_has xs marks n there)
+    ]
+
+-- nothing is marked at first
+pub none_marked : (xs : List Object) (k : ℕ) (n : Name) → is_marked xs (replicate k false) n ≡ false
+none_marked [] k n = refl
+none_marked (x ∷ xs) zero n = refl
+none_marked (x ∷ xs) (suc k) n = grind (arith, none_marked xs k n)
+
+pub later : (m : Name) (xs : List Object) (n : Name) → IsOrderedFrom m xs → has xs n ≡ true → name_lt m n ≡ true
+later m [] n ordered t = absurd (false≢true t)
+later m (x ∷ xs) n ordered t =
+    elim (or_cases (name_eq x.name n) (has xs n) t) [
+      | inl here ↦ ap (name_lt m) (sym (name_eq-true x.name n here)) ∙ ordered.0
+      | inr there ↦ name_lt_trans m x.name n ordered.0 (later x.name xs n ordered.1 there)
+    ]
+
+-- the first object's name is that of no later one
+apart : (x : Object) (xs : List Object) (marks : List Bool) → IsOrderedFrom x.name xs → is_marked xs marks x.name ≡ false
+apart x xs marks ordered =
+    elim (cases_Bool (is_marked xs marks x.name)) [
+      | inl t ↦ absurd (name_lt_irrefl x.name (later x.name xs x.name ordered (marked_has xs marks x.name t)))
+      | inr f ↦ f
+    ]
+
+pub ordered_rest : (n : Name) (xs : List Object) → IsOrderedFrom n xs → IsOrdered xs
+ordered_rest n [] ordered = tt
+ordered_rest n (x ∷ xs) ordered = ordered.1
+
+first_mark : (a b m : Bool) → a ≡ true → m ≡ false → b ≡ ((a && b) || m)
+first_mark a b m t f = grind arith
+
+-- the marks of objects in order are what is said of their names
+pub marks_are : (xs : List Object) (marks : List Bool) (f : Name → Bool) → IsOrdered xs → length marks ≡ length xs →
+    ((n : Name) → has xs n ≡ true → is_marked xs marks n ≡ f n) → marks ≡ map (λ o. f o.name) xs
+marks_are [] [] f ordered size each = refl
+marks_are [] (b ∷ marks) f ordered size each = absurd (omega arith)
+marks_are (x ∷ xs) [] f ordered size each = absurd (omega arith)
+marks_are (x ∷ xs) (b ∷ marks) f ordered size each =
+    ap₂ (λ c ms. c ∷ ms)
+    (first_mark (name_eq x.name x.name) b (is_marked xs marks x.name) (name_eq_refl x.name) (apart x xs marks ordered)
+    ∙ each x.name (or_left _ _ (name_eq_refl x.name)))
+    (marks_are xs marks f (ordered_rest x.name xs ordered) (omega arith)
+    (λ n there.
+    sym (elim (name_eq x.name n) as (λ e. name_eq x.name n ≡ e → ((e && b) || is_marked xs marks n) ≡ is_marked xs marks n) [
+      | true ↦ λ e. absurd (name_lt_irrefl x.name (ap (name_lt x.name) (name_eq-true x.name n e) ∙ later x.name xs n ordered there))
+      | false ↦ λ e. refl
+    ] refl)
+    ∙ each n (or_right (name_eq x.name n) _ there)))
+
+-- one mark more, one unmarked less
+pub left-set : (marks : List Bool) (k : ℕ) → k < length marks → get_or marks k false ≡ false → count_by not (set marks k true) + 1 ≡ count_by not marks
+left-set marks k inside f =
+    let free : Bool → ℕ = λ b. cond (not b) 1 0 in
+    let one : free (get_or marks k false) ≡ 1 = ap free f in
+    omega (arith, sum_by-set free marks k true false inside, one)
+
+-- a mark is what is said of its element
+pub mark_is : {A : Type 0} (f : A → Bool) (xs : List A) (marks : List Bool) (i : ℕ) (x : A) → marks ≡ map f xs → i < length xs → x ≡ get_or xs i x → get_or marks i false ≡ f x
+mark_is f xs marks i x are inside is = ap (λ ms. get_or ms i false) are ∙ get_or-map f xs i x false inside ∙ ap f (sym is)

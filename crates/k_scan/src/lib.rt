@@ -1,0 +1,23 @@
+//! Collections, absorptions and ends of processes on the plain machine.
+//!
+//! The readers say what a collection of a heap begins with ([`roots`]), what it reaches ([`reached`]), and the numbers with
+//! which it ends ([`ending`]); the changes leave what the machine's definitions say, or nothing where memory is wanting: all
+//! memory is taken before the first change. What is reached is found by a list of work over the objects, and is the machine's
+//! closure. [`ending`] asks for room for one step, [`absorb`] and [`end_of_process`] for a heap and a process of the trace;
+//! nothing else is asked.
+#![tactic(auto)]
+
+mod changes;
+mod collecting;
+mod holding;
+mod marking;
+mod orphans;
+mod reaching;
+mod rooting;
+mod surviving;
+
+pub use changes::{absorb, begin, close, end_of_process};
+pub use collecting::{end_collection, ending};
+pub use orphans::{first_orphan, is_orphan, no_orphan};
+pub use reaching::reached;
+pub use rooting::roots;

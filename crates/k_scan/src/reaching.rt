@@ -1,0 +1,94 @@
+//! What roots reach inside a heap.
+ghost use Rattle.std.specs.Prelude.{◌≡◌, IfOk, OnOk, length, map};
+ghost use Rattle.k_scan.specs.Marks.{HasLooked};
+ghost use Rattle.k_types.specs.Names.{name_among, name_eq};
+ghost use Rattle.k_types.specs.Owners.{objects_of, owner_of};
+ghost use Rattle.k_types.specs.Reach.{reach_in};
+ghost use Rattle.k_types.specs.State.{Object, has, refers};
+
+use crate::marking::Marks;
+use k_io::NoMemory;
+use k_state::{FieldValue, PlainLists, PlainObject, is_same_heap};
+use k_types::{Heap, Name};
+use std::alloc::Global;
+
+// Marks the object of that name and puts it on the list of work, where it is the heap's and is not marked yet.
+fn visit(
+    lists: &PlainLists,
+    heap: Heap,
+    marks: &mut Marks,
+    work: &mut Vec<Name>,
+    name: Name,
+) -> Result<(), NoMemory>
+    requires { length marks.old ≡ length lists.now.state.objects }
+    ensures { OnOk result (HasLooked lists.now.state.objects (objects_of (owner_of lists.now.setup lists.now.state) heap lists.now.state.objects)
+        (λ n. name_eq name n) marks.old marks.new work.old.items work.new.items) }
+{
+    if is_same_heap(lists.owner(name.seg), heap) && marks.mark(lists, name) {
+        work.push(name)?;
+    }
+    Ok(())
+}
+
+// Visits each object to which a field of the object refers.
+fn follow(
+    lists: &PlainLists,
+    heap: Heap,
+    marks: &mut Marks,
+    work: &mut Vec<Name>,
+    object: &PlainObject,
+) -> Result<(), NoMemory>
+    requires { length marks.old ≡ length lists.now.state.objects }
+    ensures { OnOk result (HasLooked lists.now.state.objects (objects_of (owner_of lists.now.setup lists.now.state) heap lists.now.state.objects)
+        (refers object.now) marks.old marks.new work.old.items work.new.items) }
+{
+    for value in object.fields() {
+        if let FieldValue::Reference(Some(target)) = *value {
+            visit(lists, heap, marks, work, target)?;
+        }
+    }
+    Ok(())
+}
+
+// Visits each root.
+fn begin(
+    lists: &PlainLists,
+    heap: Heap,
+    marks: &mut Marks,
+    work: &mut Vec<Name>,
+    roots: &[Name],
+) -> Result<(), NoMemory>
+    requires { length marks.old ≡ length lists.now.state.objects }
+    ensures { OnOk result (HasLooked lists.now.state.objects (objects_of (owner_of lists.now.setup lists.now.state) heap lists.now.state.objects)
+        (λ n. name_among n roots.now) marks.old marks.new work.old.items work.new.items) }
+{
+    for root in roots {
+        visit(lists, heap, marks, work, *root)?;
+    }
+    Ok(())
+}
+
+/// Marks what the roots reach by references inside the heap: one mark for each object, in the order of the objects.
+///
+/// It looks once at each reached object and its fields, and finds each object by halving. `NoMemory` comes where the marks
+/// or the list of work find no memory.
+pub fn reached(
+    alloc: Global,
+    lists: &PlainLists,
+    heap: Heap,
+    roots: &[Name],
+) -> Result<Vec<bool>, NoMemory>
+    ensures { IfOk result (λ marks. marks.items ≡ map (λ (o : Object). has (reach_in lists.now.setup lists.now.state heap roots.now) o.name) lists.now.state.objects) }
+{
+    // The shape of the lists: the objects stand in order.
+    let _setup = lists.setup();
+    let mut marks = Marks::none(alloc, lists)?;
+    let mut work = Vec::new(alloc);
+    begin(lists, heap, &mut marks, &mut work, roots)?;
+    while let Some(name) = work.pop() {
+        if let Some(object) = lists.object(name) {
+            follow(lists, heap, &mut marks, &mut work, object)?;
+        }
+    }
+    Ok(marks.into_list())
+}
