@@ -17,6 +17,7 @@ use std::process::exit;
 
 const SEG: Seg = Seg(1);
 const ROUNDS: u32 = 10;
+const SEGMENTS: u32 = 129;
 const MOST: u32 = 10_000_000;
 
 struct Watch {
@@ -293,6 +294,37 @@ fn drain(watch: &mut Watch, size: u32) -> String {
     format!("drain {size}: {} targets, {drained} drained", table.len())
 }
 
+/// Marks an area of many segments again and again.
+fn wide(watch: &mut Watch, size: u32) -> String {
+    let each = size / (ROUNDS * SEGMENTS);
+    let segments = (0..SEGMENTS)
+        .map(|number| {
+            let mut segment = Segment::make(Seg(number), each);
+            place(&mut segment, make(each));
+            link(&mut segment, each);
+            segment
+        })
+        .collect();
+    let mut area = Area::of_many(segments);
+    let mut exits = ExitTable::make(1);
+    watch.lap("before");
+    for _ in 0..ROUNDS {
+        clear(&mut area, &mut exits);
+        for number in 0..SEGMENTS {
+            area.make_gray(Name {
+                seg: Seg(number),
+                serial: Serial(1),
+            });
+        }
+        mark(&mut area, &mut exits);
+    }
+    watch.lap("wide");
+    let bytes: u64 = (0..SEGMENTS)
+        .map(|number| area.get(Seg(number)).map_or(0, |segment| segment.bytes))
+        .sum();
+    format!("wide {size}: {bytes} bytes are marked")
+}
+
 fn walk(watch: &mut Watch, size: u32) -> String {
     let targets = scattered(size / ROUNDS, false);
     let mut table = EntryTable::make(&[0, 1, 2, 3, 4], size / ROUNDS);
@@ -353,6 +385,7 @@ fn main() {
         Some(last) => heap(&mut watch, size, last),
         None if word == "add" || word == "has" => exits(&mut watch, size, word == "has"),
         None if word == "up" || word == "down" => entries(&mut watch, size, word == "down"),
+        None if word == "wide" => wide(&mut watch, size),
         None if word == "walk" => walk(&mut watch, size),
         None if word == "drain" => drain(&mut watch, size),
         None if word == "again" => again(&mut watch, word, size, size / 10 * 3, 4_000),

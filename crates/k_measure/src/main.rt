@@ -2,7 +2,8 @@
 //!
 //! The words are the name of a measurement and a size, such as `mark 1000000`. Those of the heap are `make`, `place`, `link`,
 //! `mark`, `sweep`, `mark_half` and `sweep_half`; each does those before it, too. `add`, `has` and `drain` are those of the
-//! exit items, `up`, `down` and `walk` those of the entry items. `again` and `dead` collect one heap again and again. With a third word `timed` the processor time of each phase, in nanoseconds, goes
+//! exit items, `up`, `down` and `walk` those of the entry items. `again` and `dead` collect one heap again and again,
+//! and `wide` marks one of 129 segments. With a third word `timed` the processor time of each phase, in nanoseconds, goes
 //! to standard error. The line on standard output depends on no time, so it is compared with that of the twin in `bench/`. The
 //! exit status is 0, or 2 where the words are no measurement, or 1 where memory, the words or the output fail.
 #![tactic(auto)]
@@ -14,6 +15,7 @@ mod exits;
 mod heap;
 mod names;
 mod watch;
+mod wide;
 
 use crate::entries::Last;
 use crate::heap::Stage;
@@ -89,6 +91,10 @@ fn measured(
         let last = if word == "up" { Last::Up } else { Last::Down };
         let total = entries::run(rt, watch, size, last)?;
         return Ok(Some(format!(in alloc; "{word} {size}: the counts are {total} in all")?));
+    }
+    if word == "wide" {
+        let bytes = wide::run(rt, watch, size)?;
+        return Ok(Some(format!(in alloc; "{word} {size}: {bytes} bytes are marked")?));
     }
     if word == "walk" {
         let total = entries::run(rt, watch, size, Last::Walk)?;
