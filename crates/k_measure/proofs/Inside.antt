@@ -11,7 +11,7 @@ use Rattle.k_types.specs.Names.{name_eq, name_of}
 use Rattle.k_types.specs.State.{Content, Refers, Holds, content_leads_to, field_kind, fresh}
 use Rattle.k_types.specs.Types.{type_row}
 use Rattle.k_space.specs.Objects.{BodyValue, HasRef, new_body}
-use Rattle.k_space.specs.Segments.{SegmentValue, Row, LiesAt, Color, White, Gray, Black, row_at, with_row, placed, new_row, unmarked_row, unmarked_segment, is_black, is_marked, some_black, gray_or_black}
+use Rattle.k_space.specs.Segments.{SegmentValue, Row, LiesAt, Color, White, Gray, Black, row_at, with_row, placed, new_row, unmarked_row, unmarked_segment, is_marked, some_black, gray_or_black}
 use Rattle.k_space.specs.Areas.{AreaValue, HasDistinct, place_of, segment_at, row_in_segment, row_of_name, fields_at, is_foreign, black_at, grayed, grayed_row, unmarked}
 use Rattle.k_exit.specs.Exits.{ExitRow, has_target, target_marked, unmarked_row as unmarked_exit}
 use Rattle.k_mark.specs.Marking.{fields_lead_to, refers_at}

@@ -1,10 +1,10 @@
 -- That references stay inside their segments in an area of many.
-use Rattle.std.proofs.Common.{◌≡◌, ◌⊎◌, ℕ, zero, suc, not, Bool, true, false, ◌<◌, ◌+◌, refl, sym, ap, subst, ◌∙◌, inl, inr, List, [], ◌∷◌, ◌++◌, map, slice_get, Option, Some, None, is_some, option_map, arith}
+use Rattle.std.proofs.Common.{◌≡◌, ◌⊎◌, ℕ, zero, suc, not, true, false, ◌<◌, ◌+◌, refl, sym, ap, subst, ◌∙◌, inl, inr, List, [], ◌∷◌, ◌++◌, map, slice_get, Option, Some, None, is_some, option_map, arith}
 use Rattle.std.proofs.lemmas.Bool.{false≢true}
 use Rattle.k_types.specs.declared.names.Name.{Name}
 use Rattle.k_types.specs.State.{Content}
 use Rattle.k_space.specs.Segments.{SegmentValue, Row, unmarked_segment}
-use Rattle.k_space.specs.Areas.{AreaValue, HasDistinct, place_of, segment_at, row_of_name, fields_at, is_foreign, grayed, unmarked}
+use Rattle.k_space.specs.Areas.{AreaValue, place_of, segment_at, row_of_name, fields_at, is_foreign, grayed, unmarked}
 use Rattle.k_exit.specs.Exits.{ExitRow, has_target}
 use Rattle.k_mark.specs.Marking.{refers_at}
 use Rattle.k_mark.proofs.Marked.{refers_fields}

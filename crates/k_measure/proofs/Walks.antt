@@ -1,5 +1,5 @@
 -- What a walk gives is counted.
-use Rattle.std.proofs.Common.{◌≡◌, ◌&&◌, ◌||◌, ℕ, ◌<◌, Bool, true, false, cond, sym, ap, ◌∙◌, List, [], ◌∷◌, Option, Some, None, option_map, nat_lt, ltb-true}
+use Rattle.std.proofs.Common.{◌≡◌, ◌<◌, Bool, true, false, cond, sym, ap, ◌∙◌, List, [], ◌∷◌, Option, Some, option_map, nat_lt, ltb-true}
 use Rattle.std.proofs.lemmas.Bool.{and_parts, or_left, or_right}
 use Rattle.k_types.specs.declared.names.Name.{Name}
 use Rattle.k_types.specs.declared.names.Link.{Link}

@@ -1,4 +1,3 @@
-use Rattle.std.proofs.Common.{◌≡◌}
 use Rattle.k_types.specs.Names.{name_of}
 use Rattle.k_entry.specs.Entries.{home_of}
 use Rattle.k_measure.proofs.Walks.{first_counted, after_counted}
