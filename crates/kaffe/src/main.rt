@@ -10,7 +10,6 @@ mod call;
 mod command_line;
 mod commands;
 mod file_order;
-mod not_built;
 mod status;
 #[cfg(test)]
 mod tests;
