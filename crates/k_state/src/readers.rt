@@ -1,17 +1,18 @@
 //! What a state and its setup say, read.
-ghost use Rattle.std.specs.Prelude.{◌≡◌, ◌<◌, ◌-◌, ◌^◌, [], not, option_copied, option_map, slice_index_or, length};
+ghost use Rattle.std.specs.Prelude.{◌≡◌, ◌<◌, ◌-◌, ◌^◌, [], not, option_copied, option_map, slice_index_or, length, IfSome, IfNone, IsFalse};
 ghost use Rattle.k_state.specs.Machines.{IsPlain};
+ghost use Rattle.k_state.specs.Places.{IsNamedAt};
 ghost use Rattle.k_types.specs.Known.{IsKnownPhase};
 ghost use Rattle.k_types.specs.Names.{among};
 ghost use Rattle.k_types.specs.Owners.{phase_of};
-ghost use Rattle.k_types.specs.State.{Scan as Opened, has_exit, has_share, is_scanned, object_at, register, scan_of};
+ghost use Rattle.k_types.specs.State.{Scan as Opened, has, has_exit, has_share, is_scanned, object_at, register, scan_of};
 ghost use Rattle.k_types.specs.Trace.{limit_of, process_count, segment_count, size_of_type, trace_of};
 ghost use Rattle.k_types.specs.Updates.{next_name};
 
 use crate::items::{ExitItem, Scan, Share, has_exit, has_share, is_among};
 use crate::lists::PlainLists;
 use crate::objects::PlainObject;
-use crate::ordered::find;
+use crate::ordered::{find, index_of};
 use k_types::{Heap, LimitId, Name, Phase, Pid, Reg, Seg, Serial, Setup, SharedId, TypeId};
 
 impl PlainLists {
@@ -120,6 +121,14 @@ impl PlainLists {
         ensures { option_copied result ≡ object_at self.now.state.objects name }
     {
         find(&self.objects, name)
+    }
+
+    /// The index of the object of that name, found by halving.
+    pub fn index_of(&self, name: Name) -> Option<usize>
+        ensures some { IfSome result (λ k. IsNamedAt self.now.state.objects k name) }
+        ensures none { IfNone result (IsFalse (has self.now.state.objects name)) }
+    {
+        index_of(&self.objects, name)
     }
 
     /// Whether the process has not ended.
