@@ -6,7 +6,6 @@ use Rattle.k_types.specs.declared.names.LimitId.{LimitId}
 use Rattle.k_types.specs.declared.setup.LimitRow.{LimitRow}
 use Rattle.k_types.specs.Limits.{use_within}
 use Rattle.k_types.specs.Trace.{Trace}
-use Rattle.k_types.specs.TraceRules.{AreLimits}
 use Rattle.k_state.specs.Machines.{AreSetupRules}
 
 -- one process on one hard limit, with one shared heap
