@@ -104,7 +104,7 @@ module _ (bound bytes : ℕ) (a : AreaValue) (items : List ExitRow) (s : Segment
     numbered = record { distinct = distinct; none = λ k past. at_push_other a.segments s k (λ e. omega (arith, e, past, below)) ∙ kept.numbered.none k past };
     begun = begun;
     weighed = let more : total object_bytes (area_objects bound (a.segments ++ s ∷ [])) ≡ total object_bytes (segment_objects s) + total object_bytes (area_objects bound a.segments) = ap (total object_bytes) joined_objects ∙ total_joined object_bytes (segment_objects s) (area_objects bound a.segments) in
-    omega (arith, kept.weighed, more);
+        omega (arith, kept.weighed, more);
     marks = tt;
   }
     where

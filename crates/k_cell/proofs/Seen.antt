@@ -37,8 +37,16 @@ use Rattle.k_cell.proofs.Lists.{added_room, added_targets, int_field, ref_field,
 
 abbrev pub cell_of_lists : CellPhase → List Object → List (Option ℕ) → List Name → List Name → List Name → List Name → CellValue
 cell_of_lists phase objects made exits gray black black_exits = record {
-  objects = objects; made = made; exits = exits; process = None; phase = None; tail = [];
-  collection = phase; gray = gray; black = black; black_exits = black_exits;
+  objects = objects;
+  made = made;
+  exits = exits;
+  process = None;
+  phase = None;
+  tail = [];
+  collection = phase;
+  gray = gray;
+  black = black;
+  black_exits = black_exits;
 }
 
 pub same_cell : (phase : CellPhase) {os ps : List Object} {ms ns : List (Option ℕ)} {es fs gs hs bs cs xs ys : List Name} → os ≡ ps → ms ≡ ns → es ≡ fs → gs ≡ hs → bs ≡ cs → xs ≡ ys →

@@ -21,12 +21,12 @@ ghost use Rattle.k_cell.specs.Looks.{field_among, field_count_among, type_among}
 ghost use Rattle.k_cell.specs.Changes.{HasDroppedExit, HasItsExits, HasMarked, HasRoot, next_in, with_black_alone, with_body, with_exit_item, with_field};
 ghost use Rattle.k_cell.specs.Holdings.{HasGivenSegment, HasSerialLeft, fresh_holdings, with_segment_added};
 
-use crate::rooms::HoldingRooms;
 use crate::looking::{count_at, field_at, lives_at, type_at};
+use crate::rooms::HoldingRooms;
 use crate::writing::{place_in, write_int_in, write_ref_in};
 use k_exit::ExitTable;
-use k_mark::{Swept, clear, mark_uncounted, root, sweep};
 use k_io::NoMemory;
+use k_mark::{Swept, clear, mark_uncounted, root, sweep};
 use k_space::{Area, Body, Segment, Stored};
 use k_tie::Note;
 use k_types::{CellPhase, Link, Name, Seg, TypeId};
@@ -62,7 +62,12 @@ impl Holdings {
 
     /// Holdings with one segment, of that number, with no object yet. It takes the memory for all rooms at once; `NoMemory` comes
     /// where there is none.
-    pub fn make(alloc: Global, seg: Seg, rooms: HoldingRooms, note: Note) -> Result<Holdings, NoMemory>
+    pub fn make(
+        alloc: Global,
+        seg: Seg,
+        rooms: HoldingRooms,
+        note: Note,
+    ) -> Result<Holdings, NoMemory>
         requires seg { seg.0 < rooms.bound }
         requires room { 0 < rooms.segments }
         ensures { IfOk result (λ made. made ≡ fresh_holdings seg.0 rooms note) }
