@@ -43,7 +43,6 @@ impl EntryTable {
     }
 
     /// The objects of that home that others refer to.
-    #[allow(dead_code)]
     pub fn of_home(&self, home: usize) -> impl Iterator<Item = Name> + '_ {
         self.counts[home].keys().copied()
     }

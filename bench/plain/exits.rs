@@ -47,7 +47,6 @@ impl ExitTable {
     }
 
     /// Removes the items without a mark, and gives each.
-    #[allow(dead_code)]
     pub fn drain_unmarked(&mut self, mut each: impl FnMut(Name)) {
         self.marked.retain(|name, marked| {
             if !*marked {

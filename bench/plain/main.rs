@@ -16,6 +16,7 @@ use std::process::exit;
 
 const SEGMENT: u32 = 1;
 const ROUNDS: u32 = 10;
+const SEGMENTS: u32 = 129;
 const MOST: u32 = 10_000_000;
 
 struct Watch {
@@ -213,6 +214,73 @@ fn exits(watch: &mut Watch, size: u32, looks: bool) -> String {
     )
 }
 
+/// Drains the half of the targets that isn't marked, and adds it again. Draining alone is timed.
+fn drain(watch: &mut Watch, size: u32) -> String {
+    let targets = scattered(size / ROUNDS, false);
+    let names = scattered(size / ROUNDS, true);
+    let mut table = ExitTable::with_capacity((size / ROUNDS + 1) as usize);
+    let mut drained = 0;
+    for _ in 0..ROUNDS {
+        for target in &targets {
+            table.add(*target);
+        }
+        table.clear_marks();
+        for name in &names {
+            table.mark(*name);
+        }
+        watch.lap("before");
+        table.drain_unmarked(|_| drained += 1);
+        watch.lap("drain");
+    }
+    format!("drain {size}: {} targets, {drained} drained", table.len())
+}
+
+/// Marks an area of many segments again and again.
+fn wide(watch: &mut Watch, size: u32) -> String {
+    let each = size / (ROUNDS * SEGMENTS);
+    let segments = (0..SEGMENTS)
+        .map(|number| {
+            let mut segment = Segment::with_capacity(number, each as usize);
+            place(&mut segment, make(each));
+            link(&mut segment, each);
+            segment
+        })
+        .collect();
+    let mut area = Area::of(segments);
+    let mut exits = ExitTable::with_capacity(1);
+    watch.lap("before");
+    for _ in 0..ROUNDS {
+        area.clear(&mut exits);
+        for number in 0..SEGMENTS {
+            if let Some(at) = area.get(number).and_then(|segment| segment.find(1)) {
+                area.root(at);
+            }
+        }
+        area.mark(&mut exits);
+    }
+    watch.lap("wide");
+    format!("wide {size}: {} bytes are marked", area.bytes())
+}
+
+fn walk(watch: &mut Watch, size: u32) -> String {
+    let targets = scattered(size / ROUNDS, false);
+    let mut table = EntryTable::with_capacity(&[0, 1, 2, 3, 4], (size / ROUNDS) as usize);
+    for _ in 0..ROUNDS {
+        for target in &targets {
+            table.up(*target);
+        }
+    }
+    watch.lap("before");
+    let mut sum = 0;
+    for _ in 0..ROUNDS {
+        for home in 0..5 {
+            sum += table.of_home(home).map(|object| u64::from(object.serial)).sum::<u64>();
+        }
+    }
+    watch.lap("walk");
+    format!("walk {size}: the serials are {sum} in all")
+}
+
 fn entries(watch: &mut Watch, size: u32, downs: bool) -> String {
     let targets = scattered(size / ROUNDS, false);
     let mut table = EntryTable::with_capacity(&[0, 1, 2, 3, 4], (size / ROUNDS) as usize);
@@ -252,6 +320,9 @@ fn main() {
     let line = match word {
         "add" | "has" => exits(&mut watch, size, word == "has"),
         "up" | "down" => entries(&mut watch, size, word == "down"),
+        "wide" => wide(&mut watch, size),
+        "walk" => walk(&mut watch, size),
+        "drain" => drain(&mut watch, size),
         "again" => again(&mut watch, word, size, size / 10 * 3, 4_000),
         "dead" => again(&mut watch, word, size, 10, 60_000),
         _ => match STAGES.iter().position(|stage| *stage == word) {

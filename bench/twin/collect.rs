@@ -14,16 +14,21 @@ pub struct Area {
 
 impl Area {
     pub fn of(segment: Segment) -> Area {
-        let mut area = Area {
-            segments: Vec::with_capacity(1),
-            hints: vec![0; 1],
-            gray_at: 0,
-        };
-        if let Some(hint) = area.hints.get_mut(segment.number.0 as usize) {
-            *hint = area.segments.len();
+        Area::of_many(vec![segment])
+    }
+
+    pub fn of_many(segments: Vec<Segment>) -> Area {
+        let mut hints = vec![0; segments.len()];
+        for (at, segment) in segments.iter().enumerate() {
+            if let Some(hint) = hints.get_mut(segment.number.0 as usize) {
+                *hint = at;
+            }
         }
-        area.segments.push(segment);
-        area
+        Area {
+            segments,
+            hints,
+            gray_at: 0,
+        }
     }
 
     fn place(&self, seg: Seg) -> Option<usize> {

@@ -136,6 +136,37 @@ impl EntryTable {
         self.segments.push_front(seg as usize, i);
     }
 
+    fn link_at(&self, i: u32) -> Link {
+        let target = self.slots[i as usize].target;
+        Link {
+            seg: target.seg,
+            slot: i as usize,
+            serial: target.serial,
+        }
+    }
+
+    fn first_from(&self, segment: Option<u32>) -> Option<Link> {
+        Some(self.link_at(self.segments.first(segment? as usize)?))
+    }
+
+    /// The first object on the walk of that home.
+    pub fn first_of(&self, home: u32) -> Option<Link> {
+        self.first_from(self.walks.first(home as usize))
+    }
+
+    /// The object after one that the walk gave, at its slot where it is still there.
+    pub fn next_at(&self, target: Link) -> Option<Link> {
+        let name = target.name();
+        let i = match self.slots.get(target.slot) {
+            Some(item) if item.target == name && item.count > 0 => target.slot as u32,
+            _ => self.find(chain_of(self.chain_count, name), name)?,
+        };
+        match self.segments.next(i) {
+            Some(next) => Some(self.link_at(next)),
+            None => self.first_from(self.walks.next(name.seg.0)),
+        }
+    }
+
     pub fn down(&mut self, target: Name) {
         let chain = chain_of(self.chain_count, target);
         let i = self.find(chain, target).unwrap();

@@ -12,6 +12,8 @@ struct Item {
 pub struct ExitTable {
     items: Vec<Item>,
     heads: Vec<u32>,
+    // From there on each item is marked.
+    from: usize,
 }
 
 impl ExitTable {
@@ -19,6 +21,7 @@ impl ExitTable {
         ExitTable {
             items: Vec::with_capacity(room as usize),
             heads: filled(0, room as usize),
+            from: 0,
         }
     }
 
@@ -57,6 +60,7 @@ impl ExitTable {
             next: self.heads[chain],
         });
         self.heads[chain] = self.items.len() as u32;
+        self.from = self.items.len();
         true
     }
 
@@ -69,5 +73,36 @@ impl ExitTable {
         for item in &mut self.items {
             item.marked = false;
         }
+        self.from = self.items.len();
+    }
+
+    /// Has the link that leads to the item at place `i` lead to that place, or to the end.
+    fn relink(&mut self, i: usize, to: u32) {
+        let chain = chain_of(self.heads.len(), self.items[i].target);
+        let wanted = i as u32 + 1;
+        if self.heads[chain] == wanted {
+            self.heads[chain] = to;
+            return;
+        }
+        let mut at = (self.heads[chain] - 1) as usize;
+        while self.items[at].next != wanted {
+            at = (self.items[at].next - 1) as usize;
+        }
+        self.items[at].next = to;
+    }
+
+    /// Removes an item without a mark, from the last to the first.
+    pub fn take_unmarked(&mut self) -> Option<Name> {
+        let Some(i) = self.items[..self.from].iter().rposition(|item| !item.marked) else {
+            self.from = 0;
+            return None;
+        };
+        self.relink(i, self.items[i].next);
+        let last = self.items.len() - 1;
+        if i != last {
+            self.relink(last, i as u32 + 1);
+        }
+        self.from = i;
+        Some(self.items.swap_remove(i).target)
     }
 }

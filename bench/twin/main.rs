@@ -17,6 +17,7 @@ use std::process::exit;
 
 const SEG: Seg = Seg(1);
 const ROUNDS: u32 = 10;
+const SEGMENTS: u32 = 129;
 const MOST: u32 = 10_000_000;
 
 struct Watch {
@@ -270,6 +271,81 @@ fn down_all(table: &mut EntryTable, targets: &[Name]) {
     }
 }
 
+/// Drains the half of the targets that isn't marked, and adds it again. Draining alone is timed.
+fn drain(watch: &mut Watch, size: u32) -> String {
+    let targets = scattered(size / ROUNDS, false);
+    let names = scattered(size / ROUNDS, true);
+    let mut table = ExitTable::make(size / ROUNDS + 1);
+    let mut drained = 0;
+    for _ in 0..ROUNDS {
+        add_all(&mut table, &targets, size / ROUNDS + 1);
+        table.unmark_all();
+        for name in &names {
+            if table.has(*name) {
+                table.mark(*name);
+            }
+        }
+        watch.lap("before");
+        while table.take_unmarked().is_some() {
+            drained += 1;
+        }
+        watch.lap("drain");
+    }
+    format!("drain {size}: {} targets, {drained} drained", table.len())
+}
+
+/// Marks an area of many segments again and again.
+fn wide(watch: &mut Watch, size: u32) -> String {
+    let each = size / (ROUNDS * SEGMENTS);
+    let segments = (0..SEGMENTS)
+        .map(|number| {
+            let mut segment = Segment::make(Seg(number), each);
+            place(&mut segment, make(each));
+            link(&mut segment, each);
+            segment
+        })
+        .collect();
+    let mut area = Area::of_many(segments);
+    let mut exits = ExitTable::make(1);
+    watch.lap("before");
+    for _ in 0..ROUNDS {
+        clear(&mut area, &mut exits);
+        for number in 0..SEGMENTS {
+            area.make_gray(Name {
+                seg: Seg(number),
+                serial: Serial(1),
+            });
+        }
+        mark(&mut area, &mut exits);
+    }
+    watch.lap("wide");
+    let bytes: u64 = (0..SEGMENTS)
+        .map(|number| area.get(Seg(number)).map_or(0, |segment| segment.bytes))
+        .sum();
+    format!("wide {size}: {bytes} bytes are marked")
+}
+
+fn walk(watch: &mut Watch, size: u32) -> String {
+    let targets = scattered(size / ROUNDS, false);
+    let mut table = EntryTable::make(&[0, 1, 2, 3, 4], size / ROUNDS);
+    for _ in 0..ROUNDS {
+        up_all(&mut table, &targets);
+    }
+    watch.lap("before");
+    let mut sum = 0;
+    for _ in 0..ROUNDS {
+        for home in 0..5 {
+            let mut at = table.first_of(home);
+            while let Some(link) = at {
+                sum += link.serial.0 as u64;
+                at = table.next_at(link);
+            }
+        }
+    }
+    watch.lap("walk");
+    format!("walk {size}: the serials are {sum} in all")
+}
+
 fn entries(watch: &mut Watch, size: u32, downs: bool) -> String {
     let targets = scattered(size / ROUNDS, false);
     let mut table = EntryTable::make(&[0, 1, 2, 3, 4], size / ROUNDS);
@@ -309,6 +385,9 @@ fn main() {
         Some(last) => heap(&mut watch, size, last),
         None if word == "add" || word == "has" => exits(&mut watch, size, word == "has"),
         None if word == "up" || word == "down" => entries(&mut watch, size, word == "down"),
+        None if word == "wide" => wide(&mut watch, size),
+        None if word == "walk" => walk(&mut watch, size),
+        None if word == "drain" => drain(&mut watch, size),
         None if word == "again" => again(&mut watch, word, size, size / 10 * 3, 4_000),
         None if word == "dead" => again(&mut watch, word, size, 10, 60_000),
         None => String::new(),

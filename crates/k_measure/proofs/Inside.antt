@@ -11,7 +11,7 @@ use Rattle.k_types.specs.Names.{name_eq, name_of}
 use Rattle.k_types.specs.State.{Content, Refers, Holds, content_leads_to, field_kind, fresh}
 use Rattle.k_types.specs.Types.{type_row}
 use Rattle.k_space.specs.Objects.{BodyValue, HasRef, new_body}
-use Rattle.k_space.specs.Segments.{SegmentValue, Row, LiesAt, Color, White, Gray, Black, row_at, with_row, placed, new_row, unmarked_row, unmarked_segment, is_black, is_marked, some_black, gray_or_black}
+use Rattle.k_space.specs.Segments.{SegmentValue, Row, LiesAt, Color, White, Gray, Black, row_at, with_row, placed, new_row, unmarked_row, unmarked_segment, is_marked, some_black, gray_or_black}
 use Rattle.k_space.specs.Areas.{AreaValue, HasDistinct, place_of, segment_at, row_in_segment, row_of_name, fields_at, is_foreign, black_at, grayed, grayed_row, unmarked}
 use Rattle.k_exit.specs.Exits.{ExitRow, has_target, target_marked, unmarked_row as unmarked_exit}
 use Rattle.k_mark.specs.Marking.{fields_lead_to, refers_at}
@@ -148,7 +148,7 @@ pub one_found : (a : AreaValue) (one : IsOne a) (number : ℕ) (t : SegmentValue
 one_found a one number t e =
     single one.segment t (place_of a.segments number) (ap (λ (xs : List SegmentValue). slice_get xs (place_of a.segments number)) (sym one.only) ∙ e)
 
-same_fields : (x y : List Content) → ◌≡◌ {A = Option (List Content)} (Some x) (Some y) → x ≡ y
+pub same_fields : (x y : List Content) → ◌≡◌ {A = Option (List Content)} (Some x) (Some y) → x ≡ y
 same_fields x y e = cc
 
 -- what the object holds, if there is one
@@ -188,7 +188,7 @@ unmarked_fields s t serial row same at =
     by_row None is e = absurd (cc)
     by_row (Some was) is e = (was, is, ap fields_or_none e)
 
-unmarked_inside : (s t : SegmentValue) → unmarked_segment t ≡ unmarked_segment s → KeepsInside s → KeepsInside t
+pub unmarked_inside : (s t : SegmentValue) → unmarked_segment t ≡ unmarked_segment s → KeepsInside s → KeepsInside t
 unmarked_inside s t same inside serial row at field n e =
     let was = unmarked_fields s t serial row (ap (λ (x : SegmentValue). x.rows) same) at in
     inside serial was.0 was.1 field n (ap (λ (fs : List Content). slice_get fs field) was.2 ∙ e) ∙ ap (λ (x : SegmentValue). x.number) (sym same)
@@ -211,14 +211,14 @@ unmarked_twice [] = refl
 unmarked_twice (None ∷ rows) = ap (λ rs. None ∷ rs) (unmarked_twice rows)
 unmarked_twice (Some row ∷ rows) = ap (λ rs. Some (record row { color = White }) ∷ rs) (unmarked_twice rows)
 
-segments_twice : (xs : List SegmentValue) → map unmarked_segment (map unmarked_segment xs) ≡ map unmarked_segment xs
+pub segments_twice : (xs : List SegmentValue) → map unmarked_segment (map unmarked_segment xs) ≡ map unmarked_segment xs
 segments_twice [] = refl
 segments_twice (x ∷ xs) = ap₂ (λ rows ys. record x { rows = rows } ∷ ys) (unmarked_twice x.rows) (segments_twice xs)
 
 pub one_unmarked : (a : AreaValue) → IsOne a → IsOne (unmarked a)
 one_unmarked a one = one_same a (unmarked a) (ap (λ xs. record a { segments = xs }) (segments_twice a.segments)) one
 
-grayed_by : (a : AreaValue) (n : Name) (o : Option Row) → row_of_name a.segments n ≡ o → unmarked (grayed_row a n o) ≡ unmarked a
+pub grayed_by : (a : AreaValue) (n : Name) (o : Option Row) → row_of_name a.segments n ≡ o → unmarked (grayed_row a n o) ≡ unmarked a
 grayed_by a n None e = refl
 grayed_by a n (Some row) e = same_unmarked a n row (gray_or_black row.color) e
 

@@ -1,2 +1,4 @@
 pub mod Inside
 pub mod Bounds
+pub mod Walks
+pub mod Several

@@ -4,7 +4,7 @@ use Rattle.k_types.specs.declared.names.Name.{Name}
 use Rattle.k_types.specs.State.{Content, Refers}
 use Rattle.k_space.specs.Objects.{BodyValue}
 use Rattle.k_space.specs.Segments.{SegmentValue, Row, row_at}
-use Rattle.k_space.specs.Areas.{AreaValue, black_at}
+use Rattle.k_space.specs.Areas.{AreaValue, HasDistinct, black_at}
 
 -- every reference is null
 abbrev pub LeadNowhere : List Content → Type 0
@@ -27,6 +27,11 @@ pub record IsOne (a : AreaValue) : Type 0 where
   pub segment : SegmentValue
   pub only : a.segments ≡ segment ∷ []
   pub inside : KeepsInside segment
+
+-- the segments have different numbers, and no object refers to one outside its own
+pub record AreInside (segments : List SegmentValue) : Type 0 where
+  pub distinct : HasDistinct segments
+  pub each : (i : ℕ) (s : SegmentValue) → slice_get segments i ≡ Some s → KeepsInside s
 
 -- no object is black
 abbrev pub HasNoBlack : AreaValue → Type 0

@@ -12,6 +12,14 @@ use k_types::{Heap, Name, Pid};
 use std::alloc::Global;
 use std::time::CpuClock;
 
+/// What comes last.
+#[derive(Clone, Copy, Debug, PartialEq, Eq)]
+pub enum Last {
+    Up,
+    Down,
+    Walk,
+}
+
 /// Counts each target once more.
 fn up_all(table: &mut EntryTable, targets: &[Name])
     requires homes { AreBelow (length table.old.homes) targets.now }
@@ -67,6 +75,38 @@ fn total(table: &EntryTable, targets: &[Name]) -> u64 {
     total
 }
 
+/// The serials on the walk of that home together, of so many objects at most.
+fn walk(table: &EntryTable, heap: Heap, most: u32) -> u64 {
+    let mut sum: u64 = 0;
+    let mut at = table.first_of(heap);
+    for _step in 0..most {
+        let Some(link) = at else {
+            return sum;
+        };
+        sum = sum.wrapping_add(link.serial.0 as u64);
+        at = table.next_at(link);
+    }
+    sum
+}
+
+/// The serials on the walks of all homes together.
+fn walk_all(table: &EntryTable, most: u32) -> u64 {
+    let mut sum = walk(table, Heap::Kernel, most);
+    for number in 0..4 {
+        sum = sum.wrapping_add(walk(table, Heap::User(Pid(number)), most));
+    }
+    sum
+}
+
+/// Walks again and again.
+fn walk_rounds(table: &EntryTable, most: u32) -> u64 {
+    let mut sum: u64 = 0;
+    for _round in 0..ROUNDS {
+        sum = sum.wrapping_add(walk_all(table, most));
+    }
+    sum
+}
+
 /// A table with a home for each of the segments 0 to 4.
 fn table_of(alloc: Global, room: u32) -> Result<EntryTable, NoMemory>
     ensures empty { IfOk result (λ t. t.items ≡ []) }
@@ -83,12 +123,13 @@ fn table_of(alloc: Global, room: u32) -> Result<EntryTable, NoMemory>
     EntryTable::make(alloc, &homes, room)
 }
 
-/// Counts `size / ROUNDS` targets up again and again, `size` calls in all, and then down as often.
+/// Counts `size / ROUNDS` targets up again and again, `size` calls in all, and then down as often, or walks as often along
+/// all of them. Gives the counts that are left in all, or the serials that were passed.
 pub fn run<R: Alloc<A = Global> + CpuClock + Eprint>(
     rt: &R,
     watch: &mut Watch,
     size: u32,
-    downs: bool,
+    last: Last,
 ) -> Result<u64, NoMemory>
     requires { size ≤ 10000000 }
 {
@@ -98,7 +139,12 @@ pub fn run<R: Alloc<A = Global> + CpuClock + Eprint>(
     watch.lap(rt, "before");
     up_rounds(&mut table, &targets);
     watch.lap(rt, "up");
-    if downs {
+    if last == Last::Walk {
+        let sum = walk_rounds(&table, size / ROUNDS);
+        watch.lap(rt, "walk");
+        return Ok(sum);
+    }
+    if last == Last::Down {
         down_rounds(&mut table, &targets);
         watch.lap(rt, "down");
     }

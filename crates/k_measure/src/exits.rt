@@ -79,6 +79,78 @@ fn count_rounds(table: &ExitTable, names: &[Name]) -> u64
     there
 }
 
+/// Marks the names that are there.
+fn mark_there(table: &mut ExitTable, names: &[Name])
+    ensures { table.new.room ≡ table.old.room }
+{
+    for name in names {
+        if table.has(*name) {
+            table.mark(*name);
+        }
+    }
+}
+
+/// Removes the targets that aren't marked, and counts them.
+fn drain(table: &mut ExitTable) -> u64
+    ensures { table.new.room ≡ table.old.room }
+{
+    let mut drained: u64 = 0;
+    while let Some(_link) = table.take_unmarked() {
+        drained = drained.saturating_add(1);
+    }
+    drained
+}
+
+/// What came of draining an exit table.
+#[derive(Clone, Copy)]
+pub struct Drained {
+    pub targets: u32,
+    pub drained: u64,
+}
+
+/// Drains the half of the targets that isn't marked, and adds it again, as often as there are rounds. Draining alone is timed.
+fn drain_rounds<R: CpuClock + Eprint>(
+    rt: &R,
+    watch: &mut Watch,
+    table: &mut ExitTable,
+    targets: &[Name],
+    names: &[Name],
+    room: u32,
+) -> u64
+    requires room { table.old.room ≡ room }
+{
+    let mut drained: u64 = 0;
+    for _round in 0..ROUNDS {
+        add_all(table, targets, room);
+        table.unmark_all();
+        mark_there(table, names);
+        watch.lap(rt, "before");
+        drained = drained.saturating_add(drain(table));
+        watch.lap(rt, "drain");
+    }
+    drained
+}
+
+/// Drains half of `size / ROUNDS` targets again and again: `size` items are passed in all.
+pub fn run_drain<R: Alloc<A = Global> + CpuClock + Eprint>(
+    rt: &R,
+    watch: &mut Watch,
+    size: u32,
+) -> Result<Drained, NoMemory>
+    requires { size ≤ 10000000 }
+{
+    let alloc = rt.alloc();
+    let count = size / ROUNDS;
+    let targets = scattered(alloc, count, false)?;
+    let names = scattered(alloc, count, true)?;
+    let mut table = ExitTable::make(alloc, count + 1)?;
+    let drained = drain_rounds(rt, watch, &mut table, &targets, &names, count + 1);
+    Ok(Drained {
+        targets: table.len(),
+        drained,
+    })
+}
+
 /// Adds `size / ROUNDS` targets again and again, `size` calls in all, and then looks up as many names, half of which are there.
 pub fn run<R: Alloc<A = Global> + CpuClock + Eprint>(
     rt: &R,

@@ -39,7 +39,7 @@ const SEG: Seg = Seg(1);
 const MANY: u32 = 20_000_000;
 
 /// The one type of the objects: two references and an integer.
-fn types(alloc: Global) -> Result<TypeTable, NoMemory>
+pub fn types(alloc: Global) -> Result<TypeTable, NoMemory>
     ensures { IfOk result (λ t. length t ≡ 1) }
 {
     let row = vec![in alloc; Field::Ref, Field::Ref, Field::Int]?;
@@ -48,7 +48,7 @@ fn types(alloc: Global) -> Result<TypeTable, NoMemory>
 }
 
 /// So many new objects.
-fn make(alloc: Global, types: &TypeTable, size: u32) -> Result<Vec<Body>, NoMemory>
+pub fn make(alloc: Global, types: &TypeTable, size: u32) -> Result<Vec<Body>, NoMemory>
     requires { 0 < length types.now }
     ensures count { IfOk result (λ bodies. length bodies.items ≡ size) }
     ensures new { IfOk result (λ bodies. AreNew bodies.items) }
@@ -61,7 +61,7 @@ fn make(alloc: Global, types: &TypeTable, size: u32) -> Result<Vec<Body>, NoMemo
 }
 
 /// Puts all the objects in.
-fn place(segment: &mut Segment, bodies: Vec<Body>)
+pub fn place(segment: &mut Segment, bodies: Vec<Body>)
     requires begun { 0 < length segment.old.rows }
     requires room { length segment.old.rows + length bodies.items ≤ segment.old.room + 1 }
     requires new { AreNew bodies.items }
@@ -75,7 +75,7 @@ fn place(segment: &mut Segment, bodies: Vec<Body>)
 }
 
 /// A reference to the object of that serial, where it is there.
-fn link_to(segment: &Segment, serial: u32) -> Option<Link>
+pub fn link_to(segment: &Segment, serial: u32) -> Option<Link>
     ensures { IfSome result (λ link. link.seg.0 ≡ segment.now.number) }
 {
     match segment.find(Serial(serial)) {
@@ -105,7 +105,7 @@ fn link_one(segment: &mut Segment, from: u32, field: u32, to: u32)
 
 /// Has each object of serial i refer to those of serials 2i + i % 2 and the second after it, where they are there: two trees,
 /// of the odd serials below 1 and of the even ones below 2.
-fn link(segment: &mut Segment, size: u32)
+pub fn link(segment: &mut Segment, size: u32)
     requires small { size ≤ 10000000 }
     requires inside { KeepsInside segment.old }
     ensures inside { KeepsInside segment.new }

@@ -1,8 +1,9 @@
 //! Measures the running tables: does one measurement of a given size, and prints what came of it.
 //!
 //! The words are the name of a measurement and a size, such as `mark 1000000`. Those of the heap are `make`, `place`, `link`,
-//! `mark`, `sweep`, `mark_half` and `sweep_half`; each does those before it, too. `add` and `has` are those of the exit items,
-//! `up` and `down` those of the entry items. With a third word `timed` the processor time of each phase, in nanoseconds, goes
+//! `mark`, `sweep`, `mark_half` and `sweep_half`; each does those before it, too. `add`, `has` and `drain` are those of the
+//! exit items, `up`, `down` and `walk` those of the entry items. `again` and `dead` collect one heap again and again,
+//! and `wide` marks one of 129 segments. With a third word `timed` the processor time of each phase, in nanoseconds, goes
 //! to standard error. The line on standard output depends on no time, so it is compared with that of the twin in `bench/`. The
 //! exit status is 0, or 2 where the words are no measurement, or 1 where memory, the words or the output fail.
 #![tactic(auto)]
@@ -14,7 +15,9 @@ mod exits;
 mod heap;
 mod names;
 mod watch;
+mod wide;
 
+use crate::entries::Last;
 use crate::heap::Stage;
 use crate::watch::Watch;
 use k_io::NoMemory;
@@ -85,8 +88,24 @@ fn measured(
         )?));
     }
     if word == "up" || word == "down" {
-        let total = entries::run(rt, watch, size, word == "down")?;
+        let last = if word == "up" { Last::Up } else { Last::Down };
+        let total = entries::run(rt, watch, size, last)?;
         return Ok(Some(format!(in alloc; "{word} {size}: the counts are {total} in all")?));
+    }
+    if word == "wide" {
+        let bytes = wide::run(rt, watch, size)?;
+        return Ok(Some(format!(in alloc; "{word} {size}: {bytes} bytes are marked")?));
+    }
+    if word == "walk" {
+        let total = entries::run(rt, watch, size, Last::Walk)?;
+        return Ok(Some(format!(in alloc; "{word} {size}: the serials are {total} in all")?));
+    }
+    if word == "drain" {
+        let found = exits::run_drain(rt, watch, size)?;
+        return Ok(Some(format!(in alloc;
+            "{word} {size}: {} targets, {} drained",
+            found.targets, found.drained
+        )?));
     }
     Ok(None)
 }

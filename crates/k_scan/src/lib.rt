@@ -3,7 +3,8 @@
 //! The readers say what a collection of a heap begins with ([`roots`]), what it reaches ([`reached`]), and the numbers with
 //! which it ends ([`ending`]); the changes leave what the machine's definitions say, or nothing where memory is wanting: all
 //! memory is taken before the first change. What is reached is found by a list of work over the objects, and is the machine's
-//! closure. Whoever calls owes room for one step, and that the numbers are the trace's.
+//! closure. [`ending`] asks for room for one step, [`absorb`] and [`end_of_process`] for a heap and a process of the trace;
+//! nothing else is asked.
 #![tactic(auto)]
 
 mod changes;

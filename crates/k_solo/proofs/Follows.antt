@@ -16,6 +16,7 @@ use Rattle.k_order.proofs.FileOrders.{file_order_complete, file_order_legal}
 use Rattle.k_state.specs.Machines.{Machine, setup_of}
 use Rattle.k_solo.specs.Runs.{IsFiled, Run}
 use Rattle.k_solo.specs.Taken.{HasTaken}
+use Rattle.k_solo.proofs.Lines.{setup_rules}
 use Rattle.k_solo.proofs.Unread.{events_unread, last_unread, legal_unread, run_unread}
 
 -- the machine has taken these events, the first ones of the file's order, and the order is what is left
@@ -100,18 +101,34 @@ follows_some trace m after events newer p order op e taken f =
           ∙ ap (λ rest. events ++ rest) (sym (order_next trace m.state p order (Some op) e)) ∙ f.filed;
     }
 
+-- all events are those of the file's order, once the last ones are taken
+all_taken : (trace : Trace) (m after : Machine) (events newer : List Event) → Follows trace m events [] → HasTaken m after events newer (last_events m.setup m.state) →
+    newer ≡ file_order trace
+all_taken trace m after events newer f taken =
+    taken.journal
+    ∙ ap (λ rest. events ++ rest) (ap (λ (s : Trace). last_events s m.state) f.setup ∙ sym (last_unread trace m.state) ∙ sym (order_end trace m.state)) ∙ f.filed
+
+-- they name what the setup declares
+pub last_known : (trace : Trace) (m after : Machine) (events newer : List Event) → KeepsRules trace → Follows trace m events [] →
+    HasTaken m after events newer (last_events m.setup m.state) → AllByRecursion (IsKnownEvent after.setup) newer
+last_known trace m after events newer rules f taken =
+    let legal = legal_unread trace (opening trace) (file_order trace) (file_order_legal trace rules.operations) in
+    let known : AllByRecursion (IsKnownEvent (setup_of trace)) (file_order trace) = history_known (setup_of trace) (file_order trace) (setup_rules trace rules).limits legal in
+    subst (λ (s : Trace). AllByRecursion (IsKnownEvent s) newer) (sym (taken.setup ∙ f.setup))
+    (subst (λ (es : List Event). AllByRecursion (IsKnownEvent (setup_of trace)) es) (sym (all_taken trace m after events newer f taken)) known)
+
 -- the run at the end
-pub filed_run : (trace : Trace) (m after : Machine) (events newer : List Event) (end : Run) → KeepsRules trace → Follows trace m events [] →
-    HasTaken m after events newer (last_events m.setup m.state) → end ≡ record { machine = after; events = newer } → IsFiled trace end
-filed_run trace m after events newer end rules f taken is =
+pub filed_run : (trace : Trace) (m after : Machine) (events newer : List Event) → KeepsRules trace → Follows trace m events [] →
+    HasTaken m after events newer (last_events m.setup m.state) → IsFiled trace (record { machine = after; events = newer })
+filed_run trace m after events newer rules f taken =
     let own : last_events m.setup m.state ≡ last_events trace m.state
     = ap (λ (s : Trace). last_events s m.state) f.setup ∙ sym (last_unread trace m.state) in
     let t : HasTaken m after events newer (last_events trace m.state) = subst (HasTaken m after events newer) own taken in
-    let all : newer ≡ file_order trace = t.journal ∙ ap (λ rest. events ++ rest) (sym (order_end trace m.state)) ∙ f.filed in
-    subst (IsFiled trace) (sym is) (record {
+    let all = all_taken trace m after events newer f taken in
+    record {
       setup = t.setup ∙ f.setup;
       events = all;
       state = taken_after trace m after events newer (last_events trace m.state) f.setup f.after t ∙ ap (state_after trace) all;
       legal = file_order_legal trace rules.operations;
       complete = file_order_complete trace rules.operations;
-    })
+    }

@@ -1,16 +1,18 @@
 -- What one operation of the file adds, and what the loop over the file's order asks of it.
-use Rattle.std.proofs.Common.{◌≡◌, ℕ, zero, suc, ◌+◌, ◌*◌, ◌^◌, ◌<◌, ◌≤◌, nat_lt, Bool, true, false, cond, refl, ap, sym, subst, ◌∙◌, List, [], ◌∷◌, ◌++◌, map, length, get_or, slice_get, drop, Option, Some, None, arith}
+use Rattle.std.proofs.Common.{◌≡◌, ℕ, zero, suc, ◌+◌, ◌*◌, ◌^◌, ◌<◌, ◌≤◌, nat_lt, Bool, true, false, cond, refl, ap, sym, subst, ◌∙◌, List, [], ◌∷◌, ◌++◌, map, length, get_or, slice_get, drop, Option, Some, None, arith, if◌then◌else◌}
 use Rattle.std.specs.Prelude.{IsTrue}
 use Rattle.std.specs.List.{list_all}
 use Rattle.std.proofs.lemmas.Bool.{and_parts}
 use Rattle.std.proofs.lemmas.Bool.Decides.{nat_tests}
 use Rattle.std.proofs.lemmas.List.{at_drop_all, drop_more, length-append, length-map}
 use Rattle.k_types.specs.declared.event.Event.{Event}
-use Rattle.k_types.specs.declared.event.Event.TheVariants.{Done}
+use Rattle.k_types.specs.declared.event.Event.TheVariants.{Closing, Done}
 use Rattle.k_types.specs.declared.names.Heap.{Heap}
+use Rattle.k_types.specs.declared.names.Heap.TheVariants.{Kernel}
 use Rattle.k_types.specs.declared.names.Pid.{Pid}
 use Rattle.k_types.specs.declared.op.Op.{Op}
-use Rattle.k_types.specs.FileOrder.{events_of, heap_begun, with_end}
+use Rattle.k_types.specs.Complete.{all_ended}
+use Rattle.k_types.specs.FileOrder.{absorptions, events_of, heap_begun, last_events, with_end}
 use Rattle.k_types.specs.Replies.{reply_to}
 use Rattle.k_types.specs.State.{State}
 use Rattle.k_types.specs.Steps.{run}
@@ -18,7 +20,7 @@ use Rattle.k_types.specs.Trace.{Trace}
 use Rattle.k_types.specs.TraceRules.{KeepsRules}
 use Rattle.k_state.specs.Machines.{AreSetupRules, setup_of}
 use Rattle.k_solo.specs.Taken.{first_events}
-use Rattle.k_solo.proofs.Absorptions.{few_first}
+use Rattle.k_solo.proofs.Absorptions.{few_absorptions, few_first}
 
 end_length : (trace : Trace) (st : State) (event : Event) (begun : Option Heap) → length (with_end trace st event begun) ≤ 2
 end_length trace st event None = omega arith
@@ -34,6 +36,21 @@ few_events setup st p op few =
     let le2 : length first ≤ setup.shared_heaps = few_first setup st op in
     let both : length (first ++ rest) ≡ length first + length rest = length-append first rest in
     omega (arith, le, le2, both, few)
+
+-- and so are the last events
+pub few_last : (setup : Trace) (st : State) → setup.shared_heaps ≤ 64 → length (last_events setup st) ≤ 66
+few_last setup st few = go (all_ended setup st)
+  where
+    go : (b : Bool) → length (if b then (absorptions setup st ++ with_end setup (run setup st (absorptions setup st)) Closing (Some Kernel)) else []) ≤ 66
+    go true =
+        omega (
+          arith,
+          length-append (absorptions setup st) (with_end setup (run setup st (absorptions setup st)) Closing (Some Kernel)),
+          few_absorptions setup st,
+          end_length setup (run setup st (absorptions setup st)) Closing (Some Kernel),
+          few,
+        )
+    go false = omega arith
 
 -- the journal of one operation more
 pub few_more : (old new taken : List Event) (i : ℕ) → new ≡ old ++ taken → length taken ≤ 66 → length old ≤ 66 * i → length new ≤ 66 * (i + 1)

@@ -21,6 +21,8 @@ mod owners;
 mod readers;
 mod registers;
 mod rooms;
+#[cfg(test)]
+mod tests;
 mod turning;
 mod updates;
 mod writing;

@@ -1,5 +1,5 @@
 //! What a state and its setup say, read.
-ghost use Rattle.std.specs.Prelude.{◌≡◌, IfNone, IfSome, IsFalse, ◌<◌, ◌-◌, ◌^◌, [], not, option_copied, option_map, slice_index_or, length};
+ghost use Rattle.std.specs.Prelude.{◌≡◌, ◌<◌, ◌-◌, ◌^◌, [], not, option_copied, option_map, slice_index_or, length, IfSome, IfNone, IsFalse};
 ghost use Rattle.k_state.specs.Machines.{IsPlain};
 ghost use Rattle.k_state.specs.Places.{IsNamedAt};
 ghost use Rattle.k_types.specs.Known.{IsKnownPhase};

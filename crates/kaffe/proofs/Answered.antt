@@ -9,7 +9,6 @@ use Rattle.kaffe.specs.declared.status.Status.{Status}
 use Rattle.kaffe.specs.declared.status.Status.TheVariants.{Good, BadTrace, Usage, WantOfMemory, ReadFault, WriteFault, Refused}
 use Rattle.kaffe.specs.Answers.{WasRead}
 use Rattle.kaffe.specs.Ends.{Input, Output}
-use Rattle.kaffe.specs.NotBuilt.{IsRunSoFar}
 use Rattle.kaffe.specs.Parts.{Answers, IsWritten, TellsOfTrace, TellsOfBytes, TellsOfSource}
 
 -- An answer with no text: nothing was written.
@@ -40,11 +39,11 @@ source_tells input bytes read WriteFault text h = absurd h
 source_tells input bytes read Refused text h = absurd h
 
 -- What the trace tells, the bytes that spell it tell.
-pub bytes_tell : (bytes : Text) (t : NamedTrace) → Spells bytes t → IsRunSoFar t → (status : Status) (text : Text) → TellsOfTrace t status text → TellsOfBytes bytes status text
-bytes_tell bytes t spells built Good text h = (t, spells, built, h)
-bytes_tell bytes t spells built WantOfMemory text h = h
-bytes_tell bytes t spells built BadTrace text h = absurd h
-bytes_tell bytes t spells built Usage text h = absurd h
-bytes_tell bytes t spells built ReadFault text h = absurd h
-bytes_tell bytes t spells built WriteFault text h = absurd h
-bytes_tell bytes t spells built Refused text h = absurd h
+pub bytes_tell : (bytes : Text) (t : NamedTrace) → Spells bytes t → (status : Status) (text : Text) → TellsOfTrace t status text → TellsOfBytes bytes status text
+bytes_tell bytes t spells Good text h = (t, spells, h)
+bytes_tell bytes t spells WantOfMemory text h = h
+bytes_tell bytes t spells BadTrace text h = absurd h
+bytes_tell bytes t spells Usage text h = absurd h
+bytes_tell bytes t spells ReadFault text h = absurd h
+bytes_tell bytes t spells WriteFault text h = absurd h
+bytes_tell bytes t spells Refused text h = absurd h

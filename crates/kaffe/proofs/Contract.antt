@@ -7,15 +7,15 @@ use Rattle.k_types.specs.Bounds.{most_trace_bytes}
 use Rattle.k_types.specs.FileOrder.{file_order}
 use Rattle.k_words.specs.Words.{Text}
 use Rattle.k_trace.specs.Named.{NamedTrace}
+use Rattle.k_trace.specs.Judgement.{IsBad}
 use Rattle.k_trace.specs.Rules.{Spells}
-use Rattle.k_trace.proofs.Exact.{one, apart}
+use Rattle.k_trace.proofs.Exact.{apart}
 use Rattle.kaffe.specs.declared.commands.Command.{Command}
 use Rattle.kaffe.specs.declared.status.Status.{Status}
 use Rattle.kaffe.specs.declared.status.Status.TheVariants.{Good, BadTrace, Usage, WantOfMemory, ReadFault, WriteFault, Refused}
 use Rattle.kaffe.specs.Answers.{WasRead, IsDone, IsBadInput, IsDue, IsAnswered, IsUnwritten}
 use Rattle.kaffe.specs.Commands.{command_of, IsCommand, IsNoCommand}
 use Rattle.kaffe.specs.Ends.{Input, Output, SourceFailed, SinkFailed, Took, TookFront, TookNothing}
-use Rattle.kaffe.specs.NotBuilt.{IsBadAt, IsRunSoFar}
 use Rattle.kaffe.specs.Parts.{Answers, IsWritten, TellsOfSource}
 use Rattle.kaffe.specs.Texts.{usage_text}
 
@@ -30,7 +30,7 @@ done_of words input text command said h = record {
   trace = h.2.0;
   spelled = h.2.1;
   history = file_order h.2.0.trace;
-  report = h.2.3;
+  report = h.2.2;
   in_order = λ replay. refl;
 }
 
@@ -69,26 +69,21 @@ same_few : (bytes given : Text) (input : Input) → input.left ≡ Some bytes �
 same_few bytes given input known read few =
     same_bytes bytes given input known read (read_few bytes given input.rest most_trace_bytes (subst (λ (l : Option Text). Consumes l input.rest given) known read.given) few)
 
--- A trace that is run is not answered as a bad one.
-clash : (bytes : Text) (t : NamedTrace) (line reason : ℕ) → Spells bytes t → IsRunSoFar t → IsBadAt bytes line reason → ⊥
-clash bytes t line reason spells built (inl bad) = apart bytes t line reason spells bad
-clash bytes t line reason spells built (inr other) = other.other (subst IsRunSoFar (one bytes t other.trace spells other.spelled) built)
-
-status_of_trace : (input : Input) (bytes : Text) (t : NamedTrace) (status : Status) (text : Text) → input.left ≡ Some bytes → Spells bytes t → IsRunSoFar t → ¬ SourceFailed input
+status_of_trace : (input : Input) (bytes : Text) (t : NamedTrace) (status : Status) (text : Text) → input.left ≡ Some bytes → Spells bytes t → ¬ SourceFailed input
     → TellsOfSource input status text → (status ≡ Good) ⊎ (status ≡ WantOfMemory)
-status_of_trace input bytes t Good text known spells built steady h = inl refl
-status_of_trace input bytes t WantOfMemory text known spells built steady h = inr refl
-status_of_trace input bytes t BadTrace text known spells built steady h =
-    absurd (clash h.0 t h.2.0 h.2.1 (subst (λ (b : Text). Spells b t) (same_few bytes h.0 input known h.1 spells.few) spells) built h.2.2)
-status_of_trace input bytes t ReadFault text known spells built steady h = absurd (steady h.0)
-status_of_trace input bytes t Usage text known spells built steady h = absurd h
-status_of_trace input bytes t WriteFault text known spells built steady h = absurd h
-status_of_trace input bytes t Refused text known spells built steady h = absurd h
+status_of_trace input bytes t Good text known spells steady h = inl refl
+status_of_trace input bytes t WantOfMemory text known spells steady h = inr refl
+status_of_trace input bytes t BadTrace text known spells steady h =
+    absurd (apart h.0 t h.2.0 h.2.1 (subst (λ (b : Text). Spells b t) (same_few bytes h.0 input known h.1 spells.few) spells) h.2.2)
+status_of_trace input bytes t ReadFault text known spells steady h = absurd (steady h.0)
+status_of_trace input bytes t Usage text known spells steady h = absurd h
+status_of_trace input bytes t WriteFault text known spells steady h = absurd h
+status_of_trace input bytes t Refused text known spells steady h = absurd h
 
-status_of_bad : (input : Input) (bytes : Text) (line reason : ℕ) (status : Status) (text : Text) → input.left ≡ Some bytes → IsBadAt bytes line reason → ¬ SourceFailed input
+status_of_bad : (input : Input) (bytes : Text) (line reason : ℕ) (status : Status) (text : Text) → input.left ≡ Some bytes → IsBad bytes line reason → ¬ SourceFailed input
     → TellsOfSource input status text → (status ≡ BadTrace) ⊎ (status ≡ WantOfMemory)
 status_of_bad input bytes line reason Good text known bad steady h =
-    absurd (clash bytes h.2.0 line reason (subst (λ (b : Text). Spells b h.2.0) (sym (same_bytes bytes h.0 input known h.1 h.2.1.few)) h.2.1) h.2.2 bad)
+    absurd (apart bytes h.2.0 line reason (subst (λ (b : Text). Spells b h.2.0) (sym (same_bytes bytes h.0 input known h.1 h.2.1.few)) h.2.1) bad)
 status_of_bad input bytes line reason BadTrace text known bad steady h = inl refl
 status_of_bad input bytes line reason WantOfMemory text known bad steady h = inr refl
 status_of_bad input bytes line reason ReadFault text known bad steady h = absurd (steady h.0)
@@ -143,9 +138,9 @@ of_command words input output answer command said a =
       refused = λ e. (told Refused a.told a.written (λ (f : Refused ≡ WriteFault). absurd cc) e).0;
       complete = record {
         of_no_command = λ none steady. absurd (some_command words command said none);
-        of_trace = λ bytes t is known spells built steady kept.
+        of_trace = λ bytes t is known spells steady kept.
             subst (λ (s : Status). (s ≡ Good) ⊎ (s ≡ WantOfMemory)) (sym (settled output a.status answer a.text a.written kept))
-            (status_of_trace input bytes t a.status a.text known spells built steady a.told);
+            (status_of_trace input bytes t a.status a.text known spells steady a.told);
         of_no_trace = λ bytes line reason is known bad steady kept.
             subst (λ (s : Status). (s ≡ BadTrace) ⊎ (s ≡ WantOfMemory)) (sym (settled output a.status answer a.text a.written kept))
             (status_of_bad input bytes line reason a.status a.text known bad steady a.told);
@@ -180,7 +175,7 @@ of_no_command words input output answer none written =
       refused = other Refused (λ (f : Refused ≡ Usage). absurd cc) (λ (f : Refused ≡ WriteFault). absurd cc);
       complete = record {
         of_no_command = λ no steady. settled output Usage answer usage_text written steady;
-        of_trace = λ bytes t is known spells built steady kept. absurd (some_command words is.0 is.1 none);
+        of_trace = λ bytes t is known spells steady kept. absurd (some_command words is.0 is.1 none);
         of_no_trace = λ bytes line reason is known bad steady kept. absurd (some_command words is.0 is.1 none);
       };
     }

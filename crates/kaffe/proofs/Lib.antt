@@ -1,6 +1,5 @@
 pub mod Answered
 pub mod Contract
-pub mod Inputs
 pub mod Lines
 pub mod Lists
 pub mod Reports

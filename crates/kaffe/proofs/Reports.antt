@@ -5,8 +5,8 @@ use Rattle.k_types.specs.FileOrder.{file_order}
 use Rattle.k_types.specs.Steps.{state_after}
 use Rattle.k_types.specs.Trace.{Trace}
 use Rattle.k_types.specs.State.{State}
-use Rattle.k_plain.specs.Machines.{setup_of}
-use Rattle.k_plain.specs.Runs.{Run, IsFiled}
+use Rattle.k_state.specs.Machines.{setup_of}
+use Rattle.k_solo.specs.Runs.{Run, IsFiled}
 use Rattle.k_trace.specs.Named.{DeclaredNames, NamedTrace}
 use Rattle.k_trace.specs.Rules.{IsTrace}
 use Rattle.k_text.specs.Named.{AreNamed}

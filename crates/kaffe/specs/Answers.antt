@@ -6,6 +6,7 @@ use Rattle.k_types.specs.Bounds.{most_trace_bytes}
 use Rattle.k_types.specs.FileOrder.{file_order}
 use Rattle.k_words.specs.Words.{Text}
 use Rattle.k_trace.specs.Named.{NamedTrace}
+use Rattle.k_trace.specs.Judgement.{IsBad}
 use Rattle.k_trace.specs.Rules.{Spells}
 use Rattle.kaffe.specs.declared.commands.Command.{Command}
 use Rattle.kaffe.specs.declared.commands.Command.TheVariants.{Replay}
@@ -13,7 +14,6 @@ use Rattle.kaffe.specs.declared.status.Status.{Status}
 use Rattle.kaffe.specs.declared.status.Status.TheVariants.{Good, BadTrace, Usage, WantOfMemory, ReadFault, WriteFault, Refused}
 use Rattle.kaffe.specs.Commands.{command_of, IsCommand, IsNoCommand}
 use Rattle.kaffe.specs.Ends.{Input, Output, SourceFailed, SinkFailed, Took, TookFront, TookNothing}
-use Rattle.kaffe.specs.NotBuilt.{IsBadAt, IsRunSoFar}
 use Rattle.kaffe.specs.Reports.{IsReportOf}
 use Rattle.kaffe.specs.Texts.{usage_text, bad_trace_text}
 
@@ -42,7 +42,7 @@ pub record IsBadInput (words : List Text) (input : Input) (text : Text) : Type 0
   pub read : WasRead most_trace_bytes input bytes
   pub line : ℕ
   pub reason : ℕ
-  pub bad : IsBadAt bytes line reason
+  pub bad : IsBad bytes line reason
   pub says : text ≡ bad_trace_text line reason
 
 -- The words are no command, and the text is the usage line.
@@ -57,9 +57,9 @@ IsDue words input text = IsDone words input text ⊎ IsBadInput words input text
 -- Where neither source nor sink fails, the words and the bytes decide the answer, up to want of memory.
 pub record IsDecided (words : List Text) (input : Input) (output : Output) (answer : Status) : Type 0 where
   pub of_no_command : IsNoCommand words → ¬ SinkFailed output → answer ≡ Usage
-  pub of_trace : (bytes : Text) (t : NamedTrace) → IsCommand words → input.left ≡ Some bytes → Spells bytes t → IsRunSoFar t
+  pub of_trace : (bytes : Text) (t : NamedTrace) → IsCommand words → input.left ≡ Some bytes → Spells bytes t
       → ¬ SourceFailed input → ¬ SinkFailed output → (answer ≡ Good) ⊎ (answer ≡ WantOfMemory)
-  pub of_no_trace : (bytes : Text) (line reason : ℕ) → IsCommand words → input.left ≡ Some bytes → IsBadAt bytes line reason
+  pub of_no_trace : (bytes : Text) (line reason : ℕ) → IsCommand words → input.left ≡ Some bytes → IsBad bytes line reason
       → ¬ SourceFailed input → ¬ SinkFailed output → (answer ≡ BadTrace) ⊎ (answer ≡ WantOfMemory)
 
 -- What each status means where it is the answer, and which answer comes.

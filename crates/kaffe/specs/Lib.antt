@@ -1,7 +1,6 @@
 pub mod Commands
 pub mod Texts
 pub mod Ends
-pub mod NotBuilt
 pub mod Reports
 pub mod Answers
 pub mod Parts

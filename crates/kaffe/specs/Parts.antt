@@ -4,12 +4,12 @@ use Rattle.k_types.specs.Bounds.{most_trace_bytes}
 use Rattle.k_types.specs.FileOrder.{file_order}
 use Rattle.k_words.specs.Words.{Text}
 use Rattle.k_trace.specs.Named.{NamedTrace}
+use Rattle.k_trace.specs.Judgement.{IsBad}
 use Rattle.k_trace.specs.Rules.{Spells}
 use Rattle.kaffe.specs.declared.status.Status.{Status}
 use Rattle.kaffe.specs.declared.status.Status.TheVariants.{Good, BadTrace, WantOfMemory, ReadFault, WriteFault}
 use Rattle.kaffe.specs.Answers.{IsUnwritten, WasRead}
 use Rattle.kaffe.specs.Ends.{Input, Output, SourceFailed, Took, TookFront}
-use Rattle.kaffe.specs.NotBuilt.{IsBadAt, IsRunSoFar}
 use Rattle.kaffe.specs.Reports.{IsReportOf}
 use Rattle.kaffe.specs.Texts.{bad_trace_text}
 
@@ -38,8 +38,8 @@ TellsOfTrace t _ text = ⊥
 
 -- What each status tells of the bytes that were read, and of the text to be written.
 abbrev pub TellsOfBytes : Text → Status → Text → Type 0
-TellsOfBytes bytes Good text = (t : NamedTrace) × Spells bytes t × IsRunSoFar t × IsReportOf t (file_order t.trace) text
-TellsOfBytes bytes BadTrace text = (line : ℕ) × (reason : ℕ) × IsBadAt bytes line reason × (text ≡ bad_trace_text line reason)
+TellsOfBytes bytes Good text = (t : NamedTrace) × Spells bytes t × IsReportOf t (file_order t.trace) text
+TellsOfBytes bytes BadTrace text = (line : ℕ) × (reason : ℕ) × IsBad bytes line reason × (text ≡ bad_trace_text line reason)
 TellsOfBytes bytes WantOfMemory text = text ≡ []
 TellsOfBytes bytes _ text = ⊥
 

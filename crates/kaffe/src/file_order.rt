@@ -1,19 +1,17 @@
 //! The commands that run a trace: today both do its operations in the order of the file.
 ghost use Rattle.std.specs.Prelude.{◌≡◌};
 ghost use Rattle.k_types.specs.FileOrder.{file_order};
-ghost use Rattle.k_plain.specs.Runs.{IsFiled};
+ghost use Rattle.k_solo.specs.Runs.{IsFiled};
 ghost use Rattle.k_text.specs.Report.{report_text};
 ghost use Rattle.k_trace.specs.Meaning.{meaning_of};
 ghost use Rattle.k_trace.specs.Rules.{IsTrace};
 ghost use Rattle.kaffe.specs.Answers.{IsUnwritten};
-ghost use Rattle.kaffe.specs.NotBuilt.{IsRunSoFar};
 ghost use Rattle.kaffe.specs.Parts.{Answers, IsWritten, TellsOfBytes, TellsOfSource, TellsOfTrace};
 
-use crate::not_built::write_not_built;
 use crate::status::{Status, want_of_memory};
 use crate::texts::{after_writing, write_bad_trace};
 use k_io::{ReadAllError, Sink, Source, read_all};
-use k_plain::{PlainEnd, is_first_form, solo};
+use k_solo::{PlainEnd, solo};
 use k_text::report;
 use k_trace::{Trace, TraceError, read_trace};
 use k_types::MOST_TRACE_BYTES;
@@ -43,13 +41,7 @@ fn run_bytes<K: Sink>(alloc: Global, bytes: &[u8], out: &mut K) -> Status
     ensures unwritten { IsUnwritten result → out.new ≡ out.old }
 {
     match read_trace(alloc, bytes) {
-        Ok(trace) => {
-            if is_first_form(&trace) {
-                run_trace(alloc, &trace, out)
-            } else {
-                write_not_built(out)
-            }
-        }
+        Ok(trace) => run_trace(alloc, &trace, out),
         Err(TraceError::NoMemory(refused)) => want_of_memory(refused),
         Err(TraceError::Bad { line, reason }) => write_bad_trace(out, line, reason),
     }
@@ -57,8 +49,7 @@ fn run_bytes<K: Sink>(alloc: Global, bytes: &[u8], out: &mut K) -> Status
 
 /// Runs the trace and writes its report.
 fn run_trace<K: Sink>(alloc: Global, trace: &Trace, out: &mut K) -> Status
-    requires good { IsTrace (meaning_of trace.now) }
-    requires built { IsRunSoFar (meaning_of trace.now) }
+    requires { IsTrace (meaning_of trace.now) }
     ensures answered { Answers (TellsOfTrace (meaning_of trace.now))
         (record { agreed = K.Holds out.old; agrees = K.Holds out.new; failed_before = K.faults out.old; failed_after = K.faults out.new })
         result }

@@ -10,11 +10,12 @@ mod call;
 mod command_line;
 mod commands;
 mod file_order;
-mod not_built;
 mod status;
 #[cfg(test)]
 mod tests;
 mod texts;
+#[cfg(test)]
+mod worked;
 
 use crate::command_line::program;
 use k_io::{NoGate, StdSink, StdSource};

@@ -172,8 +172,6 @@ fn tells_the_first_bad_operation(rt: HostRuntime) -> Result<(), Fail> {
             "p1 collect\np3 collect\np4\n",
             "bad trace: line 11 reason 8\n",
         ),
-        // a good trace whose form is not built yet
-        ("p1 dir r0\n", "bad trace: line 0 reason 13\n"),
     ] {
         let mut input = String::from_str(rt.alloc(), HEADER)?;
         input.push_str(rest)?;

@@ -6,14 +6,14 @@ use Rattle.kaffe.proofs.Reports.{report_is}
 use Rattle.kaffe.proofs.file_order.run_trace.Goals as goal
 
 pub solo-requires : goal.solo-requires
-solo-requires g c = record { rules = c.requires.good.rules; form = c.requires.built }
+solo-requires g c = c.requires.rules
 
 pub write_report-requires : goal.write_report-requires
-write_report-requires g c = record { good = c.requires.good; run = c.in-Ok.ensures }
+write_report-requires g c = record { good = c.requires; run = c.in-Ok.ensures }
 
 pub returns-in-Ok-clause-answered : goal.returns-in-Ok-clause-answered
 returns-in-Ok-clause-answered g c =
-    answered_written _ _ _ _ _ (report_is (meaning_of c.args.trace.now) _ c.requires.good c.in-Ok.ensures.legal c.in-Ok.ensures.complete) c.write_report.ensures
+    answered_written _ _ _ _ _ (report_is (meaning_of c.args.trace.now) _ c.requires c.in-Ok.ensures.legal c.in-Ok.ensures.complete) c.write_report.ensures
 
 pub returns-in-Err-clause-answered : goal.returns-in-Err-clause-answered
 returns-in-Err-clause-answered g c = answered_unwritten _ _ _ WantOfMemory _ c.want_of_memory.ensures refl
