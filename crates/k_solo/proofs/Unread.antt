@@ -181,6 +181,27 @@ module _ (trace : Trace) where
   possible_unread st (Absorbed s) may = record { known = may.known; orphan = may.orphan; idle = may.idle }
   possible_unread st Closing may = record { all_ended = may.all_ended; orphans = may.orphans; idle = may.idle; first = may.first }
 
+  -- and what is possible for the setup is possible for the trace
+  pub possible_read : (st : State) (event : Event) → IsPossible (setup_of trace) st event → IsPossible trace st event
+  unfolding survives exit_stays share_stays reach_in
+  possible_read st (Done pid op said) may = record {
+    known = may.known;
+    lives = may.lives;
+    in_range = range_unread op ∙ may.in_range;
+    idle = ap (list_all (λ (c : Cell). not (is_scanned st.scans c))) (cells_unread st (Done pid op said)) ∙ may.idle;
+    orphans = may.orphans;
+    replied = may.replied ∙ sym (reply_unread st pid.0 op);
+  }
+  possible_read st (Ended h a b c d) may = record {
+    scanned = may.scanned;
+    objects_gone = may.objects_gone;
+    bytes_gone = may.bytes_gone;
+    exits_gone = may.exits_gone;
+    shares_gone = may.shares_gone;
+  }
+  possible_read st (Absorbed s) may = record { known = may.known; orphan = may.orphan; idle = may.idle }
+  possible_read st Closing may = record { all_ended = may.all_ended; orphans = may.orphans; idle = may.idle; first = may.first }
+
   -- so does whether a run is
   pub legal_unread : (st : State) (events : List Event) → IsRun trace st events → IsRun (setup_of trace) st events
   legal_unread st [] legal = tt
