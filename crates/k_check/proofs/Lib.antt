@@ -1,0 +1,8 @@
+pub mod LinesRead
+pub mod InTurn
+pub mod Rooms
+pub mod Closings
+pub mod Splits
+pub mod Walks
+pub mod Lifted
+pub mod Outcomes

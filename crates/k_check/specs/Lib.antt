@@ -1,0 +1,4 @@
+pub mod Stops
+pub mod Walks
+pub mod Verdicts
+pub mod Turns
