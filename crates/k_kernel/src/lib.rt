@@ -8,5 +8,7 @@
 mod changing;
 mod kernel;
 mod reading;
+#[cfg(test)]
+mod tests;
 
 pub use kernel::KernelCell;
