@@ -37,6 +37,7 @@ fn small_setup(alloc: Global) -> Result<Setup, NoMemory>
 
 // The heap is filled, frozen, and given away whole.
 #[test]
+#[tactic(auto, using(crate::proofs::Rooms::serial_left))]
 fn a_shared_heap_is_filled_and_given_away(rt: HostRuntime) -> Result<(), Fail> {
     let setup = small_setup(rt.alloc())?;
     let (_tie, _seat, mut notes) = Tie::make(rt.alloc(), 4)?;
