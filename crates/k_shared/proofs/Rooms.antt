@@ -1,10 +1,9 @@
 -- What a new cell of a shared heap has room for.
-use Rattle.std.proofs.Common.{◌≡◌, ℕ, ◌+◌, ◌<◌, ◌≤◌, ◌==◌, cond, refl, ap, ◌∙◌, [], map, get_or, Option, Some, None, eq-eqb, arith}
-use Rattle.k_types.specs.declared.names.Heap.TheVariants.{Shared}
+use Rattle.std.proofs.Common.{◌≡◌, ℕ, ◌+◌, ◌<◌, ◌==◌, cond, ap, ◌∙◌, [], map, get_or, Some, None, eq-eqb, arith}
 use Rattle.k_types.specs.declared.names.SharedId.{SharedId}
 use Rattle.k_types.specs.declared.setup.Setup.{Setup}
 use Rattle.k_types.specs.Numbers.{numbers_below}
-use Rattle.k_types.specs.Trace.{segment_count, segment_of, trace_of}
+use Rattle.k_types.specs.Trace.{segment_count, trace_of}
 use Rattle.k_tie.specs.Values.{NoteValue}
 use Rattle.k_agree.proofs.Openings.{at_number}
 use Rattle.k_cell.specs.Holdings.{HasSerialLeft}
