@@ -1,8 +1,11 @@
 //! Whole traces: one that fills its limit, and one that shares a heap and ends all its processes.
 use crate::solo;
+use k_plain::{PlainState, is_complete, plain_step};
 use k_text::View;
 use k_trace::read_trace;
-use k_types::{Event, Fault, Heap, LimitId, Name, Pid, Reply, Seg, Serial, SharedId};
+use k_types::{
+    Event, Fault, Heap, LimitId, Name, Op, Pid, Reg, Reply, Seg, Serial, SharedId, TypeId,
+};
 use std::test::Fail;
 
 const FULL: &[u8] = b"kaffe 1
@@ -90,5 +93,24 @@ fn closes_where_all_have_ended(rt: HostRuntime) -> Result<(), Fail> {
         assert_eq!(rt; *end.event(8 + i), want[i as usize], "at {i}");
     }
     assert_eq!(rt; end.bytes(Heap::Kernel), 32);
+    Ok(())
+}
+
+// The first operation is a step with its reply, and an empty history is not complete.
+#[test]
+#[tactic(auto, using(crate::proofs::Lines::setup_rules, crate::proofs::Rooms::opening_room))]
+fn steps_from_the_opening_state(rt: HostRuntime) -> Result<(), Fail> {
+    let trace = read_trace(rt.alloc(), FULL)?;
+    let mut state = PlainState::opening(rt.alloc(), &trace.setup)?;
+    assert!(rt; !is_complete(&state, &trace.ops, &[]));
+    let first = Event::Done {
+        pid: Pid(0),
+        op: Op::New {
+            reg: Reg(0),
+            ty: TypeId(0),
+        },
+        reply: Reply::Made(object(1)),
+    };
+    assert!(rt; plain_step(rt.alloc(), &mut state, &first)?);
     Ok(())
 }
