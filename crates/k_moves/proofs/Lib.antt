@@ -1,0 +1,4 @@
+pub mod Idle
+pub mod Followed
+pub mod Changed
+pub mod Given
