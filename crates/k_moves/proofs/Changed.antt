@@ -1,5 +1,5 @@
 -- What the changes of a cell's value show.
-use Rattle.std.proofs.Common.{◌≡◌, ◌||◌, ◌<◌, ◌==◌, ◌+◌, ℕ, Bool, true, false, cond, refl, sym, ap, ap₂, subst, ◌∙◌, List, [], ◌∷◌, ◌++◌, length, get_or, set, Option, Some, None, eqb-true, eq-eqb, get_or-set_same, get_or-set_other, IsTrue}
+use Rattle.std.proofs.Common.{◌≡◌, ◌||◌, ◌<◌, ◌==◌, ◌+◌, ℕ, Bool, true, false, cond, refl, sym, ap, subst, ◌∙◌, List, [], ◌∷◌, ◌++◌, length, get_or, set, Option, Some, None, eqb-true, eq-eqb, get_or-set_same, get_or-set_other, IsTrue}
 use Rattle.std.proofs.Math.Path.{fun_ext}
 use Rattle.std.proofs.lemmas.Bool.{false≢true, or_right}
 use Rattle.k_types.specs.declared.names.Field.{Field}
@@ -8,7 +8,6 @@ use Rattle.k_types.specs.declared.names.TypeId.{TypeId}
 use Rattle.k_types.specs.Agree.{CellValue}
 use Rattle.k_types.specs.Names.{name_among, name_eq}
 use Rattle.k_base.proofs.NameTests.{name_eq-true}
-use Rattle.k_types.specs.Cells.{CellPart}
 use Rattle.k_changes.specs.CellChanges.{given, with_created, with_exit_to}
 use Rattle.k_moves.specs.Shown.{idle_part, value_with_exit, value_with_new}
 

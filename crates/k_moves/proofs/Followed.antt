@@ -1,11 +1,10 @@
 -- Cells and book whose values are changed as an operation asks show the state to which it leads.
-use Rattle.std.proofs.Common.{◌≡◌, ◌||◌, ◌&&◌, ℕ, refl, sym, ap, ap₂, subst, ◌∙◌, List, [], ◌∷◌, cond, not, true, false, IsTrue, IsFalse, inl, inr}
-use Rattle.std.specs.List.{list_all, list_any}
+use Rattle.std.proofs.Common.{◌≡◌, ◌||◌, refl, sym, ap, ap₂, ◌∙◌, List, [], ◌∷◌, cond, not, false, IsTrue, inl, inr}
+use Rattle.std.specs.List.{list_all}
 use Rattle.std.proofs.lemmas.Bool.{and_from, or_cases, or_left, or_right, false≢true}
 use Rattle.k_types.specs.declared.event.Event.{Event}
 use Rattle.k_types.specs.declared.event.Event.TheVariants.{Done}
 use Rattle.k_types.specs.declared.event.Reply.{Reply}
-use Rattle.k_types.specs.declared.names.Heap.{Heap}
 use Rattle.k_types.specs.declared.names.Heap.TheVariants.{User}
 use Rattle.k_types.specs.declared.names.Pid.{Pid}
 use Rattle.k_types.specs.declared.op.Op.{Op}
@@ -13,7 +12,6 @@ use Rattle.k_types.specs.Agree.{BookValue, CellValue, book_shown_by}
 use Rattle.k_types.specs.Cells.{BookPart, Cell, CellPart, book_part, cells_touched, part}
 use Rattle.k_types.specs.Effects.{step}
 use Rattle.k_types.specs.Names.{heap_eq}
-use Rattle.k_types.specs.Replies.{reply_to}
 use Rattle.k_types.specs.Sound.{IsSound}
 use Rattle.k_types.specs.State.{State, is_scanned}
 use Rattle.k_types.specs.Steps.{IsPossible, no_orphan}
@@ -29,7 +27,7 @@ use Rattle.k_squares.specs.Follows.{AgreeWhereTouched, GiveTheSame}
 use Rattle.k_squares.specs.Touches.{other_cells_in, touched_in}
 use Rattle.k_squares.proofs.Laws.{only_touched_cells_are_read-parts, only_touched_cells_are_read-replies, replies_are_told, steps_show_in_the_parts-book, steps_show_in_the_parts-cells, touched_cells_are_told}
 use Rattle.k_moves.specs.Moves.{HasMoved, HasMovedBoth, MayAct, MovesAlone, MovesBoth}
-use Rattle.k_moves.specs.Shown.{ShowsIdle, idle_part, part_alone, two_parts}
+use Rattle.k_moves.specs.Shown.{idle_part, part_alone, two_parts}
 use Rattle.k_moves.proofs.Idle.{book_follows, part_shown, shows_part, unscanned}
 
 -- the parts that are read are those of the state wherever the event touches a cell
@@ -128,8 +126,8 @@ module _ (trace : Trace) (st : State) (limits : AreLimits trace) (sound : IsSoun
       elim (or_cases (heap_eq (User pid) c) (heap_eq cell c || false) t) [
         | inl is ↦ let same = heap_eq-true (User pid) c is in ap both (sym same) ∙ own_is ∙ part_shown trace st (User pid) v m.own ∙ ap (part trace st) same
         | inr rest ↦ elim (or_cases (heap_eq cell c) false rest) [
-            | inl is ↦ let same = heap_eq-true cell c is in ap both (sym same) ∙ other_is ∙ part_shown trace st cell u m.other ∙ ap (part trace st) same
-            | inr bad ↦ absurd (false≢true bad)
+          | inl is ↦ let same = heap_eq-true cell c is in ap both (sym same) ∙ other_is ∙ part_shown trace st cell u m.other ∙ ap (part trace st) same
+          | inr bad ↦ absurd (false≢true bad)
         ]
       ]
 

@@ -1,9 +1,8 @@
 -- What operations give of the parts of the touched cells and of the book.
-use Rattle.std.proofs.Common.{◌≡◌, ◌+◌, ℕ, nat_lt, refl, sym, ap, ap₂, ◌∙◌, List, [], ◌∷◌, cond, Option, Some, None, IsFalse, true, false}
+use Rattle.std.proofs.Common.{◌≡◌, ℕ, refl, sym, ap, ap₂, ◌∙◌, [], ◌∷◌, cond, Option, Some, None, true}
 use Rattle.k_types.specs.declared.event.Event.TheVariants.{Done}
 use Rattle.k_types.specs.declared.event.Fault.{Fault}
-use Rattle.k_types.specs.declared.event.Fault.TheVariants.{KernelFull, Null}
-use Rattle.k_types.specs.declared.event.Reply.{Reply}
+use Rattle.k_types.specs.declared.event.Fault.TheVariants.{Null}
 use Rattle.k_types.specs.declared.event.Reply.TheVariants.{Done as DoneReply, Loaded, Made, Refused}
 use Rattle.k_types.specs.declared.names.Heap.{Heap}
 use Rattle.k_types.specs.declared.names.Heap.TheVariants.{Kernel, User}
@@ -12,21 +11,21 @@ use Rattle.k_types.specs.declared.names.Pid.{Pid}
 use Rattle.k_types.specs.declared.names.Reg.{Reg}
 use Rattle.k_types.specs.declared.names.TypeId.{TypeId}
 use Rattle.k_types.specs.declared.op.Op.{Op}
-use Rattle.k_types.specs.declared.op.Op.TheVariants.{Clear, Dir, KNew, Move, New, Store}
+use Rattle.k_types.specs.declared.op.Op.TheVariants.{Clear, Dir, Move, New, Store}
 use Rattle.k_types.specs.Cells.{BookPart, Cell, CellPart}
 use Rattle.k_types.specs.Names.{directory, heap_eq}
 use Rattle.k_types.specs.Owners.{user}
-use Rattle.k_types.specs.Replies.{at_base, fault_where, first_fault, refused_or}
+use Rattle.k_types.specs.Replies.{at_base, first_fault, refused_or}
 use Rattle.k_types.specs.State.{Refers}
 use Rattle.k_types.specs.Trace.{Trace, kinds_of, limit_of, segment_of, size_of_type}
 use Rattle.k_base.proofs.NameTests.{heap_eq_refl}
 use Rattle.k_frame.specs.PartUpdates.{held_in, with_done, with_register, with_written}
-use Rattle.k_changes.specs.BookChanges.{bytes_in, owner_in, with_charge, with_pin_moved}
+use Rattle.k_changes.specs.BookChanges.{owner_in, with_charge, with_pin_moved}
 use Rattle.k_changes.specs.CellChanges.{next_name_in, with_created}
 use Rattle.k_squares.specs.Answers.{answer_in, faults_in, reply_in, size_fault_in, store_faults_in}
 use Rattle.k_squares.specs.BookAfter.{book_after, book_operated, book_stored}
 use Rattle.k_squares.specs.CellAfter.{at_cell, cell_after, cells_operated, cells_stored, register_in, with_exit_for}
-use Rattle.k_squares.specs.Touches.{base_cell_in, other_cells_in}
+use Rattle.k_squares.specs.Touches.{other_cells_in}
 use Rattle.k_moves.specs.Moves.{GivesAlone, GivesBoth}
 use Rattle.k_moves.specs.Shown.{part_alone, two_parts}
 

@@ -1,19 +1,18 @@
 -- What an idle cell shows, and the owners that the book shows.
-use Rattle.std.proofs.Common.{◌≡◌, ℕ, refl, sym, ap, ap₂, subst, ◌∙◌, map, List, Option, None, IsTrue, is_some, not, true}
+use Rattle.std.proofs.Common.{◌≡◌, ℕ, sym, ap, ap₂, subst, ◌∙◌, map, List, Option, None, is_some, not, true}
 use Rattle.k_types.specs.declared.names.Heap.{Heap}
 use Rattle.k_types.specs.declared.names.Name.{Name}
 use Rattle.k_types.specs.declared.names.Phase.{Phase}
 use Rattle.k_types.specs.declared.names.CellPhase.TheVariants.{Idle}
-use Rattle.k_types.specs.Agree.{AreMarks, BookValue, CellValue, book_shown_by, shown_by}
-use Rattle.k_types.specs.Cells.{BookPart, Cell, CellPart, ShownPart, book_part, part, shown}
+use Rattle.k_types.specs.Agree.{AreMarks, BookValue, CellValue, book_shown_by}
+use Rattle.k_types.specs.Cells.{Cell, CellPart, ShownPart, book_part, part, shown}
 use Rattle.k_types.specs.Names.{among}
 use Rattle.k_types.specs.Numbers.{numbers_below}
-use Rattle.k_types.specs.Owners.{owner_of}
 use Rattle.k_types.specs.State.{State, is_scanned, scan_of}
 use Rattle.k_types.specs.Trace.{Trace, segment_count}
 use Rattle.k_changes.specs.BookChanges.{owner_in}
 use Rattle.k_changes.proofs.Laws.{the_book_tells_the_owners}
-use Rattle.k_agree.specs.Agreement.{BookShows, Shows}
+use Rattle.k_agree.specs.Agreement.{BookShows}
 use Rattle.k_moves.specs.Shown.{ShowsIdle, idle_part}
 use Rattle.k_moves.specs.Moves.{KeepsOwners}
 

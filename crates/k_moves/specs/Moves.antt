@@ -1,5 +1,5 @@
 -- Operations of a process, by the values of the cells that they touch and of the book.
-use Rattle.std.specs.Prelude.{◌≡◌, ◌<◌, ℕ, IsTrue, IsFalse, List, [], ◌∷◌}
+use Rattle.std.specs.Prelude.{◌≡◌, ◌<◌, ℕ, IsTrue, IsFalse, [], ◌∷◌}
 use Rattle.k_types.specs.declared.event.Event.TheVariants.{Done}
 use Rattle.k_types.specs.declared.event.Reply.{Reply}
 use Rattle.k_types.specs.declared.names.CellPhase.TheVariants.{Idle}
@@ -16,6 +16,7 @@ use Rattle.k_types.specs.Trace.{Trace, process_count}
 use Rattle.k_types.specs.TraceRules.{AreLimits}
 use Rattle.k_tie.specs.Values.{JournalValue, NoteValue}
 use Rattle.k_agree.specs.Agreement.{AreTotals, BookShows}
+use Rattle.k_agree.specs.Committing.{NotedCell}
 use Rattle.k_agree.specs.Meeting.{HasMet}
 use Rattle.k_squares.specs.Answers.{reply_in}
 use Rattle.k_squares.specs.BookAfter.{book_after}
@@ -85,6 +86,10 @@ pub record HasMovedBoth (trace : Trace) (st : State) (pid : Pid) (op : Op) (said
   pub own : ShowsIdle trace (step trace st (Done pid op said)) (User pid) w
   pub other : ShowsIdle trace (step trace st (Done pid op said)) cell x
   pub book : BookShows trace (step trace st (Done pid op said)) k
+
+-- the cell with its note and its value
+abbrev pub noted : Cell → NoteValue → CellValue → NotedCell
+noted cell note value = record { cell = cell; note = note; value = value }
 
 -- what stands before an operation in the own cell is appended: the journal is legal and has its totals, the cell has met it, and its
 -- changed value and the book's are what the operation asks

@@ -2,14 +2,13 @@
 use Rattle.std.specs.Prelude.{◌≡◌, ℕ, ◌+◌, ◌∷◌, ◌++◌, [], map, slice_index_or, slice_set, Option, Some, None, option_map, if◌then◌else◌}
 use Rattle.k_types.specs.declared.names.Name.{Name}
 use Rattle.k_types.specs.declared.names.Field.{Field}
-use Rattle.k_types.specs.declared.names.Heap.{Heap}
 use Rattle.k_types.specs.declared.names.CellPhase.TheVariants.{Idle}
 use Rattle.k_types.specs.declared.names.TypeId.{TypeId}
 use Rattle.std.specs.Prelude.{List}
 use Rattle.k_types.specs.Agree.{CellValue}
 use Rattle.k_types.specs.Cells.{Cell, CellPart}
 use Rattle.k_types.specs.Names.{heap_eq, name_among}
-use Rattle.k_types.specs.State.{State, Content, Object, fresh}
+use Rattle.k_types.specs.State.{State, Content, fresh}
 use Rattle.k_types.specs.Trace.{Trace}
 use Rattle.k_types.specs.Updates.{object_after_write, with_object}
 use Rattle.k_frame.specs.PartUpdates.{process_with_done, process_with_register}
