@@ -1,0 +1,6 @@
+pub mod Found
+pub mod Areas
+pub mod Lists
+pub mod Seen
+pub mod Marks
+pub mod Moved

@@ -1,0 +1,22 @@
+use Rattle.std.proofs.Common.{◌≡◌, ap, ◌∙◌}
+use Rattle.k_types.specs.declared.names.CellPhase.TheVariants.{Begun}
+use Rattle.k_types.specs.Names.{name_of}
+use Rattle.k_cell.specs.Holdings.{HoldingsValue}
+use Rattle.k_cell.proofs.Marks.{rooted, rooted_kept, rooted_rest}
+use Rattle.k_cell.proofs.holding.Holdings.root.Goals as goal
+
+pub invariant_of-self : goal.invariant_of-self
+invariant_of-self c =
+    let begun : c.self.inside.phase ≡ Begun = ap (λ (h : HoldingsValue). h.value.collection) c.self.view_is ∙ c.requires in
+    rooted_kept c.self.inside.bound c.self.inside.bytes c.self.inside.phase c.self.inside.area c.root.new.area c.self.inside.exits.items (name_of c.args.target) c.self.invariant begun c.root.ensures
+
+pub returns-clause-rest : goal.returns-clause-rest
+returns-clause-rest c =
+    rw (← c.self.view_is)
+    (rooted_rest c.self.inside.bound c.self.inside.phase c.self.inside.area c.root.new.area c.self.inside.exits c.self.inside.note (name_of c.args.target) c.root.ensures)
+
+pub returns-clause-root : goal.returns-clause-root
+returns-clause-root c =
+    let begun : c.self.inside.phase ≡ Begun = ap (λ (h : HoldingsValue). h.value.collection) c.self.view_is ∙ c.requires in
+    rw (← c.self.view_is)
+    (rooted c.self.inside.bound c.self.inside.bytes c.self.inside.phase c.self.inside.area c.root.new.area c.self.inside.exits.items (name_of c.args.target) c.self.invariant begun c.root.ensures)

@@ -1,0 +1,5 @@
+pub mod Holdings
+pub mod Changes
+pub mod Looks
+pub mod Placed
+pub mod Lends

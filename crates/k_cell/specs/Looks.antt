@@ -1,0 +1,33 @@
+-- What look-ups of an object find, among the objects as the machine has them and in an area.
+use Rattle.std.specs.Prelude.{ℕ, List, [], length, slice_index_or, Option, Some, None}
+use Rattle.k_types.specs.declared.names.Name.{Name}
+use Rattle.k_types.specs.declared.names.TypeId.{TypeId}
+use Rattle.k_types.specs.State.{Content, Holds, Object, fields_of, object_at}
+use Rattle.k_space.specs.Segments.{Row}
+
+-- what the field of the object holds; the number 0 where there is no such field
+abbrev pub field_among : List Object → Name → ℕ → Content
+field_among objects n i = slice_index_or (fields_of (object_at objects n)) i (Holds 0)
+
+-- the number of the object's fields; none where there is no such object
+abbrev pub field_count_among : List Object → Name → ℕ
+field_count_among objects n = length (fields_of (object_at objects n))
+
+-- the type of an object that may be there; the directory has none
+abbrev pub type_of_some : Option Object → Option TypeId
+type_of_some None = None
+type_of_some (Some o) = o.ty
+
+-- the type of the object; none where it has none, or there is no such object
+abbrev pub type_among : List Object → Name → Option TypeId
+type_among objects n = type_of_some (object_at objects n)
+
+-- the fields of a live object of a segment that may be there
+abbrev pub row_fields : Option Row → List Content
+row_fields None = []
+row_fields (Some row) = row.fields
+
+-- its type
+abbrev pub row_type : Option Row → Option TypeId
+row_type None = None
+row_type (Some row) = row.ty

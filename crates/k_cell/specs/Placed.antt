@@ -1,0 +1,42 @@
+-- What changes of one segment make of an area.
+use Rattle.std.specs.Prelude.{◌≡◌, ℕ, ◌+◌, ◌<◌, List, length, slice_set, Some}
+use Rattle.k_types.specs.declared.names.Name.{Name}
+use Rattle.k_types.specs.declared.names.Link.{Link}
+use Rattle.k_types.specs.Names.{name_of}
+use Rattle.k_types.specs.State.{Content}
+use Rattle.k_space.specs.Objects.{BodyValue, HasInt, HasRef}
+use Rattle.k_space.specs.Segments.{Row, SegmentValue, made, placed}
+use Rattle.k_space.specs.Areas.{AreaValue, row_of_name, segment_at, with_row_of, with_segment}
+
+-- the segment of that number is there and can give one more serial
+pub record CanPlace (segments : List SegmentValue) (number : ℕ) : Type 0 where
+  pub segment : SegmentValue
+  pub there : segment_at segments number ≡ Some segment
+  pub left : made segment < segment.room
+
+-- the segment has the object under its next serial, and all else is as it was
+pub record IsPlacedIn (old new : AreaValue) (number : ℕ) (body : BodyValue) (link : Link) : Type 0 where
+  pub segment : SegmentValue
+  pub there : segment_at old.segments number ≡ Some segment
+  pub begun : 0 < length segment.rows
+  pub seg : link.seg.0 ≡ number
+  pub serial : link.serial.0 ≡ length segment.rows
+  pub placed : new ≡ with_segment old number (placed segment link.slot.0 body)
+
+-- the object is there and its field is a reference
+pub record IsRefAt (segments : List SegmentValue) (n : Name) (field : ℕ) : Type 0 where
+  pub row : Row
+  pub there : row_of_name segments n ≡ Some row
+  pub is : HasRef row.fields field
+
+-- the object is there and its field is an integer
+pub record IsIntAt (segments : List SegmentValue) (n : Name) (field : ℕ) : Type 0 where
+  pub row : Row
+  pub there : row_of_name segments n ≡ Some row
+  pub is : HasInt row.fields field
+
+-- the field of the object holds the content, and all else is as it was
+pub record IsWrittenIn (old new : AreaValue) (n : Name) (field : ℕ) (content : Content) : Type 0 where
+  pub row : Row
+  pub there : row_of_name old.segments n ≡ Some row
+  pub written : new ≡ with_row_of old n (Some (record row { fields = slice_set row.fields field content }))

@@ -1,0 +1,327 @@
+//! The holdings of a cell.
+ghost use Rattle.std.specs.Prelude.{◌≡◌, ◌+◌, ◌<◌, ◌≤◌, ◌^◌, ◌==◌, ◌⊎◌, not, [], IfOk, IfSome, IfNone, IsFalse, IsTrue, Some, None, length, map, nat_lt, option_map, slice_get, slice_index_or, if◌then◌else◌};
+ghost use Rattle.std.specs.List.{list_any};
+ghost use Rattle.std.specs.Borrow.{sem};
+ghost use Rattle.k_types.specs.Agree.{CellValue};
+ghost use Rattle.k_types.specs.Names.{name_among, name_of};
+ghost use Rattle.k_types.specs.Numbers.{numbers_below};
+ghost use Rattle.k_types.specs.Owners.{object_bytes};
+ghost use Rattle.k_types.specs.Replies.{is_ref, number_in, reference};
+ghost use Rattle.k_types.specs.State.{Holds, Refers, has};
+ghost use Rattle.k_types.specs.Totals.{total};
+ghost use Rattle.k_types.specs.Types.{object_size};
+ghost use Rattle.k_types.specs.declared.names.CellPhase.TheVariants.{Begun, Idle, Marked};
+ghost use Rattle.k_types.specs.declared.names.Name.{Name as Named};
+ghost use Rattle.k_base.specs.Distinct.{AreDistinctNames};
+ghost use Rattle.k_space.specs.Objects.{content_of};
+ghost use Rattle.k_space.specs.Segments.{segment_bytes};
+ghost use Rattle.k_agree.specs.Marking.{begun};
+ghost use Rattle.k_agree.specs.Ending.{freed_bytes, freed_objects};
+ghost use Rattle.k_cell.specs.Looks.{field_among, field_count_among, type_among};
+ghost use Rattle.k_cell.specs.Changes.{HasDroppedExit, HasItsExits, HasMarked, HasRoot, next_in, with_black_alone, with_body, with_exit_item, with_field};
+ghost use Rattle.k_cell.specs.Holdings.{HasGivenSegment, HasSerialLeft, fresh_holdings, with_segment_added};
+
+use crate::looking::{count_at, field_at, lives_at, type_at};
+use crate::rooms::HoldingRooms;
+use crate::writing::{place_in, write_int_in, write_ref_in};
+use k_exit::ExitTable;
+use k_io::NoMemory;
+use k_mark::{Swept, clear, mark_uncounted, root, sweep};
+use k_space::{Area, Body, Segment, Stored};
+use k_tie::Note;
+use k_types::{CellPhase, Link, Name, Seg, TypeId};
+use std::alloc::Global;
+use std::marker::Model;
+
+/// The objects of a heap in their segments, its exit items, how far its collection has come, and what the cell knows of the
+/// journal.
+#[derive(Drop)]
+pub struct Holdings {
+    // The numbers of segments are below this one.
+    bound: u32,
+    area: Area,
+    // Those of the objects.
+    bytes: u64,
+    exits: ExitTable,
+    phase: CellPhase,
+    note: Note,
+}
+
+impl Model for Holdings {
+    ghost use Rattle.k_cell.specs.Holdings.{HoldingsValue, AreHoldings, holdings_seen};
+
+    ghost Value = { HoldingsValue };
+
+    ghost view = { λ h. holdings_seen h.bound h.phase h.area h.exits h.note };
+
+    ghost invariant = { λ h. AreHoldings h.bound h.bytes h.phase h.area h.exits.items };
+}
+
+impl Holdings {
+    ghost use Rattle.k_cell.specs.Lends.{lends_note};
+
+    /// Holdings with one segment, of that number, with no object yet. It takes the memory for all rooms at once; `NoMemory` comes
+    /// where there is none.
+    pub fn make(
+        alloc: Global,
+        seg: Seg,
+        rooms: HoldingRooms,
+        note: Note,
+    ) -> Result<Holdings, NoMemory>
+        requires seg { seg.0 < rooms.bound }
+        requires room { 0 < rooms.segments }
+        ensures { IfOk result (λ made. made ≡ fresh_holdings seg.0 rooms note) }
+    {
+        let mut area = Area::make(alloc, rooms.segments)?;
+        let segment = Segment::make(alloc, seg, rooms.objects)?;
+        area.add(segment);
+        let exits = ExitTable::make(alloc, rooms.exits)?;
+        Ok(Holdings {
+            bound: rooms.bound,
+            area,
+            bytes: 0,
+            exits,
+            phase: CellPhase::Idle,
+            note,
+        })
+    }
+
+    /// How far the collection has come. Constant time.
+    pub fn phase(&self) -> CellPhase
+        ensures { result ≡ self.now.value.collection }
+    {
+        self.phase
+    }
+
+    /// The bytes of the objects. They are kept: constant time.
+    pub fn bytes(&self) -> u64
+        ensures { result ≡ total object_bytes self.now.value.objects }
+    {
+        self.bytes
+    }
+
+    /// Whether the object is one of the heap's. Constant time.
+    pub fn has(&self, at: Name) -> bool
+        ensures { result ≡ has self.now.value.objects at }
+    {
+        lives_at(&self.area, at)
+    }
+
+    /// The number of the object's fields; 0 where there is no such object. Constant time.
+    pub fn field_count(&self, at: Name) -> u32
+        ensures { result ≡ field_count_among self.now.value.objects at }
+    {
+        count_at(&self.area, at)
+    }
+
+    /// What the field of the object holds; the number 0 where there is no such field. Constant time.
+    pub fn field(&self, at: Name, field: u32) -> Stored
+        ensures { content_of result ≡ field_among self.now.value.objects at field }
+    {
+        field_at(&self.area, at, field)
+    }
+
+    /// The object's type; none where it is the directory, or there is no such object. Constant time.
+    pub fn type_of(&self, at: Name) -> Option<TypeId>
+        ensures { result ≡ type_among self.now.value.objects at }
+    {
+        type_at(&self.area, at)
+    }
+
+    /// Whether there is an exit item to that object. Constant time where the hash spreads the names.
+    pub fn has_exit(&self, target: Name) -> bool
+        ensures { result ≡ name_among target self.now.value.exits }
+    {
+        self.exits.has(target)
+    }
+
+    /// The number of exit items, of which no two have one target. Constant time.
+    pub fn exit_count(&self) -> u32
+        ensures len { result ≡ length self.now.value.exits }
+        ensures distinct { AreDistinctNames self.now.value.exits }
+        ensures room { length self.now.value.exits ≤ self.now.exit_room }
+    {
+        self.exits.len()
+    }
+
+    /// The target of the exit item at that place, from 0. Constant time.
+    pub fn exit_at(&self, i: u32) -> Name
+        requires { i < length self.now.value.exits }
+        ensures { slice_get self.now.value.exits i ≡ Some result }
+    {
+        self.exits.target(i)
+    }
+
+    /// Whether some exit item leads into that segment. It passes each item until it finds one.
+    pub fn leads_into(&self, seg: Seg) -> bool
+        ensures { result ≡ list_any (λ n. n.seg.0 == seg.0) self.now.value.exits }
+    {
+        self.exits.leads_into(seg)
+    }
+
+    /// Lends the note, which never leaves its place.
+    pub fn note_mut(&mut self) -> &mut Note
+        ensures* writes_back { sem 𝓛 (lends_note self.entry result) }
+        ensures value { result.now ≡ self.old.note }
+    {
+        &mut self.note
+    }
+
+    /// Puts an object into the segment of that number, and gives its name. No collection is open. Constant time, and no memory.
+    pub fn place(&mut self, seg: Seg, body: Body) -> Link
+        requires idle { self.old.value.collection ≡ Idle }
+        requires left { HasSerialLeft self.old seg.0 }
+        requires bytes { total object_bytes self.old.value.objects + 144 < 2 ^ 64 }
+        ensures name { name_of result ≡ next_in seg.0 self.old.value }
+        ensures placed { self.new ≡ record self.old { value = with_body seg.0 body self.old.value } }
+    {
+        self.bytes += body.bytes();
+        place_in(&mut self.area, seg, body)
+    }
+
+    /// Writes a reference, or null, into the field of the object. It asks no write barrier, and adds no exit item: both are the
+    /// caller's. Constant time, and no memory.
+    pub fn write_ref(&mut self, at: Name, field: u32, value: Option<Link>)
+        requires idle { self.old.value.collection ≡ Idle }
+        requires kind { IsTrue (is_ref (field_among self.old.value.objects at field)) }
+        ensures { self.new ≡ record self.old { value = with_field at field (Refers (option_map name_of value)) self.old.value } }
+    {
+        write_ref_in(&mut self.area, at, field, value);
+    }
+
+    /// Writes a number into the field of the object. Constant time, and no memory.
+    pub fn write_int(&mut self, at: Name, field: u32, value: u64)
+        requires idle { self.old.value.collection ≡ Idle }
+        requires there { field < field_count_among self.old.value.objects at }
+        requires kind { IsFalse (is_ref (field_among self.old.value.objects at field)) }
+        ensures { self.new ≡ record self.old { value = with_field at field (Holds value) self.old.value } }
+    {
+        write_int_in(&mut self.area, at, field, value);
+    }
+
+    /// Adds the exit item where it is new, and tells whether it was. Constant time where the hash spreads the names, and no
+    /// memory.
+    pub fn add_exit(&mut self, target: Link) -> bool
+        requires idle { self.old.value.collection ≡ Idle }
+        requires room { IsTrue (name_among (name_of target) self.old.value.exits) ⊎ (length self.old.value.exits < self.old.exit_room) }
+        ensures value { result ≡ not (name_among (name_of target) self.old.value.exits) }
+        ensures added { self.new ≡ record self.old { value = with_exit_item (name_of target) self.old.value } }
+    {
+        self.exits.add(target)
+    }
+
+    /// Begins a collection with no object gray. It passes the segments and the exit items, and no objects.
+    pub fn begin(&mut self)
+        ensures { self.new ≡ record self.old { value = begun [] self.old.value } }
+    {
+        clear(&mut self.area, &mut self.exits);
+        self.phase = CellPhase::Begun;
+    }
+
+    /// Makes an object of the heap gray; any other name changes nothing. Constant time.
+    pub fn root(&mut self, target: Link)
+        requires { self.old.value.collection ≡ Begun }
+        ensures rest { self.new ≡ record self.old { value = self.new.value } }
+        ensures root { HasRoot self.old.value self.new.value (name_of target) }
+    {
+        root(&mut self.area, target);
+    }
+
+    /// Marks what the gray objects reach inside the heap, and the exit items to which that refers. The cost is in proportion to
+    /// the marked objects, their fields and the segments.
+    pub fn mark(&mut self)
+        requires begun { self.old.value.collection ≡ Begun }
+        requires exits { HasItsExits self.old.value }
+        ensures rest { self.new ≡ record self.old { value = self.new.value } }
+        ensures marked { HasMarked self.old.value self.new.value }
+    {
+        mark_uncounted(&mut self.area, &mut self.exits);
+        self.phase = CellPhase::Marked;
+    }
+
+    /// Frees the objects that are not black, and adds their number and bytes. It passes the objects that were live.
+    pub fn sweep(&mut self, into: &mut Swept)
+        requires marked { self.old.value.collection ≡ Marked }
+        requires objects { into.old.objects + freed_objects self.old.value < 2 ^ 32 }
+        requires bytes { into.old.bytes + freed_bytes self.old.value < 2 ^ 64 }
+        ensures swept { self.new ≡ record self.old { value = with_black_alone self.old.value } }
+        ensures objects { into.new.objects ≡ into.old.objects + freed_objects self.old.value }
+        ensures bytes { into.new.bytes ≡ into.old.bytes + freed_bytes self.old.value }
+    {
+        let before = into.bytes;
+        sweep(&mut self.area, into);
+        self.bytes -= into.bytes - before;
+    }
+
+    /// Ends the collection, of which no mark is left. Constant time.
+    pub fn end_collection(&mut self)
+        ensures { self.new ≡ record self.old { value = record self.old.value { collection = Idle; gray = []; black = []; black_exits = [] } } }
+    {
+        self.phase = CellPhase::Idle;
+    }
+
+    /// Removes an exit item that is not black. Calls until there is none pass each item once.
+    pub fn take_unmarked(&mut self) -> Option<Name>
+        requires { self.old.value.collection ≡ Marked }
+        ensures rest { self.new ≡ record self.old { value = self.new.value } }
+        ensures some { IfSome result (λ n. HasDroppedExit self.old.value self.new.value n × IsFalse (name_among n self.old.value.black_exits)) }
+        ensures none { IfNone result ((n : Named) → IsTrue (name_among n self.old.value.exits) → IsTrue (name_among n self.old.value.black_exits)) }
+        ensures kept { IfNone result (self.new ≡ self.old) }
+    {
+        match self.exits.take_unmarked() {
+            Some(link) => Some(link.name()),
+            None => None,
+        }
+    }
+
+    /// Removes an exit item that leads into that segment. Calls for one segment until there is none pass each item once.
+    pub fn take_into(&mut self, seg: Seg) -> Option<Name>
+        ensures rest { self.new ≡ record self.old { value = self.new.value } }
+        ensures some { IfSome result (λ n. HasDroppedExit self.old.value self.new.value n × (n.seg.0 ≡ seg.0)) }
+        ensures none { IfNone result (IsFalse (list_any (λ n. n.seg.0 == seg.0) self.old.value.exits)) }
+        ensures kept { IfNone result (self.new ≡ self.old) }
+    {
+        match self.exits.take_into(seg) {
+            Some(link) => Some(link.name()),
+            None => None,
+        }
+    }
+
+    /// Removes some exit item. Constant time.
+    pub fn take_first(&mut self) -> Option<Name>
+        ensures rest { self.new ≡ record self.old { value = self.new.value } }
+        ensures some { IfSome result (λ n. HasDroppedExit self.old.value self.new.value n) }
+        ensures none { IfNone result (self.old.value.exits ≡ []) }
+        ensures kept { IfNone result (self.new ≡ self.old) }
+    {
+        match self.exits.take_first() {
+            Some(link) => Some(link.name()),
+            None => None,
+        }
+    }
+
+    /// Takes the segment of that number out whole, with its objects. No collection is open. Constant time in the number of objects.
+    pub fn take_segment(&mut self, seg: Seg) -> Option<Segment>
+        requires idle { self.old.value.collection ≡ Idle }
+        ensures some { IfSome result (λ segment. HasGivenSegment self.old self.new seg.0 segment) }
+        ensures none { IfNone result (slice_index_or self.old.value.made seg.0 None ≡ None) }
+        ensures kept { IfNone result (self.new ≡ self.old) }
+    {
+        let segment = self.area.take(seg)?;
+        self.bytes -= segment.bytes();
+        Some(segment)
+    }
+
+    /// Takes a segment in whole, with its objects. No collection is open. Constant time in the number of objects, and no memory.
+    pub fn add_segment(&mut self, segment: Segment)
+        requires idle { self.old.value.collection ≡ Idle }
+        requires number { segment.number < self.old.bound }
+        requires new { slice_index_or self.old.value.made segment.number None ≡ None }
+        requires room { self.old.bound ≤ self.old.segment_room }
+        requires bytes { total object_bytes self.old.value.objects + segment_bytes segment < 2 ^ 64 }
+        ensures { self.new ≡ with_segment_added segment self.old }
+    {
+        self.bytes += segment.bytes();
+        self.area.add(segment);
+    }
+}

@@ -1,0 +1,11 @@
+//! What the cells of a process's heap, of the kernel's and of a shared one have in common: the objects in their segments, the
+//! exit items, the marks of a collection, and the note of the journal.
+#![tactic(auto)]
+
+mod holding;
+mod looking;
+mod rooms;
+mod writing;
+
+pub use holding::Holdings;
+pub use rooms::HoldingRooms;

@@ -1,0 +1,61 @@
+//! Look-ups of one object in an area, by its name.
+ghost use Rattle.std.specs.Prelude.{◌≡◌, is_some, length, option_map, slice_index_or};
+ghost use Rattle.k_types.specs.State.{Holds};
+ghost use Rattle.k_space.specs.Areas.{HasDistinct, row_of_name};
+ghost use Rattle.k_space.specs.Objects.{content_of};
+ghost use Rattle.k_cell.specs.Looks.{row_fields, row_type};
+
+use k_space::{Area, Stored};
+use k_types::{Name, TypeId};
+
+/// Whether the object is there.
+pub(crate) fn lives_at(area: &Area, at: Name) -> bool
+    requires { HasDistinct area.now.segments }
+    ensures { result ≡ is_some (row_of_name area.now.segments at) }
+{
+    match area.get(at.seg) {
+        Some(segment) => segment.find(at.serial).is_some(),
+        None => false,
+    }
+}
+
+/// The number of its fields; 0 where it is not there.
+pub(crate) fn count_at(area: &Area, at: Name) -> u32
+    requires { HasDistinct area.now.segments }
+    ensures { result ≡ length (row_fields (row_of_name area.now.segments at)) }
+{
+    let Some(segment) = area.get(at.seg) else {
+        return 0;
+    };
+    let Some(slot) = segment.find(at.serial) else {
+        return 0;
+    };
+    segment.field_count(slot)
+}
+
+/// What its field holds; 0 where there is no such field.
+pub(crate) fn field_at(area: &Area, at: Name, field: u32) -> Stored
+    requires { HasDistinct area.now.segments }
+    ensures { content_of result ≡ slice_index_or (row_fields (row_of_name area.now.segments at)) field (Holds 0) }
+{
+    let Some(segment) = area.get(at.seg) else {
+        return Stored::Holds(0);
+    };
+    let Some(slot) = segment.find(at.serial) else {
+        return Stored::Holds(0);
+    };
+    if field >= segment.field_count(slot) {
+        return Stored::Holds(0);
+    }
+    segment.stored(slot, field)
+}
+
+/// Its type; none where it has none, or is not there.
+pub(crate) fn type_at(area: &Area, at: Name) -> Option<TypeId>
+    requires { HasDistinct area.now.segments }
+    ensures { result ≡ row_type (row_of_name area.now.segments at) }
+{
+    let segment = area.get(at.seg)?;
+    let slot = segment.find(at.serial)?;
+    segment.type_of(slot)
+}

@@ -1,0 +1,57 @@
+//! Changes of one segment of an area.
+ghost use Rattle.std.specs.Prelude.{◌≡◌, option_map};
+ghost use Rattle.k_types.specs.Names.{name_of};
+ghost use Rattle.k_types.specs.State.{Holds, Refers};
+ghost use Rattle.k_space.specs.Areas.{HasDistinct};
+ghost use Rattle.k_cell.specs.Placed.{CanPlace, IsIntAt, IsPlacedIn, IsRefAt, IsWrittenIn};
+
+use k_space::{Area, Body};
+use k_types::{Link, Name, Seg};
+
+/// Puts an object into the segment of that number.
+pub(crate) fn place_in(area: &mut Area, seg: Seg, body: Body) -> Link
+    requires distinct { HasDistinct area.old.segments }
+    requires room { CanPlace area.old.segments seg.0 }
+    ensures { IsPlacedIn area.old area.new seg.0 body result }
+{
+    let Some(segment) = area.get_mut(seg) else {
+        unreachable!()
+    };
+    // Read so that the proof knows where serials begin.
+    let _given = segment.made();
+    segment.place(body)
+}
+
+/// Writes a reference field of an object.
+pub(crate) fn write_ref_in(area: &mut Area, at: Name, field: u32, value: Option<Link>)
+    requires distinct { HasDistinct area.old.segments }
+    requires field { IsRefAt area.old.segments at field }
+    ensures { IsWrittenIn area.old area.new at field (Refers (option_map name_of value)) }
+{
+    let Some(segment) = area.get_mut(at.seg) else {
+        unreachable!()
+    };
+    // Read so that the proof knows that no two objects lie in one slot.
+    let _given = segment.made();
+    let Some(slot) = segment.find(at.serial) else {
+        unreachable!()
+    };
+    segment.write_ref(slot, field, value);
+}
+
+/// Writes an integer field of an object.
+pub(crate) fn write_int_in(area: &mut Area, at: Name, field: u32, value: u64)
+    requires distinct { HasDistinct area.old.segments }
+    requires field { IsIntAt area.old.segments at field }
+    ensures { IsWrittenIn area.old area.new at field (Holds value) }
+{
+    let Some(segment) = area.get_mut(at.seg) else {
+        unreachable!()
+    };
+    // Read so that the proof knows that no two objects lie in one slot.
+    let _given = segment.made();
+    let Some(slot) = segment.find(at.serial) else {
+        unreachable!()
+    };
+    segment.write_int(slot, field, value);
+}

@@ -1,0 +1,13 @@
+//! The cell of a process: what lies behind the lock of its heap.
+//!
+//! A [`HeapCell`] has the heap's objects, exit items and marks, the process's registers, how many of its operations are done,
+//! the bodies for its allocations to come, and its events that the journal lacks. The contracts say what each call changes of
+//! the value that the laws of agreement speak of. Only [`HeapCell::make`] takes memory.
+#![tactic(auto)]
+
+mod changing;
+mod heap;
+mod process;
+mod reading;
+
+pub use heap::{CellRooms, HeapCell};

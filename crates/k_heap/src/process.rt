@@ -1,0 +1,68 @@
+//! What the cell of a process changes of the process's own.
+ghost use Rattle.std.specs.Prelude.{◌≡◌, ◌<◌, ◌+◌, ◌-◌, ◌^◌, ◌∷◌, [], ◌++◌, length, option_map};
+ghost use Rattle.k_types.specs.Names.{name_of};
+ghost use Rattle.k_frame.specs.PartUpdates.{done_in};
+ghost use Rattle.k_agree.specs.GivingAway.{with_one_done};
+ghost use Rattle.k_heap.specs.Heaps.{with_process_ended, with_register_in};
+
+use crate::heap::HeapCell;
+use k_space::Body;
+use k_types::{Event, Link, Reg};
+
+impl HeapCell {
+    /// Has the register hold that. Constant time.
+    pub fn set_reg(&mut self, r: Reg, value: Option<Link>)
+        requires { r.0 < 16 }
+        ensures { self.new ≡ record self.old { value = with_register_in r.0 (option_map name_of value) self.old.value } }
+    {
+        self.registers[r.0 as usize] = value;
+    }
+
+    /// Counts one more operation of the process as done.
+    pub fn count_done(&mut self)
+        requires { done_in self.old.value.process < 2 ^ 32 - 1 }
+        ensures { self.new ≡ record self.old { value = with_one_done self.old.value } }
+    {
+        self.done += 1;
+    }
+
+    /// Ends the process, whose registers become null.
+    pub fn end(&mut self)
+        ensures { self.new ≡ record self.old { value = with_process_ended self.old.value } }
+    {
+        self.registers = [None; 16];
+        self.has_ended = true;
+    }
+
+    /// Keeps an event that the journal lacks, as the newest. Constant time, and no memory.
+    pub fn push_tail(&mut self, event: Event)
+        requires { length self.old.value.tail < self.old.tail_room }
+        ensures { self.new ≡ record self.old { value = record self.old.value { tail = self.old.value.tail ++ event ∷ [] } } }
+    {
+        self.tail.push_back_reserved(event);
+    }
+
+    /// Gives the oldest event that the journal lacks.
+    pub fn take_tail(&mut self) -> Event
+        requires { 0 < length self.old.value.tail }
+        ensures oldest { self.old.value.tail ≡ result ∷ self.new.value.tail }
+        ensures rest { self.new ≡ record self.old { value = record self.old.value { tail = self.new.value.tail } } }
+    {
+        let Some(event) = self.tail.pop_front() else {
+            unreachable!()
+        };
+        event
+    }
+
+    /// Gives the body for the next allocation.
+    pub fn take_body(&mut self) -> Body
+        requires { 0 < length self.old.bodies }
+        ensures first { self.old.bodies ≡ result ∷ self.new.bodies }
+        ensures rest { self.new ≡ record self.old { bodies = self.new.bodies } }
+    {
+        let Some(body) = self.bodies.pop_front() else {
+            unreachable!()
+        };
+        body
+    }
+}
