@@ -6,5 +6,6 @@
 
 mod committing;
 mod publishing;
+mod registers;
 
 pub use publishing::publish;
