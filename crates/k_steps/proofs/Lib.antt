@@ -1,2 +1,3 @@
 pub mod Tails
 pub mod Setting
+pub mod Moved

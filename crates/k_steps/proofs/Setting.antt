@@ -100,8 +100,8 @@ module _ (trace : Trace) (c : HeapRecord) (b : BookRecord) (r : ℕ) (value : Op
   pub pin_there : (n : Name) → held_in c.value.process r ≡ Some n → IsFalse (heap_eq (user c.pid.0) (own n.seg.0)) → 0 < counted b.value.pins n
   pin_there n held foreign =
       let counted_there = (what_is_let_go_is_counted-pins trace now c.pid.0 can.may.known).one r n
-          (ap (λ (p : Option ProcessPart). held_in p r) (sym process_is) ∙ held)
-          (ap (λ (k : BookPart). heap_eq (user c.pid.0) (owner_in trace k n.seg.0)) (sym can.book_agrees.shows.part) ∙ foreign) in
+      (ap (λ (p : Option ProcessPart). held_in p r) (sym process_is) ∙ held)
+      (ap (λ (k : BookPart). heap_eq (user c.pid.0) (owner_in trace k n.seg.0)) (sym can.book_agrees.shows.part) ∙ foreign) in
       subst (λ (k : BookPart). 0 < k.pins n) (sym can.book_agrees.shows.part) counted_there
 
   abbrev event : Event

@@ -7,5 +7,7 @@
 mod committing;
 mod publishing;
 mod registers;
+mod stepping;
 
 pub use publishing::publish;
+pub use stepping::{step_clear, step_dir, step_move};

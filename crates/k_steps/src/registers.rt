@@ -2,7 +2,7 @@
 ghost use Rattle.std.specs.Prelude.{◌≡◌, ◌+◌, ◌-◌, ◌<◌, ◌≤◌, ◌^◌, ℕ, IsFalse, None, Some, length, option_map};
 ghost use Rattle.k_book.specs.Calls.{ChangesPins};
 ghost use Rattle.k_changes.specs.BookChanges.{with_pin_moved};
-ghost use Rattle.k_steps.specs.Stepped.{CanSet, CanStep, HasStepped, IsOwnBySegment};
+ghost use Rattle.k_steps.specs.Stepped.{CanSet, HasStepped, IsOwnBySegment};
 ghost use Rattle.k_types.specs.Agree.{book_shown_by};
 ghost use Rattle.k_types.specs.Counted.{counted};
 ghost use Rattle.k_types.specs.Names.{heap_eq, name_of};
@@ -10,9 +10,8 @@ ghost use Rattle.k_types.specs.Owners.{user};
 ghost use Rattle.k_types.specs.Trace.{Trace};
 ghost use Rattle.k_types.specs.declared.names.Heap.{Heap};
 ghost use Rattle.k_types.specs.declared.names.Name.{Name as Named};
-ghost use Rattle.k_types.specs.declared.op.Op.TheVariants.{Clear, Move};
 
-use crate::committing::{append_own, meet_own};
+use crate::committing::append_own;
 use k_book::Book;
 use k_heap::HeapCell;
 use k_types::{Event, Link, Op, Pid, Reg, Reply};
@@ -53,7 +52,14 @@ fn let_go(book: &mut Book, pid: Pid, held: Option<Link>)
 }
 
 /// The register holds the reference, and the event is in the journal.
-fn set_own(cell: &mut HeapCell, book: &mut Book, r: Reg, value: Option<Link>, op: Op, said: Reply) -> Event
+pub(crate) fn set_own(
+    cell: &mut HeapCell,
+    book: &mut Book,
+    r: Reg,
+    value: Option<Link>,
+    op: Op,
+    said: Reply,
+) -> Event
     ghost trace: { Trace }
     requires { CanSet trace cell.old book.old r.0 (option_map name_of value) op said }
     ensures { HasStepped trace op cell.old cell.new book.old book.new result }
@@ -64,7 +70,11 @@ fn set_own(cell: &mut HeapCell, book: &mut Book, r: Reg, value: Option<Link>, op
     let_go(book, pid, held);
     cell.set_reg(r, value);
     cell.count_done();
-    let event = Event::Done { pid, op, reply: said };
+    let event = Event::Done {
+        pid,
+        op,
+        reply: said,
+    };
     append_own(cell, book, event);
     event
 }
