@@ -9,5 +9,7 @@ mod changing;
 mod heap;
 mod process;
 mod reading;
+#[cfg(test)]
+mod tests;
 
 pub use heap::{CellRooms, HeapCell};

@@ -2,3 +2,6 @@ pub mod DoneCounts
 pub mod Ends
 pub mod Held
 pub mod Moved
+pub mod DoneOperations
+pub mod Quiets
+pub mod Completed

@@ -6,9 +6,11 @@
 //! `k_scan`.
 #![tactic(auto)]
 
+mod complete;
 mod effects;
 mod operating;
 mod state;
 mod stepping;
 
+pub use complete::is_complete;
 pub use state::{PlainState, plain_step};

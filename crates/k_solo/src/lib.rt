@@ -10,6 +10,8 @@ mod running;
 mod shown;
 mod taking;
 mod targets;
+#[cfg(test)]
+mod tests;
 mod viewing;
 
 pub use ending::PlainEnd;

@@ -47,8 +47,8 @@ pub fn add_limits(text: &mut Vec<u8>, names: &Names, rows: &[LimitRow]) -> Resul
     ensures { OnOk result (text.new.items ≡ text.old.items ++ text_of (declarations (limit_words names.now) names.now.limits rows.now)) }
 {
     let mut line = LineBuffer::new();
-    for number in 0..rows.len() {
-        push_limit(&mut line, names, LimitId(number as u32), &rows[number]);
+    for (number, row) in rows.iter().enumerate() {
+        push_limit(&mut line, names, LimitId(number as u32), row);
         line.append_to(text)?;
     }
     Ok(())
@@ -62,8 +62,8 @@ pub fn add_procs(text: &mut Vec<u8>, names: &Names, procs: &[LimitId]) -> Result
     ensures { OnOk result (text.new.items ≡ text.old.items ++ text_of (declarations (proc_words names.now) names.now.procs procs.now)) }
 {
     let mut line = LineBuffer::new();
-    for number in 0..procs.len() {
-        push_proc(&mut line, names, Pid(number as u32), procs[number]);
+    for (number, limit) in procs.iter().enumerate() {
+        push_proc(&mut line, names, Pid(number as u32), *limit);
         line.append_to(text)?;
     }
     Ok(())

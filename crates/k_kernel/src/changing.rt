@@ -1,0 +1,164 @@
+//! What the kernel's cell changes of its heap.
+ghost use Rattle.std.specs.Prelude.{◌≡◌, ◌<◌, ◌≤◌, ◌+◌, ◌^◌, ◌==◌, ◌⊎◌, not, [], IfNone, IfSome, IsFalse, IsTrue, None, length, option_map, slice_index_or};
+ghost use Rattle.std.specs.List.{list_any};
+ghost use Rattle.k_types.specs.Names.{name_among, name_of};
+ghost use Rattle.k_types.specs.Owners.{object_bytes};
+ghost use Rattle.k_types.specs.Replies.{is_ref};
+ghost use Rattle.k_types.specs.State.{Holds, Refers};
+ghost use Rattle.k_types.specs.Totals.{total};
+ghost use Rattle.k_types.specs.declared.names.CellPhase.TheVariants.{Begun, Idle, Marked};
+ghost use Rattle.k_types.specs.declared.names.Name.{Name as Named};
+ghost use Rattle.k_space.specs.Segments.{segment_bytes};
+ghost use Rattle.k_agree.specs.Marking.{begun};
+ghost use Rattle.k_agree.specs.Ending.{freed_bytes, freed_objects};
+ghost use Rattle.k_cell.specs.Looks.{field_among, field_count_among};
+ghost use Rattle.k_cell.specs.Changes.{HasDroppedExit, HasItsExits, HasMarked, HasRoot, next_in, with_black_alone, with_body, with_exit_item, with_field};
+ghost use Rattle.k_cell.specs.Holdings.{HasSerialLeft, with_segment_added};
+
+use crate::kernel::KernelCell;
+use k_mark::Swept;
+use k_space::{Body, Segment};
+use k_types::{Link, Name, Seg};
+
+impl KernelCell {
+    /// Puts an object into the kernel's own segment, and gives its name. No collection is open. Constant time, and no memory.
+    pub fn place(&mut self, body: Body) -> Link
+        requires idle { self.old.value.collection ≡ Idle }
+        requires left { HasSerialLeft self.old 0 }
+        requires bytes { total object_bytes self.old.value.objects + 144 < 2 ^ 64 }
+        ensures name { name_of result ≡ next_in 0 self.old.value }
+        ensures placed { self.new ≡ record self.old { value = with_body 0 body self.old.value } }
+    {
+        self.holdings.place(Seg(0), body)
+    }
+
+    /// Writes a reference, or null, into the field of the object. It asks no write barrier, and adds no exit item: both are the
+    /// caller's. Constant time, and no memory.
+    pub fn write_ref(&mut self, at: Name, field: u32, value: Option<Link>)
+        requires idle { self.old.value.collection ≡ Idle }
+        requires kind { IsTrue (is_ref (field_among self.old.value.objects at field)) }
+        ensures { self.new ≡ record self.old { value = with_field at field (Refers (option_map name_of value)) self.old.value } }
+    {
+        self.holdings.write_ref(at, field, value);
+    }
+
+    /// Writes a number into the field of the object. Constant time, and no memory.
+    pub fn write_int(&mut self, at: Name, field: u32, value: u64)
+        requires idle { self.old.value.collection ≡ Idle }
+        requires there { field < field_count_among self.old.value.objects at }
+        requires kind { IsFalse (is_ref (field_among self.old.value.objects at field)) }
+        ensures { self.new ≡ record self.old { value = with_field at field (Holds value) self.old.value } }
+    {
+        self.holdings.write_int(at, field, value);
+    }
+
+    /// Adds the exit item where it is new, and tells whether it was. Constant time where the hash spreads the names, and no
+    /// memory.
+    pub fn add_exit(&mut self, target: Link) -> bool
+        requires idle { self.old.value.collection ≡ Idle }
+        requires room { IsTrue (name_among (name_of target) self.old.value.exits) ⊎ (length self.old.value.exits < self.old.exit_room) }
+        ensures value { result ≡ not (name_among (name_of target) self.old.value.exits) }
+        ensures added { self.new ≡ record self.old { value = with_exit_item (name_of target) self.old.value } }
+    {
+        self.holdings.add_exit(target)
+    }
+
+    /// Begins a collection with no object gray. It passes the exit items, and no objects.
+    pub fn begin(&mut self)
+        ensures { self.new ≡ record self.old { value = begun [] self.old.value } }
+    {
+        self.holdings.begin();
+    }
+
+    /// Makes an object of the heap gray; any other name changes nothing. Constant time.
+    pub fn root(&mut self, target: Link)
+        requires { self.old.value.collection ≡ Begun }
+        ensures rest { self.new ≡ record self.old { value = self.new.value } }
+        ensures root { HasRoot self.old.value self.new.value (name_of target) }
+    {
+        self.holdings.root(target);
+    }
+
+    /// Marks what the gray objects reach inside the heap, and the exit items to which that refers. The cost is in proportion to
+    /// the marked objects and their fields.
+    pub fn mark(&mut self)
+        requires begun { self.old.value.collection ≡ Begun }
+        requires exits { HasItsExits self.old.value }
+        ensures rest { self.new ≡ record self.old { value = self.new.value } }
+        ensures marked { HasMarked self.old.value self.new.value }
+    {
+        self.holdings.mark();
+    }
+
+    /// Frees the objects that are not black, and adds their number and bytes. It passes the objects that were live.
+    pub fn sweep(&mut self, into: &mut Swept)
+        requires marked { self.old.value.collection ≡ Marked }
+        requires objects { into.old.objects + freed_objects self.old.value < 2 ^ 32 }
+        requires bytes { into.old.bytes + freed_bytes self.old.value < 2 ^ 64 }
+        ensures swept { self.new ≡ record self.old { value = with_black_alone self.old.value } }
+        ensures objects { into.new.objects ≡ into.old.objects + freed_objects self.old.value }
+        ensures bytes { into.new.bytes ≡ into.old.bytes + freed_bytes self.old.value }
+    {
+        self.holdings.sweep(into);
+    }
+
+    /// Ends the collection, of which no mark is left. Constant time.
+    pub fn end_collection(&mut self)
+        ensures { self.new ≡ record self.old { value = record self.old.value { collection = Idle; gray = []; black = []; black_exits = [] } } }
+    {
+        self.holdings.end_collection();
+    }
+
+    /// Removes an exit item that is not black. Calls until there is none pass each item once.
+    pub fn take_unmarked(&mut self) -> Option<Name>
+        requires { self.old.value.collection ≡ Marked }
+        ensures rest { self.new ≡ record self.old { value = self.new.value } }
+        ensures some { IfSome result (λ n. HasDroppedExit self.old.value self.new.value n × IsFalse (name_among n self.old.value.black_exits)) }
+        ensures none { IfNone result ((n : Named) → IsTrue (name_among n self.old.value.exits) → IsTrue (name_among n self.old.value.black_exits)) }
+        ensures kept { IfNone result (self.new ≡ self.old) }
+    {
+        self.holdings.take_unmarked()
+    }
+
+    /// Removes an exit item that leads into that segment. Calls for one segment until there is none pass each item once.
+    pub fn take_into(&mut self, seg: Seg) -> Option<Name>
+        ensures rest { self.new ≡ record self.old { value = self.new.value } }
+        ensures some { IfSome result (λ n. HasDroppedExit self.old.value self.new.value n × (n.seg.0 ≡ seg.0)) }
+        ensures none { IfNone result (IsFalse (list_any (λ n. n.seg.0 == seg.0) self.old.value.exits)) }
+        ensures kept { IfNone result (self.new ≡ self.old) }
+    {
+        self.holdings.take_into(seg)
+    }
+
+    /// Removes some exit item. Constant time.
+    pub fn take_first(&mut self) -> Option<Name>
+        ensures rest { self.new ≡ record self.old { value = self.new.value } }
+        ensures some { IfSome result (λ n. HasDroppedExit self.old.value self.new.value n) }
+        ensures none { IfNone result (self.old.value.exits ≡ []) }
+        ensures kept { IfNone result (self.new ≡ self.old) }
+    {
+        self.holdings.take_first()
+    }
+
+    /// Takes in whole the segment of a process that ended. No collection is open. Constant time in the number of objects.
+    pub fn take_heap(&mut self, segment: Segment)
+        requires idle { self.old.value.collection ≡ Idle }
+        requires number { segment.number < self.old.bound }
+        requires new { slice_index_or self.old.value.made segment.number None ≡ None }
+        requires bytes { total object_bytes self.old.value.objects + segment_bytes segment < 2 ^ 64 }
+        ensures { self.new ≡ with_segment_added segment self.old }
+    {
+        self.holdings.add_segment(segment);
+    }
+
+    /// Takes in whole the segment of a shared heap that is absorbed. No collection is open. Constant time in the number of objects.
+    pub fn absorb(&mut self, segment: Segment)
+        requires idle { self.old.value.collection ≡ Idle }
+        requires number { segment.number < self.old.bound }
+        requires new { slice_index_or self.old.value.made segment.number None ≡ None }
+        requires bytes { total object_bytes self.old.value.objects + segment_bytes segment < 2 ^ 64 }
+        ensures { self.new ≡ with_segment_added segment self.old }
+    {
+        self.holdings.add_segment(segment);
+    }
+}

@@ -1,0 +1,14 @@
+//! The cell of the kernel: what lies behind the lock of the kernel's heap.
+//!
+//! A [`KernelCell`] has the objects, exit items and marks of the kernel's heap, which takes in whole the segments of processes
+//! that ended and of shared heaps that were absorbed. The contracts say what each call changes of the value that the laws of
+//! agreement speak of. Only [`KernelCell::make`] takes memory.
+#![tactic(auto)]
+
+mod changing;
+mod kernel;
+mod reading;
+#[cfg(test)]
+mod tests;
+
+pub use kernel::KernelCell;

@@ -1,0 +1,39 @@
+use Rattle.std.proofs.Common.{◌≡◌, ◌<◌, List, length, Some, is_some, sym, ap, subst, ◌∙◌, arith}
+use Rattle.k_types.specs.declared.event.Event.{Event}
+use Rattle.k_types.specs.Agree.{CellValue}
+use Rattle.k_frame.specs.PartUpdates.{done_in}
+use Rattle.k_heap.specs.Heaps.{HeapRecord}
+use Rattle.k_local.specs.Locals.{IsMachines, local_answer}
+use Rattle.k_local.proofs.Done.{done_kept, local_seen, tail_kept}
+use Rattle.k_local.proofs.Told.{local_told, machines}
+use Rattle.k_local.proofs.doing.local.Goals as goal
+
+pub count_done-requires : goal.count_done-requires
+count_done-requires c =
+    let same = ap (λ (h : HeapRecord). done_in h.value.process) c.change.ensures ∙ done_kept c.args.cell.now.value c.args.op.now c.in_ok-reply.reply in
+    omega (arith, same, c.requires.count)
+
+pub push_tail-requires : goal.push_tail-requires
+push_tail-requires c =
+    let long = ap (λ (h : HeapRecord). length h.value.tail) c.count_done.ensures ∙ ap (λ (h : HeapRecord). length h.value.tail) c.change.ensures ∙ ap (λ (events : List Event). length events) (tail_kept c.args.cell.now.value c.args.op.now c.in_ok-reply.reply) in
+    let room = ap (λ (h : HeapRecord). h.tail_room) c.count_done.ensures ∙ ap (λ (h : HeapRecord). h.tail_room) c.change.ensures in
+    omega (arith, long, room, c.requires.room)
+
+pub returns-clause-some : goal.returns-clause-some
+returns-clause-some c = local_seen c.args.cell.now c.change.new.cell c.count_done.new.self c.push_tail.new.self c.args.op.now c.in_ok-reply.reply c.pid-pid.result c.change.ensures c.count_done.ensures c.pid-pid.ensures c.push_tail.ensures
+
+pub returns-clause-told : goal.returns-clause-told
+returns-clause-told c =
+    let e : Some c.in_ok-reply.reply ≡ local_answer c.args.cell.now.value c.args.cell.now.pid.0 c.args.op.now = sym c.in_ok-reply.was ∙ c.answer.ensures in
+    ap is_some e ∙ local_told c.args.cell.now.value c.args.cell.now.pid.0 c.args.op.now
+
+pub returns-clause-machines : goal.returns-clause-machines
+returns-clause-machines c = λ trace book parts own.
+    let e : local_answer c.args.cell.now.value c.args.cell.now.pid.0 c.args.op.now ≡ Some c.in_ok-reply.reply = sym c.answer.ensures ∙ c.in_ok-reply.was in
+    subst (λ (h : HeapRecord). IsMachines trace book parts c.args.cell.now.pid c.args.cell.now.value h.value c.args.op.now c.in_ok-reply.reply)
+    (sym (local_seen c.args.cell.now c.change.new.cell c.count_done.new.self c.push_tail.new.self c.args.op.now c.in_ok-reply.reply c.pid-pid.result c.change.ensures c.count_done.ensures c.pid-pid.ensures c.push_tail.ensures))
+    (machines trace book parts c.args.cell.now.pid c.args.cell.now.value c.args.op.now c.in_ok-reply.reply own e)
+
+pub returns-in_err-reply-clause-told : goal.returns-in_err-reply-clause-told
+returns-in_err-reply-clause-told c =
+    rw c.from_residual.ensures (ap is_some (sym c.in_err-reply.was ∙ c.answer.ensures) ∙ local_told c.args.cell.now.value c.args.cell.now.pid.0 c.args.op.now)

@@ -1,0 +1,346 @@
+//! An operation done inside the process's own heap.
+ghost use Rattle.std.specs.Prelude.{◌≡◌, ◌<◌, ◌-◌, ◌^◌, ◌==◌, ◌+◌, IfNone, IfSome, IsFalse, IsTrue, Some, None, is_some, length, option_map, if◌then◌else◌};
+ghost use Rattle.k_types.specs.declared.names.CellPhase.TheVariants.{Idle};
+ghost use Rattle.k_types.specs.Cells.{BookPart, Cell, CellPart};
+ghost use Rattle.k_types.specs.Local.{is_own};
+ghost use Rattle.k_types.specs.Names.{name_of};
+ghost use Rattle.k_types.specs.Replies.{is_ref, number_in, reference};
+ghost use Rattle.k_types.specs.State.{Holds, Refers};
+ghost use Rattle.k_types.specs.declared.event.Reply.TheVariants.{Done, Loaded};
+ghost use Rattle.k_types.specs.declared.names.Name.{Name as Named};
+ghost use Rattle.k_frame.specs.PartUpdates.{done_in, held_in};
+ghost use Rattle.k_types.specs.Trace.{Trace};
+ghost use Rattle.k_agree.specs.Marking.{idle_part};
+ghost use Rattle.k_squares.specs.CellAfter.{unless_refused};
+ghost use Rattle.k_squares.specs.Locals.{is_local_in};
+ghost use Rattle.k_space.specs.Objects.{content_of};
+ghost use Rattle.k_cell.specs.Looks.{field_among, field_count_among};
+ghost use Rattle.k_local.specs.Locals.{HasRegisters, IsMachines, ShowOwn, after_local, field_answer, get_answer, is_refusal, load_answer, loaded_through, local_answer, local_change, put_answer, store_answer, written_through};
+
+use k_heap::HeapCell;
+use k_space::Stored;
+use k_types::{Event, Fault, Link, Name, Op, Pid, Reg, Reply};
+
+/// Does the operation of the process where it needs that heap alone: its event then is the newest that the journal lacks, and
+/// reply and cell are those of the machine. `None` changes nothing, and comes exactly where the operation is not local. Constant
+/// time, and no memory.
+pub fn local(cell: &mut HeapCell, op: &Op) -> Option<Reply>
+    requires registers { HasRegisters op.now }
+    requires idle { cell.old.value.collection ≡ Idle }
+    requires room { length cell.old.value.tail < cell.old.tail_room }
+    requires count { done_in cell.old.value.process < 2 ^ 32 - 1 }
+    ensures answer { result ≡ local_answer cell.old.value cell.old.pid.0 op.now }
+    ensures told { is_some result ≡ is_local_in (idle_part cell.old.value) cell.old.pid.0 op.now }
+    ensures none { IfNone result (cell.new ≡ cell.old) }
+    ensures machines { IfSome result (λ said. (trace : Trace) (book : BookPart) (parts : Cell → CellPart) → ShowOwn trace book parts cell.old.pid cell.old.value →
+        IsMachines trace book parts cell.old.pid cell.old.value cell.new.value op.now said) }
+    ensures some { IfSome result (λ said. cell.new ≡ record cell.old { value = after_local cell.old.pid op.now said cell.old.value }) }
+{
+    let reply = answer(cell, op)?;
+    change(cell, op, reply);
+    cell.count_done();
+    let pid = cell.pid();
+    cell.push_tail(Event::Done {
+        pid,
+        op: *op,
+        reply,
+    });
+    Some(reply)
+}
+
+/// What the register holds, by its name.
+fn held(cell: &HeapCell, r: Reg) -> Option<Name>
+    requires { r.0 < 16 }
+    ensures { result ≡ held_in cell.now.value.process r.0 }
+{
+    match cell.reg(r) {
+        Some(link) => Some(link.name()),
+        None => None,
+    }
+}
+
+/// A reference to the object.
+fn linked(value: Option<Name>) -> Option<Link>
+    ensures { option_map name_of result ≡ value }
+{
+    match value {
+        Some(name) => Some(name.link()),
+        None => None,
+    }
+}
+
+/// Whether the reference is null or leads to an object of the process's own segment.
+fn is_own(pid: Pid, value: Option<Name>) -> bool
+    ensures { result ≡ is_own pid.0 value }
+{
+    match value {
+        Some(name) => lies_in(pid, name),
+        None => true,
+    }
+}
+
+/// Whether the object is of the process's own segment.
+fn lies_in(pid: Pid, at: Name) -> bool
+    ensures { result ≡ (at.seg.0 == pid.0 + 1) }
+{
+    u64::from(at.seg.0) == u64::from(pid.0) + 1
+}
+
+fn is_ref(stored: Stored) -> bool
+    ensures { result ≡ is_ref (content_of stored) }
+{
+    match stored {
+        Stored::Null => true,
+        Stored::Refers(_) => true,
+        Stored::Holds(_) => false,
+    }
+}
+
+fn reference(stored: Stored) -> Option<Name>
+    ensures { result ≡ reference (content_of stored) }
+{
+    match stored {
+        Stored::Null => None,
+        Stored::Refers(name) => Some(name),
+        Stored::Holds(_) => None,
+    }
+}
+
+fn number_in(stored: Stored) -> u64
+    ensures { result ≡ number_in (content_of stored) }
+{
+    match stored {
+        Stored::Null => 0,
+        Stored::Refers(_) => 0,
+        Stored::Holds(number) => number,
+    }
+}
+
+/// The answer to an access to the field of the object.
+fn field_answer(
+    cell: &HeapCell,
+    at: Name,
+    field: u32,
+    of_kind: bool,
+    answer: Option<Reply>,
+) -> Option<Reply>
+    ensures { result ≡ field_answer cell.now.value cell.now.pid.0 at field of_kind answer }
+{
+    if !lies_in(cell.pid(), at) {
+        return None;
+    }
+    if cell.field_count(at) <= field {
+        return Some(Reply::Refused(Fault::NoField));
+    }
+    if of_kind {
+        answer
+    } else {
+        Some(Reply::Refused(Fault::WrongKind))
+    }
+}
+
+/// `Done`, where the test holds.
+fn done_if(test: bool) -> Option<Reply>
+    ensures { result ≡ (if test then Some Done else None) }
+{
+    if test { Some(Reply::Done) } else { None }
+}
+
+/// The answer that the reference was loaded, where the test holds.
+fn loaded_if(test: bool, value: Option<Name>) -> Option<Reply>
+    ensures { result ≡ (if test then Some (Loaded value) else None) }
+{
+    if test {
+        Some(Reply::Loaded(value))
+    } else {
+        None
+    }
+}
+
+fn store_answer(
+    cell: &HeapCell,
+    base: Option<Name>,
+    field: u32,
+    value: Option<Name>,
+) -> Option<Reply>
+    ensures { result ≡ store_answer cell.now.value cell.now.pid.0 base field value }
+{
+    let Some(at) = base else {
+        return Some(Reply::Refused(Fault::Null));
+    };
+    let answer = done_if(is_own(cell.pid(), value));
+    field_answer(cell, at, field, is_ref(cell.field(at, field)), answer)
+}
+
+fn load_answer(cell: &HeapCell, base: Option<Name>, field: u32, old: Option<Name>) -> Option<Reply>
+    ensures { result ≡ load_answer cell.now.value cell.now.pid.0 base field old }
+{
+    let Some(at) = base else {
+        return Some(Reply::Refused(Fault::Null));
+    };
+    let stored = cell.field(at, field);
+    let value = reference(stored);
+    let both = is_own(cell.pid(), value) && is_own(cell.pid(), old);
+    field_answer(cell, at, field, is_ref(stored), loaded_if(both, value))
+}
+
+fn put_answer(cell: &HeapCell, base: Option<Name>, field: u32) -> Option<Reply>
+    ensures { result ≡ put_answer cell.now.value cell.now.pid.0 base field }
+{
+    let Some(at) = base else {
+        return Some(Reply::Refused(Fault::Null));
+    };
+    let of_kind = !is_ref(cell.field(at, field));
+    field_answer(cell, at, field, of_kind, Some(Reply::Done))
+}
+
+fn get_answer(cell: &HeapCell, base: Option<Name>, field: u32) -> Option<Reply>
+    ensures { result ≡ get_answer cell.now.value cell.now.pid.0 base field }
+{
+    let Some(at) = base else {
+        return Some(Reply::Refused(Fault::Null));
+    };
+    let stored = cell.field(at, field);
+    let answer = Some(Reply::Value(number_in(stored)));
+    field_answer(cell, at, field, !is_ref(stored), answer)
+}
+
+/// What the operation is answered; `None` where it is not local.
+#[tactic(auto, unfolding(crate::specs::Locals::local_answer))]
+fn answer(cell: &HeapCell, op: &Op) -> Option<Reply>
+    requires { HasRegisters op.now }
+    ensures { result ≡ local_answer cell.now.value cell.now.pid.0 op.now }
+{
+    match *op {
+        Op::Store { base, field, value } => {
+            store_answer(cell, held(cell, base), field, held(cell, value))
+        }
+        Op::Load { reg, base, field } => {
+            load_answer(cell, held(cell, base), field, held(cell, reg))
+        }
+        Op::Move { reg, from } => {
+            let both = is_own(cell.pid(), held(cell, reg)) && is_own(cell.pid(), held(cell, from));
+            done_if(both)
+        }
+        Op::Clear { reg } => done_if(is_own(cell.pid(), held(cell, reg))),
+        Op::Put {
+            base,
+            field,
+            number: _,
+        } => put_answer(cell, held(cell, base), field),
+        Op::Get { base, field } => get_answer(cell, held(cell, base), field),
+        Op::New { reg: _, ty: _ } => None,
+        Op::KNew { reg: _, ty: _ } => None,
+        Op::SNew {
+            reg: _,
+            shared: _,
+            ty: _,
+        } => None,
+        Op::Dir { reg: _ } => None,
+        Op::Collect => None,
+        Op::KCollect => None,
+        Op::Share { shared: _ } => None,
+        Op::Freeze { shared: _, root: _ } => None,
+        Op::Attach { reg: _, shared: _ } => None,
+        Op::Exit => None,
+    }
+}
+
+/// What a load through the base reads.
+fn loaded(cell: &HeapCell, base: Option<Name>, field: u32) -> Option<Name>
+    ensures { result ≡ loaded_through cell.now.value base field }
+{
+    match base {
+        Some(at) => reference(cell.field(at, field)),
+        None => None,
+    }
+}
+
+/// Writes a reference through the base, if it is not null.
+fn store(cell: &mut HeapCell, base: Option<Name>, field: u32, value: Option<Name>)
+    requires idle { cell.old.value.collection ≡ Idle }
+    requires kind { (x : Named) → base ≡ Some x → IsTrue (is_ref (field_among cell.old.value.objects x field)) }
+    ensures { cell.new ≡ record cell.old { value = written_through base field (Refers value) cell.old.value } }
+{
+    if let Some(at) = base {
+        cell.write_ref(at, field, linked(value));
+    }
+}
+
+/// Writes a number through the base, if it is not null.
+fn put(cell: &mut HeapCell, base: Option<Name>, field: u32, number: u64)
+    requires idle { cell.old.value.collection ≡ Idle }
+    requires there { (x : Named) → base ≡ Some x → field < field_count_among cell.old.value.objects x }
+    requires kind { (x : Named) → base ≡ Some x → IsFalse (is_ref (field_among cell.old.value.objects x field)) }
+    ensures { cell.new ≡ record cell.old { value = written_through base field (Holds number) cell.old.value } }
+{
+    if let Some(at) = base {
+        cell.write_int(at, field, number);
+    }
+}
+
+/// Changes what the operation changes where it is not refused.
+#[tactic(auto, unfolding(crate::specs::Locals::local_change))]
+fn apply(cell: &mut HeapCell, op: &Op, reply: Reply)
+    requires registers { HasRegisters op.now }
+    requires idle { cell.old.value.collection ≡ Idle }
+    requires answer { local_answer cell.old.value cell.old.pid.0 op.now ≡ Some reply }
+    requires goes_on { IsFalse (is_refusal reply) }
+    ensures { cell.new ≡ record cell.old { value = local_change cell.old.value op.now } }
+{
+    match *op {
+        Op::Store { base, field, value } => {
+            let value = held(cell, value);
+            let base = held(cell, base);
+            store(cell, base, field, value);
+        }
+        Op::Load { reg, base, field } => {
+            let value = loaded(cell, held(cell, base), field);
+            cell.set_reg(reg, linked(value));
+        }
+        Op::Move { reg, from } => {
+            let value = held(cell, from);
+            cell.set_reg(reg, linked(value));
+        }
+        Op::Clear { reg } => cell.set_reg(reg, None),
+        Op::Put {
+            base,
+            field,
+            number,
+        } => {
+            let base = held(cell, base);
+            put(cell, base, field, number);
+        }
+        Op::Get { base: _, field: _ } => {}
+        Op::New { reg: _, ty: _ } => {}
+        Op::KNew { reg: _, ty: _ } => {}
+        Op::SNew {
+            reg: _,
+            shared: _,
+            ty: _,
+        } => {}
+        Op::Dir { reg: _ } => {}
+        Op::Collect => {}
+        Op::KCollect => {}
+        Op::Share { shared: _ } => {}
+        Op::Freeze { shared: _, root: _ } => {}
+        Op::Attach { reg: _, shared: _ } => {}
+        Op::Exit => {}
+    }
+}
+
+/// Changes what the operation with that reply changes.
+fn change(cell: &mut HeapCell, op: &Op, reply: Reply)
+    requires registers { HasRegisters op.now }
+    requires idle { cell.old.value.collection ≡ Idle }
+    requires answer { local_answer cell.old.value cell.old.pid.0 op.now ≡ Some reply }
+    ensures { cell.new ≡ record cell.old { value = unless_refused reply (local_change cell.old.value op.now) cell.old.value } }
+{
+    match reply {
+        Reply::Done => apply(cell, op, reply),
+        Reply::Made(_) => apply(cell, op, reply),
+        Reply::Loaded(_) => apply(cell, op, reply),
+        Reply::Value(_) => apply(cell, op, reply),
+        Reply::Refused(_) => {}
+    }
+}

@@ -1,0 +1,6 @@
+pub mod Idle
+pub mod Followed
+pub mod Committed
+pub mod Changed
+pub mod Given
+pub mod Stored

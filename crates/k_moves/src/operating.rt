@@ -1,0 +1,56 @@
+//! What operations in the own cell make of its part and of the book's.
+ghost use Rattle.std.specs.Prelude.{◌≡◌, None, Some, [], ◌∷◌};
+ghost use Rattle.k_changes.specs.BookChanges.{owner_in, with_charge, with_pin_moved};
+ghost use Rattle.k_changes.specs.CellChanges.{next_name_in, with_created};
+ghost use Rattle.k_frame.specs.PartUpdates.{held_in, with_done, with_register};
+ghost use Rattle.k_moves.specs.Moves.{GivesAlone, GivesBoth};
+ghost use Rattle.k_moves.specs.Shown.{part_alone, two_parts};
+ghost use Rattle.k_squares.specs.Answers.{faults_in, size_fault_in};
+ghost use Rattle.k_squares.specs.Touches.{other_cells_in};
+ghost use Rattle.k_types.specs.Cells.{BookPart, CellPart};
+ghost use Rattle.k_types.specs.Names.{directory};
+ghost use Rattle.k_types.specs.Replies.{first_fault};
+ghost use Rattle.k_types.specs.Trace.{Trace, kinds_of, limit_of, segment_of, size_of_type};
+ghost use Rattle.k_types.specs.declared.event.Fault.{Fault};
+ghost use Rattle.k_types.specs.declared.event.Reply.TheVariants.{Done, Loaded, Made, Refused};
+ghost use Rattle.k_types.specs.declared.names.Heap.TheVariants.{Kernel, User};
+ghost use Rattle.k_types.specs.declared.names.Pid.{Pid};
+ghost use Rattle.k_types.specs.declared.names.Reg.{Reg};
+ghost use Rattle.k_types.specs.declared.names.TypeId.{TypeId};
+ghost use Rattle.k_types.specs.declared.op.Op.{Op};
+ghost use Rattle.k_types.specs.declared.op.Op.TheVariants.{Clear, Dir, Move, New};
+
+/// A refused operation counts as done, and changes nothing else of the cells, and nothing of the book.
+pub fn refused_operations_count()
+    ensures alone { (trace : Trace) (b : BookPart) (v : CellPart) (pid : Pid) (op : Op) (fault : Fault) →
+        other_cells_in trace b v pid.0 op ≡ [] → first_fault (faults_in trace b (part_alone v) pid.0 op) ≡ Some fault →
+        GivesAlone trace pid op (Refused fault) v (with_done v) b b }
+    ensures kernel { (trace : Trace) (b : BookPart) (v k : CellPart) (pid : Pid) (op : Op) (fault : Fault) →
+        other_cells_in trace b v pid.0 op ≡ (Kernel ∷ []) → first_fault (faults_in trace b (two_parts (User pid) v k) pid.0 op) ≡ Some fault →
+        GivesBoth trace pid op (Refused fault) Kernel v (with_done v) k k b b }
+{}
+
+/// `move`, `drop` and `dir` set the register, and move its pin.
+pub fn registers_are_set()
+    ensures moved { (trace : Trace) (b : BookPart) (v : CellPart) (pid : Pid) (r from : Reg) →
+        GivesAlone trace pid (Move r from) Done v (with_done (with_register r.0 (held_in v.process from.0) v))
+        b (with_pin_moved (owner_in trace b) pid.0 (held_in v.process r.0) (held_in v.process from.0) b) }
+    ensures dropped { (trace : Trace) (b : BookPart) (v : CellPart) (pid : Pid) (r : Reg) →
+        GivesAlone trace pid (Clear r) Done v (with_done (with_register r.0 None v))
+        b (with_pin_moved (owner_in trace b) pid.0 (held_in v.process r.0) None b) }
+    ensures directory { (trace : Trace) (b : BookPart) (v : CellPart) (pid : Pid) (r : Reg) →
+        GivesAlone trace pid (Dir r) (Loaded (Some directory)) v (with_done (with_register r.0 (Some directory) v))
+        b (with_pin_moved (owner_in trace b) pid.0 (held_in v.process r.0) (Some directory) b) }
+{}
+
+/// `new` adds an object, sets the register to it, moves its pin, and charges the size; or it is refused where the size does not fit.
+pub fn new_objects_are_given()
+    ensures given { (trace : Trace) (b : BookPart) (v : CellPart) (pid : Pid) (r : Reg) (ty : TypeId) →
+        size_fault_in trace b pid.0 (size_of_type trace ty) ≡ None →
+        GivesAlone trace pid (New r ty) (Made (next_name_in (segment_of trace (User pid)) v))
+        v (with_done (with_register r.0 (Some (next_name_in (segment_of trace (User pid)) v)) (with_created (segment_of trace (User pid)) ty (kinds_of trace ty) v)))
+        b (with_pin_moved (owner_in trace b) pid.0 (held_in v.process r.0) (Some (next_name_in (segment_of trace (User pid)) v)) (with_charge (limit_of trace pid.0) (size_of_type trace ty) b)) }
+    ensures refused { (trace : Trace) (b : BookPart) (v : CellPart) (pid : Pid) (r : Reg) (ty : TypeId) (fault : Fault) →
+        size_fault_in trace b pid.0 (size_of_type trace ty) ≡ Some fault →
+        GivesAlone trace pid (New r ty) (Refused fault) v (with_done v) b b }
+{}

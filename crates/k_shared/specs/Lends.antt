@@ -1,0 +1,14 @@
+-- What a shared heap's cell ends as, where its note is lent.
+use Rattle.std.specs.Borrow.{Lends, Fml, MutBor}
+use Rattle.k_tie.specs.Values.{NoteValue}
+use Rattle.k_tie.specs.contracts.note.Note.{the_row as note_row}
+use Rattle.k_shared.specs.SharedHeaps.{SharedRecord}
+use Rattle.k_shared.specs.contracts.cell.SharedCell.{the_row as cell_row}
+
+-- the cell with another note
+abbrev pub with_note : SharedRecord → NoteValue → SharedRecord
+with_note c note = record c { note = note }
+
+-- the cell lent ends with the note as it is given back, and all else as it was
+abbrev pub lends_note : MutBor SharedRecord → MutBor NoteValue → Fml
+lends_note c r = Lends cell_row note_row c r (with_note c.now)

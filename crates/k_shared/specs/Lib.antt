@@ -1,0 +1,2 @@
+pub mod SharedHeaps
+pub mod Lends
