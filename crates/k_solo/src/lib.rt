@@ -10,8 +10,6 @@ mod running;
 mod shown;
 mod taking;
 mod targets;
-#[cfg(test)]
-mod tests;
 mod viewing;
 
 pub use ending::PlainEnd;
