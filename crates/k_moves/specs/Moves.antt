@@ -10,6 +10,7 @@ use Rattle.k_types.specs.Agree.{BookValue, CellValue, book_shown_by}
 use Rattle.k_types.specs.Cells.{BookPart, Cell, CellPart}
 use Rattle.k_types.specs.Effects.{step}
 use Rattle.k_types.specs.Names.{among, heap_eq}
+use Rattle.k_types.specs.Owners.{is_absorbed, phase_of}
 use Rattle.k_types.specs.State.{State}
 use Rattle.k_types.specs.Steps.{IsLegalHistory, IsPossible, in_range, state_after, waits_for_orphans}
 use Rattle.k_types.specs.Trace.{Trace, process_count}
@@ -48,11 +49,11 @@ pub record MayAct (trace : Trace) (st : State) (p : ℕ) (op : Op) : Type 0 wher
   pub in_range : IsTrue (in_range trace op)
   pub waits : IsFalse (waits_for_orphans op)
 
--- the owners of the segments, and what they depend on, are as before
+-- the owners of the segments, and what they depend on, are as before: who has ended, and which shared heaps were absorbed
 pub record KeepsOwners (old new : BookValue) : Type 0 where
   pub homes : new.homes ≡ old.homes
   pub ended : new.ended ≡ old.ended
-  pub phases : new.phases ≡ old.phases
+  pub absorbed : (t : ℕ) → is_absorbed (phase_of new.phases t) ≡ is_absorbed (phase_of old.phases t)
 
 -- cell and book show the state, and their values are changed as the operation in the own cell asks
 pub record MovesAlone (trace : Trace) (st : State) (pid : Pid) (op : Op) (said : Reply) (v w : CellValue) (b k : BookValue) : Type 0 where
