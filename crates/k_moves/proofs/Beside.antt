@@ -88,10 +88,10 @@ module _ (trace : Trace) (b : BookPart) (v u : CellPart) (pid : Pid) (cell : Cel
   second_counted second =
       ap₂ (λ (mine its : Bool). cond mine (with_done (cond its (second (cond mine v u)) (cond mine v u))) (cond its (second (cond mine v u)) (cond mine v u))) (sym apart) (sym there)
 
-  own_set : (first : CellPart → CellPart) → with_done (first v) ≡ at_cell (user pid.0) with_done (at_cell (user pid.0) first both) (User pid)
+  pub own_set : (first : CellPart → CellPart) → with_done (first v) ≡ at_cell (user pid.0) with_done (at_cell (user pid.0) first both) (User pid)
   own_set first = ap (λ mine. cond mine (with_done (cond mine (first (cond mine v u)) (cond mine v u))) (cond mine (first (cond mine v u)) (cond mine v u))) (sym own)
 
-  second_kept : (first : CellPart → CellPart) → u ≡ at_cell (user pid.0) with_done (at_cell (user pid.0) first both) cell
+  pub second_kept : (first : CellPart → CellPart) → u ≡ at_cell (user pid.0) with_done (at_cell (user pid.0) first both) cell
   second_kept first = ap (λ mine. cond mine (with_done (cond mine (first (cond mine v u)) (cond mine v u))) (cond mine (first (cond mine v u)) (cond mine v u))) (sym apart)
 
   pub not_refused_beside : (op : Op) → first_fault (faults_in trace b both pid.0 op) ≡ None → answer_in trace b both pid.0 op ≡ reply_in trace b both pid.0 op

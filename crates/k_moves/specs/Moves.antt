@@ -10,12 +10,12 @@ use Rattle.k_types.specs.Agree.{BookValue, CellValue, book_shown_by}
 use Rattle.k_types.specs.Cells.{BookPart, Cell, CellPart}
 use Rattle.k_types.specs.Effects.{step}
 use Rattle.k_types.specs.Names.{among, heap_eq}
-use Rattle.k_types.specs.Owners.{is_absorbed, phase_of}
 use Rattle.k_types.specs.State.{State}
 use Rattle.k_types.specs.Steps.{IsLegalHistory, IsPossible, in_range, state_after, waits_for_orphans}
 use Rattle.k_types.specs.Trace.{Trace, process_count}
 use Rattle.k_types.specs.TraceRules.{AreLimits}
 use Rattle.k_tie.specs.Values.{JournalValue, NoteValue}
+use Rattle.k_changes.specs.BookChanges.{owner_in}
 use Rattle.k_agree.specs.Agreement.{AreTotals, BookShows}
 use Rattle.k_agree.specs.Committing.{NotedCell}
 use Rattle.k_agree.specs.Meeting.{HasMet}
@@ -49,11 +49,10 @@ pub record MayAct (trace : Trace) (st : State) (p : ℕ) (op : Op) : Type 0 wher
   pub in_range : IsTrue (in_range trace op)
   pub waits : IsFalse (waits_for_orphans op)
 
--- the owners of the segments, and what they depend on, are as before: who has ended, and which shared heaps were absorbed
-pub record KeepsOwners (old new : BookValue) : Type 0 where
+-- who owns the segments is as before, by the homes and by what the book shows
+pub record KeepsOwners (trace : Trace) (old new : BookValue) : Type 0 where
   pub homes : new.homes ≡ old.homes
-  pub ended : new.ended ≡ old.ended
-  pub absorbed : (t : ℕ) → is_absorbed (phase_of new.phases t) ≡ is_absorbed (phase_of old.phases t)
+  pub owners : owner_in trace (book_shown_by new) ≡ owner_in trace (book_shown_by old)
 
 -- cell and book show the state, and their values are changed as the operation in the own cell asks
 pub record MovesAlone (trace : Trace) (st : State) (pid : Pid) (op : Op) (said : Reply) (v w : CellValue) (b k : BookValue) : Type 0 where
@@ -62,7 +61,7 @@ pub record MovesAlone (trace : Trace) (st : State) (pid : Pid) (op : Op) (said :
   pub book : BookShows trace st b
   pub gives : GivesAlone trace pid op said (idle_part v) (idle_part w) (book_shown_by b) (book_shown_by k)
   pub idle : w.collection ≡ Idle
-  pub owners : KeepsOwners b k
+  pub owners : KeepsOwners trace b k
 
 -- cells and book show the state, and their values are changed as the operation that touches both cells asks
 pub record MovesBoth (trace : Trace) (st : State) (pid : Pid) (op : Op) (said : Reply) (cell : Cell) (v w u x : CellValue) (b k : BookValue) : Type 0 where
@@ -73,7 +72,7 @@ pub record MovesBoth (trace : Trace) (st : State) (pid : Pid) (op : Op) (said : 
   pub gives : GivesBoth trace pid op said cell (idle_part v) (idle_part w) (idle_part u) (idle_part x) (book_shown_by b) (book_shown_by k)
   pub idle : w.collection ≡ Idle
   pub other_idle : x.collection ≡ Idle
-  pub owners : KeepsOwners b k
+  pub owners : KeepsOwners trace b k
 
 -- the operation is possible with this reply, and cell and book show the state to which it leads
 pub record HasMoved (trace : Trace) (st : State) (pid : Pid) (op : Op) (said : Reply) (w : CellValue) (k : BookValue) : Type 0 where

@@ -124,7 +124,7 @@ module _ (trace : Trace) (c : HeapRecord) (b : BookRecord) (r : ℕ) (value : Op
         book = can.book_agrees.shows;
         gives = subst (λ (k : BookPart). GivesAlone trace c.pid op said (idle_part c.value) (idle_part changed.value) (book_shown_by b.value) k) (sym moved) can.gives;
         idle = can.idle;
-        owners = record { homes = refl; ended = refl; absorbed = λ t. refl };
+        owners = record { homes = refl; ended = refl; phases = refl };
       };
     }
 
