@@ -10,6 +10,7 @@
 #![tactic(auto)]
 
 mod appending;
+mod charging;
 mod committing;
 mod laws;
 mod meeting;
@@ -19,6 +20,7 @@ pub use appending::{
     append_heap, append_heap_and_kernel, append_heap_and_shared, append_kernel,
     append_shared_and_kernel,
 };
+pub use charging::charge_process;
 pub use committing::{commit_heap, commit_with_kernel, commit_with_shared};
 pub use laws::{bytes_fit, cells_that_met_have_met, counts_fit, steps_began_before_the_meeting};
 pub use meeting::{meet_heap, meet_kernel, meet_shared};

@@ -1,0 +1,4 @@
+pub mod Operating
+pub mod Faults
+pub mod Remembered
+pub mod Attached
