@@ -1,5 +1,5 @@
 -- A charge goes to the limit of the process, and the book tells whether it fits.
-use Rattle.std.proofs.Common.{◌≡◌, ◌<◌, ◌+◌, ℕ, sym, ap, subst, ◌∙◌, length, slice_index, slice_index_or, slice_set, List, None, Some}
+use Rattle.std.proofs.Common.{◌≡◌, ◌<◌, ◌+◌, ℕ, sym, ap, subst, ◌∙◌, length, slice_index, slice_index_or, slice_set, List, None, Some, Result, Ok, Err, IfErr, IfOk}
 use Rattle.k_types.specs.declared.names.LimitId.{LimitId}
 use Rattle.k_types.specs.declared.setup.LimitRow.{LimitRow}
 use Rattle.k_types.specs.Agree.{book_shown_by}
@@ -36,7 +36,7 @@ module _ (trace : Trace) (b : BookRecord) (p : ℕ) (can : CanCharge trace b p) 
       ∙ sym (limit_told trace limits now (limit_of trace p) bytes inside)
       ∙ ap (λ (k : BookPart). full_limit_in trace k (limit_of trace p) bytes) (sym can.stands.agrees.shows.part))
 
-  pub process_charged : (k : BookRecord) (bytes m : ℕ) → m ≡ limit_of trace p →
+  process_charged : (k : BookRecord) (bytes m : ℕ) → m ≡ limit_of trace p →
       k ≡ record b { value = record b.value { direct = slice_set b.value.direct m (slice_index b.value.direct m + bytes) } } →
       full_at (book_limits b) m bytes ≡ None → HasCharged trace b k p bytes
   process_charged k bytes m at is fits = record {
@@ -47,9 +47,22 @@ module _ (trace : Trace) (b : BookRecord) (p : ℕ) (can : CanCharge trace b p) 
     fits = sym (full_told bytes) ∙ ap limit_fault (ap (λ n. full_at (book_limits b) n bytes) (sym at) ∙ fits);
   }
 
-  pub process_full : (k : BookRecord) (bytes m : ℕ) (limit : LimitId) → m ≡ limit_of trace p → k ≡ b →
+  process_full : (k : BookRecord) (bytes m : ℕ) (limit : LimitId) → m ≡ limit_of trace p → k ≡ b →
       full_at (book_limits b) m bytes ≡ Some limit.0 → IsFullFor trace b k p bytes limit
   process_full k bytes m limit at is full = record {
     book_is = is;
     full = sym (full_told bytes) ∙ ap limit_fault (ap (λ n. full_at (book_limits b) n bytes) (sym at) ∙ full);
   }
+
+  -- what the book's charge answers is what a charge of the process does
+  module _ (k : BookRecord) (bytes m : ℕ) (at : m ≡ limit_of trace p) where
+    pub if_charged : (r : Result (Unit {0}) LimitId) →
+        IfOk r (λ _. (k ≡ record b { value = record b.value { direct = slice_set b.value.direct m (slice_index b.value.direct m + bytes) } }) × (full_at (book_limits b) m bytes ≡ None)) →
+        IfOk r (λ _. HasCharged trace b k p bytes)
+    if_charged (Ok done) h = process_charged k bytes m at h.0 h.1
+    if_charged (Err limit) h = h
+
+    pub if_full : (r : Result (Unit {0}) LimitId) →
+        IfErr r (λ limit. (k ≡ b) × (full_at (book_limits b) m bytes ≡ Some limit.0)) → IfErr r (λ limit. IsFullFor trace b k p bytes limit)
+    if_full (Ok done) h = h
+    if_full (Err limit) h = process_full k bytes m limit at h.0 h.1

@@ -65,12 +65,17 @@ module _ (before : BeforeWithShared) (c : HeapRecord) (s : SharedRecord) (b : Bo
   shared_idle = met.have_met.shared.idle
 
   -- a refused operation, of which nothing is left but its count and the body that it took
+  pub refused_given : (fault : Fault) (bodies : List BodyValue) → IsFalse (waits_for_orphans op) → bodies ≡ bodies_after op c.bodies →
+      GivesBoth trace c.pid op (Refused fault) (Shared s.id) (idle_part c.value) (with_done (idle_part c.value)) (idle_part s.value) (idle_part s.value) (book_shown_by b.value) (book_shown_by b.value) →
+      HasChangedWithShared before (record c { bodies = bodies }) s b op (Refused fault)
+  refused_given fault bodies waits taken gives =
+      commits (Refused fault) c.value bodies s.value b.value waits taken settled idle shared_settled shared_idle (record { homes = refl; owners = refl }) gives
+
   pub refused : (fault : Fault) (bodies : List BodyValue) → IsFalse (waits_for_orphans op) → bodies ≡ bodies_after op c.bodies →
       first_fault (faults_in trace (book_shown_by b.value) (two_parts (User c.pid) (idle_part c.value) (idle_part s.value)) c.pid.0 op) ≡ Some fault →
       HasChangedWithShared before (record c { bodies = bodies }) s b op (Refused fault)
   refused fault bodies waits taken is =
-      commits (Refused fault) c.value bodies s.value b.value waits taken settled idle shared_settled shared_idle (record { homes = refl; owners = refl })
-      (refused_beside trace (book_shown_by b.value) (idle_part c.value) (idle_part s.value) c.pid (Shared s.id) refl op fault met.touches is)
+      refused_given fault bodies waits taken (refused_beside trace (book_shown_by b.value) (idle_part c.value) (idle_part s.value) c.pid (Shared s.id) refl op fault met.touches is)
 
 -- what is given with the cell of a shared heap is given with that of the same one
 pub with_same : (trace : Trace) (c : HeapRecord) (s : SharedRecord) (b : BookRecord) (op : Op) (said : Reply) (w x : CellValue) (k : BookPart) (id : SharedId) → id ≡ s.id →

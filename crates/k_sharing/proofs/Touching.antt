@@ -29,6 +29,10 @@ module _ (b : BookPart) (p : ℕ) (id : SharedId) where
     pub owner : h ≡ Shared id
     pub shares : IsTrue (b.shares p id.0)
 
+  -- its cell is the one beside the process's own
+  pub beside : IsTrue (b.shares p id.0) → base_cell_in b p (Shared id) ≡ Shared id ∷ []
+  beside shares = ap (λ t. cond t (Shared id ∷ []) []) shares
+
   shared_where : (s : SharedId) (t : Bool) → b.shares p s.0 ≡ t → cond t (Shared s ∷ []) [] ≡ Shared id ∷ [] → IsShared (Shared s)
   shared_where s true is e =
       let same = only_one s id e in

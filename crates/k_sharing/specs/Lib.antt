@@ -1,4 +1,4 @@
 pub mod Operating
-pub mod Faults
 pub mod Remembered
+pub mod Faults
 pub mod Attached

@@ -13,10 +13,14 @@ use Rattle.k_squares.specs.BookAfter.{book_stored}
 use Rattle.k_squares.specs.CellAfter.{with_exit_for}
 use Rattle.k_commit.specs.Rooms.{HasExitRoom}
 
--- the book tells the owner of what the reference is to, there is room for an exit item and for an entry item, and counts of entries fit
-pub record CanRemember (own : ℕ → Heap) (shared : SharedRecord) (book : BookRecord) (value : Option Name) : Type 0 where
+-- what the reference is to lies in a segment of which the book tells the owner
+pub record TellsOwner (own : ℕ → Heap) (book : BookRecord) (value : Option Name) : Type 0 where
   pub homes : (n : Name) → value ≡ Some n → n.seg.0 < length book.value.homes
   pub owners : (n : Name) → value ≡ Some n → home_of book.value.homes n.seg.0 ≡ own n.seg.0
+
+-- the owner is told, there is room for an exit item and for an entry item, and counts of entries fit
+pub record CanRemember (own : ℕ → Heap) (shared : SharedRecord) (book : BookRecord) (value : Option Name) : Type 0 where
+  pub told : TellsOwner own book value
   pub room : HasExitRoom (holdings_of shared) book
   pub counts : (n : Name) → counted book.value.entries n < 2 ^ 32 - 1
 

@@ -7,6 +7,7 @@
 
 mod allocating;
 mod attaching;
+mod barring;
 mod loading;
 mod numbers;
 mod operating;

@@ -1,5 +1,5 @@
 //! Tests of the phase of a shared heap, and of the owner of an object.
-ghost use Rattle.std.specs.Prelude.{◌≡◌, ◌<◌, Some, None, MatchOption, IsFalse, IsTrue, is_some, length, not};
+ghost use Rattle.std.specs.Prelude.{◌≡◌, ◌<◌, Some, MatchOption, IsFalse, IsTrue, is_some, length};
 ghost use Rattle.k_entry.specs.Entries.{home_of};
 ghost use Rattle.k_frame.specs.PartUpdates.{held_in};
 ghost use Rattle.k_types.specs.Names.{heap_eq};
@@ -31,6 +31,18 @@ pub(crate) fn is_populating(phase: Phase, pid: Pid) -> bool
         Phase::Unmade => false,
         Phase::Populating(maker) => maker.0 == pid.0,
         Phase::Frozen(_) => false,
+        Phase::Absorbed => false,
+    }
+}
+
+/// Whether the heap is frozen.
+pub(crate) fn is_frozen(phase: Phase) -> bool
+    ensures { result ≡ is_frozen phase }
+{
+    match phase {
+        Phase::Unmade => false,
+        Phase::Populating(_) => false,
+        Phase::Frozen(_) => true,
         Phase::Absorbed => false,
     }
 }

@@ -1,19 +1,17 @@
 //! Stores into objects of a shared heap.
-ghost use Rattle.std.specs.Prelude.{◌≡◌, ◌<◌, ℕ, IfErr, IfOk, None, Some, option_map};
 ghost use Rattle.k_commit.specs.Met.{BeforeWithShared};
 ghost use Rattle.k_commit.specs.Stepped.{HasSteppedWithShared};
 ghost use Rattle.k_sharing.specs.Operating.{HaveMetFor};
-ghost use Rattle.k_types.specs.Names.{name_of};
 ghost use Rattle.k_types.specs.declared.op.Op.TheVariants.{Store};
 
-use crate::phases::{is_owned_by, object_in};
+use crate::barring::may_store;
+use crate::phases::object_in;
 use crate::remembering::remember;
 use k_book::Book;
 use k_commit::commit_with_shared;
 use k_heap::HeapCell;
-use k_pair::faults::read_reference;
 use k_shared::SharedCell;
-use k_types::{Event, Fault, Heap, Link, Name, Op, Phase, Reg, Reply, SharedId};
+use k_types::{Event, Op, Reg, Reply};
 
 /// The operation `store`.
 pub(crate) fn store(

@@ -1,0 +1,62 @@
+-- What cells and book that have met tell of shared heaps.
+use Rattle.std.proofs.Common.{◌≡◌, ◌<◌, ℕ, refl, sym, ap, subst, ◌∙◌, Bool, true, false, List, length, slice_set, inl, inr, IsTrue, IsFalse}
+use Rattle.std.proofs.lemmas.Bool.{false≢true, false_from_ne_true}
+use Rattle.k_types.specs.declared.names.LimitId.{LimitId}
+use Rattle.k_types.specs.declared.names.Name.{Name}
+use Rattle.k_types.specs.declared.names.Phase.{Phase}
+use Rattle.k_types.specs.declared.names.Phase.TheVariants.{Frozen, Unmade}
+use Rattle.k_types.specs.Cells.{BookPart, book_part}
+use Rattle.k_types.specs.Owners.{is_absorbed, phase_of}
+use Rattle.k_types.specs.Replies.{is_unmade}
+use Rattle.k_types.specs.State.{State, has_share}
+use Rattle.k_types.specs.Steps.{has_sharer, state_after}
+use Rattle.k_types.specs.Trace.{Trace, segment_count}
+use Rattle.k_base.proofs.Lists.{get_or-set_cases}
+use Rattle.k_laws.proofs.SoundEffects.{is_unmade_so}
+use Rattle.k_laws.proofs.SoundSharing.{sharer_of}
+use Rattle.k_commit.specs.Charging.{CanCharge}
+use Rattle.k_commit.specs.Met.{Before, HaveMet}
+use Rattle.k_commit.proofs.Placed.{sound_now}
+
+module _ (before : Before) (met : HaveMet before) where
+  abbrev now : State
+  now = state_after before.trace before.book.journal.list
+
+  phases_are : before.book.value.phases ≡ now.phases
+  unfolding book_part
+  phases_are = ap (λ (b : BookPart). b.phases) met.book.agrees.shows.part
+
+  shares_are : (p s : ℕ) → has_share before.book.value.shares p s ≡ has_share now.shares p s
+  unfolding book_part
+  shares_are p s = ap (λ (b : BookPart). b.shares p s) met.book.agrees.shows.part
+
+  pub phase_count : length before.book.value.phases ≡ before.trace.shared_heaps
+  phase_count = ap length phases_are ∙ (sound_now before met).shape.sized.phases
+
+  pub process_there : before.cell.pid.0 < length before.book.procs
+  process_there = subst (λ (procs : List LimitId). before.cell.pid.0 < length procs) (sym met.book.of_trace.procs) met.heap.agrees.there
+
+  pub can_charge : CanCharge before.trace before.book before.cell.pid.0
+  can_charge = record { stands = met.book; known = met.heap.agrees.there }
+
+  -- nobody shares an unmade heap
+  pub unmade_unshared : (p s : ℕ) → IsTrue (is_unmade (phase_of before.book.value.phases s)) → IsFalse (has_share before.book.value.shares p s)
+  unmade_unshared p s unmade =
+      let is : phase_of now.phases s ≡ Unmade = is_unmade_so (phase_of now.phases s) (ap (λ (phases : List Phase). is_unmade (phase_of phases s)) (sym phases_are) ∙ unmade) in
+      let none : IsFalse (has_sharer now.shares s) = (sound_now before met).phases.unmade_shares s is in
+      false_from_ne_true _ (λ shared. false≢true (sym none ∙ sharer_of now.shares p s (sym (shares_are p s) ∙ shared)))
+
+  -- the root of a frozen heap lies in a segment of the trace
+  pub root_is_placed : (s : ℕ) (root : Name) → phase_of before.book.value.phases s ≡ Frozen root → root.seg.0 < segment_count before.trace
+  root_is_placed s root frozen =
+      let sound = sound_now before met in
+      (sound.shape.placed root (sound.no_dangling.frozen s root (ap (λ (phases : List Phase). phase_of phases s) (sym phases_are) ∙ frozen))).1
+
+-- which heaps are absorbed stays, where the phase that is set is absorbed as the one before it was
+pub absorbed_kept : (phases : List Phase) (s : ℕ) (phase : Phase) → is_absorbed phase ≡ is_absorbed (phase_of phases s) → (q : ℕ) →
+    is_absorbed (phase_of (slice_set phases s phase) q) ≡ is_absorbed (phase_of phases q)
+absorbed_kept phases s phase same q =
+    elim (get_or-set_cases phases s q phase Unmade) [
+      | inl e ↦ ap is_absorbed e
+      | inr e ↦ ap is_absorbed e.1 ∙ same ∙ ap (λ k. is_absorbed (phase_of phases k)) (sym e.0)
+    ]
