@@ -1,0 +1,4 @@
+pub mod Meetings
+pub mod Fitting
+pub mod Setting
+pub mod Commits
