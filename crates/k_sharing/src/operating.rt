@@ -21,12 +21,7 @@ use k_types::{Event, Op};
 /// object of the heap, which the process shares. A refused operation changes nothing but the journal and the count of operations
 /// done, and for `snew` takes its body; the fault is the lowest that applies. Constant time where the hash spreads the names, but
 /// for the limits that a charge passes, and no memory.
-pub fn step_shared(
-    cell: &mut HeapCell,
-    shared: &mut SharedCell,
-    book: &mut Book,
-    op: &Op,
-) -> Event
+pub fn step_shared(cell: &mut HeapCell, shared: &mut SharedCell, book: &mut Book, op: &Op) -> Event
     ghost trace: { Trace }
     requires { CanStepWithShared trace cell.old shared.old book.old op.now }
     ensures { HasSteppedWithShared trace op.now cell.old cell.new shared.old shared.new book.old book.new result }
