@@ -7,7 +7,7 @@ use Rattle.k_types.specs.declared.event.Reply.{Reply}
 use Rattle.k_types.specs.declared.names.CellPhase.TheVariants.{Idle}
 use Rattle.k_types.specs.declared.names.Heap.TheVariants.{Kernel, User, Shared}
 use Rattle.k_types.specs.declared.op.Op.{Op}
-use Rattle.k_types.specs.Agree.{CellValue, book_shown_by}
+use Rattle.k_types.specs.Agree.{CellValue}
 use Rattle.k_types.specs.Cells.{Cell, ProcessPart, ShownPart, part}
 use Rattle.k_types.specs.Steps.{IsLegalHistory, IsPossible, done_by, state_after}
 use Rattle.k_types.specs.State.{State}
@@ -31,8 +31,8 @@ use Rattle.k_heap.specs.Heaps.{HeapRecord}
 use Rattle.k_moves.specs.Moves.{CommitsAlone, CommitsBoth, MayAct, noted}
 use Rattle.k_moves.proofs.Committed.{commit_alone, commit_both}
 use Rattle.k_shared.specs.SharedHeaps.{SharedRecord}
-use Rattle.k_commit.specs.Changed.{ChangesValues, HasChanged, HasChangedWithKernel, HasChangedWithShared, MayCommit, bodies_after}
-use Rattle.k_commit.specs.Met.{Before, BeforeWithKernel, BeforeWithShared, HaveMet, HaveMetWithKernel, HaveMetWithShared}
+use Rattle.k_commit.specs.Changed.{HasChanged, HasChangedWithKernel, HasChangedWithShared, MayCommit, bodies_after}
+use Rattle.k_commit.specs.Met.{Before, BeforeWithKernel, BeforeWithShared, HaveMet}
 use Rattle.k_commit.specs.Stepped.{HasStepped, HasSteppedWithKernel, HasSteppedWithShared}
 use Rattle.k_commit.proofs.Setting.{process_known, process_lives}
 
@@ -216,7 +216,7 @@ module _ (before : BeforeWithKernel) (c : HeapRecord) (k : HoldingsValue) (b : B
       (book_appended (Done before.own.cell.pid op said) (before.own.cell.note.cell ∷ before.kernel.note.cell ∷ []) l) (Done before.own.cell.pid op said)) (sym h.values.book_is)
       (record {
         own = own_steps before.own h.have_met.own op said c.value b (before.own.cell.note.cell ∷ before.kernel.note.cell ∷ []) h.values.book_is h.values.settled h.values.idle
-        kernel_can.possible kernel_can.ready.0.shows kernel_after.cells_met.0 kernel_after.cells_agree.0 kernel_after.book_agrees;
+            kernel_can.possible kernel_can.ready.0.shows kernel_after.cells_met.0 kernel_after.cells_agree.0 kernel_after.book_agrees;
         kernel_is = refl;
         table = h.have_met.kernel.table;
         idle = h.kernel_idle;
@@ -275,7 +275,7 @@ module _ (before : BeforeWithShared) (c : HeapRecord) (s : SharedRecord) (b : Bo
       (book_appended (Done before.own.cell.pid op said) (before.own.cell.note.cell ∷ before.shared.note.cell ∷ []) l) (Done before.own.cell.pid op said)) (sym h.values.book_is)
       (record {
         own = own_steps before.own h.have_met.own op said c.value b (before.own.cell.note.cell ∷ before.shared.note.cell ∷ []) h.values.book_is h.values.settled h.values.idle
-        shared_can.possible shared_can.ready.0.shows shared_after.cells_met.0 shared_after.cells_agree.0 shared_after.book_agrees;
+            shared_can.possible shared_can.ready.0.shows shared_after.cells_met.0 shared_after.cells_agree.0 shared_after.book_agrees;
         fits = met_fits before.own.trace before.own.book (Shared before.shared.id) before.shared.note h.have_met.own.book.agrees h.have_met.after.met;
         shared_is = refl;
         table = h.have_met.shared.table;

@@ -1,22 +1,20 @@
 -- Counts and bytes of cells and book that have met fit their numbers.
 use Rattle.std.proofs.Common.{◌≡◌, ◌+◌, ◌-◌, ◌*◌, ◌<◌, ◌≤◌, ◌^◌, ℕ, zero, suc, refl, ap, List, [], ◌∷◌, length, map, arith, get_or}
 use Rattle.k_types.specs.declared.names.Heap.{Heap}
-use Rattle.k_types.specs.declared.names.Heap.TheVariants.{Kernel, User, Shared}
+use Rattle.k_types.specs.declared.names.Heap.TheVariants.{Kernel, Shared}
 use Rattle.k_types.specs.declared.names.Name.{Name}
 use Rattle.k_types.specs.Agree.{CellValue}
-use Rattle.k_types.specs.Bounds.{most_fields}
-use Rattle.k_types.specs.Cells.{BookPart, Cell, ProcessPart, ShownPart, book_part, entries, part, pins}
+use Rattle.k_types.specs.Cells.{BookPart, Cell, ShownPart, book_part, entries, part, pins}
 use Rattle.k_types.specs.Counted.{counted}
 use Rattle.k_types.specs.Names.{heap_eq}
 use Rattle.k_types.specs.Numbers.{numbers_below}
-use Rattle.k_types.specs.Owners.{bytes_by, bytes_of, object_bytes, objects_of, owner_of, shared}
-use Rattle.k_types.specs.State.{Object, State}
+use Rattle.k_types.specs.Owners.{bytes_by, bytes_of, object_bytes, owner_of, shared}
+use Rattle.k_types.specs.State.{State}
 use Rattle.k_types.specs.Steps.{state_after}
 use Rattle.k_types.specs.Totals.{total}
-use Rattle.k_types.specs.Trace.{Trace, process_count}
 use Rattle.k_frame.proofs.Sizes.{history_sized}
 use Rattle.k_frame.specs.PartUpdates.{done_in}
-use Rattle.k_bounds.specs.Counts.{allocations, has_allocated, has_stored, is_operation, operation_count, store_count}
+use Rattle.k_bounds.specs.Counts.{has_allocated, has_stored, is_operation}
 use Rattle.k_bounds.proofs.Counting.{count_low, total_fewer}
 use Rattle.k_bounds.proofs.Distinct.{pins_few}
 use Rattle.k_bounds.proofs.Dones.{dones_at_most}

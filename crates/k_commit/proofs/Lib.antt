@@ -1,5 +1,7 @@
 pub mod Charges
 pub mod Meetings
 pub mod Fitting
+pub mod Placed
 pub mod Setting
+pub mod Changing
 pub mod Commits

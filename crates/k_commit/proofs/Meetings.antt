@@ -1,17 +1,29 @@
 -- Conditions and answers over a meeting.
-use Rattle.std.proofs.Common.{◌≡◌, sym, subst}
+use Rattle.std.proofs.Common.{◌≡◌, ◌<◌, ◌^◌, sym, subst}
 use Rattle.k_types.specs.declared.event.Event.{Event}
 use Rattle.k_types.specs.declared.op.Op.{Op}
+use Rattle.k_types.specs.Agree.{CellValue}
+use Rattle.k_types.specs.Cells.{Cell}
 use Rattle.k_types.specs.Trace.{Trace}
 use Rattle.k_tie.specs.Values.{NoteValue}
 use Rattle.k_agree.specs.Meeting.{Fits}
+use Rattle.k_agree.proofs.Meetings.{meeting}
 use Rattle.k_book.specs.Books.{BookRecord}
 use Rattle.k_cell.specs.Holdings.{HoldingsValue}
 use Rattle.k_heap.specs.Heaps.{HeapRecord}
 use Rattle.k_shared.specs.SharedHeaps.{SharedRecord}
-use Rattle.k_commit.specs.Met.{HaveMet, HaveMetWithKernel, HaveMetWithShared, HeapHasMet, KernelHasMet, SharedHasMet}
+use Rattle.k_commit.specs.Met.{CanMeet, FitsTheBook, HaveMet, HaveMetWithKernel, HaveMetWithShared, HeapHasMet, KernelHasMet, SharedHasMet}
 use Rattle.k_commit.specs.Standing.{BookStands, HeapStands, KernelStands, SharedStands}
 use Rattle.k_commit.specs.Stepped.{HasStepped, HasSteppedWithKernel, HasSteppedWithShared}
+
+-- a cell whose note fits the journal of the book
+pub told_by : (trace : Trace) (cell : Cell) (note : NoteValue) (value : CellValue) (b : BookRecord) → CanMeet trace cell note value b → Fits b.journal note → b.event_room < 2 ^ 32 →
+    FitsTheBook trace cell note value b
+told_by trace cell note value b can fits few = record {
+  fits = fits;
+  shows = meeting trace b.journal b.value cell note value can.agrees can.book_agrees fits;
+  few = few;
+}
 
 module _ (trace : Trace) (c cell : HeapRecord) (b book : BookRecord) (heap_met : HeapHasMet trace c cell b book) where
   pub heap_has_met : BookStands trace b → HeapStands trace c b → HaveMet (record { trace = trace; cell = cell; book = book })

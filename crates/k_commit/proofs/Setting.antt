@@ -1,24 +1,24 @@
 -- A register that is set with its pin.
-use Rattle.std.proofs.Common.{◌≡◌, ◌+◌, ◌-◌, ◌<◌, ◌≤◌, ◌==◌, ◌^◌, ℕ, refl, sym, ap, subst, ◌∙◌, List, length, Option, Some, None, IsFalse, IsTrue, arith, map}
+use Rattle.std.proofs.Common.{◌≡◌, ◌+◌, ◌-◌, ◌<◌, ◌==◌, ◌^◌, ℕ, refl, sym, ap, subst, ◌∙◌, List, length, Option, Some, None, IsFalse, arith}
 use Rattle.std.proofs.Math.Path.{fun_ext}
 use Rattle.std.proofs.lemmas.List.{length-map}
 use Rattle.k_types.specs.declared.names.Heap.{Heap}
 use Rattle.k_types.specs.declared.names.Heap.TheVariants.{User}
 use Rattle.k_types.specs.declared.names.Name.{Name}
-use Rattle.k_types.specs.Agree.{BookValue, book_shown_by}
-use Rattle.k_types.specs.Cells.{BookPart, ProcessPart, ShownPart, book_part, part}
+use Rattle.k_types.specs.Agree.{book_shown_by}
+use Rattle.k_types.specs.Cells.{BookPart, ProcessPart, ShownPart, part}
 use Rattle.k_types.specs.Counted.{Counted, counted}
 use Rattle.k_types.specs.Names.{among, heap_eq}
 use Rattle.k_types.specs.Numbers.{numbers_below}
 use Rattle.k_types.specs.Owners.{owner_of, user}
 use Rattle.k_types.specs.State.{State}
 use Rattle.k_types.specs.Steps.{state_after}
-use Rattle.k_types.specs.Trace.{Trace, process_count, segment_count}
+use Rattle.k_types.specs.Trace.{process_count, segment_count}
 use Rattle.k_base.proofs.Lists.{numbers_length}
 use Rattle.k_base.proofs.NameTests.{heap_eq_refl, heap_eq-true}
 use Rattle.k_base.proofs.Tests.{same_test}
 use Rattle.k_laws.proofs.Means.{is_own_if, own_is}
-use Rattle.k_entry.specs.Entries.{AreEntries, EntryValue}
+use Rattle.k_entry.specs.Entries.{AreEntries}
 use Rattle.k_book.specs.Books.{BookRecord, book_pins}
 use Rattle.k_book.specs.Calls.{ChangesPins}
 use Rattle.k_book.proofs.OnPart.{moved_on}
