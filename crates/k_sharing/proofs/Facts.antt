@@ -1,21 +1,25 @@
 -- What cells and book that have met tell of shared heaps.
-use Rattle.std.proofs.Common.{◌≡◌, ◌<◌, ℕ, refl, sym, ap, subst, ◌∙◌, Bool, true, false, List, length, slice_set, inl, inr, IsTrue, IsFalse}
+use Rattle.std.proofs.Common.{◌≡◌, ◌<◌, ℕ, sym, ap, subst, ◌∙◌, cond, List, length, slice_index_or, slice_set, Some, None, inl, inr, IsTrue, IsFalse}
 use Rattle.std.proofs.lemmas.Bool.{false≢true, false_from_ne_true}
+use Rattle.k_types.specs.declared.names.Heap.TheVariants.{Shared}
 use Rattle.k_types.specs.declared.names.LimitId.{LimitId}
 use Rattle.k_types.specs.declared.names.Name.{Name}
 use Rattle.k_types.specs.declared.names.Phase.{Phase}
 use Rattle.k_types.specs.declared.names.Phase.TheVariants.{Frozen, Unmade}
-use Rattle.k_types.specs.Cells.{BookPart, book_part}
-use Rattle.k_types.specs.Owners.{is_absorbed, phase_of}
-use Rattle.k_types.specs.Replies.{is_unmade}
+use Rattle.k_types.specs.Cells.{BookPart, ShownPart, book_part, part}
+use Rattle.k_types.specs.Owners.{is_absorbed, owner_of, phase_of}
+use Rattle.k_types.specs.Replies.{is_populating, is_unmade}
 use Rattle.k_types.specs.State.{State, has_share}
 use Rattle.k_types.specs.Steps.{has_sharer, state_after}
 use Rattle.k_types.specs.Trace.{Trace, segment_count}
 use Rattle.k_base.proofs.Lists.{get_or-set_cases}
+use Rattle.k_base.proofs.NameTests.{heap_eq-same}
+use Rattle.k_frame.proofs.OwnerOf.{owner_shared}
 use Rattle.k_laws.proofs.SoundEffects.{is_unmade_so}
 use Rattle.k_laws.proofs.SoundSharing.{sharer_of}
+use Rattle.k_squares.proofs.CellSquares.{populating_phase}
 use Rattle.k_commit.specs.Charging.{CanCharge}
-use Rattle.k_commit.specs.Met.{Before, HaveMet}
+use Rattle.k_commit.specs.Met.{Before, BeforeWithShared, HaveMet, HaveMetWithShared}
 use Rattle.k_commit.proofs.Placed.{sound_now}
 
 module _ (before : Before) (met : HaveMet before) where
@@ -30,8 +34,11 @@ module _ (before : Before) (met : HaveMet before) where
   unfolding book_part
   shares_are p s = ap (λ (b : BookPart). b.shares p s) met.book.agrees.shows.part
 
-  pub phase_count : length before.book.value.phases ≡ before.trace.shared_heaps
+  phase_count : length before.book.value.phases ≡ before.trace.shared_heaps
   phase_count = ap length phases_are ∙ (sound_now before met).shape.sized.phases
+
+  pub phase_there : (s : ℕ) → s < before.trace.shared_heaps → s < length before.book.value.phases
+  phase_there s known = subst (λ n. s < n) (sym phase_count) known
 
   pub process_there : before.cell.pid.0 < length before.book.procs
   process_there = subst (λ (procs : List LimitId). before.cell.pid.0 < length procs) (sym met.book.of_trace.procs) met.heap.agrees.there
@@ -51,6 +58,26 @@ module _ (before : Before) (met : HaveMet before) where
   root_is_placed s root frozen =
       let sound = sound_now before met in
       (sound.shape.placed root (sound.no_dangling.frozen s root (ap (λ (phases : List Phase). phase_of phases s) (sym phases_are) ∙ frozen))).1
+
+-- a heap that is populated owns the segment with which it begins
+pub populated_segment : (before : BeforeWithShared) → HaveMetWithShared before → (p : ℕ) → IsTrue (is_populating (phase_of before.own.book.value.phases before.shared.id.0) p) →
+    slice_index_or before.shared.value.made before.shared.seg.0 None
+    ≡ Some (slice_index_or (state_after before.own.trace before.own.book.journal.list).made before.shared.seg.0 0)
+unfolding part
+populated_segment before met p populates =
+    ap (λ (s : ShownPart). s.made before.shared.seg.0) met.after.shows.part
+    ∙ ap (λ t. cond t (Some (slice_index_or st.made before.shared.seg.0 0)) None) (heap_eq-same (owner_of before.own.trace st before.shared.seg.0) (Shared before.shared.id) owner_is)
+  where
+    abbrev st : State
+    st = state_after before.own.trace before.own.book.journal.list
+
+    absorbed_not : IsFalse (is_absorbed (phase_of st.phases before.shared.id.0))
+    absorbed_not =
+        ap (λ (phases : List Phase). is_absorbed (phase_of phases before.shared.id.0)) (sym (phases_are before.own met.own))
+        ∙ ap is_absorbed (populating_phase (phase_of before.own.book.value.phases before.shared.id.0) p populates)
+
+    owner_is : owner_of before.own.trace st before.shared.seg.0 ≡ Shared before.shared.id
+    owner_is = ap (owner_of before.own.trace st) met.shared.segment ∙ owner_shared before.own.trace st before.shared.id.0 absorbed_not
 
 -- which heaps are absorbed stays, where the phase that is set is absorbed as the one before it was
 pub absorbed_kept : (phases : List Phase) (s : ℕ) (phase : Phase) → is_absorbed phase ≡ is_absorbed (phase_of phases s) → (q : ℕ) →

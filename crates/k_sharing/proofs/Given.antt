@@ -34,10 +34,6 @@ module _ (trace : Trace) (b : BookPart) (v u : CellPart) (pid : Pid) (s : Shared
   abbrev both : Cell → CellPart
   both = two_parts (User pid) v u
 
-  pub shared_refused : (op : Op) (fault : Fault) → other_cells_in trace b v pid.0 op ≡ Shared s ∷ [] → first_fault (faults_in trace b both pid.0 op) ≡ Some fault →
-      GivesBoth trace pid op (Refused fault) (Shared s) v (with_done v) u u b b
-  shared_refused op fault touched is = refused_beside trace b v u pid (Shared s) refl op fault touched is
-
   -- the heap is the process's to populate
   module _ (unmade : is_unmade (phase_of b.phases s.0) ≡ true) where
     share_fine : first_fault (faults_in trace b both pid.0 (Share s)) ≡ None

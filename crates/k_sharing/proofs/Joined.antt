@@ -17,7 +17,7 @@ use Rattle.k_types.specs.Cells.{BookPart}
 use Rattle.k_types.specs.Owners.{phase_of}
 use Rattle.k_types.specs.Replies.{is_frozen}
 use Rattle.k_types.specs.State.{has_share}
-use Rattle.k_types.specs.Trace.{Trace, limit_of}
+use Rattle.k_types.specs.Trace.{Trace, limit_of, segment_count}
 use Rattle.k_changes.specs.BookChanges.{owner_in, with_charge, with_pin_moved, with_share}
 use Rattle.k_frame.specs.PartUpdates.{held_in, with_done, with_register}
 use Rattle.k_squares.specs.Answers.{size_fault_in}
@@ -115,7 +115,7 @@ module _ (before : BeforeWithShared) (c : HeapRecord) (s : SharedRecord) (b : Bo
             pin_room = refl;
             owners = record { homes = refl; owners = refl };
             register = (attach_below trace r id met.in_range).0;
-            there = λ n is. subst (λ m. m < _) (ap seg_of is) (root_is_placed here met.have_met.own id.0 root frozen);
+            there = λ n is. subst (λ m. m < segment_count trace) (ap seg_of is) (root_is_placed here met.have_met.own id.0 root frozen);
           }))
         where
           seg_of : Option Name → ℕ

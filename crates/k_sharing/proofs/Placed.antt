@@ -1,5 +1,5 @@
 -- A new object in a shared heap.
-use Rattle.std.proofs.Common.{◌≡◌, ◌<◌, ◌≤◌, ◌+◌, ◌^◌, ℕ, zero, suc, refl, sym, ap, subst, ◌∙◌, List, [], ◌∷◌, Option, Some, None, drop, get_or, length, map, slice_index, slice_index_or, slice_set, IsTrue, IsFalse, arith}
+use Rattle.std.proofs.Common.{◌≡◌, ◌<◌, ◌≤◌, ◌+◌, ◌^◌, ℕ, zero, suc, refl, sym, ap, subst, ◌∙◌, List, [], ◌∷◌, Option, Some, None, drop, get_or, length, map, slice_index, slice_set, IsTrue, IsFalse, arith}
 use Rattle.std.proofs.lemmas.List.{length-map}
 use Rattle.k_types.specs.declared.event.Fault.TheVariants.{LimitFull, NotPopulating}
 use Rattle.k_types.specs.declared.event.Reply.TheVariants.{Made, Refused}
@@ -18,6 +18,7 @@ use Rattle.k_types.specs.Cells.{BookPart, CellPart}
 use Rattle.k_types.specs.Owners.{phase_of}
 use Rattle.k_types.specs.Replies.{is_populating}
 use Rattle.k_types.specs.State.{fresh}
+use Rattle.k_types.specs.Steps.{state_after}
 use Rattle.k_types.specs.Trace.{Trace, kinds_of, limit_of, segment_count, segment_of, size_of_type}
 use Rattle.k_types.specs.Types.{object_size}
 use Rattle.k_space.specs.Objects.{BodyValue, new_body}
@@ -30,13 +31,15 @@ use Rattle.k_moves.specs.Shown.{idle_part}
 use Rattle.k_moves.proofs.Changed.{new_shown}
 use Rattle.k_book.specs.Books.{BookRecord}
 use Rattle.k_cell.specs.Changes.{next_in, with_body}
+use Rattle.k_cell.specs.Holdings.{HasSerialLeft}
 use Rattle.k_heap.specs.Heaps.{HeapRecord, with_register_in}
-use Rattle.k_shared.specs.SharedHeaps.{SharedRecord}
+use Rattle.k_shared.specs.SharedHeaps.{SharedRecord, holdings_of}
 use Rattle.k_commit.specs.Changed.{CanSetRegister, HasChangedWithShared, HasSetRegister}
 use Rattle.k_commit.specs.Charging.{HasCharged, IsFullFor}
 use Rattle.k_commit.specs.Met.{Before, BeforeWithShared}
 use Rattle.k_sharing.specs.Operating.{HaveMetFor, as_they_are}
 use Rattle.k_sharing.proofs.Changing.{commits, idle, refused, settled, shared_idle, shared_settled, with_same}
+use Rattle.k_sharing.proofs.Facts.{populated_segment}
 use Rattle.k_sharing.proofs.Given.{allocated, snew_full, snew_unpopulated}
 use Rattle.k_sharing.proofs.Touching.{snew_below, snew_names}
 
@@ -90,6 +93,17 @@ module _ (before : BeforeWithShared) (c : HeapRecord) (s : SharedRecord) (b : Bo
         refused before c s b op met (NotPopulating id) rest refl left_is (snew_unpopulated trace (book_shown_by b.value) (idle_part c.value) (idle_part s.value) c.pid id r ty other)
 
     module _ (populates : IsTrue (is_populating (phase_of b.value.phases id.0) c.pid.0)) (bytes : ℕ) (size : bytes ≡ object_size (length body.fields)) where
+      abbrev serials : ℕ
+      serials = get_or (state_after trace b.journal.list).made s.seg.0 0
+
+      segment_there : get_or s.value.made s.seg.0 None ≡ Some serials
+      segment_there =
+          populated_segment (as_they_are trace c s b) met.have_met c.pid.0
+          (subst (λ (t : SharedId). IsTrue (is_populating (phase_of b.value.phases t.0) c.pid.0)) same_heap populates)
+
+      pub serial_left : HasSerialLeft (holdings_of s) s.seg.0
+      serial_left = met.room.tables.serial serials segment_there
+
       of_type : bytes ≡ size_of_type trace ty
       of_type = size ∙ body_size
 
@@ -160,7 +174,7 @@ module _ (before : BeforeWithShared) (c : HeapRecord) (s : SharedRecord) (b : Bo
           shared_shown : idle_part shared_value ≡ with_created (segment_of trace (Shared id)) ty (kinds_of trace ty) (idle_part s.value)
           shared_shown =
               ap (λ (one : BodyValue). idle_part (with_body s.seg.0 one s.value)) first_is
-              ∙ new_shown s.value s.seg.0 ty (kinds_of trace ty) (inside s.value.made s.seg.0 met.room.tables.serial.given met.room.tables.serial.there)
+              ∙ new_shown s.value s.seg.0 ty (kinds_of trace ty) (inside s.value.made s.seg.0 serials segment_there)
               ∙ ap (λ seg. with_created seg ty (kinds_of trace ty) (idle_part s.value)) segment_is
 
           given : GivesBoth trace c.pid op (Made new_name) (Shared id) (idle_part c.value) (with_done (with_register r.0 (Some new_name) (idle_part c.value)))

@@ -24,6 +24,7 @@ use Rattle.k_moves.proofs.Beside.{store_refused_beside, stored_beside}
 use Rattle.k_book.specs.Books.{BookRecord}
 use Rattle.k_cell.specs.Changes.{with_field}
 use Rattle.k_shared.specs.SharedHeaps.{SharedRecord}
+use Rattle.k_cell.specs.Looks.{field_among}
 use Rattle.k_heap.specs.Heaps.{HeapRecord}
 use Rattle.k_commit.specs.Changed.{HasChangedWithShared}
 use Rattle.k_commit.specs.Met.{Before, BeforeWithShared}
@@ -34,7 +35,7 @@ use Rattle.k_sharing.specs.Operating.{HaveMetFor, as_they_are}
 use Rattle.k_sharing.specs.Remembered.{CanRemember, HasRemembered, TellsOwner}
 use Rattle.k_sharing.proofs.Changing.{commits, idle, refused_given, settled, shared_idle, shared_settled}
 use Rattle.k_sharing.proofs.Faulted.{store_faulted}
-use Rattle.k_sharing.proofs.Facts.{phase_count}
+use Rattle.k_sharing.proofs.Facts.{phase_there}
 use Rattle.k_sharing.proofs.Touching.{IsShared, beside, store_holds}
 
 module _ (before : BeforeWithShared) (c : HeapRecord) (s : SharedRecord) (b : BookRecord) (base : Reg) (i : ℕ) (value : Reg) (met : HaveMetFor before c s b (Store base i value)) where
@@ -62,7 +63,7 @@ module _ (before : BeforeWithShared) (c : HeapRecord) (s : SharedRecord) (b : Bo
 
   pub store_judges : (y : Option Name) → y ≡ held_in c.value.process value.0 → CanJudge own s b y
   store_judges y at_y = record {
-    phases = subst (λ m. s.id.0 < m) (sym (phase_count here met.have_met.own)) met.have_met.shared.agrees.there;
+    phases = phase_there here met.have_met.own s.id.0 met.have_met.shared.agrees.there;
     told = told y at_y;
   }
 
@@ -89,6 +90,10 @@ module _ (before : BeforeWithShared) (c : HeapRecord) (s : SharedRecord) (b : Bo
 
     module _ (y : Option Name) (at_y : y ≡ held_in c.value.process value.0) (fine : first_fault (store_faults_of own s b x i y) ≡ None) (s1 : SharedRecord) (b1 : BookRecord)
         (r : HasRemembered own s s1 b b1 y) where
+      -- the field is what it was before the value was remembered
+      pub same_field : field_among s1.value.objects x i ≡ field_among s.value.objects x i
+      same_field = ap (λ (h : SharedRecord). field_among h.value.objects x i) r.shared_is
+
       abbrev exits_value : CellValue
       exits_value = record s.value { exits = s1.value.exits }
 
