@@ -115,7 +115,7 @@ module _ (before : BeforeWithShared) (c : HeapRecord) (s : SharedRecord) (b : Bo
             pin_room = refl;
             owners = record { homes = refl; owners = refl };
             register = (attach_below trace r id met.in_range).0;
-            there = λ n is. subst (λ m. m < segment_count trace) (ap seg_of is) (root_is_placed here met.have_met.own id.0 root frozen);
+            there = λ n is. subst (λ m. m < segment_count trace) (ap seg_of is) (root_is_placed trace b met.have_met.own.book id.0 root frozen);
           }))
         where
           seg_of : Option Name → ℕ

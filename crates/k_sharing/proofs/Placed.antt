@@ -126,8 +126,8 @@ module _ (before : BeforeWithShared) (c : HeapRecord) (s : SharedRecord) (b : Bo
         grown_is : grown ≡ record b { value = record b.value { direct = k.value.direct; shared_bytes = grown.value.shared_bytes } }
         grown_is = ap (λ (e : BookRecord). record e { value = record e.value { shared_bytes = grown.value.shared_bytes } }) charged.book_is
 
-        pub snew_sets : CanSetRegister before.own (record c { bodies = rest }) grown r.0 (Some new_name)
-        snew_sets =
+        snew_can_set : CanSetRegister before.own (record c { bodies = rest }) grown r.0 (Some new_name)
+        snew_can_set =
             subst (λ (bf : BeforeWithShared). CanSetRegister bf.own (record c { bodies = rest }) grown r.0 (Some new_name)) met.same
             (subst (λ (e : BookRecord). CanSetRegister here (record c { bodies = rest }) e r.0 (Some new_name)) (sym grown_is) (record {
               have_met = met.have_met.own;
@@ -147,6 +147,13 @@ module _ (before : BeforeWithShared) (c : HeapRecord) (s : SharedRecord) (b : Bo
             seg_of : Option Name → ℕ
             seg_of None = s.seg.0
             seg_of (Some n) = n.seg.0
+
+        -- the same with the cell, the book and the name as they came
+        pub snew_sets : (d : HeapRecord) → d ≡ record c { bodies = rest } → (e : BookRecord) → e ≡ grown → (n : Name) → n ≡ new_name → CanSetRegister before.own d e r.0 (Some n)
+        snew_sets d d_is e e_is n n_is =
+            subst (λ (x : HeapRecord). CanSetRegister before.own x e r.0 (Some n)) (sym d_is)
+            (subst (λ (x : BookRecord). CanSetRegister before.own (record c { bodies = rest }) x r.0 (Some n)) (sym e_is)
+            (subst (λ (x : Name). CanSetRegister before.own (record c { bodies = rest }) grown r.0 (Some x)) (sym n_is) snew_can_set))
 
         module _ (w : HeapRecord) (l : BookRecord) (was_set : HasSetRegister before.own (record c { bodies = rest }) w grown l r.0 (Some new_name)) where
           set : HasSetRegister here (record c { bodies = rest }) w grown l r.0 (Some new_name)
@@ -198,10 +205,19 @@ module _ (before : BeforeWithShared) (c : HeapRecord) (s : SharedRecord) (b : Bo
               (subst (λ (e : BookPart). GivesBoth trace c.pid op (Made new_name) (Shared id) (idle_part c.value) (with_done (with_register r.0 (Some new_name) (idle_part c.value)))
               (idle_part s.value) (with_created (segment_of trace (Shared id)) ty (kinds_of trace ty) (idle_part s.value)) (book_shown_by b.value) e) (sym book_shown) given))
 
-          pub snew_done : HasChangedWithShared before w (record s { value = shared_value }) l op (Made new_name)
-          snew_done =
+          snew_changes : HasChangedWithShared before w (record s { value = shared_value }) l op (Made new_name)
+          snew_changes =
               subst (λ (d : HeapRecord). HasChangedWithShared before d (record s { value = shared_value }) l op (Made new_name)) (sym set.cell_is)
               (subst (λ (e : BookRecord). HasChangedWithShared before (record c { bodies = rest; value = with_register_in r.0 (Some new_name) c.value }) (record s { value = shared_value }) e op (Made new_name)) (sym book_is)
               (commits before c s b op met (Made new_name) (with_register_in r.0 (Some new_name) c.value) rest shared_value book_value refl left_is
               (settled before c s b op met) (idle before c s b op met) (shared_settled before c s b op met) (shared_idle before c s b op met)
               (record { homes = refl; owners = refl }) gives))
+
+        pub snew_done : (d : HeapRecord) → d ≡ record c { bodies = rest } → (e : BookRecord) → e ≡ grown → (n : Name) → n ≡ new_name → (w : HeapRecord) (l : BookRecord) →
+            HasSetRegister before.own d w e l r.0 (Some n) → HasChangedWithShared before w (record s { value = with_body s.seg.0 body s.value }) l op (Made n)
+        snew_done d d_is e e_is n n_is w l was_set =
+            subst (λ (x : Name). HasChangedWithShared before w (record s { value = with_body s.seg.0 body s.value }) l op (Made x)) (sym n_is)
+            (snew_changes w l
+            (subst (λ (x : HeapRecord). HasSetRegister before.own x w grown l r.0 (Some new_name)) d_is
+            (subst (λ (x : BookRecord). HasSetRegister before.own d w x l r.0 (Some new_name)) e_is
+            (subst (λ (x : Name). HasSetRegister before.own d w e l r.0 (Some x)) n_is was_set))))

@@ -63,7 +63,7 @@ module _ (before : BeforeWithShared) (c : HeapRecord) (s : SharedRecord) (b : Bo
 
   pub store_judges : (y : Option Name) → y ≡ held_in c.value.process value.0 → CanJudge own s b y
   store_judges y at_y = record {
-    phases = phase_there here met.have_met.own s.id.0 met.have_met.shared.agrees.there;
+    phases = phase_there trace b met.have_met.own.book s.id.0 met.have_met.shared.agrees.there;
     told = told y at_y;
   }
 

@@ -29,8 +29,8 @@ commit_with_shared-requires g c =
     c.set_register.new.cell c.set_register.new.book
     (subst (λ (v : Option Name). HasSetRegister g.before.own c.args.cell.now c.set_register.new.cell c.args.book.now c.set_register.new.book c.args.reg.0 v) c.linked.ensures c.set_register.ensures)
 
-pub commit_with_shared-in-Err-requires : goal.commit_with_shared-in-Err-requires
-commit_with_shared-in-Err-requires g c =
+pub commit_with_shared-requires-in-Err : goal.commit_with_shared-requires-in-Err
+commit_with_shared-requires-in-Err g c =
     load_refused g.before c.args.cell.now c.args.shared.now c.args.book.now c.args.reg c.args.base c.args.field c.requires c.object_in-at.result c.object_in-at.ensures c.in-Err.fault
     (told_by c.field_count.result (field_count_among c.args.shared.now.value.objects c.object_in-at.result) (content_of c.field.result) (field_among c.args.shared.now.value.objects c.object_in-at.result c.args.field)
     c.args.field (λ t. not (is_ref t)) (Some c.in-Err.fault) c.field_count.ensures c.field.ensures c.in-Err.ensures.fault)

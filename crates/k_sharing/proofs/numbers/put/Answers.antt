@@ -27,8 +27,8 @@ commit_with_shared-requires g c =
     (told_by c.field_count.result (field_count_among c.args.shared.now.value.objects c.object_in-at.result) (content_of c.field.result) (field_among c.args.shared.now.value.objects c.object_in-at.result c.args.field)
     c.args.field is_ref None c.field_count.ensures c.field.ensures c.in-Ok.ensures.fine))
 
-pub commit_with_shared-in-Err-requires : goal.commit_with_shared-in-Err-requires
-commit_with_shared-in-Err-requires g c =
+pub commit_with_shared-requires-in-Err : goal.commit_with_shared-requires-in-Err
+commit_with_shared-requires-in-Err g c =
     put_refused g.before c.args.cell.now c.args.shared.now c.args.book.now c.args.base c.args.field c.object_in-at.result c.object_in-at.ensures c.args.number c.requires c.in-Err.fault
     (told_by c.field_count.result (field_count_among c.args.shared.now.value.objects c.object_in-at.result) (content_of c.field.result) (field_among c.args.shared.now.value.objects c.object_in-at.result c.args.field)
     c.args.field is_ref (Some c.in-Err.fault) c.field_count.ensures c.field.ensures c.in-Err.ensures.fault)

@@ -35,7 +35,7 @@ commit_with_shared-requires g c =
     (stored g.before c.args.cell.now c.args.shared.now c.args.book.now c.args.base c.args.field c.args.value c.requires c.object_in-at.result c.object_in-at.ensures
     (option_map name_of c.reg-reference.result) c.reg-reference.ensures c.in-Ok.ensures.fine c.remember.new.shared c.remember.new.book c.remember.ensures)
 
-pub commit_with_shared-in-Err-requires : goal.commit_with_shared-in-Err-requires
-commit_with_shared-in-Err-requires g c =
+pub commit_with_shared-requires-in-Err : goal.commit_with_shared-requires-in-Err
+commit_with_shared-requires-in-Err g c =
     store_refused g.before c.args.cell.now c.args.shared.now c.args.book.now c.args.base c.args.field c.args.value c.requires c.object_in-at.result c.object_in-at.ensures
     (option_map name_of c.reg-reference.result) c.reg-reference.ensures c.in-Err.fault c.in-Err.ensures.fault
