@@ -1,7 +1,4 @@
-pub mod Collecting
 pub mod Graying
 pub mod Leaving
+pub mod Marking
 pub mod Unsharing
-pub mod Begun
-pub mod Ended
-pub mod Settling

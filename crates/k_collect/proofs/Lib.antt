@@ -1,0 +1,5 @@
+pub mod Walks
+pub mod Grayed
+pub mod Left
+pub mod Unshared
+pub mod Marked

@@ -1,0 +1,7 @@
+//! dev
+#![tactic(auto)]
+
+mod graying;
+mod leaving;
+mod marking;
+mod unsharing;
