@@ -12,6 +12,7 @@ use Rattle.k_types.specs.Cells.{ProcessPart}
 use Rattle.k_types.specs.Names.{leads_to, name_among, name_eq}
 use Rattle.k_types.specs.State.{Object, has}
 use Rattle.k_base.proofs.Charges.{or_none}
+use Rattle.k_base.proofs.NameTests.{name_eq-true}
 use Rattle.k_agree.specs.Marking.{begun}
 use Rattle.k_cell.specs.Changes.{HasRoot}
 use Rattle.k_changes.specs.BookChanges.{registers_in}
@@ -48,7 +49,12 @@ grays_both f g v w x first second = record {
 }
 
 pub grays_one : (f : Name → Bool) (t : Name) (v w x : CellValue) → HasGrayed f v w → HasRoot w x t → HasGrayed (λ n. f n || name_eq t n) v x
-grays_one f t v w x first root = grays_both f (name_eq t) v w x first (record { rest = root.rest; gray = root.gray })
+grays_one f t v w x first root =
+    grays_both f (name_eq t) v w x first (record { rest = root.rest; gray = λ n. root.gray n ∙ ap (λ b. name_among n w.gray || b) (same_object n (name_eq t n) refl) })
+  where
+    same_object : (n : Name) (b : Bool) → name_eq t n ≡ b → (b && has w.objects t) ≡ (b && has w.objects n)
+    same_object n true same = ap (has w.objects) (name_eq-true t n same)
+    same_object n false other = refl
 
 pub grays_same : (f g : Name → Bool) (v w : CellValue) → ((n : Name) → f n ≡ g n) → HasGrayed f v w → HasGrayed g v w
 grays_same f g v w same grayed = record {
@@ -95,3 +101,8 @@ module _ (v : EntryValue) (heap : Heap) (are : AreEntries v) where
 
   pub walk_ends : (w x : CellValue) → HasGrayed (λ n. name_among n (passed_before items None)) w x → HasGrayed (is_counted_at v heap) w x
   walk_ends w x grayed = grays_same (λ n. name_among n (passed_before items None)) (is_counted_at v heap) w x (walk_counts v heap are) grayed
+
+-- so far the walk over the items has made gray what it has passed, and the cell is otherwise as it was
+pub record IsGraying (items : List Rattle.k_types.specs.Counted.Counted) (old now : CellValue) (at : Option Name) : Type 0 where
+  pub grayed : HasGrayed (λ n. name_among n (passed_before items at)) old now
+  pub on_walk : IsOnWalk items at

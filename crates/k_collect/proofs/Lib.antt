@@ -3,3 +3,5 @@ pub mod Grayed
 pub mod Left
 pub mod Unshared
 pub mod Marked
+pub mod Roots
+pub mod Ways

@@ -63,10 +63,19 @@ and_or_true true true = refl
 and_or_true true false = refl
 and_or_true false b = refl
 
+none_below : (t : ℕ) → nat_lt t 0 ≡ false
+none_below t = go (nat_lt t 0) refl
+  where
+    go : (b : Bool) → nat_lt t 0 ≡ b → b ≡ false
+    go true low = let l = ltb-true t 0 low in absurd (omega (arith, l))
+    go false e = refl
+
 pub unsharing_begins : (stays : ℕ → Bool) (p : ℕ) (b : BookRecord) → IsUnsharing stays p b b 0 0 0
 unsharing_begins stays p b = record {
   rest = refl;
-  left = λ q t. and_or_true (has_share b.value.shares q t) (not (q == p));
+  left = λ q t.
+      and_or_true (has_share b.value.shares q t) (not (q == p))
+      ∙ ap (λ x. has_share b.value.shares q t && (not (q == p) || (not x || stays t))) (sym (none_below t));
   count = refl;
   sum = refl;
 }
@@ -227,3 +236,15 @@ bytes_go_on stays v p old s can low there gone =
     let less = first_total (λ t. cond (has_share old.value.shares p t && not (stays t)) (get_or old.value.shared_bytes t 0) 0) (s + 1) (length old.value.phases) (omega (arith, low)) in
     let most = can.bytes in
     omega (arith, more, here, less, most)
+
+-- whether the share of the next heap goes
+pub loses_is : (stays : ℕ → Bool) (v : CellValue) (p : ℕ) (old now : BookRecord) (s shares bytes : ℕ) → CanUnshare stays v p old → IsUnsharing stays p old now s shares bytes →
+    (has_share now.value.shares p s && not (has_way_by v now.value p (1 + length now.procs + s) s)) ≡ (has_share old.value.shares p s && not (stays s))
+loses_is stays v p old now s shares bytes can is =
+    ap₂ (λ a b. a && not b) (share_as_before stays p old now s shares bytes is)
+    (ap (λ (k : BookRecord). has_way_by v k.value p (1 + length k.procs + s) s) is.rest)
+    ∙ go (has_share old.value.shares p s) refl
+  where
+    go : (a : Bool) → has_share old.value.shares p s ≡ a → (a && not (has_way_by v old.value p (1 + length old.procs + s) s)) ≡ (a && not (stays s))
+    go true there = ap not (can.ways s there)
+    go false none = refl

@@ -45,11 +45,12 @@ first_among (item ∷ items) u e = or_left _ _ (name_eq-same item.object u (some
 
 after_among : (items : List Counted) (t u : Name) → object_after items t ≡ Some u → name_among u (objects items) ≡ true
 after_among [] t u e = absurd (cc)
-after_among (item ∷ items) t u e = go (name_eq item.object t) e
+after_among (item ∷ items) t u e = go (λ is. after_among items t u is) (name_eq item.object t) e
   where
-    go : (b : Bool) → cond b (first_object items) (object_after items t) ≡ Some u → (name_eq item.object u || name_among u (objects items)) ≡ true
-    go true is = or_right _ _ (first_among items u is)
-    go false is = or_right _ _ (after_among items t u is)
+    go : (object_after items t ≡ Some u → name_among u (objects items) ≡ true) → (b : Bool) → cond b (first_object items) (object_after items t) ≡ Some u →
+        (name_eq item.object u || name_among u (objects items)) ≡ true
+    go rest true is = or_right _ _ (first_among items u is)
+    go rest false is = or_right _ _ (rest is)
 
 pub first_on_walk : (items : List Counted) → IsOnWalk items (first_object items)
 unfolding IsOnWalk
@@ -82,14 +83,15 @@ before_first item items t out same =
 pub passed_next : (items : List Counted) (t : Name) → AreDistinctNames (objects items) → name_among t (objects items) ≡ true →
     passed_before items (object_after items t) ≡ passed_before items (Some t) ++ t ∷ []
 passed_next [] t distinct there = absurd (false≢true there)
-passed_next (item ∷ items) t distinct there = go (name_eq item.object t) refl there
+passed_next (item ∷ items) t distinct there = go (λ later. passed_next items t distinct.1 later) (name_eq item.object t) refl there
   where
-    go : (b : Bool) → name_eq item.object t ≡ b → (b || name_among t (objects items)) ≡ true →
+    go : (name_among t (objects items) ≡ true → passed_before items (object_after items t) ≡ passed_before items (Some t) ++ t ∷ []) →
+        (b : Bool) → name_eq item.object t ≡ b → (b || name_among t (objects items)) ≡ true →
         passed_before (item ∷ items) (cond b (first_object items) (object_after items t)) ≡ cond b [] (item.object ∷ passed_before items (Some t)) ++ t ∷ []
-    go true same here = before_first item items t distinct.0 same
-    go false other later =
+    go rest true same here = before_first item items t distinct.0 same
+    go rest false other later =
         before_other item items (object_after items t) (λ u is. apart_from items item.object u distinct.0 (after_among items t u is))
-        ∙ ap (λ (names : List Name). item.object ∷ names) (passed_next items t distinct.1 later)
+        ∙ ap (λ (names : List Name). item.object ∷ names) (rest later)
 
 pub passed_more : (items : List Counted) (t : Name) → AreDistinctNames (objects items) → name_among t (objects items) ≡ true →
     length items - length (passed_before items (object_after items t)) < length items - length (passed_before items (Some t))

@@ -1,6 +1,7 @@
 //! The exit items that a collection drops, which the book leaves one by one.
 ghost use Rattle.std.specs.Prelude.{◌≡◌};
 ghost use Rattle.k_types.specs.declared.names.CellPhase.TheVariants.{Marked};
+ghost use Rattle.k_base.specs.Distinct.{AreDistinctNames};
 ghost use Rattle.k_agree.specs.Ending.{HasLeft, dropped, dropped_exits};
 ghost use Rattle.k_book.specs.Calls.{ChangesEntries};
 ghost use Rattle.k_collect.specs.Leaving.{HasItsEntries, HasLeftUnmarked};
@@ -19,6 +20,7 @@ pub(crate) fn leave_unmarked(cell: &mut HeapCell, book: &mut Book) -> u32
     ensures book { ChangesEntries book.old book.new }
     ensures left { HasLeft (dropped cell.old.value) book.old.value book.new.value }
     ensures count { result ≡ dropped_exits cell.old.value }
+    ensures distinct { AreDistinctNames cell.old.value.exits }
 {
     let before = cell.exit_count();
     while let Some(target) = cell.take_unmarked() {
@@ -36,6 +38,7 @@ pub(crate) fn leave_kernel_unmarked(kernel: &mut KernelCell, book: &mut Book) ->
     ensures book { ChangesEntries book.old book.new }
     ensures left { HasLeft (dropped kernel.old.value) book.old.value book.new.value }
     ensures count { result ≡ dropped_exits kernel.old.value }
+    ensures distinct { AreDistinctNames kernel.old.value.exits }
 {
     let before = kernel.exit_count();
     while let Some(target) = kernel.take_unmarked() {
