@@ -5,3 +5,8 @@ pub mod Unshared
 pub mod Marked
 pub mod Roots
 pub mod Ways
+pub mod Sizes
+pub mod Begins
+pub mod KernelBegins
+pub mod Ends
+pub mod Settles

@@ -1,7 +1,7 @@
 -- The shares of a process that are dropped one by one.
 use Rattle.std.proofs.Common.{◌≡◌, ℕ, zero, suc, ◌+◌, ◌-◌, ◌<◌, ◌≤◌, ◌^◌, ◌==◌, ◌||◌, ◌&&◌, not, nat_lt, Bool, true, false, cond, refl, sym, ap, ap₂, ◌∙◌, subst, List, [], ◌∷◌, ◌++◌, length, take, get_or, arith, add-one, eqb-true, eq-eqb}
 use Rattle.std.specs.List.{list_any}
-use Rattle.std.proofs.lemmas.Bool.{false≢true, lt-ltb, ltb-true, or_left, or_right}
+use Rattle.std.proofs.lemmas.Bool.{and_parts, false≢true, lt-ltb, ltb-true, or_left, or_right}
 use Rattle.std.proofs.lemmas.List.{take_more}
 use Rattle.std.proofs.lemmas.List.Folds.{list_any-append}
 use Rattle.k_types.specs.Agree.{BookValue, CellValue}
@@ -248,3 +248,31 @@ loses_is stays v p old now s shares bytes can is =
     go : (a : Bool) → has_share old.value.shares p s ≡ a → (a && not (has_way_by v old.value p (1 + length old.procs + s) s)) ≡ (a && not (stays s))
     go true there = ap not (can.ways s there)
     go false none = refl
+
+-- what it means that the next share goes, or stays
+module _ (stays : ℕ → Bool) (v : CellValue) (p : ℕ) (old now : BookRecord) (s shares bytes : ℕ) (can : CanUnshare stays v p old) (is : IsUnsharing stays p old now s shares bytes) where
+  pub lost_means : (has_share now.value.shares p s && not (has_way_by v now.value p (1 + length now.procs + s) s)) ≡ true → (has_share old.value.shares p s ≡ true) × (stays s ≡ false)
+  lost_means lost =
+      let both = and_parts (has_share old.value.shares p s) (not (stays s)) (sym (loses_is stays v p old now s shares bytes can is) ∙ lost) in
+      (both.0, not_true (stays s) both.1)
+    where
+      not_true : (b : Bool) → not b ≡ true → b ≡ false
+      not_true true e = absurd (false≢true e)
+      not_true false e = refl
+
+  pub kept_means : (has_share now.value.shares p s && not (has_way_by v now.value p (1 + length now.procs + s) s)) ≡ false → (has_share old.value.shares p s && not (stays s)) ≡ false
+  kept_means kept = sym (loses_is stays v p old now s shares bytes can is) ∙ kept
+
+  pub bytes_so_far : s < length old.value.phases → (has_share old.value.shares p s ≡ true) × (stays s ≡ false) → bytes + get_or now.value.shared_bytes s 0 < 2 ^ 64
+  bytes_so_far low means =
+      let fits = bytes_go_on stays v p old s can low means.0 means.1 in
+      let sum = is.sum in
+      let same = ap (λ (b : BookRecord). get_or b.value.shared_bytes s 0) is.rest in
+      omega (arith, fits, sum, same)
+
+  pub shares_so_far : s < length old.value.phases → shares + 1 < 2 ^ 32
+  shares_so_far low =
+      let few = few_lost stays old.value p s in
+      let count = is.count in
+      let numbers = can.segments in
+      omega (arith, few, count, numbers, low)

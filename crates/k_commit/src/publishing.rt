@@ -1,8 +1,9 @@
 //! Events that a process did inside its heap and that the journal lacks.
 ghost use Rattle.k_types.specs.Trace.{Trace};
-ghost use Rattle.k_steps.specs.Published.{CanPublish, HasPublished};
+ghost use Rattle.k_commit.specs.Published.{CanPublish, HasPublished};
 
-use crate::committing::{append_own, meet_own};
+use crate::appending::append_heap;
+use crate::meeting::meet_heap;
 use k_book::Book;
 use k_heap::HeapCell;
 
@@ -12,9 +13,9 @@ pub fn publish(cell: &mut HeapCell, book: &mut Book)
     requires { CanPublish trace cell.old book.old }
     ensures { HasPublished trace cell.old.value.tail cell.old cell.new book.old book.new }
 {
-    meet_own(cell, book);
+    meet_heap(cell, book);
     while cell.tail_len() > 0 {
         let event = cell.take_tail();
-        append_own(cell, book, event);
+        append_heap(cell, book, event);
     }
 }

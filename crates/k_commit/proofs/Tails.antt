@@ -7,15 +7,17 @@ use Rattle.k_types.specs.Steps.{touch_count}
 use Rattle.k_types.specs.Trace.{Trace}
 use Rattle.k_agree.specs.Agreement.{Agrees, BookAgrees}
 use Rattle.k_agree.specs.Committing.{journal_after, note_after}
-use Rattle.k_agree.specs.Meeting.{HasMet, ShowsTheJournal, met_note}
+use Rattle.k_agree.specs.Meeting.{Fits, HasMet, ShowsTheJournal, met_note}
 use Rattle.k_agree.specs.Publishing.{PublishesItsOldest}
 use Rattle.k_agree.proofs.Published.{publishes}
 use Rattle.k_book.specs.Books.{BookRecord}
 use Rattle.k_heap.specs.Heaps.{HeapRecord}
-use Rattle.k_steps.specs.Published.{CanPublish, HasPublished}
+use Rattle.k_commit.specs.Met.{HeapHasMet}
+use Rattle.k_commit.specs.Published.{CanPublish, HasPublished}
 
 -- some of the events are published, and the rest is still the cell's
 pub record IsPublishing (trace : Trace) (old c : HeapRecord) (before b : BookRecord) : Type 0 where
+  pub fits : Fits before.journal old.note
   pub taken : List Event
   pub split : old.value.tail ≡ taken ++ c.value.tail
   pub cell_is : c ≡ record old { note = c.note; value = record old.value { tail = c.value.tail } }
@@ -28,9 +30,10 @@ pub record IsPublishing (trace : Trace) (old c : HeapRecord) (before b : BookRec
   pub book_agrees : BookAgrees trace b.journal b.value
 
 module _ (trace : Trace) (old : HeapRecord) (before : BookRecord) (can : CanPublish trace old before) where
-  pub publishing_begins : ShowsTheJournal trace before.journal (User old.pid) old.note old.value →
+  publishing_begins : Fits before.journal old.note → ShowsTheJournal trace before.journal (User old.pid) old.note old.value →
       IsPublishing trace old (record old { note = met_note before.journal old.note }) before before
-  publishing_begins shows = record {
+  publishing_begins fits shows = record {
+    fits = fits;
     taken = [];
     split = refl;
     cell_is = refl;
@@ -43,10 +46,15 @@ module _ (trace : Trace) (old : HeapRecord) (before : BookRecord) (can : CanPubl
     book_agrees = can.book_agrees;
   }
 
+  pub publishing_starts : (c : HeapRecord) (b : BookRecord) → HeapHasMet trace old c before b → IsPublishing trace old c before b
+  publishing_starts c b met =
+      subst (λ (k : BookRecord). IsPublishing trace old c before k) (sym met.book_is)
+      (subst (λ (w : HeapRecord). IsPublishing trace old w before before) (sym met.cell_is) (publishing_begins met.told.fits met.told.shows))
+
   module _ (c : HeapRecord) (b : BookRecord) (p : IsPublishing trace old c before b) where
     pub room_left : (event : Event) (rest : List Event) → c.value.tail ≡ event ∷ rest → length b.journal.list < b.event_room
     room_left event rest is =
-        let room = can.room in
+        let room = can.room p.fits in
         let same : b.event_room ≡ before.event_room = ap (λ (k : BookRecord). k.event_room) p.book_is in
         let list : length b.journal.list ≡ length before.journal.list + length p.taken = ap length p.journal ∙ length-append before.journal.list p.taken in
         let tail : length old.value.tail ≡ length p.taken + length (event ∷ rest) = ap length p.split ∙ length-append p.taken c.value.tail ∙ ap (λ (t : List Event). length p.taken + length t) is in
@@ -60,6 +68,7 @@ module _ (trace : Trace) (old : HeapRecord) (before : BookRecord) (can : CanPubl
     publishing_goes_on event rest is =
         let o = oldest event rest is in
         record {
+          fits = p.fits;
           taken = p.taken ++ event ∷ [];
           split = p.split ∙ ap (λ (t : List Event). p.taken ++ t) is ∙ sym (append_assoc p.taken (event ∷ []) rest);
           cell_is = ap (λ (k : HeapRecord). record k { note = note_after event c.note; value = record k.value { tail = rest } }) p.cell_is;
@@ -74,6 +83,7 @@ module _ (trace : Trace) (old : HeapRecord) (before : BookRecord) (can : CanPubl
 
     pub publishing_ends : c.value.tail ≡ [] → HasPublished trace old.value.tail old c before b
     publishing_ends none = record {
+      fits = p.fits;
       cell_is = p.cell_is ∙ ap (λ (t : List Event). record old { note = c.note; value = record old.value { tail = t } }) none;
       book_is = p.book_is;
       journal = p.journal ∙ ap (λ (t : List Event). before.journal.list ++ t) (sym (append-nil p.taken) ∙ ap (λ (t : List Event). p.taken ++ t) (sym none) ∙ sym p.split);

@@ -1,9 +1,9 @@
 use Rattle.std.proofs.Common.{length}
-use Rattle.k_steps.proofs.Tails.{IsPublishing}
-use Rattle.k_steps.proofs.publishing.publish.Given as goal
+use Rattle.k_commit.proofs.Tails.{IsPublishing}
+use Rattle.k_commit.proofs.publishing.publish.Given as goal
 
-abbrev pub ghost-meet_own : goal.ghost-meet_own
-ghost-meet_own g a = g.trace
+abbrev pub ghost-meet_heap : goal.ghost-meet_heap
+ghost-meet_heap g a = g.trace
 
 abbrev pub invariant-loop-cell : goal.invariant-loop-cell
 invariant-loop-cell g l = IsPublishing g.trace l.fn.cell l.cell l.fn.book l.book
