@@ -10,3 +10,4 @@ pub mod Begins
 pub mod KernelBegins
 pub mod Ends
 pub mod Settles
+pub mod Called

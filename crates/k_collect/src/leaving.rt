@@ -41,8 +41,8 @@ pub(crate) fn leave_kernel_unmarked(kernel: &mut KernelCell, book: &mut Book) ->
     ensures distinct { AreDistinctNames kernel.old.value.exits }
 {
     let before = kernel.exit_count();
-    while let Some(target) = kernel.take_unmarked() {
-        book.leave(target);
+    while let Some(gone) = kernel.take_unmarked() {
+        book.leave(gone);
     }
     before - kernel.exit_count()
 }
