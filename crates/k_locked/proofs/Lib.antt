@@ -1,0 +1,5 @@
+pub mod RoomLeft
+pub mod LocalKept
+pub mod CanDo
+pub mod Kept
+pub mod Steps

@@ -1,0 +1,10 @@
+//! What the values behind the locks keep, beside agreement, and why it is enough for each step.
+#![tactic(auto)]
+
+mod local;
+mod rooms;
+mod standing;
+
+pub use local::local_operations_keep_agreement;
+pub use rooms::{operations_leave_room, shared_heaps_have_room};
+pub use standing::kept_values_can_operate;
