@@ -140,8 +140,8 @@ module _ (trace : Trace) (table : TableId) (c : HeapRecord) (h : HeapKeeps trace
     pub next_known : IsNext trace c.pid.0 (c.note.list ++ c.value.tail) op
     next_known = next_by_done trace c.pid.0 (c.note.list ++ c.value.tail) op rest h.follows (ap (λ n. drop n (operations_of trace c.pid.0)) done_shown ∙ left)
 
-    pub next_in_range : KeepsRules trace → in_range trace op ≡ true
-    next_in_range keeps = passes_at (in_range trace) (done_in c.value.process) (operations_of trace c.pid.0) op rest (keeps.operations.in_range c.pid.0 h.agrees.there) left
+    pub next_in_range : in_range trace op ≡ true
+    next_in_range = passes_at (in_range trace) (done_in c.value.process) (operations_of trace c.pid.0) op rest (h.rules.operations.in_range c.pid.0 h.agrees.there) left
 
     module _ (b : BookRecord) (k : BookKeeps trace table b) (settled : c.value.tail ≡ []) (lives : IsFalse (has_ended_in c.value.process)) where
       abbrev now : State
@@ -243,7 +243,7 @@ module _ (trace : Trace) (table : TableId) (c : HeapRecord) (h : HeapKeeps trace
         can_operate distinct inside = record {
           book_stands = k.stands;
           heap_stands = heap_stands;
-          in_range = next_in_range k.stands.keeps;
+          in_range = next_in_range;
           room = λ fits. record {
             events = event_left fits;
             tables = table_room trace c.bodies (heap_holdings c) (own_segment c.pid) b op rest (bodies_now fits) (λ allocates given there. own_serial fits (inside allocates)) (own_exit fits distinct items);
@@ -256,7 +256,7 @@ module _ (trace : Trace) (table : TableId) (c : HeapRecord) (h : HeapKeeps trace
           book_stands = k.stands;
           heap_stands = heap_stands;
           kernel_stands = record { agrees = kk.agrees; table = kk.table ∙ sym k.table; idle = kk.idle };
-          in_range = next_in_range k.stands.keeps;
+          in_range = next_in_range;
           room = λ fits kernel_fits. kernel_room fits kernel kk distinct items inside kernel_fits kk.agrees.tail;
         }
 
@@ -266,6 +266,6 @@ module _ (trace : Trace) (table : TableId) (c : HeapRecord) (h : HeapKeeps trace
           book_stands = k.stands;
           heap_stands = heap_stands;
           shared_stands = record { agrees = sk.agrees; table = sk.table ∙ sym k.table; segment = sk.segment; idle = sk.idle };
-          in_range = next_in_range k.stands.keeps;
+          in_range = next_in_range;
           room = λ fits shared_fits. shared_room_for fits s sk distinct items inside shared_fits sk.agrees.tail;
         }

@@ -120,6 +120,7 @@ module _ (trace : Trace) (table : TableId) (c w : HeapRecord) (b l : BookRecord)
 
   pub heap_keeps : HeapKeeps trace table w
   heap_keeps = record {
+    rules = h.rules;
     agrees = s.agrees;
     table = s.table ∙ s.same_table ∙ k.table;
     idle = s.idle;
@@ -136,6 +137,7 @@ module _ (trace : Trace) (table : TableId) (c w : HeapRecord) (k x : HoldingsVal
     (s : HasSteppedWithKernel trace op c w k x b l event) where
   pub kernel_keeps : KernelKeeps trace table x
   kernel_keeps = record {
+    rules = kk.rules;
     agrees = s.agrees;
     table = s.table ∙ s.own.same_table ∙ bk.table;
     idle = s.idle;
@@ -185,6 +187,7 @@ module _ (trace : Trace) (table : TableId) (c w : HeapRecord) (s x : SharedRecor
 
   pub shared_keeps : SharedKeeps trace table x
   shared_keeps = record {
+    rules = sk.rules;
     agrees = st.agrees;
     table = st.table ∙ st.own.same_table ∙ bk.table;
     segment = ap (λ (y : SharedRecord). y.seg.0) st.shared_is ∙ sk.segment ∙ ap (λ (i : Rattle.k_types.specs.declared.names.SharedId.SharedId). segment_of trace (Shared i)) (sym same_id);

@@ -8,11 +8,12 @@ use Rattle.atomic_table.specs.Seated.{TableId}
 use Rattle.k_types.specs.declared.event.Event.{Event}
 use Rattle.k_types.specs.declared.event.Event.TheVariants.{Done, Ended, Absorbed, Closing}
 use Rattle.k_types.specs.declared.event.Reply.{Reply}
-use Rattle.k_types.specs.declared.names.Heap.TheVariants.{User}
+use Rattle.k_types.specs.declared.names.Heap.TheVariants.{Kernel, Shared, User}
 use Rattle.k_types.specs.declared.op.Op.{Op}
 use Rattle.k_types.specs.declared.op.Op.TheVariants.{New, KNew, SNew, Store, Load, Move, Clear, Dir, Put, Get, Collect, KCollect, Share, Freeze, Attach, Exit}
 use Rattle.k_types.specs.declared.names.Pid.{Pid}
 use Rattle.k_types.specs.Agree.{CellValue}
+use Rattle.k_types.specs.Cells.{BookPart, Cell, CellPart}
 use Rattle.k_types.specs.Complete.{IsPrefixOf}
 use Rattle.k_types.specs.Effects.{step}
 use Rattle.k_types.specs.Following.{FollowsOwn, FollowsTrace, is_closing}
@@ -20,9 +21,11 @@ use Rattle.k_types.specs.Local.{AreLocal}
 use Rattle.k_types.specs.Owners.{user}
 use Rattle.k_types.specs.State.{State}
 use Rattle.k_types.specs.Steps.{IsLegalHistory, done_by, in_range, state_after}
-use Rattle.k_types.specs.Trace.{Trace, operations_of, process_count}
+use Rattle.k_types.specs.Trace.{Trace, operations_of, process_count, segment_of}
 use Rattle.k_types.specs.TraceRules.{KeepsRules}
 use Rattle.k_base.proofs.Sums.{count_is_total}
+use Rattle.k_bounds.specs.Counts.{allocates_in, is_allocation}
+use Rattle.k_squares.specs.Touches.{other_cells_in}
 use Rattle.k_bounds.proofs.ByProcess.{first_of, follows_own}
 use Rattle.k_bounds.proofs.Counting.{count_low}
 use Rattle.k_bounds.proofs.Dones.{done_count}
@@ -38,7 +41,6 @@ use Rattle.k_book.specs.Books.{BookRecord, pin_room_of}
 use Rattle.k_book.specs.Machine.{IsBookOf}
 use Rattle.k_heap.specs.Heaps.{HeapRecord, has_ended_in}
 use Rattle.k_local.specs.Locals.{HasRegisters, after_local, local_answer}
-use Rattle.k_steps.specs.Published.{HasPublished}
 use Rattle.k_locked.specs.Keeping.{BookKeeps, HasHeapRooms, HeapKeeps, operations_left}
 use Rattle.k_locked.proofs.CanDo.{done_shown, next_in_range, next_known}
 use Rattle.k_locked.proofs.Kept.{drop_more}
@@ -80,6 +82,7 @@ pub other_keeps : (trace : Trace) (table : TableId) (c w : HeapRecord) → HeapK
     Agrees trace (User w.pid) w.note w.value → w.note.table ≡ table → w.value.collection ≡ c.value.collection → FollowsOwn trace w.pid.0 (w.note.list ++ w.value.tail) →
     done_in w.value.process ≡ done_in c.value.process → (IsFalse (has_ended_in w.value.process) → IsFalse (has_ended_in c.value.process)) → HeapKeeps trace table w
 other_keeps trace table c w h is agrees same idle follows done lives = record {
+  rules = h.rules;
   agrees = agrees;
   table = same;
   idle = idle ∙ h.idle;
@@ -169,15 +172,15 @@ module _ (trace : Trace) (table : TableId) (c : HeapRecord) (h : HeapKeeps trace
   done_is : done_in c.value.process ≡ length (done_by c.pid.0 known)
   done_is = sym (done_shown trace table c h) ∙ done_count trace c.pid.0 known h.agrees.legal
 
-  pub done_small : KeepsRules trace → done_in c.value.process < 2 ^ 32 - 1
-  done_small keeps = let few = few_operations trace c.pid.0 keeps h.agrees.there in omega (arith, done_is, done_fewer, few)
+  pub done_small : done_in c.value.process < 2 ^ 32 - 1
+  done_small = let few = few_operations trace c.pid.0 h.rules h.agrees.there in omega (arith, done_is, done_fewer, few)
 
-  module _ (keeps : KeepsRules trace) (lives : has_ended_in c.value.process ≡ false) (said : Reply) (answer : local_answer c.value c.pid.0 op ≡ Some said) where
+  module _ (lives : has_ended_in c.value.process ≡ false) (said : Reply) (answer : local_answer c.value c.pid.0 op ≡ Some said) where
     abbrev event : Event
     event = Done c.pid op said
 
     agrees_now : Agrees trace (User c.pid) c.note (after_local c.pid op said c.value)
-    agrees_now = local_agrees trace keeps.limits c.pid c.note c.value op said h.agrees h.idle lives (next_in_range trace table c h op rest left keeps) answer
+    agrees_now = local_agrees trace h.rules.limits c.pid c.note c.value op said h.agrees h.idle lives (next_in_range trace table c h op rest left) answer
 
     done_more : done_by c.pid.0 (c.note.list ++ (c.value.tail ++ event ∷ [])) ≡ done_by c.pid.0 known ++ op ∷ []
     done_more =
@@ -203,6 +206,7 @@ module _ (trace : Trace) (table : TableId) (c : HeapRecord) (h : HeapKeeps trace
 
     pub local_keeps : HeapKeeps trace table (record c { value = after_local c.pid op said c.value })
     local_keeps = record {
+      rules = h.rules;
       agrees = agrees_now;
       table = h.table;
       idle = local_idle c.value c.pid op said ∙ h.idle;
@@ -211,34 +215,42 @@ module _ (trace : Trace) (table : TableId) (c : HeapRecord) (h : HeapKeeps trace
       rooms = record { exits = h.rooms.exits; serials = λ _. h.rooms.serials lives; tail = h.rooms.tail };
     }
 
--- a cell that has published its events, and the book
-module _ (trace : Trace) (table : TableId) (c w : HeapRecord) (b l : BookRecord) (h : HeapKeeps trace table c) (k : BookKeeps trace table b) (fits : Fits b.journal c.note)
-    (s : HasPublished trace c.value.tail c w b l) where
-  published_follows : FollowsOwn trace w.pid.0 (w.note.list ++ w.value.tail)
-  published_follows =
-      let none : w.value.tail ≡ [] = ap (λ (x : HeapRecord). x.value.tail) s.cell_is in
-      let list : w.note.list ++ w.value.tail ≡ b.journal.list ++ c.value.tail = ap₂ (λ xs ys. xs ++ ys) (s.met.list ∙ s.journal) none ∙ append-nil (b.journal.list ++ c.value.tail) in
-      subst (FollowsOwn trace w.pid.0) (sym list)
-      (subst (λ (p : Pid). FollowsOwn trace p.0 (b.journal.list ++ c.value.tail)) (sym (ap (λ (x : HeapRecord). x.pid) s.cell_is)) (own_tail_follows trace table c b h k fits))
+-- where an operation allocates, by the cells that it touches beside its process's own
+module _ (trace : Trace) (b : BookPart) (own : CellPart) (p : ℕ) where
+  pub alone_allocates : (op : Op) → other_cells_in trace b own p op ≡ [] → IsTrue (is_allocation op) → IsTrue (allocates_in trace (p + 1) p op)
+  unfolding other_cells_in
+  alone_allocates (New r ty) none t = eq-eqb (p + 1) (p + 1) refl
+  alone_allocates (KNew r ty) none t = absurd cc
+  alone_allocates (SNew r s ty) none t = absurd cc
+  alone_allocates (Store base i value) none t = absurd (false≢true t)
+  alone_allocates (Load r base i) none t = absurd (false≢true t)
+  alone_allocates (Move r from) none t = absurd (false≢true t)
+  alone_allocates (Clear r) none t = absurd (false≢true t)
+  alone_allocates (Dir r) none t = absurd (false≢true t)
+  alone_allocates (Put base i number) none t = absurd (false≢true t)
+  alone_allocates (Get base i) none t = absurd (false≢true t)
+  alone_allocates Collect none t = absurd (false≢true t)
+  alone_allocates KCollect none t = absurd (false≢true t)
+  alone_allocates (Share s) none t = absurd (false≢true t)
+  alone_allocates (Freeze s root) none t = absurd (false≢true t)
+  alone_allocates (Attach r s) none t = absurd (false≢true t)
+  alone_allocates Exit none t = absurd (false≢true t)
 
-  pub published_keeps : HeapKeeps trace table w
-  published_keeps = other_keeps trace table c w h (s.cell_is ∙ ap (λ (v : CellValue). record c { note = w.note; value = v }) (sym (ap (λ (x : HeapRecord). x.value) s.cell_is))) s.agrees
-      (s.table ∙ s.same_table ∙ k.table)
-      (ap (λ (x : HeapRecord). x.value.collection) s.cell_is)
-      published_follows
-      (ap (λ (x : HeapRecord). done_in x.value.process) s.cell_is)
-      (λ lives. sym (ap (λ (x : HeapRecord). has_ended_in x.value.process) s.cell_is) ∙ lives)
-
-  pub published_book : BookKeeps trace table l
-  published_book = record {
-    stands = record {
-      keeps = k.stands.keeps;
-      of_trace = subst (IsBookOf trace) (sym s.book_is) (record { rows = k.stands.of_trace.rows; procs = k.stands.of_trace.procs; ceiling = k.stands.of_trace.ceiling; maxima = k.stands.of_trace.maxima });
-      agrees = s.book_agrees;
-      pins = subst (λ (x : BookRecord). pin_room_of (process_count trace) ≤ x.pin_room) (sym s.book_is) k.stands.pins;
-    };
-    table = s.same_table ∙ k.table;
-    follows = subst (FollowsTrace trace) (sym s.journal) (tail_follows trace table c b h k fits);
-    events = subst (λ (x : BookRecord). event_room trace ≤ x.event_room) (sym s.book_is) k.events;
-    entries = subst (λ (x : BookRecord). exit_room trace ≤ x.entry_room) (sym s.book_is) k.entries;
-  }
+  pub beside_allocates : (cell : Cell) (op : Op) → other_cells_in trace b own p op ≡ cell ∷ [] → IsTrue (is_allocation op) → IsTrue (allocates_in trace (segment_of trace cell) p op)
+  unfolding other_cells_in
+  beside_allocates cell (New r ty) one t = absurd cc
+  beside_allocates cell (KNew r ty) one t = let is : Kernel ≡ cell = cc in eq-eqb (segment_of trace Kernel) (segment_of trace cell) (ap (segment_of trace) is)
+  beside_allocates cell (SNew r s ty) one t = let is : Shared s ≡ cell = cc in eq-eqb (segment_of trace (Shared s)) (segment_of trace cell) (ap (segment_of trace) is)
+  beside_allocates cell (Store base i value) one t = absurd (false≢true t)
+  beside_allocates cell (Load r base i) one t = absurd (false≢true t)
+  beside_allocates cell (Move r from) one t = absurd (false≢true t)
+  beside_allocates cell (Clear r) one t = absurd (false≢true t)
+  beside_allocates cell (Dir r) one t = absurd (false≢true t)
+  beside_allocates cell (Put base i number) one t = absurd (false≢true t)
+  beside_allocates cell (Get base i) one t = absurd (false≢true t)
+  beside_allocates cell Collect one t = absurd (false≢true t)
+  beside_allocates cell KCollect one t = absurd (false≢true t)
+  beside_allocates cell (Share s) one t = absurd (false≢true t)
+  beside_allocates cell (Freeze s root) one t = absurd (false≢true t)
+  beside_allocates cell (Attach r s) one t = absurd (false≢true t)
+  beside_allocates cell Exit one t = absurd (false≢true t)

@@ -10,6 +10,7 @@ use Rattle.k_types.specs.Following.{FollowsOwn, FollowsTrace}
 use Rattle.std.specs.Prelude.{Bool, false, ◌++◌}
 use Rattle.k_types.specs.Owners.{is_absorbed}
 use Rattle.k_types.specs.Trace.{Trace, operations_of, segment_of}
+use Rattle.k_types.specs.TraceRules.{KeepsRules}
 use Rattle.k_frame.specs.PartUpdates.{done_in}
 use Rattle.k_bounds.specs.Counts.{stores_in}
 use Rattle.k_agree.specs.Agreement.{Agrees}
@@ -38,9 +39,10 @@ pub record HasHeapRooms (trace : Trace) (c : HeapRecord) : Type 0 where
   pub serials : IsFalse (has_ended_in c.value.process) → CanGive trace c.serial_rooms (own_segment c.pid)
   pub tail : length (operations_of trace c.pid.0) ≤ c.tail_room
 
--- the cell of a process agrees with the trace, is of the table, and is not collected; its process has done the trace's operations up
+-- the trace keeps its rules, the cell of a process agrees with it, is of the table, and is not collected; its process has done the trace's operations up
 -- to its count, it has the bodies of the others' allocations, and its tables have room
 pub record HeapKeeps (trace : Trace) (table : TableId) (c : HeapRecord) : Type 0 where
+  pub rules : KeepsRules trace
   pub agrees : Agrees trace (User c.pid) c.note c.value
   pub table : c.note.table ≡ table
   pub idle : c.value.collection ≡ Idle
@@ -48,8 +50,9 @@ pub record HeapKeeps (trace : Trace) (table : TableId) (c : HeapRecord) : Type 0
   pub bodies : c.bodies ≡ bodies_of trace.types (operations_left trace c)
   pub rooms : HasHeapRooms trace c
 
--- the kernel's cell agrees with the trace, is of the table, and is not collected, and its tables have room
+-- the trace keeps its rules, the kernel's cell agrees with it, is of the table, and is not collected, and its tables have room
 pub record KernelKeeps (trace : Trace) (table : TableId) (k : HoldingsValue) : Type 0 where
+  pub rules : KeepsRules trace
   pub agrees : Agrees trace Kernel k.note k.value
   pub table : k.note.table ≡ table
   pub idle : k.value.collection ≡ Idle
@@ -61,9 +64,10 @@ abbrev pub is_absorbed_in : Option Phase → Bool
 is_absorbed_in None = false
 is_absorbed_in (Some phase) = is_absorbed phase
 
--- the cell of a shared heap agrees with the trace, is of the table, and is not collected; it begins with the heap's own segment, and its
+-- the trace keeps its rules, the cell of a shared heap agrees with it, is of the table, and is not collected; it begins with the heap's own segment, and its
 -- tables have room
 pub record SharedKeeps (trace : Trace) (table : TableId) (s : SharedRecord) : Type 0 where
+  pub rules : KeepsRules trace
   pub agrees : Agrees trace (Shared s.id) s.note s.value
   pub table : s.note.table ≡ table
   pub segment : s.seg.0 ≡ segment_of trace (Shared s.id)
