@@ -2,6 +2,7 @@
 use Rattle.std.proofs.Common.{◌≡◌, ℕ, zero, suc, ◌+◌, ◌<◌, ◌≤◌, ◌==◌, cond, true, false, refl, sym, ap, ap₂, ◌∙◌, subst, List, [], ◌∷◌, ◌++◌, append-nil, length, drop, take, get_or, arith, map, eq-eqb, Option, Some, None, IsTrue, IsFalse}
 use Rattle.std.specs.List.{list_all}
 use Rattle.std.proofs.lemmas.Bool.{and_parts}
+use Rattle.std.proofs.lemmas.List.{length-append}
 use Rattle.atomic_table.specs.Seated.{TableId}
 use Rattle.k_types.specs.declared.names.Heap.{Heap}
 use Rattle.k_types.specs.declared.names.Heap.TheVariants.{Kernel, Shared, User}
@@ -16,7 +17,7 @@ use Rattle.k_types.specs.Names.{among, heap_eq, name_among}
 use Rattle.k_types.specs.Owners.{is_absorbed, owner_of, phase_of, shared, user}
 use Rattle.k_types.specs.Sound.{IsSound}
 use Rattle.k_types.specs.State.{ExitItem, State, has_exit}
-use Rattle.k_types.specs.Steps.{in_range, state_after}
+use Rattle.k_types.specs.Steps.{done_by, in_range, state_after}
 use Rattle.k_types.specs.Totals.{total}
 use Rattle.k_types.specs.Trace.{Trace, operations_of, process_count, segment_of}
 use Rattle.k_types.specs.TraceRules.{KeepsRules}
@@ -25,7 +26,9 @@ use Rattle.k_base.specs.Distinct.{AreDistinctNames}
 use Rattle.k_base.proofs.NameTests.{heap_eq_refl, heap_eq-true}
 use Rattle.k_base.proofs.Sums.{ones, sum_same}
 use Rattle.k_bounds.specs.Counts.{allocates_in, exit_count, is_allocation, is_store, stores_in}
+use Rattle.k_bounds.proofs.ByProcess.{first_of}
 use Rattle.k_bounds.proofs.Distinct.{entries_few, targets_sum}
+use Rattle.k_bounds.proofs.Dones.{done_count}
 use Rattle.k_frame.specs.PartUpdates.{done_in}
 use Rattle.k_frame.proofs.OwnerOf.{owner_kernel, owner_stands, owner_user}
 use Rattle.k_tie.specs.Values.{NoteValue}
@@ -135,6 +138,15 @@ done_of trace cell note v a pid is = ap (λ (s : ShownPart). done_in s.process) 
 module _ (trace : Trace) (table : TableId) (c : HeapRecord) (h : HeapKeeps trace table c) where
   pub done_shown : get_or (state_after trace (c.note.list ++ c.value.tail)).done c.pid.0 0 ≡ done_in c.value.process
   done_shown = sym (done_of trace (User c.pid) c.note c.value h.agrees c.pid refl)
+
+  -- it is no more than the trace has for it
+  pub done_at_most : done_in c.value.process ≤ length (operations_of trace c.pid.0)
+  done_at_most =
+      let count = done_count trace c.pid.0 (c.note.list ++ c.value.tail) h.agrees.legal in
+      let front = first_of trace c.pid.0 (c.note.list ++ c.value.tail) h.follows in
+      let all = ap length front.1 in
+      let parts = length-append (done_by c.pid.0 (c.note.list ++ c.value.tail)) front.0 in
+      omega (arith, done_shown, count, all, parts)
 
   module _ (op : Op) (rest : List Op) (left : operations_left trace c ≡ op ∷ rest) where
     pub next_known : IsNext trace c.pid.0 (c.note.list ++ c.value.tail) op

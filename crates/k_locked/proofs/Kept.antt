@@ -1,6 +1,7 @@
 -- What the locks keep they keep over each step.
-use Rattle.std.proofs.Common.{◌≡◌, ℕ, zero, suc, ◌+◌, ◌<◌, ◌≤◌, true, false, cond, refl, sym, ap, ap₂, ◌∙◌, subst, List, [], ◌∷◌, ◌++◌, append-nil, append_assoc, length, drop, take, get_or, arith, map, IsTrue, IsFalse, Some, None, inl, inr}
+use Rattle.std.proofs.Common.{◌≡◌, ℕ, zero, suc, ◌+◌, ◌<◌, ◌≤◌, true, false, cond, refl, sym, ap, ap₂, ◌∙◌, subst, List, [], ◌∷◌, ◌++◌, append-nil, append_assoc, length, drop, take, get_or, arith, map, eq-eqb, IsTrue, IsFalse, Some, None, inl, inr}
 use Rattle.std.proofs.lemmas.Bool.{cases_Bool, false≢true}
+use Rattle.std.proofs.lemmas.List.{length-append}
 use Rattle.atomic_table.specs.Seated.{TableId}
 use Rattle.k_types.specs.declared.event.Event.{Event}
 use Rattle.k_types.specs.declared.event.Event.TheVariants.{Done}
@@ -14,12 +15,13 @@ use Rattle.k_types.specs.Effects.{step}
 use Rattle.k_types.specs.Following.{FollowsOwn, FollowsTrace}
 use Rattle.k_types.specs.Owners.{is_absorbed, owner_of, phase_of, shared}
 use Rattle.k_types.specs.State.{State}
-use Rattle.k_types.specs.Steps.{IsLegalHistory, IsPossible, state_after}
+use Rattle.k_types.specs.Steps.{IsLegalHistory, IsPossible, done_by, state_after}
 use Rattle.k_types.specs.Trace.{Trace, operations_of, process_count, segment_of}
 use Rattle.k_bounds.proofs.ByProcess.{follows_own}
+use Rattle.k_bounds.proofs.Dones.{done_count}
 use Rattle.k_frame.specs.PartUpdates.{done_in}
 use Rattle.k_frame.proofs.Constant.{step_maxima}
-use Rattle.k_frame.proofs.Histories.{state_next}
+use Rattle.k_frame.proofs.Histories.{done_append, state_next}
 use Rattle.k_frame.proofs.OwnerOf.{owner_shared, segment_of_shared}
 use Rattle.k_kept.proofs.Owning.{stays_kernel}
 use Rattle.k_tie.specs.Values.{NoteValue}
@@ -39,6 +41,7 @@ use Rattle.k_commit.specs.Standing.{BookStands}
 use Rattle.k_commit.specs.Stepped.{HasStepped, HasSteppedWithKernel, HasSteppedWithShared}
 use Rattle.k_locked.specs.Rooms.{shared_exit_room}
 use Rattle.k_locked.specs.Keeping.{BookKeeps, CanGive, HasHeapRooms, HeapKeeps, KernelKeeps, SharedKeeps, is_absorbed_in, operations_left}
+use Rattle.k_locked.proofs.CanDo.{done_of}
 
 -- each operation takes the body of its own allocation
 bodies_taken : (types : List (List Rattle.k_types.specs.declared.names.Field.Field)) (op : Op) (rest : List Op) → bodies_after op (bodies_of types (op ∷ rest)) ≡ bodies_of types rest
@@ -59,19 +62,45 @@ bodies_taken types (Freeze s root) rest = refl
 bodies_taken types (Attach r s) rest = refl
 bodies_taken types Exit rest = refl
 
+drop_none : {A : Type 0} (xs : List A) → drop 0 xs ≡ xs
+drop_none [] = refl
+drop_none (x ∷ xs) = refl
+
 -- the operations after the first of those that are left
 pub drop_more : {A : Type 0} (n : ℕ) (xs : List A) (x : A) (rest : List A) → drop n xs ≡ x ∷ rest → drop (n + 1) xs ≡ rest
 drop_more zero [] x rest is = absurd cc
 drop_more zero (y ∷ xs) x rest is = let e : xs ≡ rest = cc in drop_none xs ∙ e
-  where
-    drop_none : {A : Type 0} (xs : List A) → drop 0 xs ≡ xs
-    drop_none [] = refl
-    drop_none (x ∷ xs) = refl
 drop_more (suc n) [] x rest is = absurd cc
 drop_more (suc n) (y ∷ xs) x rest is = drop_more n xs x rest is
 
+-- what is left once the first part is dropped
+dropped : {A : Type 0} (xs ys : List A) → drop (length xs) (xs ++ ys) ≡ ys
+dropped [] ys = drop_none ys
+dropped (x ∷ xs) ys = dropped xs ys
+
 module _ (trace : Trace) (table : TableId) (c w : HeapRecord) (b l : BookRecord) (op : Op) (rest : List Op) (event : Event) (h : HeapKeeps trace table c) (k : BookKeeps trace table b)
-    (left : operations_left trace c ≡ op ∷ rest) (lives : IsFalse (has_ended_in c.value.process)) (next : IsNext trace c.pid.0 b.journal.list op) (s : HasStepped trace op c w b l event) where
+    (left : operations_left trace c ≡ op ∷ rest) (lives : IsFalse (has_ended_in c.value.process)) (s : HasStepped trace op c w b l event) where
+  -- the step counts one operation more than the journal had of the process, so that it was the next one by the journal too
+  done_before : length (done_by c.pid.0 b.journal.list) ≡ done_in c.value.process
+  done_before =
+      let after = done_of trace (User w.pid) w.note w.value s.agrees c.pid (ap (λ (x : HeapRecord). User x.pid) s.cell_is) in
+      let count = done_count trace c.pid.0 (w.note.list ++ w.value.tail) s.agrees.legal in
+      let list : w.note.list ++ w.value.tail ≡ b.journal.list ++ Done c.pid op s.said ∷ [] =
+          ap₂ (λ xs ys. xs ++ ys) s.met.list s.settled ∙ append-nil l.journal.list ∙ s.journal ∙ ap (λ e. b.journal.list ++ e ∷ []) s.event_is in
+      let more : done_by c.pid.0 (w.note.list ++ w.value.tail) ≡ done_by c.pid.0 b.journal.list ++ op ∷ [] =
+          ap (done_by c.pid.0) list ∙ done_append c.pid.0 b.journal.list (Done c.pid op s.said ∷ []) ∙ ap (λ t. done_by c.pid.0 b.journal.list ++ cond t (op ∷ []) []) (eq-eqb c.pid.0 c.pid.0 refl) in
+      let same = ap length more in
+      let one = length-append (done_by c.pid.0 b.journal.list) (op ∷ []) in
+      omega (arith, after, count, same, one, s.done)
+
+  next : IsNext trace c.pid.0 b.journal.list op
+  next =
+      let front = k.follows.operations c.pid.0 h.agrees.there in
+      let behind : front.0 ≡ op ∷ rest =
+          sym (dropped (done_by c.pid.0 b.journal.list) front.0) ∙ ap (drop (length (done_by c.pid.0 b.journal.list))) front.1
+          ∙ ap (λ n. drop n (operations_of trace c.pid.0)) done_before ∙ left in
+      (rest, sym front.1 ∙ ap (λ r. done_by c.pid.0 b.journal.list ++ r) behind)
+
   follows_now : FollowsTrace trace l.journal.list
   follows_now =
       subst (FollowsTrace trace) (sym s.journal)

@@ -3,3 +3,5 @@ pub mod LocalKept
 pub mod CanDo
 pub mod Kept
 pub mod Steps
+pub mod NeverEnds
+pub mod Opened

@@ -1,0 +1,7 @@
+pub mod Reaches
+pub mod Worlds
+pub mod Standing
+pub mod Steps
+pub mod Ended
+pub mod Places
+pub mod Gathering
