@@ -16,7 +16,7 @@ use Rattle.k_types.specs.Following.{FollowsOwn, FollowsTrace}
 use Rattle.k_types.specs.Owners.{is_absorbed, owner_of, phase_of, shared}
 use Rattle.k_types.specs.State.{State}
 use Rattle.k_types.specs.Steps.{IsLegalHistory, IsPossible, done_by, state_after}
-use Rattle.k_types.specs.Trace.{Trace, operations_of, process_count, segment_of}
+use Rattle.k_types.specs.Trace.{Trace, operations_of, process_count, segment_count, segment_of}
 use Rattle.k_bounds.proofs.ByProcess.{follows_own}
 use Rattle.k_bounds.proofs.Dones.{done_count}
 use Rattle.k_frame.specs.PartUpdates.{done_in}
@@ -62,7 +62,8 @@ bodies_taken types (Freeze s root) rest = refl
 bodies_taken types (Attach r s) rest = refl
 bodies_taken types Exit rest = refl
 
-drop_none : {A : Type 0} (xs : List A) → drop 0 xs ≡ xs
+-- nothing is dropped
+pub drop_none : {A : Type 0} (xs : List A) → drop 0 xs ≡ xs
 drop_none [] = refl
 drop_none (x ∷ xs) = refl
 
@@ -71,7 +72,7 @@ pub drop_more : {A : Type 0} (n : ℕ) (xs : List A) (x : A) (rest : List A) →
 drop_more zero [] x rest is = absurd cc
 drop_more zero (y ∷ xs) x rest is = let e : xs ≡ rest = cc in drop_none xs ∙ e
 drop_more (suc n) [] x rest is = absurd cc
-drop_more (suc n) (y ∷ xs) x rest is = drop_more n xs x rest is
+drop_more (suc n) (y ∷ xs) x rest is = let e : suc n + 1 ≡ suc (n + 1) = omega arith in ap (λ k. drop k (y ∷ xs)) e ∙ drop_more n xs x rest is
 
 -- what is left once the first part is dropped
 dropped : {A : Type 0} (xs ys : List A) → drop (length xs) (xs ++ ys) ≡ ys
@@ -172,6 +173,7 @@ module _ (trace : Trace) (table : TableId) (c w : HeapRecord) (k x : HoldingsVal
     idle = s.idle;
     exits = subst (λ (y : HoldingsValue). exit_room trace ≤ y.exit_room) (sym s.kernel_is) kk.exits;
     serials = subst (λ (y : HoldingsValue). CanGive trace y.serial_rooms 0) (sym s.kernel_is) kk.serials;
+    numbers = subst (λ (y : HoldingsValue). segment_count trace ≤ y.bound) (sym s.kernel_is) kk.numbers;
   }
 
 -- an absorbed heap is absorbed after whatever follows
@@ -181,8 +183,8 @@ absorbed_stays trace known rest t gone =
         = segment_of_shared (process_count trace) (state_after trace known).ended (state_after trace known).phases t ∙ ap (λ b. cond b Kernel (shared t)) gone in
     let after = stays_kernel trace known rest (1 + process_count trace + t) before in
     elim (cases_Bool (is_absorbed (phase_of (state_after trace (known ++ rest)).phases t))) [
-      | inl yes ↦ yes
-      | inr no ↦ absurd (cc (sym (owner_shared trace (state_after trace (known ++ rest)) t no), after))
+      | inl still ↦ still
+      | inr stands ↦ absurd (cc (sym (owner_shared trace (state_after trace (known ++ rest)) t stands), after))
     ]
 
 module _ (trace : Trace) (table : TableId) (c w : HeapRecord) (s x : SharedRecord) (b l : BookRecord) (op : Op) (event : Event) (sk : SharedKeeps trace table s) (bk : BookKeeps trace table b)

@@ -90,7 +90,7 @@ module _ (trace : Trace) where
     next_unended history Closing legal may before first = ap (λ (s : State). s.ended) (state_next trace history Closing) ∙ before (earlier history Closing first)
 
     first_unended : Unended []
-    unfolding Unended opening
+    unfolding Unended
     first_unended first = refl
 
     pub nobody_ends : (history : List Event) → IsLegalHistory trace history → AreFirst trace history → (state_after trace history).ended ≡ []

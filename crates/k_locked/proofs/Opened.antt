@@ -66,6 +66,7 @@ module _ (setup : Setup) (operations : List (List Op)) (order : List ℕ) (table
     idle = refl;
     exits = enough;
     serials = begins_with 0 objects (omega arith) serials;
+    numbers = omega arith;
   }
 
   pub opened_shared_keeps : (id : SharedId) (objects exits : ℕ) → id.0 < trace.shared_heaps → shared_exit_room trace id.0 ≤ exits → serial_room trace (segment_of trace (Shared id)) ≤ objects →

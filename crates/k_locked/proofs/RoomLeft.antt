@@ -88,21 +88,21 @@ share_more s (op ∷ done) rest t =
       | inr there ↦ or_right (is_share_of s op) _ (share_more s done rest there)
     ]
 
+-- the process may make the shared heap
+abbrev may_make : Trace → ℕ → ℕ → Bool
+may_make trace s q = list_any (is_share_of s) (operations_of trace q)
+
 -- a shared heap has at most as many exit items as its maker has done stores
 pub shared_room : (trace : Trace) (history : List Event) (s : ℕ) → AreLimits trace → IsLegalHistory trace history → AreFirst trace history →
     exit_count (state_after trace history).exits (shared s) < shared_exit_room trace s
 shared_room trace history s limits legal first =
     elim (shared_exits trace s limits history legal) [ inl none ↦ omega (arith, none) | inr made ↦ by_maker made.0 made.1 ]
   where
-    makes : ℕ → Bool
-    makes q = list_any (is_share_of s) (operations_of trace q)
-
     by_maker : (q : ℕ) → MadeBy trace s history (exit_count (state_after trace history).exits (shared s)) q → exit_count (state_after trace history).exits (shared s) < shared_exit_room trace s
-    unfolding makes
     by_maker q made =
         let front = first q made.0 in
-        let takes : makes q ≡ true = subst (λ ops. list_any (is_share_of s) ops ≡ true) front.1 (share_more s (done_by q history) front.0 made.1) in
+        let takes : may_make trace s q ≡ true = subst (λ ops. list_any (is_share_of s) ops ≡ true) front.1 (share_more s (done_by q history) front.0 made.1) in
         let fewer = prefix_less (λ op. one_if (is_store op)) (done_by q history) (operations_of trace q) front in
-        let one = passing_within (λ p. stores_in (operations_of trace p)) makes q 0 (process_count trace) takes (omega arith) (omega (arith, made.0)) in
-        let all = sum-filter makes (λ p. stores_in (operations_of trace p)) (numbers_below (process_count trace)) in
+        let one = passing_within (λ p. stores_in (operations_of trace p)) (may_make trace s) q 0 (process_count trace) takes (omega arith) (omega (arith, made.0)) in
+        let all = sum-filter (may_make trace s) (λ p. stores_in (operations_of trace p)) (numbers_below (process_count trace)) in
         omega (arith, made.2, fewer, one, all)

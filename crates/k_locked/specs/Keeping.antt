@@ -9,7 +9,7 @@ use Rattle.k_types.specs.Agree.{CellValue}
 use Rattle.k_types.specs.Following.{FollowsOwn, FollowsTrace}
 use Rattle.std.specs.Prelude.{Bool, false, ◌++◌}
 use Rattle.k_types.specs.Owners.{is_absorbed}
-use Rattle.k_types.specs.Trace.{Trace, operations_of, segment_of}
+use Rattle.k_types.specs.Trace.{Trace, operations_of, segment_count, segment_of}
 use Rattle.k_types.specs.TraceRules.{KeepsRules}
 use Rattle.k_frame.specs.PartUpdates.{done_in}
 use Rattle.k_bounds.specs.Counts.{stores_in}
@@ -39,47 +39,49 @@ pub record HasHeapRooms (trace : Trace) (c : HeapRecord) : Type 0 where
   pub serials : IsFalse (has_ended_in c.value.process) → CanGive trace c.serial_rooms (own_segment c.pid)
   pub tail : length (operations_of trace c.pid.0) ≤ c.tail_room
 
--- the trace keeps its rules, the cell of a process agrees with it, is of the table, and is not collected; its process has done the trace's operations up
+-- the trace keeps its rules, the cell of a process agrees with it, is of the journal's table, and is not collected; its process has done the trace's operations up
 -- to its count, it has the bodies of the others' allocations, and its tables have room
-pub record HeapKeeps (trace : Trace) (table : TableId) (c : HeapRecord) : Type 0 where
+pub record HeapKeeps (trace : Trace) (tie : TableId) (c : HeapRecord) : Type 0 where
   pub rules : KeepsRules trace
   pub agrees : Agrees trace (User c.pid) c.note c.value
-  pub table : c.note.table ≡ table
+  pub table : c.note.table ≡ tie
   pub idle : c.value.collection ≡ Idle
   pub follows : FollowsOwn trace c.pid.0 (c.note.list ++ c.value.tail)
   pub bodies : c.bodies ≡ bodies_of trace.types (operations_left trace c)
   pub rooms : HasHeapRooms trace c
 
--- the trace keeps its rules, the kernel's cell agrees with it, is of the table, and is not collected, and its tables have room
-pub record KernelKeeps (trace : Trace) (table : TableId) (k : HoldingsValue) : Type 0 where
+-- the trace keeps its rules, the kernel's cell agrees with it, is of the journal's table, and is not collected, its tables have room,
+-- and it has a number for each segment
+pub record KernelKeeps (trace : Trace) (tie : TableId) (k : HoldingsValue) : Type 0 where
   pub rules : KeepsRules trace
   pub agrees : Agrees trace Kernel k.note k.value
-  pub table : k.note.table ≡ table
+  pub table : k.note.table ≡ tie
   pub idle : k.value.collection ≡ Idle
   pub exits : exit_room trace ≤ k.exit_room
   pub serials : CanGive trace k.serial_rooms 0
+  pub numbers : segment_count trace ≤ k.bound
 
 -- the cell's shared heap is absorbed
 abbrev pub is_absorbed_in : Option Phase → Bool
 is_absorbed_in None = false
 is_absorbed_in (Some phase) = is_absorbed phase
 
--- the trace keeps its rules, the cell of a shared heap agrees with it, is of the table, and is not collected; it begins with the heap's own segment, and its
+-- the trace keeps its rules, the cell of a shared heap agrees with it, is of the journal's table, and is not collected; it begins with the heap's own segment, and its
 -- tables have room
-pub record SharedKeeps (trace : Trace) (table : TableId) (s : SharedRecord) : Type 0 where
+pub record SharedKeeps (trace : Trace) (tie : TableId) (s : SharedRecord) : Type 0 where
   pub rules : KeepsRules trace
   pub agrees : Agrees trace (Shared s.id) s.note s.value
-  pub table : s.note.table ≡ table
+  pub table : s.note.table ≡ tie
   pub segment : s.seg.0 ≡ segment_of trace (Shared s.id)
   pub idle : s.value.collection ≡ Idle
   pub exits : shared_exit_room trace s.id.0 ≤ s.exit_room
   pub serials : IsFalse (is_absorbed_in s.value.phase) → CanGive trace s.serial_rooms s.seg.0
 
--- the book stands and is of the table; its journal has of each process the first operations of the trace, and no closing; and its
+-- the book stands and its journal is of the table; the journal has of each process the first operations of the trace, and no closing; and its
 -- tables have room
-pub record BookKeeps (trace : Trace) (table : TableId) (b : BookRecord) : Type 0 where
+pub record BookKeeps (trace : Trace) (tie : TableId) (b : BookRecord) : Type 0 where
   pub stands : BookStands trace b
-  pub table : b.journal.table ≡ table
+  pub table : b.journal.table ≡ tie
   pub follows : FollowsTrace trace b.journal.list
   pub events : event_room trace ≤ b.event_room
   pub entries : exit_room trace ≤ b.entry_room

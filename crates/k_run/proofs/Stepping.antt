@@ -21,6 +21,8 @@ use Rattle.k_local.specs.Locals.{after_local, local_answer}
 use Rattle.k_commit.specs.Stepped.{HasStepped, HasSteppedWithKernel, HasSteppedWithShared}
 use Rattle.k_own.specs.Own.{CanStepOwn, is_collect}
 use Rattle.k_pair.specs.Operating.{CanStepWithKernel, collects_or_exits}
+use Rattle.k_sharing.specs.Operating.{CanStepWithShared}
+use Rattle.k_bounds.specs.Counts.{allocates_in}
 use Rattle.k_locked.specs.Keeping.{BookKeeps, HeapKeeps, KernelKeeps, SharedKeeps, operations_left}
 use Rattle.k_locked.proofs.CanDo.{can_operate, can_operate_with_kernel, can_operate_with_shared}
 use Rattle.k_locked.proofs.Kept.{book_keeps, heap_keeps, kernel_keeps, left_now, own_pid, shared_keeps}
@@ -116,4 +118,27 @@ module _ (world : WorldValue) (p : Process) (b : BookRecord) (op : Op) (items : 
         (beside_allocates world.trace _ _ p.cell.pid.0 Kernel op can.due.touches);
     touches = λ fits kernel_fits. can.due.touches;
     goes_on = goes_on_pair op can.due.goes_on;
+  }
+
+module _ (world : WorldValue) (p : Process) (b l : BookRecord) (op : Op) (w : HeapRecord) (event : Event) where
+  pub done_with_kernel : (k x : HoldingsValue) → CanDoWithKernel world p k b op → HasSteppedWithKernel world.trace op p.cell w k x b l event → HasDoneWithKernel world op p (record p { cell = w }) x l
+  done_with_kernel k x can s = record {
+    own = done_alone world p b l op w event can.due.pair can.due.next s.own;
+    kernel = kernel_keeps world.trace world.table p.cell w k x b l op event can.kernel can.due.pair.book s;
+  }
+
+  pub done_with_shared : (k x : SharedRecord) → CanDoWithShared world p k b op → Fits b.journal k.note → HasSteppedWithShared world.trace op p.cell w k x b l event →
+      HasDoneWithShared world op p (record p { cell = w }) k x l
+  done_with_shared k x can fits s = record {
+    own = done_alone world p b l op w event can.due.pair can.due.next s.own;
+    shared = shared_keeps world.trace world.table p.cell w k x b l op event can.shared can.due.pair.book fits s;
+    same = ap (λ (y : SharedRecord). y.id) s.shared_is;
+  }
+
+module _ (world : WorldValue) (p : Process) (b : BookRecord) (op : Op) (items : AreEntries (book_entries b)) where
+  pub can_with_shared : (s : SharedRecord) → CanDoWithShared world p s b op → AreDistinctNames s.value.exits → CanStepWithShared world.trace p.cell s b op
+  can_with_shared s can distinct = record {
+    can = can_operate_with_shared world.trace world.table p.cell can.due.pair.process.cell op can.due.next.rest can.due.next.left b can.due.pair.book can.due.settled can.due.next.lives items s can.shared distinct
+        (λ t. subst (λ n. IsTrue (allocates_in world.trace n p.cell.pid.0 op)) (sym can.shared.segment) (beside_allocates world.trace _ _ p.cell.pid.0 (Shared s.id) op can.due.touches t));
+    touches = λ fits shared_fits. can.due.touches;
   }

@@ -22,9 +22,9 @@ abbrev pub IsSlice : Trace → Type 0
 IsSlice trace = (p : ℕ) → IsTrue (list_all (λ op. not (is_put_off op)) (operations_of trace p))
 
 -- it is the process's next operation; there is none where the process has ended or done all
-abbrev pub IsNextOf : WorldValue → Process → Option Op → Type 0
-IsNextOf world p None = IsFalse (has_ended_in p.cell.value.process) → operations_left world.trace p.cell ≡ []
-IsNextOf world p (Some op) = ComesNext world.trace p.cell op
+abbrev pub IsNextOf : Trace → HeapRecord → Option Op → Type 0
+IsNextOf trace c None = IsFalse (has_ended_in c.value.process) → operations_left trace c ≡ []
+IsNextOf trace c (Some op) = ComesNext trace c op
 
 -- process, kernel, shared heaps and book stand, and no operation is put off
 pub record CanComplete (world : WorldValue) (p : Process) (kernel : HoldingsValue) (shared : List SharedRecord) (book : BookRecord) : Type 0 where

@@ -1,28 +1,14 @@
 //! What is left of a run, done on the caller's thread.
 ghost use Rattle.std.specs.Prelude.{◌≡◌};
-ghost use Rattle.k_run.specs.Ended.{AllMet, AllStand, AllThrough, CanComplete, HasCompleted, IsNextOf};
-ghost use Rattle.k_run.specs.Standing.{ProcessStands};
+ghost use Rattle.k_run.specs.Ended.{AllMet, AllStand, AllThrough, CanComplete, HasCompleted};
 ghost use Rattle.k_run.specs.Worlds.{WorldValue};
 
-use crate::process::Process;
+use crate::process::{Process, next};
 use crate::stepping::{do_next, publish_all};
 use k_book::Book;
 use k_commit::{meet_heap, meet_kernel, meet_shared};
 use k_kernel::KernelCell;
 use k_shared::SharedCell;
-use k_types::Op;
-
-/// The process's next operation; none where it has ended or done all.
-pub(crate) fn next(process: &Process) -> Option<Op>
-    ghost world: { WorldValue }
-    requires { ProcessStands world process.now }
-    ensures { IsNextOf world process.now result }
-{
-    if !process.cell.lives() {
-        return None;
-    }
-    process.ops.get(process.cell.done() as usize).copied()
-}
 
 /// Does all operations of the process that are left, and publishes its events.
 fn complete(

@@ -7,7 +7,9 @@ mod outcome;
 mod placing;
 mod process;
 mod reaching;
+mod running;
 mod stepping;
+mod turning;
 mod world;
 mod worlds;
 
@@ -15,5 +17,6 @@ pub use locked::{LockedBook, LockedKernel, LockedProcess, LockedShared};
 pub use outcome::Outcome;
 pub use process::Process;
 pub use reaching::{Reach, reach};
+pub use running::run;
 pub use world::{World, finish};
 pub use worlds::WorldName;

@@ -13,7 +13,7 @@ use std::marker::{Model, PhantomData};
 /// A process of the world `W`.
 #[derive(Drop)]
 pub struct LockedProcess<W: WorldName> {
-    process: Process,
+    pub(crate) process: Process,
     of: PhantomData<W>,
 }
 
@@ -52,7 +52,7 @@ impl<W: WorldName> LockedProcess<W> {
 /// The kernel's cell of the world `W`.
 #[derive(Drop)]
 pub struct LockedKernel<W: WorldName> {
-    kernel: KernelCell,
+    pub(crate) kernel: KernelCell,
     of: PhantomData<W>,
 }
 
@@ -91,7 +91,7 @@ impl<W: WorldName> LockedKernel<W> {
 /// The cell of a shared heap of the world `W`.
 #[derive(Drop)]
 pub struct LockedShared<W: WorldName> {
-    shared: SharedCell,
+    pub(crate) shared: SharedCell,
     of: PhantomData<W>,
 }
 
@@ -130,7 +130,7 @@ impl<W: WorldName> LockedShared<W> {
 /// The book of the world `W`, whose journal has no closing yet.
 #[derive(Drop)]
 pub struct LockedBook<W: WorldName> {
-    book: Book,
+    pub(crate) book: Book,
     of: PhantomData<W>,
 }
 
