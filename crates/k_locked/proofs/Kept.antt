@@ -188,7 +188,7 @@ absorbed_stays trace known rest t gone =
     ]
 
 module _ (trace : Trace) (table : TableId) (c w : HeapRecord) (s x : SharedRecord) (b l : BookRecord) (op : Op) (event : Event) (sk : SharedKeeps trace table s) (bk : BookKeeps trace table b)
-    (fits : Fits b.journal s.note) (st : HasSteppedWithShared trace op c w s x b l event) where
+    (st : HasSteppedWithShared trace op c w s x b l event) where
   same_id : x.id ≡ s.id
   same_id = ap (λ (y : SharedRecord). y.id) st.shared_is
 
@@ -204,15 +204,15 @@ module _ (trace : Trace) (table : TableId) (c w : HeapRecord) (s x : SharedRecor
       ap (λ (y : ShownPart). y.phase) sk.agrees.shows.part
       ∙ ap (λ list. Some (phase_of (state_after trace list).phases s.id.0)) (ap (λ ys. s.note.list ++ ys) sk.agrees.tail ∙ append-nil s.note.list)
 
-  longer : s.note.list ++ (fits.prefix.0 ++ event ∷ []) ≡ l.journal.list
-  longer = sym (append_assoc s.note.list fits.prefix.0 (event ∷ [])) ∙ ap (λ ys. ys ++ event ∷ []) fits.prefix.1 ∙ sym st.own.journal
+  longer : s.note.list ++ (st.fits.prefix.0 ++ event ∷ []) ≡ l.journal.list
+  longer = sym (append_assoc s.note.list st.fits.prefix.0 (event ∷ [])) ∙ ap (λ ys. ys ++ event ∷ []) st.fits.prefix.1 ∙ sym st.own.journal
 
   stood : is_absorbed_in x.value.phase ≡ false → is_absorbed_in s.value.phase ≡ false
   stood now =
       let after : is_absorbed (phase_of (state_after trace l.journal.list).phases s.id.0) ≡ false =
           ap (λ (i : Rattle.k_types.specs.declared.names.SharedId.SharedId). is_absorbed (phase_of (state_after trace l.journal.list).phases i.0)) (sym same_id) ∙ sym (ap is_absorbed_in phase_now) ∙ now in
       elim (cases_Bool (is_absorbed (phase_of (state_after trace s.note.list).phases s.id.0))) [
-        | inl gone ↦ absurd (false≢true (sym after ∙ ap (λ list. is_absorbed (phase_of (state_after trace list).phases s.id.0)) (sym longer) ∙ absorbed_stays trace s.note.list (fits.prefix.0 ++ event ∷ []) s.id.0 gone))
+        | inl gone ↦ absurd (false≢true (sym after ∙ ap (λ list. is_absorbed (phase_of (state_after trace list).phases s.id.0)) (sym longer) ∙ absorbed_stays trace s.note.list (st.fits.prefix.0 ++ event ∷ []) s.id.0 gone))
         | inr stands ↦ ap is_absorbed_in phase_before ∙ stands
       ]
 
