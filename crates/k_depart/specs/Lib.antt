@@ -1,0 +1,5 @@
+pub mod Exits
+pub mod Registers
+pub mod Charges
+pub mod Segments
+pub mod Ending
