@@ -71,7 +71,7 @@ more_bit : (b x k : Bool) → k ≡ (b || x) → one_if b ≤ one_if k
 more_bit true x k e = let one = ap one_if e in omega (arith, one)
 more_bit false x k e = omega arith
 
-entries_change : (a b c : BookRecord) → ChangesEntries a b → ChangesEntries b c → ChangesEntries a c
+pub entries_change : (a b c : BookRecord) → ChangesEntries a b → ChangesEntries b c → ChangesEntries a c
 entries_change a b c first second = second ∙ ap (λ (k : BookRecord). record k { value = record k.value { entries = c.value.entries } }) first
 
 -- one exit item is taken from the cell

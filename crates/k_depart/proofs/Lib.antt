@@ -1,1 +1,5 @@
 pub mod Leaving
+pub mod Unpinned
+pub mod Dropped
+pub mod Given
+pub mod Told
