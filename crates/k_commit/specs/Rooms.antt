@@ -1,5 +1,5 @@
 -- What an operation asks of a setup: cells and book that stand, and room in the tables to which it may add.
-use Rattle.std.specs.Prelude.{◌≡◌, ◌<◌, ◌×◌, ℕ, List, ◌∷◌, IsTrue, length}
+use Rattle.std.specs.Prelude.{◌≡◌, ◌<◌, ℕ, List, ◌∷◌, IsTrue, length}
 use Rattle.k_types.specs.declared.names.TypeId.{TypeId}
 use Rattle.k_types.specs.declared.op.Op.{Op}
 use Rattle.k_types.specs.declared.op.Op.TheVariants.{New, KNew, SNew, Store, Load, Move, Clear, Dir, Put, Get, Collect, KCollect, Share, Freeze, Attach, Exit}

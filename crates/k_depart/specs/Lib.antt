@@ -3,3 +3,5 @@ pub mod Registers
 pub mod Charges
 pub mod Segments
 pub mod Ending
+pub mod Absorbing
+pub mod Exiting

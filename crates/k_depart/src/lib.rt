@@ -5,7 +5,12 @@
 //! end of a process, the pins of its registers and its shares. No call takes memory.
 #![tactic(auto)]
 
+mod absorbing;
 mod charges;
+mod exiting;
 mod exits;
 mod registers;
 mod segments;
+
+pub use absorbing::absorb;
+pub use exiting::exit;
