@@ -13,7 +13,7 @@ use Rattle.k_types.specs.Updates.{count_done}
 use Rattle.k_tie.specs.Values.{NoteValue}
 use Rattle.k_frame.proofs.Histories.{state_next}
 use Rattle.k_laws.specs.Termination.{CreditsTheCharge}
-use Rattle.k_laws.proofs.Laws.{termination_credits_the_whole_charge-exit, termination_leaves_the_rest-exit, termination_leaves_the_rest-rest}
+use Rattle.k_laws.proofs.Laws.{termination_credits_the_whole_charge-exit, termination_leaves_the_rest-exit, termination_leaves_the_rest-exits, termination_leaves_the_rest-rest}
 use Rattle.k_agree.specs.Agreement.{BookShows, Shows}
 use Rattle.k_agree.specs.Committing.{CanCommit, IsCommitted, NotedCell, journal_after, note_after, state_to_come}
 use Rattle.k_agree.specs.Meeting.{Fits, met_note}
@@ -281,6 +281,7 @@ module _ (trace : Trace) (c0 c1 : HeapRecord) (k0 k1 : HoldingsValue) (b0 l : Bo
         (termination_credits_the_whole_charge-exit trace st c0.pid DoneReply met.have_met.own.book.keeps.limits exit_can.possible);
     counts = later ∙ termination_leaves_the_rest-exit trace st c0.pid DoneReply;
     leaves = termination_leaves_the_rest-rest trace st c0.pid.0 (sound trace (record c0 { note = nc }) (record k0 { note = nk }) b0 met) (known trace (record c0 { note = nc }) (record k0 { note = nk }) b0 met);
+    exits = λ h n. termination_leaves_the_rest-exits trace st c0.pid.0 h n (sound trace (record c0 { note = nc }) (record k0 { note = nk }) b0 met);
   }
 
   pub exited_whole : HasExited trace c0 (record c1 { note = note_after leaving c1.note }) k0 (record k1 { note = note_after leaving k1.note })

@@ -67,7 +67,7 @@ module _ (trace : Trace) (c : HeapRecord) (k : HoldingsValue) (b : BookRecord) (
   abbrev pub now : State
   now = state_after trace b.journal.list
 
-  abbrev before : Before
+  abbrev pub before : Before
   before = record { trace = trace; cell = c; book = b }
 
   pub sound : IsSound trace now

@@ -1,17 +1,20 @@
 -- What the end of a process asks and leaves.
-use Rattle.std.specs.Prelude.{◌≡◌, ◌+◌, ◌≤◌, ◌<◌, ◌^◌, ℕ, [], ◌∷◌, ◌++◌, IsTrue, None, length, slice_index_or, slice_set}
+use Rattle.std.specs.Prelude.{◌≡◌, ◌+◌, ◌≤◌, ◌<◌, ◌^◌, ◌↔◌, ℕ, [], ◌∷◌, ◌++◌, IsTrue, None, length, slice_index_or, slice_set}
 use Rattle.k_types.specs.declared.event.Event.{Event}
 use Rattle.k_types.specs.declared.event.Event.TheVariants.{Done}
 use Rattle.k_types.specs.declared.event.Reply.TheVariants.{Done as DoneReply}
 use Rattle.k_types.specs.declared.names.CellPhase.TheVariants.{Idle}
+use Rattle.k_types.specs.declared.names.Heap.{Heap}
 use Rattle.k_types.specs.declared.names.Heap.TheVariants.{Kernel, User}
+use Rattle.k_types.specs.declared.names.Name.{Name}
 use Rattle.k_types.specs.declared.names.Pid.{Pid}
 use Rattle.k_types.specs.declared.op.Op.TheVariants.{Exit}
 use Rattle.k_types.specs.Effects.{after_end_of}
+use Rattle.k_types.specs.State.{has_exit}
 use Rattle.k_types.specs.Steps.{IsPossible, state_after}
 use Rattle.k_types.specs.Trace.{Trace, segment_count}
 use Rattle.k_types.specs.Updates.{count_done}
-use Rattle.k_laws.specs.Termination.{CreditsTheCharge, LeavesTheRest}
+use Rattle.k_laws.specs.Termination.{CreditsTheCharge, LeavesTheRest, StaysOrPasses}
 use Rattle.k_agree.specs.Agreement.{Agrees, BookAgrees, BookShows, Shows}
 use Rattle.k_agree.specs.Meeting.{Fits, HasMet}
 use Rattle.k_book.specs.Books.{BookRecord}
@@ -65,11 +68,12 @@ pub record HasGivenUp (trace : Trace) (old_cell cell : HeapRecord) (old_kernel k
   pub kernel_shows : Shows trace (state_with trace old_book (exit_of old_cell.pid)) Kernel kernel.value
   pub book_shows : BookShows trace (state_with trace old_book (exit_of old_cell.pid)) book.value
 
--- the event is the end of the process, answered as done, possible after the journal, which the notes fitted, and its newest. The process has ended, has done
--- one operation more, and its segment is the kernel's: the cells are the same ones, where the room for serials has gone with the
--- segment. Both are idle with nothing unpublished and have met the journal; cells and book agree. The whole charge is credited: the use
--- of each limit on the path of the process's limit falls by what the process was charged, and every other limit's use stays, as does
--- all that is of other processes
+-- the event is the end of the process, answered as done, possible after the journal, which the notes fitted, and its newest. The process
+-- has ended, has done one operation more, and its segment is the kernel's: the cells are the same ones, where the room for serials has
+-- gone with the segment. Both are idle with nothing unpublished and have met the journal; cells and book agree. The whole charge is
+-- credited: the use of each limit on the path of the process's limit falls by what the process was charged, and every other limit's use
+-- stays. No object goes or changes, and all that is of other processes stays, as do the exit items but for those of the heap and the
+-- kernel's into it
 pub record HasExited (trace : Trace) (old_cell cell : HeapRecord) (old_kernel kernel : HoldingsValue) (old_book book : BookRecord) (event : Event) : Type 0 where
   pub event_is : event ≡ exit_of old_cell.pid
   pub possible : IsPossible trace (state_after trace old_book.journal.list) event
@@ -99,3 +103,5 @@ pub record HasExited (trace : Trace) (old_cell cell : HeapRecord) (old_kernel ke
   pub credits : CreditsTheCharge trace (state_after trace old_book.journal.list) old_cell.pid.0 (state_after trace book.journal.list)
   pub counts : state_after trace book.journal.list ≡ count_done old_cell.pid.0 (after_end_of trace old_cell.pid.0 (state_after trace old_book.journal.list))
   pub leaves : LeavesTheRest (state_after trace old_book.journal.list) old_cell.pid.0 (after_end_of trace old_cell.pid.0 (state_after trace old_book.journal.list))
+  pub exits : (h : Heap) (n : Name) →
+      (IsTrue (has_exit (after_end_of trace old_cell.pid.0 (state_after trace old_book.journal.list)).exits h n) ↔ StaysOrPasses trace (state_after trace old_book.journal.list) old_cell.pid.0 h n)

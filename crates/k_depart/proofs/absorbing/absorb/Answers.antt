@@ -21,24 +21,22 @@ take_over-requires g c =
     c.meet_kernel.ensures
 
 pub append_shared_and_kernel-requires : goal.append_shared_and_kernel-requires
-append_shared_and_kernel-requires g c = (
-  absorption_tables g.trace c.args.shared.now c.meet_shared.new.shared c.args.kernel.now c.meet_kernel.new.kernel c.args.book.now c.meet_shared.new.book c.meet_kernel.new.book c.requires c.meet_shared.ensures
-      c.meet_kernel.ensures c.take_over.new.shared c.take_over.new.kernel c.take_over.new.book c.take_over.ensures,
-  (
-    absorption_lists g.trace c.args.shared.now c.meet_shared.new.shared c.args.kernel.now c.meet_kernel.new.kernel c.args.book.now c.meet_shared.new.book c.meet_kernel.new.book c.requires c.meet_shared.ensures
-        c.meet_kernel.ensures c.take_over.new.shared c.take_over.new.kernel c.take_over.new.book c.take_over.ensures,
-    absorption_room g.trace c.args.shared.now c.meet_shared.new.shared c.args.kernel.now c.meet_kernel.new.kernel c.args.book.now c.meet_shared.new.book c.meet_kernel.new.book c.requires c.meet_shared.ensures
-        c.meet_kernel.ensures c.take_over.new.shared c.take_over.new.kernel c.take_over.new.book c.take_over.ensures,
-  ),
-)
+append_shared_and_kernel-requires g c = record {
+  table = absorption_tables g.trace c.args.shared.now c.meet_shared.new.shared c.args.kernel.now c.meet_kernel.new.kernel c.args.book.now c.meet_shared.new.book c.meet_kernel.new.book c.requires c.meet_shared.ensures
+      c.meet_kernel.ensures c.take_over.new.shared c.take_over.new.kernel c.take_over.new.book c.take_over.ensures;
+  met = absorption_lists g.trace c.args.shared.now c.meet_shared.new.shared c.args.kernel.now c.meet_kernel.new.kernel c.args.book.now c.meet_shared.new.book c.meet_kernel.new.book c.requires c.meet_shared.ensures
+      c.meet_kernel.ensures c.take_over.new.shared c.take_over.new.kernel c.take_over.new.book c.take_over.ensures;
+  room = absorption_room g.trace c.args.shared.now c.meet_shared.new.shared c.args.kernel.now c.meet_kernel.new.kernel c.args.book.now c.meet_shared.new.book c.meet_kernel.new.book c.requires c.meet_shared.ensures
+      c.meet_kernel.ensures c.take_over.new.shared c.take_over.new.kernel c.take_over.new.book c.take_over.ensures;
+}
 
 pub returns : goal.returns
 returns g c =
     absorption_ends g.trace c.args.shared.now c.meet_shared.new.shared c.args.kernel.now c.meet_kernel.new.kernel c.args.book.now c.meet_shared.new.book c.meet_kernel.new.book c.requires c.meet_shared.ensures
     c.meet_kernel.ensures c.take_over.new.shared c.take_over.new.kernel c.take_over.new.book c.take_over.ensures
-    (Absorbed c.id-event.result) c.append_shared_and_kernel.new.shared c.append_shared_and_kernel.new.kernel c.append_shared_and_kernel.new.book
+    (Absorbed c.id.result) c.append_shared_and_kernel.new.shared c.append_shared_and_kernel.new.kernel c.append_shared_and_kernel.new.book
     (ap Absorbed
-    (c.id-event.ensures ∙ ap (λ (x : SharedRecord). x.id) c.take_over.ensures.shared_is
+    (c.id.ensures ∙ ap (λ (x : SharedRecord). x.id) c.take_over.ensures.shared_is
     ∙ ap (λ (x : SharedRecord). x.id) (shared_met g.trace c.args.shared.now c.meet_shared.new.shared c.args.kernel.now c.meet_kernel.new.kernel c.args.book.now c.meet_shared.new.book c.meet_kernel.new.book c.requires
     c.meet_shared.ensures c.meet_kernel.ensures)))
     c.append_shared_and_kernel.ensures.shared c.append_shared_and_kernel.ensures.kernel c.append_shared_and_kernel.ensures.book

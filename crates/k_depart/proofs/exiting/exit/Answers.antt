@@ -20,24 +20,22 @@ give_up-requires g c =
     c.meet_kernel.ensures
 
 pub append_heap_and_kernel-requires : goal.append_heap_and_kernel-requires
-append_heap_and_kernel-requires g c = (
-  exit_tables g.trace c.args.cell.now c.meet_heap.new.cell c.args.kernel.now c.meet_kernel.new.kernel c.args.book.now c.meet_heap.new.book c.meet_kernel.new.book c.requires c.meet_heap.ensures
-      c.meet_kernel.ensures c.give_up.new.cell c.give_up.new.kernel c.give_up.new.book c.give_up.ensures,
-  (
-    exit_lists g.trace c.args.cell.now c.meet_heap.new.cell c.args.kernel.now c.meet_kernel.new.kernel c.args.book.now c.meet_heap.new.book c.meet_kernel.new.book c.requires c.meet_heap.ensures
-        c.meet_kernel.ensures c.give_up.new.cell c.give_up.new.kernel c.give_up.new.book c.give_up.ensures,
-    exit_room g.trace c.args.cell.now c.meet_heap.new.cell c.args.kernel.now c.meet_kernel.new.kernel c.args.book.now c.meet_heap.new.book c.meet_kernel.new.book c.requires c.meet_heap.ensures
-        c.meet_kernel.ensures c.give_up.new.cell c.give_up.new.kernel c.give_up.new.book c.give_up.ensures,
-  ),
-)
+append_heap_and_kernel-requires g c = record {
+  table = exit_tables g.trace c.args.cell.now c.meet_heap.new.cell c.args.kernel.now c.meet_kernel.new.kernel c.args.book.now c.meet_heap.new.book c.meet_kernel.new.book c.requires c.meet_heap.ensures
+      c.meet_kernel.ensures c.give_up.new.cell c.give_up.new.kernel c.give_up.new.book c.give_up.ensures;
+  met = exit_lists g.trace c.args.cell.now c.meet_heap.new.cell c.args.kernel.now c.meet_kernel.new.kernel c.args.book.now c.meet_heap.new.book c.meet_kernel.new.book c.requires c.meet_heap.ensures
+      c.meet_kernel.ensures c.give_up.new.cell c.give_up.new.kernel c.give_up.new.book c.give_up.ensures;
+  room = exit_room g.trace c.args.cell.now c.meet_heap.new.cell c.args.kernel.now c.meet_kernel.new.kernel c.args.book.now c.meet_heap.new.book c.meet_kernel.new.book c.requires c.meet_heap.ensures
+      c.meet_kernel.ensures c.give_up.new.cell c.give_up.new.kernel c.give_up.new.book c.give_up.ensures;
+}
 
 pub returns : goal.returns
 returns g c =
     exit_ends g.trace c.args.cell.now c.meet_heap.new.cell c.args.kernel.now c.meet_kernel.new.kernel c.args.book.now c.meet_heap.new.book c.meet_kernel.new.book c.requires c.meet_heap.ensures
     c.meet_kernel.ensures c.give_up.new.cell c.give_up.new.kernel c.give_up.new.book c.give_up.ensures
-    (exit_of c.pid-event.result) c.append_heap_and_kernel.new.cell c.append_heap_and_kernel.new.kernel c.append_heap_and_kernel.new.book
+    (exit_of c.pid.result) c.append_heap_and_kernel.new.cell c.append_heap_and_kernel.new.kernel c.append_heap_and_kernel.new.book
     (ap exit_of
-    (c.pid-event.ensures
+    (c.pid.ensures
     ∙ pid_kept g.trace c.args.cell.now c.meet_heap.new.cell c.args.kernel.now c.meet_kernel.new.kernel c.args.book.now c.meet_heap.new.book c.meet_kernel.new.book c.requires c.meet_heap.ensures
     c.meet_kernel.ensures c.give_up.new.cell c.give_up.new.kernel c.give_up.new.book c.give_up.ensures))
     c.append_heap_and_kernel.ensures.cell c.append_heap_and_kernel.ensures.kernel c.append_heap_and_kernel.ensures.book

@@ -30,13 +30,11 @@ overflow_add-seg g c =
     omega (arith, small_pid, same)
 
 pub unpin_registers-requires : goal.unpin_registers-requires
-unpin_registers-requires g c = (
-  small g.trace c.args.cell.now c.args.kernel.now c.args.book.now c.requires,
-  (
-    sixteen g.trace c.args.cell.now c.args.kernel.now c.args.book.now c.requires,
-    pinned g.trace c.args.cell.now c.args.kernel.now c.args.book.now c.requires,
-  ),
-)
+unpin_registers-requires g c = record {
+  small = small g.trace c.args.cell.now c.args.kernel.now c.args.book.now c.requires;
+  few = sixteen g.trace c.args.cell.now c.args.kernel.now c.args.book.now c.requires;
+  pinned = pinned g.trace c.args.cell.now c.args.kernel.now c.args.book.now c.requires;
+}
 
 pub credit_charge-requires-clause-process : goal.credit_charge-requires-clause-process
 credit_charge-requires-clause-process g c =
