@@ -51,16 +51,6 @@ kept_all true true = refl
 kept_all true false = refl
 kept_all false t = refl
 
-pub dropping_begins : (p : ℕ) (b : BookRecord) → IsDropping p b b 0 0
-dropping_begins p b = record {
-  bytes_are = refl;
-  shares = λ q t. sym (ap (λ z. has_share b.value.shares q t && not ((q == p) && z)) (none_below t) ∙ kept_all (has_share b.value.shares q t) (q == p));
-  book_is = refl;
-}
-  where
-    none_below : (t : ℕ) → nat_lt t 0 ≡ false
-    none_below t = grind (arith, nat_tests)
-
 module _ (p : ℕ) (before b : BookRecord) (s bytes : ℕ) (d : IsDropping p before b s bytes) where
   own_share : has_share b.value.shares p s ≡ has_share before.value.shares p s
   own_share = d.shares p s ∙ ap (λ z. has_share before.value.shares p s && not ((p == p) && z)) (not_below s) ∙ kept_all (has_share before.value.shares p s) (p == p)
@@ -94,26 +84,3 @@ module _ (p : ℕ) (before b : BookRecord) (s bytes : ℕ) (d : IsDropping p bef
       one_more : (x : Bool) (q t : ℕ) → ((x && not ((q == p) && nat_lt t s)) && not ((p == q) && (s == t))) ≡ (x && not ((q == p) && nat_lt t (s + 1)))
       one_more true q t = grind (arith, nat_tests)
       one_more false q t = refl
-
-  pub all_dropped : ((t : ℕ) → has_share before.value.shares p t ≡ true → t < s) → LosesShares before.value.shares b.value.shares p
-  all_dropped known q t = d.shares q t ∙ each (has_share before.value.shares q t) (q == p) (nat_lt t s) below
-    where
-      below : has_share before.value.shares q t ≡ true → (q == p) ≡ true → nat_lt t s ≡ true
-      below there same = lt-ltb t s (known t (sym (ap (λ k. has_share before.value.shares k t) (eqb-true q p same)) ∙ there))
-
-      each : (x y z : Bool) → (x ≡ true → y ≡ true → z ≡ true) → (x && not (y && z)) ≡ (x && not y)
-      each true true z low = ap not (low refl refl)
-      each true false z low = refl
-      each false y z low = refl
-
--- the charge is credited once the shares are dropped
-pub charge_credited : (old dropped new : BookRecord) (p bytes : ℕ) → LosesShares old.value.shares dropped.value.shares p → ChangesShares old dropped →
-    new ≡ record dropped { value = record dropped.value { direct = set dropped.value.direct (limit_in old p) (get_or dropped.value.direct (limit_in old p) 0 - bytes) } } → HasCredited old new p bytes
-charge_credited old dropped new p bytes loses rest is = record {
-  shares = λ q t. ap (λ (k : BookRecord). has_share k.value.shares q t) is ∙ loses q t;
-  rest =
-      is
-      ∙ ap (λ (k : BookRecord). record k { value = record k.value { direct = set k.value.direct (limit_in old p) (get_or k.value.direct (limit_in old p) 0 - bytes) } }) rest
-      ∙ ap (λ shares. record old { value = record old.value { shares = shares; direct = set old.value.direct (limit_in old p) (get_or old.value.direct (limit_in old p) 0 - bytes) } })
-      (sym (ap (λ (k : BookRecord). k.value.shares) is));
-}

@@ -44,13 +44,6 @@ module _ (seg : ℕ) (heap given kernel : HoldingsValue) (s : SegmentValue) (can
   pub objects_are : heap.value.objects ≡ segment_objects s
   objects_are = g.parts ∙ ap (with_objects (segment_objects s)) nothing ∙ alone_placed s
 
-  -- what the kernel's cell asks
-  pub number_fits : s.number < kernel.bound
-  number_fits = let same = g.number_is in let number = can.number in omega (arith, same, number)
-
-  pub number_new : get_or kernel.value.made s.number None ≡ None
-  number_new = ap (λ k. get_or kernel.value.made k None) g.number_is ∙ can.new
-
   pub bytes_fit : total object_bytes kernel.value.objects + segment_bytes s < 2 ^ 64
   bytes_fit = let same = ap (total object_bytes) objects_are in let bytes = can.bytes in omega (arith, same, bytes)
 

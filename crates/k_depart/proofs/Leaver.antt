@@ -49,6 +49,7 @@ use Rattle.k_depart.specs.Exiting.{HaveMetToExit, exit_of}
 use Rattle.k_depart.specs.Exits.{AreEntered, into_segment, is_passed}
 use Rattle.k_depart.specs.Registers.{ArePinned}
 use Rattle.k_depart.specs.Segments.{CanGive}
+use Rattle.k_depart.proofs.Leaving.{and_none}
 use Rattle.k_depart.proofs.Told.{cell_bytes, exits_shown, home_count, other_made, owned_made, user_numbered}
 use Rattle.k_depart.proofs.Weighed.{objects_weigh}
 
@@ -198,12 +199,8 @@ module _ (trace : Trace) (c : HeapRecord) (k : HoldingsValue) (b : BookRecord) (
       let was = left n in
       let there = left_there trace now (User c.pid) c.value b.value n booked shows t in
       let none : ◌≡◌ {A = ℕ} (one_if (name_among n (into_segment (own_segment c.pid) k.value.exits))) 0 =
-      ap one_if (among_kept (λ m. m.seg.0 == own_segment c.pid) k.value.exits n ∙ ap (λ u. name_among n k.value.exits && u) (leaves n t) ∙ none_and (name_among n k.value.exits)) in
+      ap one_if (among_kept (λ m. m.seg.0 == own_segment c.pid) k.value.exits n ∙ ap (λ u. name_among n k.value.exits && u) (leaves n t) ∙ and_none (name_among n k.value.exits)) in
       omega (arith, was, there, none)
-    where
-      none_and : (u : Bool) → (u && false) ≡ false
-      none_and true = refl
-      none_and false = refl
 
   pub exit_placed : (n : Name) → name_among n c.value.exits ≡ true → n.seg.0 < segment_count trace
   exit_placed n t = (sound.shape.placed n (sound.no_dangling.exits (User c.pid) n (sym (exits_shown trace now (User c.pid) c.value shows n) ∙ t))).1

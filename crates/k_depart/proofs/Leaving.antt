@@ -67,10 +67,6 @@ pub and_none : (b : Bool) → (b && false) ≡ false
 and_none true = refl
 and_none false = refl
 
-more_bit : (b x k : Bool) → k ≡ (b || x) → one_if b ≤ one_if k
-more_bit true x k e = let one = ap one_if e in omega (arith, one)
-more_bit false x k e = omega arith
-
 pub entries_change : (a b c : BookRecord) → ChangesEntries a b → ChangesEntries b c → ChangesEntries a c
 entries_change a b c first second = second ∙ ap (λ (k : BookRecord). record k { value = record k.value { entries = c.value.entries } }) first
 
@@ -99,37 +95,7 @@ module _ (now next : CellValue) (n : Name) (d : HasDroppedExit now next n) where
         let most = at_most_one (name_among n old.exits) in
         omega (arith, h, was, one, most)
 
-    pub leaving_goes_on : (c : BookRecord) → HasLess (book_entries b) (book_entries c) n → ChangesEntries b c → IsLeaving old next before c
-    leaving_goes_on c less rest = record {
-      value_is = without old p.value_is;
-      there = λ m t. p.there m (still m t);
-      left = λ m. let one = less.counts m in let was = p.left m in let gone = one_gone m in omega (arith, one, was, gone);
-      book_is = entries_change before b c p.book_is rest;
-    }
-
-  pub cutting_goes_on : (seg : ℕ) (old : CellValue) (before b c : BookRecord) → IsCutting seg old now before b → n.seg.0 ≡ seg → HasLess (book_entries b) (book_entries c) n → ChangesEntries b c →
-      IsCutting seg old next before c
-  cutting_goes_on seg old before b c p inside less rest = record {
-    leaving = leaving_goes_on old before b p.leaving c less rest;
-    others = λ m outside.
-        d.exits m
-        ∙ ap (λ t. name_among m now.exits && not t) (false_from_ne_true (name_eq n m) (λ e. false≢true (sym outside ∙ ap (λ (k : Name). k.seg.0 == seg) (sym (name_eq-true n m e)) ∙ eq-eqb n.seg.0 seg inside)))
-        ∙ and-true (name_among m now.exits) ∙ p.others m outside;
-    fewer = let less = d.fewer in let was = p.fewer in omega (arith, less, was);
-  }
-
   module _ (homes : List Heap) (old kernel k : CellValue) (before b : BookRecord) (p : IsPassing homes old now kernel k before b) where
-    pub passing_entered : 0 < counted before.value.entries n → 0 < counted b.value.entries n
-    passing_entered h =
-        let was = p.entries n in
-        let one = here in
-        let most = at_most_one (name_among n old.exits) in
-        let more = more_bit (name_among n kernel.exits) _ (name_among n k.exits) (p.passed n) in
-        omega (arith, h, was, one, most, more)
-
-    pub passing_room : (room : ℕ) → length old.exits + length kernel.exits ≤ room → length k.exits < room
-    passing_room room enough = let less = d.fewer in let was = p.within in omega (arith, enough, less, was)
-
     passed_step : (same K o w P Q : Bool) → (same ≡ true → w ≡ true) → (same ≡ true → o ≡ true) → (same ≡ true → Q ≡ P) →
         ((K || ((o && not w) && P)) || (same && Q)) ≡ (K || ((o && not (w && not same)) && P))
     passed_step true true o w P Q f g h = refl
@@ -165,38 +131,6 @@ module _ (now next : CellValue) (n : Name) (d : HasDroppedExit now next n) where
       book_is = entries_change before b c p.book_is rest;
     }
 
-pub leaving_begins : (old : CellValue) (b : BookRecord) → IsLeaving old old b b
-leaving_begins old b = record { value_is = refl; there = λ n t. t; left = λ n. refl; book_is = refl }
-
-pub cutting_begins : (seg : ℕ) (old : CellValue) (b : BookRecord) → IsCutting seg old old b b
-cutting_begins seg old b = record { leaving = leaving_begins old b; others = λ n outside. refl; fewer = omega arith }
-
-pub passing_begins : (homes : List Heap) (old kernel : CellValue) (b : BookRecord) → IsPassing homes old old kernel kernel b b
-passing_begins homes old kernel b = record {
-  value_is = refl;
-  kernel_is = refl;
-  there = λ n t. t;
-  passed = λ n. sym (nothing (name_among n kernel.exits) (name_among n old.exits) (is_passed homes n));
-  entries = λ n. refl;
-  within = omega arith;
-  book_is = refl;
-}
-  where
-    nothing : (k o p : Bool) → (k || ((o && not o) && p)) ≡ k
-    nothing true o p = refl
-    nothing false true p = refl
-    nothing false false p = refl
-
--- none is left
-pub all_left : (old now : CellValue) (before b : BookRecord) → IsLeaving old now before b → now.exits ≡ [] → HasNoExits old now × HasLeft old.exits before.value b.value
-all_left old now before b p none = (
-  p.value_is ∙ ap (λ exits. record old { exits = exits; black_exits = now.black_exits }) none,
-  λ n.
-      let was = p.left n in
-      let zero : ◌≡◌ {A = ℕ} (one_if (name_among n now.exits)) 0 = ap (λ exits. one_if (name_among n exits)) none in
-      omega (arith, was, zero),
-)
-
 module _ (seg : ℕ) (old now : CellValue) (before b : BookRecord) (p : IsCutting seg old now before b) (none : IsFalse (list_any (λ n. n.seg.0 == seg) now.exits)) where
   gone : (n : Name) → (n.seg.0 == seg) ≡ true → name_among n now.exits ≡ false
   gone n inside =
@@ -219,19 +153,3 @@ module _ (seg : ℕ) (old now : CellValue) (before b : BookRecord) (p : IsCuttin
       let parts = ap (λ t. one_if t + one_if (name_among n old.exits && not (n.seg.0 == seg))) (among_kept (λ m. m.seg.0 == seg) old.exits n) ∙ split_bit (n.seg.0 == seg) (name_among n old.exits) in
       let here = ap one_if (exits_now n) in
       omega (arith, was, parts, here)
-
-module _ (homes : List Heap) (old now kernel k : CellValue) (before b : BookRecord) (p : IsPassing homes old now kernel k before b) (none : now.exits ≡ []) where
-  pub all_passed : HasPassed homes old.exits kernel.exits k.exits
-  all_passed n =
-      p.passed n
-      ∙ ap (λ exits. name_among n kernel.exits || ((name_among n old.exits && not (name_among n exits)) && is_passed homes n)) none
-      ∙ ap (λ t. name_among n kernel.exits || (t && is_passed homes n)) (and-true (name_among n old.exits))
-
-  pub none_left : HasNoExits old now
-  none_left = p.value_is ∙ ap (λ exits. record old { exits = exits; black_exits = now.black_exits }) none
-
-  pub entries_followed : EntriesFollow old.exits kernel.exits k.exits before.value b.value
-  entries_followed n =
-      let was = p.entries n in
-      let zero : ◌≡◌ {A = ℕ} (one_if (name_among n now.exits)) 0 = ap (λ exits. one_if (name_among n exits)) none in
-      omega (arith, was, zero)

@@ -35,13 +35,6 @@ pub record IsUnpinning (own : ℕ) (registers : List (Option Name)) (r : ℕ) (b
   pub gone : HasLetGo own (take r registers) before.value b.value
   pub book_is : ChangesPins before b
 
-pub unpinning_begins : (own : ℕ) (registers : List (Option Name)) (b : BookRecord) → IsUnpinning own registers 0 b b
-unpinning_begins own registers b = record { gone = λ n. none (n.seg.0 == own) (counted b.value.pins n); book_is = refl }
-  where
-    none : (t : Bool) (x : ℕ) → x + cond t 0 0 ≡ x
-    none true x = omega arith
-    none false x = omega arith
-
 module _ (own : ℕ) (registers : List (Option Name)) (r : ℕ) (before b : BookRecord) (p : IsUnpinning own registers r before b) where
   one_more : (n : Name) → pins_of (take (suc r) registers) n ≡ pins_of (take r registers) n + pins_of (get_or registers r None ∷ []) n
   one_more n =
@@ -69,6 +62,3 @@ module _ (own : ℕ) (registers : List (Option Name)) (r : ℕ) (before b : Book
       both : (t : Bool) (first last after x y z : ℕ) → z ≡ x + y → last + cond t 0 x ≡ first → after + cond t 0 y ≡ last → after + cond t 0 z ≡ first
       both true first last after x y z sum one two = omega (arith, one, two)
       both false first last after x y z sum one two = omega (arith, sum, one, two)
-
-  pub all_unpinned : length registers ≤ r → HasLetGo own registers before.value b.value
-  all_unpinned enough n = ap (λ xs. counted b.value.pins n + cond (n.seg.0 == own) 0 (pins_of xs n)) (sym (take_all r registers enough)) ∙ p.gone n
