@@ -4,3 +4,4 @@ pub mod Met
 pub mod Changed
 pub mod Owning
 pub mod Stepped
+pub mod Charging
