@@ -6,3 +6,4 @@ pub mod Setting
 pub mod Changing
 pub mod Commits
 pub mod Charges
+pub mod Tails
