@@ -1,0 +1,34 @@
+//! New objects in the kernel's own segment.
+ghost use Rattle.k_commit.specs.Stepped.{HasSteppedWithKernel};
+ghost use Rattle.k_pair.specs.Operating.{HaveMetFor};
+ghost use Rattle.k_types.specs.Trace.{Trace};
+ghost use Rattle.k_types.specs.declared.op.Op.TheVariants.{KNew};
+
+use k_book::Book;
+use k_commit::{commit_with_kernel, set_register};
+use k_heap::HeapCell;
+use k_kernel::KernelCell;
+use k_types::{Event, Fault, Op, Reg, Reply, TypeId};
+
+/// The operation `knew`.
+pub(crate) fn allocate(
+    cell: &mut HeapCell,
+    kernel: &mut KernelCell,
+    book: &mut Book,
+    reg: Reg,
+    ty: TypeId,
+) -> Event
+    ghost trace: { Trace }
+    requires { HaveMetFor trace cell.old kernel.old book.old (KNew reg ty) }
+    ensures { HasSteppedWithKernel trace (KNew reg ty) cell.old cell.new kernel.old kernel.new book.old book.new result }
+{
+    let op = Op::KNew { reg, ty };
+    let body = cell.take_body();
+    if kernel.bytes() + body.bytes() > book.ceiling() {
+        let said = Reply::Refused(Fault::KernelFull);
+        return commit_with_kernel(cell, kernel, book, op, said);
+    }
+    let link = kernel.place(body);
+    set_register(cell, book, reg, Some(link));
+    commit_with_kernel(cell, kernel, book, op, Reply::Made(link.name()))
+}
