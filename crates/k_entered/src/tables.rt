@@ -96,7 +96,7 @@ impl EnteredTables {
     #[tactic(auto, using(crate::proofs::Pinned::pins_are))]
     pub fn pin(&mut self, target: Link)
         requires home { target.seg.0 < length self.old.homes }
-        requires room { counted self.old.pins (name_of target) ≡ 0 → length self.old.pins < self.old.pin_room }
+        requires room { AreEntries (pin_items self.old) → counted self.old.pins (name_of target) ≡ 0 → length self.old.pins < self.old.pin_room }
         requires small { counted self.old.pins (name_of target) < 2 ^ 32 - 1 }
         ensures more { HasMore (pin_items self.old) (pin_items self.new) (name_of target) }
         ensures rest { self.new ≡ record self.old { pins = self.new.pins } }

@@ -42,15 +42,17 @@ module _ (trace : Trace) (st : State) (c : Cell) (v : CellValue) where
   unscanned s = ap (λ (scan : Option (List Name)). not (is_some scan)) (not_open s)
 
 -- the owners that the book tells depend on who has ended and on the phases alone
-pub owners_kept : (trace : Trace) (b k : BookValue) → KeepsOwners b k → owner_in trace (book_shown_by b) ≡ owner_in trace (book_shown_by k)
-owners_kept trace b k kept =
-    ap₂ (λ (ended : List ℕ) (phases : List Phase). owner_in trace (record (book_shown_by b) { ended = λ p. among p ended; phases = phases })) (sym kept.ended) (sym kept.phases)
+pub owners_kept : (trace : Trace) (b k : BookValue) → k.homes ≡ b.homes → k.ended ≡ b.ended → k.phases ≡ b.phases → KeepsOwners trace b k
+owners_kept trace b k homes ended phases = record {
+  homes = homes;
+  owners = ap₂ (λ (ended : List ℕ) (phases : List Phase). owner_in trace (record (book_shown_by b) { ended = λ p. among p ended; phases = phases })) ended phases;
+}
 
-pub book_follows : (trace : Trace) (st su : State) (b k : BookValue) → BookShows trace st b → KeepsOwners b k → book_shown_by k ≡ book_part trace su → BookShows trace su k
+pub book_follows : (trace : Trace) (st su : State) (b k : BookValue) → BookShows trace st b → KeepsOwners trace b k → book_shown_by k ≡ book_part trace su → BookShows trace su k
 book_follows trace st su b k shows kept is = record {
   part = is;
   homes =
       kept.homes ∙ shows.homes
       ∙ ap (λ (own : ℕ → Heap). map own (numbers_below (segment_count trace)))
-      (sym (the_book_tells_the_owners trace st) ∙ ap (owner_in trace) (sym shows.part) ∙ owners_kept trace b k kept ∙ ap (owner_in trace) is ∙ the_book_tells_the_owners trace su);
+      (sym (the_book_tells_the_owners trace st) ∙ ap (owner_in trace) (sym shows.part) ∙ sym kept.owners ∙ ap (owner_in trace) is ∙ the_book_tells_the_owners trace su);
 }

@@ -1,4 +1,3 @@
-pub mod Placed
 pub mod Faulted
 pub mod Touching
 pub mod Changing
