@@ -1,7 +1,7 @@
 -- The faults of an access to an object of the kernel are those of the field.
-use Rattle.std.proofs.Common.{◌≡◌, ℕ, Bool, true, false, not, refl, ap, ◌∙◌, [], ◌∷◌, Option, Some, None}
+use Rattle.std.proofs.Common.{◌≡◌, ℕ, Bool, true, false, not, refl, ap, ◌∙◌, nat_le, [], ◌∷◌, Option, Some, None}
 use Rattle.k_types.specs.declared.event.Fault.{Fault}
-use Rattle.k_types.specs.declared.event.Fault.TheVariants.{Segv}
+use Rattle.k_types.specs.declared.event.Fault.TheVariants.{NoField, Segv, WrongKind}
 use Rattle.k_types.specs.declared.names.Heap.{Heap}
 use Rattle.k_types.specs.declared.names.Heap.TheVariants.{Kernel}
 use Rattle.k_types.specs.declared.names.Kind.{Kind}
@@ -45,7 +45,6 @@ module _ (trace : Trace) (b : BookPart) (k : CellPart) (p i : ℕ) (x : Name) wh
       first_fault (store_faults_in trace b Kernel k p i value x) ≡ first_fault (field_faults (field_count_in k x) i (not (is_ref (field_in k x i))))
   unfolding first_fault access_faults_in fault_where
   store_faulted value =
-      ap (λ t. first_fault (store_faults_when (not t))) (kernel_passes (owner_in trace b) value) ∙ no_more _ _
-    where
-      abbrev store_faults_when : Bool → Rattle.std.specs.Prelude.List (Option Fault)
-      store_faults_when stopped = field_faults (field_count_in k x) i (not (is_ref (field_in k x i)))
+      ap (λ t. first_fault (fault_where (nat_le (field_count_in k x) i) NoField ∷ fault_where (not (is_ref (field_in k x i))) WrongKind ∷ None ∷ fault_where (not t) Segv ∷ []))
+      (kernel_passes (owner_in trace b) value)
+      ∙ no_more (fault_where (nat_le (field_count_in k x) i) NoField) (fault_where (not (is_ref (field_in k x i))) WrongKind)

@@ -45,14 +45,15 @@ pub record CanStepWithKernel (trace : Trace) (cell : HeapRecord) (kernel : Holdi
   pub touches : Fits book.journal cell.note → Fits book.journal kernel.note → TouchesKernel trace cell book op
   pub goes_on : IsFalse (collects_or_exits op)
 
--- the cells and the book as they are
+-- the cells and the book as they are now, which a step then changes
 abbrev pub as_they_are : Trace → HeapRecord → HoldingsValue → BookRecord → BeforeWithKernel
 as_they_are trace cell kernel book = record { own = record { trace = trace; cell = cell; book = book }; kernel = kernel }
 
--- the same once both cells have met the journal
-pub record HaveMetFor (trace : Trace) (cell : HeapRecord) (kernel : HoldingsValue) (book : BookRecord) (op : Op) : Type 0 where
-  pub have_met : HaveMetWithKernel (as_they_are trace cell kernel book)
-  pub in_range : IsTrue (in_range trace op)
-  pub room : HasRoomFor trace cell.bodies kernel 0 book op
-  pub touches : TouchesKernel trace cell book op
+-- the cells and the book are as they were before, when both cells had met the journal, and can do the operation
+pub record HaveMetFor (before : BeforeWithKernel) (cell : HeapRecord) (kernel : HoldingsValue) (book : BookRecord) (op : Op) : Type 0 where
+  pub same : as_they_are before.own.trace cell kernel book ≡ before
+  pub have_met : HaveMetWithKernel (as_they_are before.own.trace cell kernel book)
+  pub in_range : IsTrue (in_range before.own.trace op)
+  pub room : HasRoomFor before.own.trace cell.bodies kernel 0 book op
+  pub touches : TouchesKernel before.own.trace cell book op
   pub goes_on : IsFalse (collects_or_exits op)

@@ -1,7 +1,7 @@
 //! New objects in the kernel's own segment.
+ghost use Rattle.k_commit.specs.Met.{BeforeWithKernel};
 ghost use Rattle.k_commit.specs.Stepped.{HasSteppedWithKernel};
 ghost use Rattle.k_pair.specs.Operating.{HaveMetFor};
-ghost use Rattle.k_types.specs.Trace.{Trace};
 ghost use Rattle.k_types.specs.declared.op.Op.TheVariants.{KNew};
 
 use k_book::Book;
@@ -18,9 +18,9 @@ pub(crate) fn allocate(
     reg: Reg,
     ty: TypeId,
 ) -> Event
-    ghost trace: { Trace }
-    requires { HaveMetFor trace cell.old kernel.old book.old (KNew reg ty) }
-    ensures { HasSteppedWithKernel trace (KNew reg ty) cell.old cell.new kernel.old kernel.new book.old book.new result }
+    ghost before: { BeforeWithKernel }
+    requires { HaveMetFor before cell.old kernel.old book.old (KNew reg ty) }
+    ensures { HasSteppedWithKernel before.own.trace (KNew reg ty) before.own.cell cell.new before.kernel kernel.new before.own.book book.new result }
 {
     let op = Op::KNew { reg, ty };
     let body = cell.take_body();

@@ -1,9 +1,9 @@
 //! Loads from objects of the kernel.
 ghost use Rattle.std.specs.Prelude.{◌≡◌, option_map};
+ghost use Rattle.k_commit.specs.Met.{BeforeWithKernel};
 ghost use Rattle.k_commit.specs.Stepped.{HasSteppedWithKernel};
 ghost use Rattle.k_pair.specs.Operating.{HaveMetFor};
 ghost use Rattle.k_types.specs.Names.{name_of};
-ghost use Rattle.k_types.specs.Trace.{Trace};
 ghost use Rattle.k_types.specs.declared.op.Op.TheVariants.{Load};
 
 use crate::faults::read_reference;
@@ -33,9 +33,9 @@ pub(crate) fn load(
     base: Reg,
     field: u32,
 ) -> Event
-    ghost trace: { Trace }
-    requires { HaveMetFor trace cell.old kernel.old book.old (Load reg base field) }
-    ensures { HasSteppedWithKernel trace (Load reg base field) cell.old cell.new kernel.old kernel.new book.old book.new result }
+    ghost before: { BeforeWithKernel }
+    requires { HaveMetFor before cell.old kernel.old book.old (Load reg base field) }
+    ensures { HasSteppedWithKernel before.own.trace (Load reg base field) before.own.cell cell.new before.kernel kernel.new before.own.book book.new result }
 {
     let op = Op::Load { reg, base, field };
     let at = object_in(cell, base);

@@ -1,7 +1,7 @@
 //! Numbers in fields of objects of the kernel.
+ghost use Rattle.k_commit.specs.Met.{BeforeWithKernel};
 ghost use Rattle.k_commit.specs.Stepped.{HasSteppedWithKernel};
 ghost use Rattle.k_pair.specs.Operating.{HaveMetFor};
-ghost use Rattle.k_types.specs.Trace.{Trace};
 ghost use Rattle.k_types.specs.declared.op.Op.TheVariants.{Get, Put};
 
 use crate::faults::read_number;
@@ -21,9 +21,9 @@ pub(crate) fn put(
     field: u32,
     number: u64,
 ) -> Event
-    ghost trace: { Trace }
-    requires { HaveMetFor trace cell.old kernel.old book.old (Put base field number) }
-    ensures { HasSteppedWithKernel trace (Put base field number) cell.old cell.new kernel.old kernel.new book.old book.new result }
+    ghost before: { BeforeWithKernel }
+    requires { HaveMetFor before cell.old kernel.old book.old (Put base field number) }
+    ensures { HasSteppedWithKernel before.own.trace (Put base field number) before.own.cell cell.new before.kernel kernel.new before.own.book book.new result }
 {
     let op = Op::Put {
         base,
@@ -48,9 +48,9 @@ pub(crate) fn get(
     base: Reg,
     field: u32,
 ) -> Event
-    ghost trace: { Trace }
-    requires { HaveMetFor trace cell.old kernel.old book.old (Get base field) }
-    ensures { HasSteppedWithKernel trace (Get base field) cell.old cell.new kernel.old kernel.new book.old book.new result }
+    ghost before: { BeforeWithKernel }
+    requires { HaveMetFor before cell.old kernel.old book.old (Get base field) }
+    ensures { HasSteppedWithKernel before.own.trace (Get base field) before.own.cell cell.new before.kernel kernel.new before.own.book book.new result }
 {
     let op = Op::Get { base, field };
     let at = object_in(cell, base);

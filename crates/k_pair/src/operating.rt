@@ -1,4 +1,5 @@
 //! One step of a process with the kernel's cell.
+ghost use Rattle.k_commit.specs.Met.{BeforeWithKernel};
 ghost use Rattle.k_commit.specs.Stepped.{HasSteppedWithKernel};
 ghost use Rattle.k_pair.specs.Operating.{CanStepWithKernel, HaveMetFor};
 ghost use Rattle.k_types.specs.Trace.{Trace};
@@ -35,9 +36,9 @@ pub fn step_kernel(
 
 /// Does the operation once both cells have met the journal.
 fn operate(cell: &mut HeapCell, kernel: &mut KernelCell, book: &mut Book, op: &Op) -> Event
-    ghost trace: { Trace }
-    requires { HaveMetFor trace cell.old kernel.old book.old op.now }
-    ensures { HasSteppedWithKernel trace op.now cell.old cell.new kernel.old kernel.new book.old book.new result }
+    ghost before: { BeforeWithKernel }
+    requires { HaveMetFor before cell.old kernel.old book.old op.now }
+    ensures { HasSteppedWithKernel before.own.trace op.now before.own.cell cell.new before.kernel kernel.new before.own.book book.new result }
 {
     match *op {
         Op::Store { base, field, value } => store(cell, kernel, book, base, field, value),

@@ -1,9 +1,9 @@
 //! Stores into objects of the kernel.
 ghost use Rattle.std.specs.Prelude.{◌≡◌, ◌<◌, IsTrue, Some, is_some};
+ghost use Rattle.k_commit.specs.Met.{BeforeWithKernel};
 ghost use Rattle.k_commit.specs.Stepped.{HasSteppedWithKernel};
 ghost use Rattle.k_frame.specs.PartUpdates.{held_in};
 ghost use Rattle.k_pair.specs.Operating.{HaveMetFor};
-ghost use Rattle.k_types.specs.Trace.{Trace};
 ghost use Rattle.k_types.specs.declared.op.Op.TheVariants.{Store};
 
 use crate::faults::read_reference;
@@ -35,9 +35,9 @@ pub(crate) fn store(
     field: u32,
     value: Reg,
 ) -> Event
-    ghost trace: { Trace }
-    requires { HaveMetFor trace cell.old kernel.old book.old (Store base field value) }
-    ensures { HasSteppedWithKernel trace (Store base field value) cell.old cell.new kernel.old kernel.new book.old book.new result }
+    ghost before: { BeforeWithKernel }
+    requires { HaveMetFor before cell.old kernel.old book.old (Store base field value) }
+    ensures { HasSteppedWithKernel before.own.trace (Store base field value) before.own.cell cell.new before.kernel kernel.new before.own.book book.new result }
 {
     let op = Op::Store { base, field, value };
     let at = object_in(cell, base);
