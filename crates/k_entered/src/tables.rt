@@ -116,7 +116,8 @@ impl EnteredTables {
 
     /// The first entered object on the walk of that home.
     pub fn first_entry(&self, heap: Heap) -> Option<Link>
-        ensures { option_map name_of result ≡ first_object (items_of (entry_items self.now) heap) }
+        ensures first { option_map name_of result ≡ first_object (items_of (entry_items self.now) heap) }
+        ensures items { AreEntries (entry_items self.now) }
     {
         self.entries.first_of(heap)
     }
@@ -132,7 +133,8 @@ impl EnteredTables {
     /// The first pinned object on the walk of that home.
     #[tactic(auto, using(crate::proofs::Pinned::pins_are))]
     pub fn first_pin(&self, heap: Heap) -> Option<Link>
-        ensures { option_map name_of result ≡ first_object (items_of (pin_items self.now) heap) }
+        ensures first { option_map name_of result ≡ first_object (items_of (pin_items self.now) heap) }
+        ensures items { AreEntries (pin_items self.now) }
     {
         self.pins.first_of(heap)
     }
