@@ -1,8 +1,9 @@
 pub mod Faulted
 pub mod Touching
 pub mod Changing
-pub mod Remembering
+pub mod Exits
 pub mod Stored
 pub mod Loaded
-pub mod Numbers
+pub mod Put
 pub mod Made
+pub mod Meeting

@@ -1,5 +1,5 @@
 -- A store into an object of the kernel.
-use Rattle.std.proofs.Common.{◌≡◌, ◌<◌, ℕ, refl, sym, ap, ap₂, subst, ◌∙◌, not, Option, Some, None}
+use Rattle.std.proofs.Common.{◌≡◌, ◌<◌, ◌-◌, ◌^◌, ℕ, refl, sym, ap, subst, ◌∙◌, not, Option, Some, None}
 use Rattle.k_types.specs.declared.event.Fault.{Fault}
 use Rattle.k_types.specs.declared.event.Reply.TheVariants.{Done, Refused}
 use Rattle.k_types.specs.declared.names.Heap.{Heap}
@@ -10,8 +10,9 @@ use Rattle.k_types.specs.declared.op.Op.{Op}
 use Rattle.k_types.specs.declared.op.Op.TheVariants.{Store}
 use Rattle.k_types.specs.Agree.{BookValue, CellValue, book_shown_by}
 use Rattle.k_types.specs.Cells.{BookPart, CellPart}
+use Rattle.k_types.specs.Counted.{counted}
 use Rattle.k_types.specs.Replies.{first_fault, is_ref}
-use Rattle.k_types.specs.State.{Content, Refers}
+use Rattle.k_types.specs.State.{Refers}
 use Rattle.k_types.specs.Trace.{Trace, segment_count}
 use Rattle.k_changes.specs.BookChanges.{owner_in}
 use Rattle.k_frame.specs.PartUpdates.{held_in, with_done, with_written}
@@ -26,10 +27,11 @@ use Rattle.k_cell.specs.Holdings.{HoldingsValue}
 use Rattle.k_cell.specs.Looks.{field_among, field_count_among}
 use Rattle.k_heap.specs.Heaps.{HeapRecord}
 use Rattle.k_commit.specs.Changed.{HasChangedWithKernel}
-use Rattle.k_commit.specs.Met.{BeforeWithKernel}
+use Rattle.k_commit.specs.Met.{Before, BeforeWithKernel}
+use Rattle.k_commit.proofs.Placed.{held_is_placed, home_is_owner, homes_count}
 use Rattle.k_pair.specs.Faults.{field_faults}
-use Rattle.k_pair.specs.Operating.{HaveMetFor}
-use Rattle.k_pair.specs.Remembered.{HasRemembered}
+use Rattle.k_pair.specs.Operating.{HaveMetFor, as_they_are}
+use Rattle.k_pair.specs.Remembered.{CanRemember, HasRemembered}
 use Rattle.k_pair.proofs.Changing.{commits, idle, kernel_idle, kernel_settled, refused, settled}
 use Rattle.k_pair.proofs.Faulted.{store_faulted}
 use Rattle.k_pair.proofs.Touching.{store_holds}
@@ -46,6 +48,22 @@ module _ (before : BeforeWithKernel) (c : HeapRecord) (k : HoldingsValue) (b : B
 
   abbrev faulted : Name → Option Fault
   faulted x = first_fault (field_faults (field_count_among k.value.objects x) i (not (is_ref (field_among k.value.objects x i))))
+
+  abbrev here : Before
+  here = (as_they_are trace c k b).own
+
+  placed : (y : Option Name) → y ≡ held_in c.value.process value.0 → (n : Name) → y ≡ Some n → n.seg.0 < segment_count trace
+  placed y at_y n is = held_is_placed here met.have_met.own value.0 n (sym at_y ∙ is)
+
+  -- the value is remembered
+  pub store_remembers : (y : Option Name) → y ≡ held_in c.value.process value.0 → ((n : Name) → counted b.value.entries n < 2 ^ 32 - 1) → CanRemember own k b y
+  store_remembers y at_y counts = record {
+    idle = kernel_idle before c k b op met;
+    homes = λ n is. subst (λ m. n.seg.0 < m) (sym (homes_count here met.have_met.own)) (placed y at_y n is);
+    owners = λ n is. home_is_owner here met.have_met.own n.seg.0 (placed y at_y n is);
+    room = met.room.tables;
+    counts = counts;
+  }
 
   module _ (x : Name) (at_x : held_in c.value.process base.0 ≡ Some x) where
     up : own x.seg.0 ≡ Kernel
