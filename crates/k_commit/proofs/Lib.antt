@@ -1,1 +1,6 @@
+pub mod Meetings
+pub mod Fitting
 pub mod Placed
+pub mod Setting
+pub mod Changing
+pub mod Commits

@@ -1,5 +1,5 @@
 -- What registers and fields refer to lies in a segment of the trace, and the book tells its owner.
-use Rattle.std.proofs.Common.{◌≡◌, ◌<◌, ℕ, zero, suc, refl, sym, ap, ◌∙◌, map, List, [], ◌∷◌, get_or, length, Option, Some, None, true, subst}
+use Rattle.std.proofs.Common.{◌≡◌, ◌<◌, ℕ, zero, suc, refl, sym, ap, ◌∙◌, List, [], ◌∷◌, get_or, length, Option, Some, None, true}
 use Rattle.std.specs.List.{list_any}
 use Rattle.std.proofs.lemmas.Bool.{and_parts, or_left, or_right}
 use Rattle.std.proofs.lemmas.List.{length-map}

@@ -1,5 +1,5 @@
 -- What a meeting asks and leaves, and cells and book that have met before a step changes them.
-use Rattle.std.specs.Prelude.{◌≡◌, ◌<◌, ◌^◌, ℕ}
+use Rattle.std.specs.Prelude.{◌≡◌, ◌<◌, ◌^◌}
 use Rattle.k_types.specs.declared.names.Heap.TheVariants.{Kernel, Shared, User}
 use Rattle.k_types.specs.Agree.{CellValue}
 use Rattle.k_types.specs.Cells.{Cell}

@@ -9,7 +9,7 @@ use Rattle.k_types.specs.declared.op.Op.{Op}
 use Rattle.k_types.specs.Steps.{IsPossible, state_after}
 use Rattle.k_types.specs.Trace.{Trace}
 use Rattle.k_agree.specs.Agreement.{Agrees, BookAgrees}
-use Rattle.k_agree.specs.Meeting.{HasMet}
+use Rattle.k_agree.specs.Meeting.{Fits, HasMet}
 use Rattle.k_book.specs.Books.{BookRecord}
 use Rattle.k_cell.specs.Holdings.{HoldingsValue}
 use Rattle.k_frame.specs.PartUpdates.{done_in}
@@ -45,9 +45,10 @@ pub record HasSteppedWithKernel (trace : Trace) (op : Op) (old_cell cell : HeapR
   pub met : HasMet trace book.journal Kernel kernel.note
   pub agrees : Agrees trace Kernel kernel.note kernel.value
 
--- the same of an operation that touches the cell of a shared heap too
+-- the same of an operation that touches the cell of a shared heap too; its note fitted the journal before
 pub record HasSteppedWithShared (trace : Trace) (op : Op) (old_cell cell : HeapRecord) (old_shared shared : SharedRecord) (old_book book : BookRecord) (event : Event) : Type 0 where
   pub own : HasStepped trace op old_cell cell old_book book event
+  pub fits : Fits old_book.journal old_shared.note
   pub shared_is : shared ≡ record old_shared { note = shared.note; value = shared.value }
   pub table : shared.note.table ≡ book.journal.table
   pub idle : shared.value.collection ≡ Idle

@@ -1,0 +1,285 @@
+-- Operations that have changed cells and book are appended.
+use Rattle.std.proofs.Common.{◌≡◌, ◌+◌, ◌-◌, ◌<◌, ◌≤◌, ◌^◌, ◌==◌, ℕ, refl, sym, ap, subst, ◌∙◌, cond, List, [], ◌∷◌, ◌++◌, length, append-nil, Option, Some, None, arith, get_or, option_map, eq-eqb}
+use Rattle.std.proofs.lemmas.List.{length-append}
+use Rattle.k_types.specs.declared.event.Event.{Event}
+use Rattle.k_types.specs.declared.event.Event.TheVariants.{Done}
+use Rattle.k_types.specs.declared.event.Reply.{Reply}
+use Rattle.k_types.specs.declared.names.CellPhase.TheVariants.{Idle}
+use Rattle.k_types.specs.declared.names.Heap.TheVariants.{Kernel, User, Shared}
+use Rattle.k_types.specs.declared.op.Op.{Op}
+use Rattle.k_types.specs.Agree.{CellValue}
+use Rattle.k_types.specs.Cells.{Cell, ProcessPart, ShownPart, part}
+use Rattle.k_types.specs.Steps.{IsLegalHistory, IsPossible, done_by, state_after}
+use Rattle.k_types.specs.State.{State}
+use Rattle.k_types.specs.Trace.{Trace}
+use Rattle.k_tie.specs.Rule.{total_of}
+use Rattle.k_tie.specs.Values.{NoteValue}
+use Rattle.k_frame.proofs.Histories.{done_append, state_next}
+use Rattle.k_frame.specs.PartUpdates.{done_in, process_with_done}
+use Rattle.k_bounds.specs.Counts.{is_operation}
+use Rattle.k_bounds.proofs.Counting.{count_low}
+use Rattle.k_bounds.proofs.Dones.{dones_at_most}
+use Rattle.k_bounds.proofs.Laws.{operations_done_are_those_of_the_history}
+use Rattle.k_agree.specs.Agreement.{Agrees, BookAgrees, Shows}
+use Rattle.k_agree.specs.Committing.{CanCommit, IsCommitted, NotedCell, journal_after, note_after, state_to_come}
+use Rattle.k_agree.specs.GivingAway.{with_one_done}
+use Rattle.k_agree.specs.Meeting.{Fits, HasMet}
+use Rattle.k_agree.proofs.Commits.{committed}
+use Rattle.k_book.specs.Books.{BookRecord}
+use Rattle.k_cell.specs.Holdings.{HoldingsValue}
+use Rattle.k_heap.specs.Heaps.{HeapRecord}
+use Rattle.k_moves.specs.Moves.{CommitsAlone, CommitsBoth, MayAct, noted}
+use Rattle.k_moves.proofs.Committed.{commit_alone, commit_both}
+use Rattle.k_shared.specs.SharedHeaps.{SharedRecord}
+use Rattle.k_commit.specs.Changed.{HasChanged, HasChangedWithKernel, HasChangedWithShared, MayCommit, bodies_after}
+use Rattle.k_commit.specs.Met.{Before, BeforeWithKernel, BeforeWithShared, HaveMet}
+use Rattle.k_commit.specs.Stepped.{HasStepped, HasSteppedWithKernel, HasSteppedWithShared}
+use Rattle.k_commit.proofs.Setting.{process_known, process_lives}
+
+-- a note that has met the journal fits it
+met_fits : (trace : Trace) (b : BookRecord) (cell : Cell) (note : NoteValue) → BookAgrees trace b.journal b.value → HasMet trace b.journal cell note → Fits b.journal note
+met_fits trace b cell note agrees met = record {
+  prefix = ([], append-nil note.list ∙ met.list);
+  share = met.counted ∙ sym (agrees.totals cell met.there) ∙ ap (total_of b.journal.touches) (sym met.number);
+}
+
+-- one more operation done
+one_less : (n : ℕ) (process : Option ProcessPart) → done_in (option_map process_with_done process) ≤ n + 1 → done_in process ≤ n
+one_less n None most = omega arith
+one_less n (Some q) most = omega (arith, most)
+
+counts_itself : (p : ℕ) (op : Op) → length (cond (p == p) (op ∷ []) []) ≡ 1
+counts_itself p op = ap (λ t. length (cond t (op ∷ []) [])) (eq-eqb p p refl)
+
+module _ (before : Before) (m : HaveMet before) (op : Op) (said : Reply) where
+  abbrev event : Event
+  event = Done before.cell.pid op said
+
+  abbrev longer : List Event
+  longer = before.book.journal.list ++ event ∷ []
+
+  pub may_act : MayCommit before op → MayAct before.trace (state_after before.trace before.book.journal.list) before.cell.pid.0 op
+  may_act may = record { known = process_known before m; lives = process_lives before m; in_range = may.in_range; waits = may.waits }
+
+  -- the cell's value shows the state to come
+  module _ (v : CellValue) (legal : IsLegalHistory before.trace longer) (shows : Shows before.trace (state_to_come before.trace before.book.journal event) (User before.cell.pid) (with_one_done v)) where
+    done_to_come : done_in (option_map process_with_done v.process) ≡ get_or (state_after before.trace longer).done before.cell.pid.0 0
+    unfolding part
+    done_to_come =
+        ap (λ (s : ShownPart). done_in s.process) shows.part
+        ∙ ap (λ (st : State). get_or st.done before.cell.pid.0 0) (sym (state_next before.trace before.book.journal.list event))
+
+    one_longer : length longer ≡ length before.book.journal.list + 1
+    one_longer = length-append before.book.journal.list (event ∷ [])
+
+    pub done_few : done_in v.process ≤ length before.book.journal.list
+    done_few =
+        one_less (length before.book.journal.list) v.process
+        (let most = dones_at_most before.trace longer before.cell.pid.0 in omega (arith, done_to_come, most, count_low is_operation longer, one_longer))
+
+    done_before : done_in before.cell.value.process ≡ length (done_by before.cell.pid.0 before.book.journal.list)
+    unfolding part
+    done_before =
+        ap (λ (s : ShownPart). done_in s.process) m.after.shows.part
+        ∙ operations_done_are_those_of_the_history before.trace before.cell.pid.0 before.book.journal.list m.book.agrees.legal
+
+    pub done_rises : done_in (option_map process_with_done v.process) ≡ done_in before.cell.value.process + 1
+    done_rises =
+        let after = operations_done_are_those_of_the_history before.trace before.cell.pid.0 longer legal in
+        let split = ap length (done_append before.cell.pid.0 before.book.journal.list (event ∷ [])) in
+        let both = length-append (done_by before.cell.pid.0 before.book.journal.list) (done_by before.cell.pid.0 (event ∷ [])) in
+        let one = counts_itself before.cell.pid.0 op in
+        omega (arith, done_to_come, after, split, both, one, done_before)
+
+  -- the cell and the book after the event, which touches the cells of these numbers
+  module _ (v : CellValue) (k : BookRecord) (numbers : List ℕ) (book_is : k ≡ record before.book { value = k.value }) (tail : v.tail ≡ []) (idle : v.collection ≡ Idle) where
+    pub own_steps : IsPossible before.trace (state_after before.trace before.book.journal.list) event →
+        Shows before.trace (state_to_come before.trace before.book.journal event) (User before.cell.pid) (with_one_done v) →
+        HasMet before.trace (journal_after event numbers before.book.journal) (User before.cell.pid) (note_after event before.cell.note) →
+        Agrees before.trace (User before.cell.pid) (note_after event before.cell.note) (with_one_done v) →
+        BookAgrees before.trace (journal_after event numbers before.book.journal) k.value →
+        HasStepped before.trace op before.cell (record before.cell { note = note_after event before.cell.note; value = with_one_done v; bodies = bodies_after op before.cell.bodies })
+        before.book (record before.book { journal = journal_after event numbers before.book.journal; value = k.value }) event
+    own_steps possible shows met agrees book_agrees = record {
+      said = said;
+      event_is = refl;
+      possible = possible;
+      journal = refl;
+      same_table = refl;
+      table = m.heap.table;
+      cell_is = refl;
+      book_is = refl;
+      settled = tail;
+      idle = idle;
+      done = done_rises v book_agrees.legal shows;
+      met = met;
+      agrees = agrees;
+      book_agrees = book_agrees;
+    }
+
+-- the cell as the count leaves it, and as the append does
+abbrev pub heap_appended : Op → Reply → HeapRecord → HeapRecord
+heap_appended op said c = record c { note = note_after (Done c.pid op said) c.note; value = with_one_done c.value }
+
+abbrev pub book_appended : Event → List ℕ → BookRecord → BookRecord
+book_appended event numbers b = record b { journal = journal_after event numbers b.journal }
+
+module _ (before : Before) (c : HeapRecord) (b : BookRecord) (op : Op) (said : Reply) (h : HasChanged before c b op said) where
+  abbrev alone : List NotedCell
+  alone = noted (User before.cell.pid) before.cell.note (with_one_done c.value) ∷ []
+
+  commits : CommitsAlone before.trace before.book.journal before.cell.note before.cell.pid op said before.cell.value (with_one_done c.value) before.book.value b.value
+  commits = record {
+    limits = h.have_met.book.keeps.limits;
+    legal = h.have_met.book.agrees.legal;
+    totals = h.have_met.book.agrees.totals;
+    met = h.have_met.after.met;
+    settled = h.values.settled;
+    moves = record {
+      may = may_act before h.have_met op said h.may;
+      cell = record { shows = h.have_met.after.shows; idle = h.have_met.heap.idle };
+      book = h.have_met.book.agrees.shows;
+      gives = h.gives;
+      idle = h.values.idle;
+      owners = h.values.owners;
+    };
+  }
+
+  can : CanCommit before.trace before.book.journal (Done before.cell.pid op said) alone b.value
+  can = commit_alone before.trace before.book.journal before.cell.note before.cell.pid op said before.cell.value (with_one_done c.value) before.book.value b.value commits
+
+  after : IsCommitted before.trace before.book.journal (Done before.cell.pid op said) alone b.value
+  after = committed before.trace before.book.journal (Done before.cell.pid op said) alone b.value can
+
+  pub heap_done_small : done_in c.value.process < 2 ^ 32 - 1
+  heap_done_small =
+      let few = h.have_met.few in
+      let room = h.may.room in
+      omega (arith, done_few before h.have_met op said c.value after.book_agrees.legal can.ready.0.shows, few, room)
+
+  pub heap_steps : HasStepped before.trace op before.cell (heap_appended op said c) before.book (book_appended (Done c.pid op said) (c.note.cell ∷ []) b) (Done c.pid op said)
+  heap_steps =
+      subst (λ (w : HeapRecord). HasStepped before.trace op before.cell (heap_appended op said w) before.book (book_appended (Done w.pid op said) (w.note.cell ∷ []) b) (Done w.pid op said)) (sym h.values.cell_is)
+      (subst (λ (k : BookRecord). HasStepped before.trace op before.cell (heap_appended op said (record before.cell { value = c.value; bodies = bodies_after op before.cell.bodies })) before.book
+      (book_appended (Done before.cell.pid op said) (before.cell.note.cell ∷ []) k) (Done before.cell.pid op said)) (sym h.values.book_is)
+      (own_steps before h.have_met op said c.value b (before.cell.note.cell ∷ []) h.values.book_is h.values.settled h.values.idle
+      can.possible can.ready.0.shows after.cells_met.0 after.cells_agree.0 after.book_agrees))
+
+module _ (before : BeforeWithKernel) (c : HeapRecord) (k : HoldingsValue) (b : BookRecord) (op : Op) (said : Reply) (h : HasChangedWithKernel before c k b op said) where
+  abbrev heap_and_kernel : List NotedCell
+  heap_and_kernel = noted (User before.own.cell.pid) before.own.cell.note (with_one_done c.value) ∷ noted Kernel before.kernel.note k.value ∷ []
+
+  kernel_commits : CommitsBoth before.own.trace before.own.book.journal before.own.cell.note before.kernel.note before.own.cell.pid op said Kernel
+      before.own.cell.value (with_one_done c.value) before.kernel.value k.value before.own.book.value b.value
+  kernel_commits = record {
+    limits = h.have_met.own.book.keeps.limits;
+    legal = h.have_met.own.book.agrees.legal;
+    totals = h.have_met.own.book.agrees.totals;
+    met = h.have_met.own.after.met;
+    other_met = h.have_met.after.met;
+    settled = h.values.settled;
+    other_settled = h.kernel_settled;
+    moves = record {
+      may = may_act before.own h.have_met.own op said h.may;
+      own = record { shows = h.have_met.own.after.shows; idle = h.have_met.own.heap.idle };
+      other = record { shows = h.have_met.after.shows; idle = h.have_met.kernel.idle };
+      book = h.have_met.own.book.agrees.shows;
+      gives = h.gives;
+      idle = h.values.idle;
+      other_idle = h.kernel_idle;
+      owners = h.values.owners;
+    };
+  }
+
+  kernel_can : CanCommit before.own.trace before.own.book.journal (Done before.own.cell.pid op said) heap_and_kernel b.value
+  kernel_can = commit_both before.own.trace before.own.book.journal before.own.cell.note before.kernel.note before.own.cell.pid op said Kernel
+      before.own.cell.value (with_one_done c.value) before.kernel.value k.value before.own.book.value b.value kernel_commits
+
+  kernel_after : IsCommitted before.own.trace before.own.book.journal (Done before.own.cell.pid op said) heap_and_kernel b.value
+  kernel_after = committed before.own.trace before.own.book.journal (Done before.own.cell.pid op said) heap_and_kernel b.value kernel_can
+
+  pub kernel_done_small : done_in c.value.process < 2 ^ 32 - 1
+  kernel_done_small =
+      let few = h.have_met.own.few in
+      let room = h.may.room in
+      omega (arith, done_few before.own h.have_met.own op said c.value kernel_after.book_agrees.legal kernel_can.ready.0.shows, few, room)
+
+  pub kernel_steps : HasSteppedWithKernel before.own.trace op before.own.cell (heap_appended op said c) before.kernel (record k { note = note_after (Done c.pid op said) k.note })
+      before.own.book (book_appended (Done c.pid op said) (c.note.cell ∷ k.note.cell ∷ []) b) (Done c.pid op said)
+  kernel_steps =
+      subst (λ (w : HeapRecord). HasSteppedWithKernel before.own.trace op before.own.cell (heap_appended op said w) before.kernel (record k { note = note_after (Done w.pid op said) k.note })
+      before.own.book (book_appended (Done w.pid op said) (w.note.cell ∷ k.note.cell ∷ []) b) (Done w.pid op said)) (sym h.values.cell_is)
+      (subst (λ (x : HoldingsValue). HasSteppedWithKernel before.own.trace op before.own.cell (heap_appended op said (record before.own.cell { value = c.value; bodies = bodies_after op before.own.cell.bodies })) before.kernel
+      (record x { note = note_after (Done before.own.cell.pid op said) x.note }) before.own.book (book_appended (Done before.own.cell.pid op said) (before.own.cell.note.cell ∷ x.note.cell ∷ []) b) (Done before.own.cell.pid op said)) (sym h.kernel_is)
+      (subst (λ (l : BookRecord). HasSteppedWithKernel before.own.trace op before.own.cell (heap_appended op said (record before.own.cell { value = c.value; bodies = bodies_after op before.own.cell.bodies })) before.kernel
+      (record before.kernel { note = note_after (Done before.own.cell.pid op said) before.kernel.note; value = k.value }) before.own.book
+      (book_appended (Done before.own.cell.pid op said) (before.own.cell.note.cell ∷ before.kernel.note.cell ∷ []) l) (Done before.own.cell.pid op said)) (sym h.values.book_is)
+      (record {
+        own = own_steps before.own h.have_met.own op said c.value b (before.own.cell.note.cell ∷ before.kernel.note.cell ∷ []) h.values.book_is h.values.settled h.values.idle
+            kernel_can.possible kernel_can.ready.0.shows kernel_after.cells_met.0 kernel_after.cells_agree.0 kernel_after.book_agrees;
+        kernel_is = refl;
+        table = h.have_met.kernel.table;
+        idle = h.kernel_idle;
+        met = kernel_after.cells_met.1.0;
+        agrees = kernel_after.cells_agree.1.0;
+      })))
+
+module _ (before : BeforeWithShared) (c : HeapRecord) (s : SharedRecord) (b : BookRecord) (op : Op) (said : Reply) (h : HasChangedWithShared before c s b op said) where
+  abbrev heap_and_shared : List NotedCell
+  heap_and_shared = noted (User before.own.cell.pid) before.own.cell.note (with_one_done c.value) ∷ noted (Shared before.shared.id) before.shared.note s.value ∷ []
+
+  shared_commits : CommitsBoth before.own.trace before.own.book.journal before.own.cell.note before.shared.note before.own.cell.pid op said (Shared before.shared.id)
+      before.own.cell.value (with_one_done c.value) before.shared.value s.value before.own.book.value b.value
+  shared_commits = record {
+    limits = h.have_met.own.book.keeps.limits;
+    legal = h.have_met.own.book.agrees.legal;
+    totals = h.have_met.own.book.agrees.totals;
+    met = h.have_met.own.after.met;
+    other_met = h.have_met.after.met;
+    settled = h.values.settled;
+    other_settled = h.shared_settled;
+    moves = record {
+      may = may_act before.own h.have_met.own op said h.may;
+      own = record { shows = h.have_met.own.after.shows; idle = h.have_met.own.heap.idle };
+      other = record { shows = h.have_met.after.shows; idle = h.have_met.shared.idle };
+      book = h.have_met.own.book.agrees.shows;
+      gives = h.gives;
+      idle = h.values.idle;
+      other_idle = h.shared_idle;
+      owners = h.values.owners;
+    };
+  }
+
+  shared_can : CanCommit before.own.trace before.own.book.journal (Done before.own.cell.pid op said) heap_and_shared b.value
+  shared_can = commit_both before.own.trace before.own.book.journal before.own.cell.note before.shared.note before.own.cell.pid op said (Shared before.shared.id)
+      before.own.cell.value (with_one_done c.value) before.shared.value s.value before.own.book.value b.value shared_commits
+
+  shared_after : IsCommitted before.own.trace before.own.book.journal (Done before.own.cell.pid op said) heap_and_shared b.value
+  shared_after = committed before.own.trace before.own.book.journal (Done before.own.cell.pid op said) heap_and_shared b.value shared_can
+
+  pub shared_done_small : done_in c.value.process < 2 ^ 32 - 1
+  shared_done_small =
+      let few = h.have_met.own.few in
+      let room = h.may.room in
+      omega (arith, done_few before.own h.have_met.own op said c.value shared_after.book_agrees.legal shared_can.ready.0.shows, few, room)
+
+  pub shared_steps : HasSteppedWithShared before.own.trace op before.own.cell (heap_appended op said c) before.shared (record s { note = note_after (Done c.pid op said) s.note })
+      before.own.book (book_appended (Done c.pid op said) (c.note.cell ∷ s.note.cell ∷ []) b) (Done c.pid op said)
+  shared_steps =
+      subst (λ (w : HeapRecord). HasSteppedWithShared before.own.trace op before.own.cell (heap_appended op said w) before.shared (record s { note = note_after (Done w.pid op said) s.note })
+      before.own.book (book_appended (Done w.pid op said) (w.note.cell ∷ s.note.cell ∷ []) b) (Done w.pid op said)) (sym h.values.cell_is)
+      (subst (λ (x : SharedRecord). HasSteppedWithShared before.own.trace op before.own.cell (heap_appended op said (record before.own.cell { value = c.value; bodies = bodies_after op before.own.cell.bodies })) before.shared
+      (record x { note = note_after (Done before.own.cell.pid op said) x.note }) before.own.book (book_appended (Done before.own.cell.pid op said) (before.own.cell.note.cell ∷ x.note.cell ∷ []) b) (Done before.own.cell.pid op said)) (sym h.shared_is)
+      (subst (λ (l : BookRecord). HasSteppedWithShared before.own.trace op before.own.cell (heap_appended op said (record before.own.cell { value = c.value; bodies = bodies_after op before.own.cell.bodies })) before.shared
+      (record before.shared { note = note_after (Done before.own.cell.pid op said) before.shared.note; value = s.value }) before.own.book
+      (book_appended (Done before.own.cell.pid op said) (before.own.cell.note.cell ∷ before.shared.note.cell ∷ []) l) (Done before.own.cell.pid op said)) (sym h.values.book_is)
+      (record {
+        own = own_steps before.own h.have_met.own op said c.value b (before.own.cell.note.cell ∷ before.shared.note.cell ∷ []) h.values.book_is h.values.settled h.values.idle
+            shared_can.possible shared_can.ready.0.shows shared_after.cells_met.0 shared_after.cells_agree.0 shared_after.book_agrees;
+        fits = met_fits before.own.trace before.own.book (Shared before.shared.id) before.shared.note h.have_met.own.book.agrees h.have_met.after.met;
+        shared_is = refl;
+        table = h.have_met.shared.table;
+        idle = h.shared_idle;
+        met = shared_after.cells_met.1.0;
+        agrees = shared_after.cells_agree.1.0;
+      })))

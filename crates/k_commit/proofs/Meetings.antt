@@ -1,0 +1,120 @@
+-- Conditions and answers over a meeting.
+use Rattle.std.proofs.Common.{◌≡◌, ◌<◌, ◌^◌, sym, subst}
+use Rattle.k_types.specs.declared.event.Event.{Event}
+use Rattle.k_types.specs.declared.op.Op.{Op}
+use Rattle.k_types.specs.Agree.{CellValue}
+use Rattle.k_types.specs.Cells.{Cell}
+use Rattle.k_types.specs.Trace.{Trace}
+use Rattle.k_tie.specs.Values.{NoteValue}
+use Rattle.k_agree.specs.Meeting.{Fits}
+use Rattle.k_agree.proofs.Meetings.{meeting}
+use Rattle.k_book.specs.Books.{BookRecord}
+use Rattle.k_cell.specs.Holdings.{HoldingsValue}
+use Rattle.k_heap.specs.Heaps.{HeapRecord}
+use Rattle.k_shared.specs.SharedHeaps.{SharedRecord}
+use Rattle.k_commit.specs.Met.{CanMeet, FitsTheBook, HaveMet, HaveMetWithKernel, HaveMetWithShared, HeapHasMet, KernelHasMet, SharedHasMet}
+use Rattle.k_commit.specs.Standing.{BookStands, HeapStands, KernelStands, SharedStands}
+use Rattle.k_commit.specs.Stepped.{HasStepped, HasSteppedWithKernel, HasSteppedWithShared}
+
+-- a cell whose note fits the journal of the book
+pub told_by : (trace : Trace) (cell : Cell) (note : NoteValue) (value : CellValue) (b : BookRecord) → CanMeet trace cell note value b → Fits b.journal note → b.event_room < 2 ^ 32 →
+    FitsTheBook trace cell note value b
+told_by trace cell note value b can fits few = record {
+  fits = fits;
+  shows = meeting trace b.journal b.value cell note value can.agrees can.book_agrees fits;
+  few = few;
+}
+
+module _ (trace : Trace) (c cell : HeapRecord) (b book : BookRecord) (heap_met : HeapHasMet trace c cell b book) where
+  pub heap_has_met : BookStands trace b → HeapStands trace c b → HaveMet (record { trace = trace; cell = cell; book = book })
+  heap_has_met book_stands heap_stands =
+      subst (λ (k : BookRecord). HaveMet (record { trace = trace; cell = cell; book = k })) (sym heap_met.book_is)
+      (subst (λ (w : HeapRecord). HaveMet (record { trace = trace; cell = w; book = b })) (sym heap_met.cell_is)
+      (record {
+        book = book_stands;
+        heap = record {
+          agrees = heap_met.told.shows.agrees;
+          table = heap_stands.table;
+          settled = heap_stands.settled;
+          idle = heap_stands.idle;
+          lives = heap_stands.lives;
+        };
+        after = record { met = heap_met.told.shows.met; shows = heap_met.told.shows.shows heap_stands.settled };
+        few = heap_met.told.few;
+      }))
+
+  -- the second cell, whose note is of the table still
+  of_table : (note : NoteValue) → note.table ≡ b.journal.table → note.table ≡ book.journal.table
+  of_table note is = subst (λ (k : BookRecord). note.table ≡ k.journal.table) (sym heap_met.book_is) is
+
+  pub kernel_has_met : (k kernel : HoldingsValue) (last : BookRecord) → BookStands trace b → HeapStands trace c b → KernelStands trace k b →
+      KernelHasMet trace k kernel book last → HaveMetWithKernel (record { own = record { trace = trace; cell = cell; book = last }; kernel = kernel })
+  kernel_has_met k kernel last book_stands heap_stands stands met =
+      subst (λ (l : BookRecord). HaveMetWithKernel (record { own = record { trace = trace; cell = cell; book = l }; kernel = kernel })) (sym met.book_is)
+      (subst (λ (x : HoldingsValue). HaveMetWithKernel (record { own = record { trace = trace; cell = cell; book = book }; kernel = x })) (sym met.kernel_is)
+      (record {
+        own = heap_has_met book_stands heap_stands;
+        kernel = record { agrees = met.told.shows.agrees; table = of_table k.note stands.table; idle = stands.idle };
+        after = record { met = met.told.shows.met; shows = met.told.shows.shows stands.agrees.tail };
+      }))
+
+  pub shared_has_met : (s shared : SharedRecord) (last : BookRecord) → BookStands trace b → HeapStands trace c b → SharedStands trace s b →
+      SharedHasMet trace s shared book last → HaveMetWithShared (record { own = record { trace = trace; cell = cell; book = last }; shared = shared })
+  shared_has_met s shared last book_stands heap_stands stands met =
+      subst (λ (l : BookRecord). HaveMetWithShared (record { own = record { trace = trace; cell = cell; book = l }; shared = shared })) (sym met.book_is)
+      (subst (λ (x : SharedRecord). HaveMetWithShared (record { own = record { trace = trace; cell = cell; book = book }; shared = x })) (sym met.shared_is)
+      (record {
+        own = heap_has_met book_stands heap_stands;
+        shared = record { agrees = met.told.shows.agrees; table = of_table s.note stands.table; segment = stands.segment; idle = stands.idle };
+        after = record { met = met.told.shows.met; shows = met.told.shows.shows stands.agrees.tail };
+      }))
+
+-- what was stepped from a cell with another note was stepped from it
+from_note : (trace : Trace) (op : Op) (c w : HeapRecord) (note : NoteValue) (b l : BookRecord) (event : Event) →
+    HasStepped trace op (record c { note = note }) w b l event → HasStepped trace op c w b l event
+from_note trace op c w note b l event h = record {
+  said = h.said;
+  event_is = h.event_is;
+  possible = h.possible;
+  journal = h.journal;
+  same_table = h.same_table;
+  table = h.table;
+  cell_is = h.cell_is;
+  book_is = h.book_is;
+  settled = h.settled;
+  idle = h.idle;
+  done = h.done;
+  met = h.met;
+  agrees = h.agrees;
+  book_agrees = h.book_agrees;
+}
+
+module _ (trace : Trace) (op : Op) (c cell w : HeapRecord) (b book l : BookRecord) (event : Event) (heap_met : HeapHasMet trace c cell b book) where
+  pub heap_stepped : HasStepped trace op cell w book l event → HasStepped trace op c w b l event
+  heap_stepped h =
+      from_note trace op c w _ b l event
+      (subst (λ (x : HeapRecord). HasStepped trace op x w b l event) heap_met.cell_is
+      (subst (λ (k : BookRecord). HasStepped trace op cell w k l event) heap_met.book_is h))
+
+  pub kernel_stepped : (k kernel x : HoldingsValue) (last : BookRecord) → KernelHasMet trace k kernel book last →
+      HasSteppedWithKernel trace op cell w kernel x last l event → HasSteppedWithKernel trace op c w k x b l event
+  kernel_stepped k kernel x last met h = record {
+    own = heap_stepped (subst (λ (m : BookRecord). HasStepped trace op cell w m l event) met.book_is h.own);
+    kernel_is = subst (λ (y : HoldingsValue). x ≡ record y { note = x.note; value = x.value }) met.kernel_is h.kernel_is;
+    table = h.table;
+    idle = h.idle;
+    met = h.met;
+    agrees = h.agrees;
+  }
+
+  pub shared_stepped : (s shared x : SharedRecord) (last : BookRecord) → SharedHasMet trace s shared book last →
+      HasSteppedWithShared trace op cell w shared x last l event → HasSteppedWithShared trace op c w s x b l event
+  shared_stepped s shared x last met h = record {
+    own = heap_stepped (subst (λ (m : BookRecord). HasStepped trace op cell w m l event) met.book_is h.own);
+    fits = subst (λ (m : BookRecord). Fits m.journal s.note) heap_met.book_is met.told.fits;
+    shared_is = subst (λ (y : SharedRecord). x ≡ record y { note = x.note; value = x.value }) met.shared_is h.shared_is;
+    table = h.table;
+    idle = h.idle;
+    met = h.met;
+    agrees = h.agrees;
+  }
