@@ -14,10 +14,11 @@ use Rattle.k_types.specs.declared.names.TypeId.{TypeId}
 use Rattle.k_types.specs.declared.op.Op.{Op}
 use Rattle.k_types.specs.declared.op.Op.TheVariants.{KNew}
 use Rattle.k_types.specs.Agree.{BookValue, CellValue, book_shown_by}
-use Rattle.k_types.specs.Cells.{BookPart, Cell, CellPart}
-use Rattle.k_types.specs.Owners.{object_bytes, user}
+use Rattle.k_types.specs.Cells.{BookPart, Cell, CellPart, ShownPart, part}
+use Rattle.k_types.specs.Owners.{object_bytes, owner_of_segment}
 use Rattle.k_types.specs.Replies.{fault_where, first_fault, refused_or}
 use Rattle.k_types.specs.State.{fresh}
+use Rattle.k_types.specs.Steps.{state_after}
 use Rattle.k_types.specs.Totals.{total}
 use Rattle.k_types.specs.Trace.{Trace, kinds_of, segment_count, segment_of, size_of_type}
 use Rattle.k_types.specs.Types.{object_size}
@@ -35,7 +36,7 @@ use Rattle.k_moves.proofs.Beside.{held_own, own_changed, refused_beside, second_
 use Rattle.k_moves.proofs.Changed.{new_shown}
 use Rattle.k_book.specs.Books.{BookRecord}
 use Rattle.k_cell.specs.Changes.{next_in, with_body}
-use Rattle.k_cell.specs.Holdings.{HoldingsValue}
+use Rattle.k_cell.specs.Holdings.{HasSerialLeft, HoldingsValue}
 use Rattle.k_heap.specs.Heaps.{HeapRecord, with_register_in}
 use Rattle.k_commit.specs.Changed.{CanSetRegister, HasChangedWithKernel, HasSetRegister}
 use Rattle.k_commit.specs.Met.{BeforeWithKernel}
@@ -87,6 +88,14 @@ module _ (before : BeforeWithKernel) (c : HeapRecord) (k : HoldingsValue) (b : B
   pub body_there : 0 < length c.bodies
   body_there = subst (λ (bodies : List BodyValue). 0 < length bodies) (sym met.room.tables.body.first) (let n = length met.room.tables.body.rest in omega arith)
 
+  -- the kernel's own segment is there
+  pub given_here : get_or k.value.made 0 None ≡ Some (get_or (state_after trace b.journal.list).made 0 0)
+  unfolding part owner_of_segment
+  given_here = ap (λ (s : ShownPart). s.made 0) met.have_met.after.shows.part
+
+  pub serial_left : HasSerialLeft k 0
+  serial_left = met.room.tables.serial (get_or (state_after trace b.journal.list).made 0 0) given_here
+
   module _ (body : BodyValue) (rest : List BodyValue) (split : c.bodies ≡ body ∷ rest) where
     pub left_is : rest ≡ drop 1 c.bodies
     left_is = ap (drop 1) (sym split)
@@ -136,7 +145,7 @@ module _ (before : BeforeWithKernel) (c : HeapRecord) (k : HoldingsValue) (b : B
       kernel_shown : idle_part kernel_value ≡ with_created 0 ty (kinds_of trace ty) (idle_part k.value)
       kernel_shown =
           ap (λ (one : BodyValue). idle_part (with_body 0 one k.value)) first_is
-          ∙ new_shown k.value 0 ty (kinds_of trace ty) (inside k.value.made met.room.tables.serial.given met.room.tables.serial.there)
+          ∙ new_shown k.value 0 ty (kinds_of trace ty) (inside k.value.made (get_or (state_after trace b.journal.list).made 0 0) given_here)
 
       book_shown : book_shown_by book_value ≡ with_pin_moved own c.pid.0 (held_in c.value.process r.0) (Some (next_in 0 k.value)) (book_shown_by b.value)
       book_shown = ap (λ (e : BookRecord). book_shown_by e.value) (sym set.book_is) ∙ set.moved

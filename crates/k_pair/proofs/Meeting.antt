@@ -24,7 +24,9 @@ module _ (trace : Trace) (bodies : List BodyValue) (k : HoldingsValue) (note : N
   new_noted : (ty : TypeId) → HasRoomForNew trace ty bodies k seg → HasRoomForNew trace ty bodies noted seg
   new_noted ty room = record {
     body = room.body;
-    serial = record { given = room.serial.given; room = room.serial.room; there = room.serial.there; can_give = room.serial.can_give; left = room.serial.left };
+    serial = λ given there.
+        let left = room.serial given there in
+        record { given = left.given; room = left.room; there = left.there; can_give = left.can_give; left = left.left };
   }
 
   tables_noted : (op : Op) → HasTableRoom trace bodies k seg b op → HasTableRoom trace bodies noted seg b op

@@ -1,7 +1,8 @@
 -- A store into an object of the kernel.
-use Rattle.std.proofs.Common.{◌≡◌, ◌<◌, ◌-◌, ◌^◌, ℕ, refl, sym, ap, subst, ◌∙◌, not, Option, Some, None}
+use Rattle.std.proofs.Common.{◌≡◌, ◌<◌, ◌-◌, ◌^◌, ℕ, refl, sym, ap, subst, ◌∙◌, not, Option, Some, None, IsTrue}
 use Rattle.k_types.specs.declared.event.Fault.{Fault}
 use Rattle.k_types.specs.declared.event.Reply.TheVariants.{Done, Refused}
+use Rattle.k_types.specs.declared.names.CellPhase.TheVariants.{Idle}
 use Rattle.k_types.specs.declared.names.Heap.{Heap}
 use Rattle.k_types.specs.declared.names.Heap.TheVariants.{Kernel}
 use Rattle.k_types.specs.declared.names.Name.{Name}
@@ -35,6 +36,14 @@ use Rattle.k_pair.specs.Remembered.{CanRemember, HasRemembered}
 use Rattle.k_pair.proofs.Changing.{commits, idle, kernel_idle, kernel_settled, refused, settled}
 use Rattle.k_pair.proofs.Faulted.{store_faulted}
 use Rattle.k_pair.proofs.Touching.{store_holds}
+
+-- what is remembered changes neither the phase of a collection nor any field
+module _ (k k1 : HoldingsValue) (same : k1 ≡ record k { value = record k.value { exits = k1.value.exits } }) where
+  pub stays_idle : k.value.collection ≡ Idle → k1.value.collection ≡ Idle
+  stays_idle is = ap (λ (h : HoldingsValue). h.value.collection) same ∙ is
+
+  pub stays_reference : (x : Name) (i : ℕ) (v : Option Name) → field_among k.value.objects x i ≡ Refers v → IsTrue (is_ref (field_among k1.value.objects x i))
+  stays_reference x i v is = ap (λ (h : HoldingsValue). is_ref (field_among h.value.objects x i)) same ∙ ap is_ref is
 
 module _ (before : BeforeWithKernel) (c : HeapRecord) (k : HoldingsValue) (b : BookRecord) (base : Reg) (i : ℕ) (value : Reg) (met : HaveMetFor before c k b (Store base i value)) where
   abbrev trace : Trace

@@ -19,12 +19,7 @@ use k_types::{Event, Op};
 /// by the field, and for `knew` `KernelFull` where the kernel's bytes and the object's pass the ceiling; a refused operation
 /// changes nothing but the journal and the count of operations done. Constant time where the hash spreads the names, and no
 /// memory.
-pub fn step_kernel(
-    cell: &mut HeapCell,
-    kernel: &mut KernelCell,
-    book: &mut Book,
-    op: &Op,
-) -> Event
+pub fn step_kernel(cell: &mut HeapCell, kernel: &mut KernelCell, book: &mut Book, op: &Op) -> Event
     ghost trace: { Trace }
     requires { CanStepWithKernel trace cell.old kernel.old book.old op.now }
     ensures { HasSteppedWithKernel trace op.now cell.old cell.new kernel.old kernel.new book.old book.new result }
