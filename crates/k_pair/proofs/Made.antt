@@ -1,5 +1,5 @@
 -- A new object of the kernel.
-use Rattle.std.proofs.Common.{◌≡◌, ◌<◌, ◌+◌, ◌≤◌, ℕ, refl, sym, ap, subst, ◌∙◌, List, [], ◌∷◌, drop, get_or, length, map, nat_lt, Option, Some, None, IsTrue, IsFalse, true, false, arith}
+use Rattle.std.proofs.Common.{◌≡◌, ◌<◌, ◌+◌, ◌≤◌, Bool, ℕ, refl, sym, ap, ap₂, subst, ◌∙◌, List, [], ◌∷◌, drop, get_or, length, map, nat_lt, Option, Some, None, IsTrue, IsFalse, true, false, arith}
 use Rattle.std.proofs.lemmas.List.{length-map}
 use Rattle.k_types.specs.declared.event.Event.TheVariants.{Done as DoneEvent}
 use Rattle.k_types.specs.declared.event.Fault.TheVariants.{KernelFull}
@@ -109,6 +109,11 @@ module _ (before : BeforeWithKernel) (c : HeapRecord) (k : HoldingsValue) (b : B
 
     pub body_size : object_size (length body.fields) ≡ size_of_type trace ty
     body_size = ap (λ (one : BodyValue). object_size (length one.fields)) first_is ∙ ap object_size (length-map (kinds_of trace ty) fresh)
+
+    pub full_told : (full : Bool) → full ≡ nat_lt b.ceiling (total object_bytes k.value.objects + object_size (length body.fields)) →
+        nat_lt trace.ceiling (total object_bytes k.value.objects + size_of_type trace ty) ≡ full
+    full_told full is =
+        ap₂ (λ (ceiling size : ℕ). nat_lt ceiling (total object_bytes k.value.objects + size)) (sym met.have_met.own.book.of_trace.ceiling) (sym body_size) ∙ sym is
 
     pub knew_refused : IsTrue (nat_lt trace.ceiling (total object_bytes k.value.objects + size_of_type trace ty)) →
         HasChangedWithKernel before (record c { bodies = rest }) k b op (Refused KernelFull)

@@ -1,12 +1,13 @@
 -- Operations that touch the kernel's cell: what their registers hold, and which they are.
-use Rattle.std.proofs.Common.{◌≡◌, ◌<◌, ◌&&◌, ℕ, Bool, true, false, cond, refl, sym, ap, ◌∙◌, [], ◌∷◌, Option, Some, None, is_some, IsTrue, nat_lt}
+use Rattle.std.proofs.Common.{◌≡◌, ◌<◌, ◌&&◌, ℕ, Bool, true, false, cond, refl, sym, ap, ◌∙◌, [], ◌∷◌, Option, Some, None, is_some, IsFalse, IsTrue, nat_lt}
 use Rattle.std.proofs.lemmas.Bool.{and_parts, ltb-true}
 use Rattle.k_types.specs.declared.names.Heap.{Heap}
 use Rattle.k_types.specs.declared.names.Heap.TheVariants.{Kernel, Shared, User}
 use Rattle.k_types.specs.declared.names.Name.{Name}
 use Rattle.k_types.specs.declared.names.Reg.{Reg}
 use Rattle.k_types.specs.declared.names.TypeId.{TypeId}
-use Rattle.k_types.specs.declared.op.Op.TheVariants.{Get, KNew, Load, Put, Store}
+use Rattle.k_types.specs.declared.op.Op.{Op}
+use Rattle.k_types.specs.declared.op.Op.TheVariants.{New, KNew, SNew, Store, Load, Move, Clear, Dir, Put, Get, Collect, KCollect, Share, Freeze, Attach, Exit}
 use Rattle.k_types.specs.Agree.{book_shown_by}
 use Rattle.k_types.specs.Cells.{BookPart}
 use Rattle.k_types.specs.Steps.{in_range}
@@ -16,7 +17,7 @@ use Rattle.k_frame.specs.PartUpdates.{held_in}
 use Rattle.k_squares.specs.Touches.{access_cell_in, base_cell_in, other_cells_in}
 use Rattle.k_book.specs.Books.{BookRecord}
 use Rattle.k_heap.specs.Heaps.{HeapRecord}
-use Rattle.k_pair.specs.Operating.{TouchesKernel}
+use Rattle.k_pair.specs.Operating.{TouchesKernel, collects_or_exits}
 
 -- an access touches the kernel's cell only where the object is the kernel's
 is_kernel : (b : BookPart) (p : ℕ) (h : Heap) → base_cell_in b p h ≡ Kernel ∷ [] → h ≡ Kernel
@@ -89,3 +90,26 @@ module _ (trace : Trace) where
   pub knew_below : (r : Reg) (ty : TypeId) → IsTrue (in_range trace (KNew r ty)) → r.0 < 16
   unfolding in_range
   knew_below r ty small = ltb-true r.0 16 (and_parts (nat_lt r.0 16) _ small).0
+
+-- an operation that touches the kernel's cell, and neither opens a collection of it nor ends the process, is one of five
+pub one_of_five : (trace : Trace) (c : HeapRecord) (b : BookRecord) (op : Op) → TouchesKernel trace c b op → IsFalse (collects_or_exits op) →
+    ((r : Reg) (ty : TypeId) → op ≡ KNew r ty → ⊥) → ((base : Reg) (i : ℕ) (value : Reg) → op ≡ Store base i value → ⊥) →
+    ((r base : Reg) (i : ℕ) → op ≡ Load r base i → ⊥) → ((base : Reg) (i number : ℕ) → op ≡ Put base i number → ⊥) →
+    ((base : Reg) (i : ℕ) → op ≡ Get base i → ⊥) → ⊥
+unfolding other_cells_in
+one_of_five trace c b (New r ty) touches goes_on knew store load put get = absurd (cc touches)
+one_of_five trace c b (KNew r ty) touches goes_on knew store load put get = knew r ty refl
+one_of_five trace c b (SNew r s ty) touches goes_on knew store load put get = absurd (cc touches)
+one_of_five trace c b (Store base i value) touches goes_on knew store load put get = store base i value refl
+one_of_five trace c b (Load r base i) touches goes_on knew store load put get = load r base i refl
+one_of_five trace c b (Move r from) touches goes_on knew store load put get = absurd (cc touches)
+one_of_five trace c b (Clear r) touches goes_on knew store load put get = absurd (cc touches)
+one_of_five trace c b (Dir r) touches goes_on knew store load put get = absurd (cc touches)
+one_of_five trace c b (Put base i number) touches goes_on knew store load put get = put base i number refl
+one_of_five trace c b (Get base i) touches goes_on knew store load put get = get base i refl
+one_of_five trace c b Collect touches goes_on knew store load put get = absurd (cc touches)
+one_of_five trace c b KCollect touches goes_on knew store load put get = absurd (cc goes_on)
+one_of_five trace c b (Share s) touches goes_on knew store load put get = absurd (cc touches)
+one_of_five trace c b (Freeze s root) touches goes_on knew store load put get = absurd (cc touches)
+one_of_five trace c b (Attach r s) touches goes_on knew store load put get = absurd (cc touches)
+one_of_five trace c b Exit touches goes_on knew store load put get = absurd (cc goes_on)
