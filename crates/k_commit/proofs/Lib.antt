@@ -1,4 +1,3 @@
-pub mod Charges
 pub mod Meetings
 pub mod Fitting
 pub mod Placed
