@@ -30,7 +30,7 @@ module _ (trace : Trace) (b : BookRecord) (stands : BookStands trace b) where
   sound : IsSound trace now
   sound = legal_sound trace b.journal.list stands.keeps.limits stands.agrees.legal
 
-  pub phases_are : b.value.phases ≡ now.phases
+  phases_are : b.value.phases ≡ now.phases
   unfolding book_part
   phases_are = ap (λ (k : BookPart). k.phases) stands.agrees.shows.part
 
@@ -54,24 +54,24 @@ module _ (trace : Trace) (b : BookRecord) (stands : BookStands trace b) where
       (sound.shape.placed root (sound.no_dangling.frozen s root (ap (λ (phases : List Phase). phase_of phases s) (sym phases_are) ∙ frozen))).1
 
 -- a heap that is populated owns the segment with which it begins
-pub populated_segment : (before : BeforeWithShared) → HaveMetWithShared before → (p : ℕ) → IsTrue (is_populating (phase_of before.own.book.value.phases before.shared.id.0) p) →
-    slice_index_or before.shared.value.made before.shared.seg.0 None
-    ≡ Some (slice_index_or (state_after before.own.trace before.own.book.journal.list).made before.shared.seg.0 0)
-unfolding part
-populated_segment before met p populates =
-    ap (λ (s : ShownPart). s.made before.shared.seg.0) met.after.shows.part
-    ∙ ap (λ t. cond t (Some (slice_index_or st.made before.shared.seg.0 0)) None) (heap_eq-same (owner_of before.own.trace st before.shared.seg.0) (Shared before.shared.id) owner_is)
-  where
-    abbrev st : State
-    st = state_after before.own.trace before.own.book.journal.list
+module _ (before : BeforeWithShared) (met : HaveMetWithShared before) (p : ℕ) (populates : IsTrue (is_populating (phase_of before.own.book.value.phases before.shared.id.0) p)) where
+  abbrev here : State
+  here = state_after before.own.trace before.own.book.journal.list
 
-    absorbed_not : IsFalse (is_absorbed (phase_of st.phases before.shared.id.0))
-    absorbed_not =
-        ap (λ (phases : List Phase). is_absorbed (phase_of phases before.shared.id.0)) (sym (phases_are before.own.trace before.own.book met.own.book))
-        ∙ ap is_absorbed (populating_phase (phase_of before.own.book.value.phases before.shared.id.0) p populates)
+  absorbed_not : IsFalse (is_absorbed (phase_of here.phases before.shared.id.0))
+  absorbed_not =
+      ap (λ (phases : List Phase). is_absorbed (phase_of phases before.shared.id.0)) (sym (phases_are before.own.trace before.own.book met.own.book))
+      ∙ ap is_absorbed (populating_phase (phase_of before.own.book.value.phases before.shared.id.0) p populates)
 
-    owner_is : owner_of before.own.trace st before.shared.seg.0 ≡ Shared before.shared.id
-    owner_is = ap (owner_of before.own.trace st) met.shared.segment ∙ owner_shared before.own.trace st before.shared.id.0 absorbed_not
+  owner_is : owner_of before.own.trace here before.shared.seg.0 ≡ Shared before.shared.id
+  owner_is = ap (owner_of before.own.trace here) met.shared.segment ∙ owner_shared before.own.trace here before.shared.id.0 absorbed_not
+
+  pub populated_segment : slice_index_or before.shared.value.made before.shared.seg.0 None ≡ Some (slice_index_or here.made before.shared.seg.0 0)
+  unfolding part
+  populated_segment =
+      ap (λ (s : ShownPart). s.made before.shared.seg.0) met.after.shows.part
+      ∙ ap (λ t. cond t (Some (slice_index_or here.made before.shared.seg.0 0)) None)
+      (heap_eq-same (owner_of before.own.trace here before.shared.seg.0) (Shared before.shared.id) owner_is)
 
 -- which heaps are absorbed stays, where the phase that is set is absorbed as the one before it was
 pub absorbed_kept : (phases : List Phase) (s : ℕ) (phase : Phase) → is_absorbed phase ≡ is_absorbed (phase_of phases s) → (q : ℕ) →

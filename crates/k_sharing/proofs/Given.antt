@@ -119,11 +119,11 @@ module _ (trace : Trace) (b : BookPart) (v u : CellPart) (pid : Pid) (s : Shared
   attach_fault is_there = cond is_there None (size_fault_in trace b pid.0 (slice_index_or b.shared_bytes s.0 0))
 
   module _ (r : Reg) where
-    attach_tests : (frozen there : Bool) → is_frozen (phase_of b.phases s.0) ≡ frozen → b.shares pid.0 s.0 ≡ there →
-        first_fault (faults_in trace b both pid.0 (Attach r s)) ≡ first_fault (fault_where (not frozen) (NotFrozen s) ∷ attach_fault there ∷ [])
+    attach_tests : (ready there : Bool) → is_frozen (phase_of b.phases s.0) ≡ ready → b.shares pid.0 s.0 ≡ there →
+        first_fault (faults_in trace b both pid.0 (Attach r s)) ≡ first_fault (fault_where (not ready) (NotFrozen s) ∷ attach_fault there ∷ [])
     unfolding faults_in
-    attach_tests frozen there is_frozen is_there =
-        ap₂ (λ (f t : Bool). first_fault (fault_where (not f) (NotFrozen s) ∷ attach_fault t ∷ [])) is_frozen is_there
+    attach_tests ready there is_ready is_there =
+        ap₂ (λ (f t : Bool). first_fault (fault_where (not f) (NotFrozen s) ∷ attach_fault t ∷ [])) is_ready is_there
 
     pub attach_unfrozen : is_frozen (phase_of b.phases s.0) ≡ false → first_fault (faults_in trace b both pid.0 (Attach r s)) ≡ Some (NotFrozen s)
     unfolding first_fault fault_where

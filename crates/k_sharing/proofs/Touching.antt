@@ -7,7 +7,8 @@ use Rattle.k_types.specs.declared.names.Name.{Name}
 use Rattle.k_types.specs.declared.names.Reg.{Reg}
 use Rattle.k_types.specs.declared.names.SharedId.{SharedId}
 use Rattle.k_types.specs.declared.names.TypeId.{TypeId}
-use Rattle.k_types.specs.declared.op.Op.TheVariants.{Attach, Freeze, Get, Load, Put, Share, SNew, Store}
+use Rattle.k_types.specs.declared.op.Op.{Op}
+use Rattle.k_types.specs.declared.op.Op.TheVariants.{New, KNew, SNew, Store, Load, Move, Clear, Dir, Put, Get, Collect, KCollect, Share, Freeze, Attach, Exit}
 use Rattle.k_types.specs.Agree.{book_shown_by}
 use Rattle.k_types.specs.Cells.{BookPart, Cell}
 use Rattle.k_types.specs.Steps.{in_range}
@@ -123,3 +124,27 @@ module _ (trace : Trace) where
       let first = and_parts (nat_lt r.0 16 && nat_lt s.0 trace.shared_heaps) (nat_lt ty.0 (length trace.types)) small in
       let both = and_parts (nat_lt r.0 16) (nat_lt s.0 trace.shared_heaps) first.0 in
       (ltb-true r.0 16 both.0, ltb-true s.0 trace.shared_heaps both.1)
+
+-- an operation that touches the cell of a shared heap is one of eight
+pub one_of_eight : (trace : Trace) (c : HeapRecord) (b : BookRecord) (id : SharedId) (op : Op) → TouchesShared trace c id b op →
+    ((s : SharedId) → op ≡ Share s → ⊥) → ((s : SharedId) (root : Reg) → op ≡ Freeze s root → ⊥) →
+    ((r : Reg) (s : SharedId) → op ≡ Attach r s → ⊥) → ((r : Reg) (s : SharedId) (ty : TypeId) → op ≡ SNew r s ty → ⊥) →
+    ((base : Reg) (i : ℕ) (value : Reg) → op ≡ Store base i value → ⊥) → ((r base : Reg) (i : ℕ) → op ≡ Load r base i → ⊥) →
+    ((base : Reg) (i number : ℕ) → op ≡ Put base i number → ⊥) → ((base : Reg) (i : ℕ) → op ≡ Get base i → ⊥) → ⊥
+unfolding other_cells_in
+one_of_eight trace c b id (New r ty) touches share freeze attach snew store load put get = absurd (cc touches)
+one_of_eight trace c b id (KNew r ty) touches share freeze attach snew store load put get = absurd (cc touches)
+one_of_eight trace c b id (SNew r s ty) touches share freeze attach snew store load put get = snew r s ty refl
+one_of_eight trace c b id (Store base i value) touches share freeze attach snew store load put get = store base i value refl
+one_of_eight trace c b id (Load r base i) touches share freeze attach snew store load put get = load r base i refl
+one_of_eight trace c b id (Move r from) touches share freeze attach snew store load put get = absurd (cc touches)
+one_of_eight trace c b id (Clear r) touches share freeze attach snew store load put get = absurd (cc touches)
+one_of_eight trace c b id (Dir r) touches share freeze attach snew store load put get = absurd (cc touches)
+one_of_eight trace c b id (Put base i number) touches share freeze attach snew store load put get = put base i number refl
+one_of_eight trace c b id (Get base i) touches share freeze attach snew store load put get = get base i refl
+one_of_eight trace c b id Collect touches share freeze attach snew store load put get = absurd (cc touches)
+one_of_eight trace c b id KCollect touches share freeze attach snew store load put get = absurd (cc touches)
+one_of_eight trace c b id (Share s) touches share freeze attach snew store load put get = share s refl
+one_of_eight trace c b id (Freeze s root) touches share freeze attach snew store load put get = freeze s root refl
+one_of_eight trace c b id (Attach r s) touches share freeze attach snew store load put get = attach r s refl
+one_of_eight trace c b id Exit touches share freeze attach snew store load put get = absurd (cc touches)

@@ -1,4 +1,4 @@
-use Rattle.std.proofs.Common.{◌+◌, ap, ap₂, arith, refl, slice_index, subst, sym, ◌∙◌}
+use Rattle.std.proofs.Common.{◌≡◌, ◌+◌, ap, ap₂, arith, refl, slice_index, subst, sym, ◌∙◌}
 use Rattle.k_types.specs.declared.names.Phase.{Phase}
 use Rattle.k_types.specs.declared.names.Pid.{Pid}
 use Rattle.k_types.specs.Names.{name_of}
@@ -25,7 +25,8 @@ commit_with_shared-requires g c =
 pub grow_shared-requires-clause-sum : goal.grow_shared-requires-clause-sum
 grow_shared-requires-clause-sum g c =
     let small = charged_small (as_they_are g.before.own.trace c.args.cell.now c.args.shared.now c.args.book.now).own c.requires.have_met.own c.requires.room.events c.args.id.0 in
-    let same = ap (λ (e : BookRecord). slice_index e.value.shared_bytes c.args.id.0) c.in-Ok.ensures.charged.book_is in
+    let same : slice_index c.charge_process.new.book.value.shared_bytes c.args.id.0 ≡ slice_index c.args.book.now.value.shared_bytes c.args.id.0 =
+    ap (λ (e : BookRecord). slice_index e.value.shared_bytes c.args.id.0) c.in-Ok.ensures.charged.book_is in
     let most = c.bytes-bytes.ensures.most in
     omega (arith, small, same, most)
 

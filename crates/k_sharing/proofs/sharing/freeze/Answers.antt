@@ -1,4 +1,4 @@
-use Rattle.std.proofs.Common.{ap₂, sym, ◌∙◌}
+use Rattle.std.proofs.Common.{ap, ap₂, option_map, sym, ◌∙◌}
 use Rattle.k_types.specs.declared.names.Phase.{Phase}
 use Rattle.k_types.specs.declared.names.Pid.{Pid}
 use Rattle.k_types.specs.Names.{name_of}
@@ -12,7 +12,8 @@ pub reg-requires : goal.reg-requires
 reg-requires g c = (freeze_below g.before.own.trace c.args.id c.args.root c.requires.in_range).1
 
 pub commit_with_shared-requires : goal.commit_with_shared-requires
-commit_with_shared-requires g c = ?
+commit_with_shared-requires g c =
+    freeze_of_null g.before c.args.cell.now c.args.shared.now c.args.book.now c.args.id c.args.root c.requires (sym c.reg.ensures ∙ ap (option_map name_of) c.in_default.is)
 
 pub is_owned_by-requires : goal.is_owned_by-requires
 is_owned_by-requires g c = root_at_home g.before c.args.cell.now c.args.shared.now c.args.book.now c.args.id c.args.root c.requires (name_of c.in-Some.link) (sym c.in-Some.ensures)
