@@ -1,5 +1,5 @@
 -- Cells and book that are changed as an operation with a shared heap's cell asks can be committed.
-use Rattle.std.proofs.Common.{◌≡◌, refl, ap, subst, List, [], ◌∷◌, Option, Some, IsFalse}
+use Rattle.std.proofs.Common.{◌≡◌, refl, ap, subst, List, [], Some, IsFalse}
 use Rattle.k_types.specs.declared.event.Fault.{Fault}
 use Rattle.k_types.specs.declared.event.Reply.{Reply}
 use Rattle.k_types.specs.declared.event.Reply.TheVariants.{Refused}

@@ -1,5 +1,5 @@
 -- The faults of an access to an object of a shared heap that the process shares.
-use Rattle.std.proofs.Common.{◌≡◌, ℕ, Bool, true, false, not, refl, ap, ap₂, ◌∙◌, nat_le, [], ◌∷◌, ◌++◌, List, Option, Some, None, IsTrue, IsFalse}
+use Rattle.std.proofs.Common.{◌≡◌, ℕ, Bool, not, refl, ap, ap₂, ◌∙◌, nat_le, [], ◌∷◌, ◌++◌, List, Option, Some, None, IsTrue, IsFalse}
 use Rattle.k_types.specs.declared.event.Fault.{Fault}
 use Rattle.k_types.specs.declared.event.Fault.TheVariants.{Frozen, NoField, NotSharer, Segv, WrongKind}
 use Rattle.k_types.specs.declared.names.Heap.TheVariants.{Shared}

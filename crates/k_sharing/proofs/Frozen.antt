@@ -1,5 +1,5 @@
 -- A shared heap that its maker freezes.
-use Rattle.std.proofs.Common.{◌≡◌, ◌<◌, ℕ, refl, sym, ap, subst, ◌∙◌, length, Some, None, slice_set, IsTrue, IsFalse}
+use Rattle.std.proofs.Common.{◌≡◌, ◌<◌, refl, sym, ap, subst, ◌∙◌, length, Some, None, slice_set, IsTrue, IsFalse}
 use Rattle.k_types.specs.declared.event.Fault.TheVariants.{NotPopulating, Null, Segv}
 use Rattle.k_types.specs.declared.event.Reply.TheVariants.{Done, Refused}
 use Rattle.k_types.specs.declared.names.Heap.{Heap}

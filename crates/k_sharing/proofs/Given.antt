@@ -1,9 +1,9 @@
 -- What sharing, freezing, attaching and allocating in a shared heap give of the parts of both cells and of the book.
-use Rattle.std.proofs.Common.{◌≡◌, ◌∙◌, refl, sym, ap, ap₂, not, cond, Bool, true, false, List, Option, Some, None, [], ◌∷◌, slice_index_or}
+use Rattle.std.proofs.Common.{◌≡◌, ◌∙◌, refl, sym, ap, ap₂, not, cond, Bool, true, false, Option, Some, None, [], ◌∷◌, slice_index_or}
 use Rattle.k_types.specs.declared.event.Event.TheVariants.{Done}
 use Rattle.k_types.specs.declared.event.Fault.{Fault}
 use Rattle.k_types.specs.declared.event.Fault.TheVariants.{NotFrozen, NotPopulating, Null, Segv, Taken}
-use Rattle.k_types.specs.declared.event.Reply.TheVariants.{Done as DoneReply, Loaded, Made, Refused}
+use Rattle.k_types.specs.declared.event.Reply.TheVariants.{Done as DoneReply, Loaded, Made}
 use Rattle.k_types.specs.declared.names.Heap.TheVariants.{Shared, User}
 use Rattle.k_types.specs.declared.names.Name.{Name}
 use Rattle.k_types.specs.declared.names.Phase.{Phase}
@@ -12,7 +12,6 @@ use Rattle.k_types.specs.declared.names.Pid.{Pid}
 use Rattle.k_types.specs.declared.names.Reg.{Reg}
 use Rattle.k_types.specs.declared.names.SharedId.{SharedId}
 use Rattle.k_types.specs.declared.names.TypeId.{TypeId}
-use Rattle.k_types.specs.declared.op.Op.{Op}
 use Rattle.k_types.specs.declared.op.Op.TheVariants.{Attach, Freeze, Share, SNew}
 use Rattle.k_types.specs.Cells.{BookPart, Cell, CellPart}
 use Rattle.k_types.specs.Names.{heap_eq}
@@ -28,7 +27,7 @@ use Rattle.k_squares.specs.CellAfter.{at_cell, cell_after, cells_frozen, cells_o
 use Rattle.k_squares.specs.Touches.{other_cells_in}
 use Rattle.k_moves.specs.Moves.{GivesBoth}
 use Rattle.k_moves.specs.Shown.{two_parts}
-use Rattle.k_moves.proofs.Beside.{held_own, not_refused_beside, own_changed, own_counted, own_set, refused_beside, second_changed, second_counted, second_kept}
+use Rattle.k_moves.proofs.Beside.{held_own, not_refused_beside, own_changed, own_counted, own_set, second_changed, second_counted, second_kept}
 
 module _ (trace : Trace) (b : BookPart) (v u : CellPart) (pid : Pid) (s : SharedId) where
   abbrev both : Cell → CellPart

@@ -1,6 +1,5 @@
 -- A frozen heap that a process comes to share.
-use Rattle.std.proofs.Common.{◌≡◌, ◌<◌, ◌+◌, ℕ, refl, sym, ap, ap₂, subst, ◌∙◌, cond, List, Option, Some, None, get_or, slice_index, IsTrue, IsFalse}
-use Rattle.k_types.specs.declared.event.Fault.{Fault}
+use Rattle.std.proofs.Common.{◌≡◌, ◌<◌, ℕ, refl, sym, ap, subst, ◌∙◌, cond, List, Option, Some, None, get_or, slice_index, IsTrue, IsFalse}
 use Rattle.k_types.specs.declared.event.Fault.TheVariants.{LimitFull, NotFrozen}
 use Rattle.k_types.specs.declared.event.Reply.TheVariants.{Loaded, Refused}
 use Rattle.k_types.specs.declared.names.Heap.{Heap}

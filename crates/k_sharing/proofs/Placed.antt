@@ -1,9 +1,8 @@
 -- A new object in a shared heap.
-use Rattle.std.proofs.Common.{◌≡◌, ◌<◌, ◌≤◌, ◌+◌, ◌^◌, ℕ, zero, suc, refl, sym, ap, subst, ◌∙◌, List, [], ◌∷◌, Option, Some, None, drop, get_or, length, map, slice_index, slice_set, IsTrue, IsFalse, arith}
+use Rattle.std.proofs.Common.{◌≡◌, ◌<◌, ◌+◌, ℕ, zero, suc, refl, sym, ap, subst, ◌∙◌, List, [], ◌∷◌, Option, Some, None, drop, get_or, length, slice_index, slice_set, IsTrue, IsFalse, arith}
 use Rattle.std.proofs.lemmas.List.{length-map}
 use Rattle.k_types.specs.declared.event.Fault.TheVariants.{LimitFull, NotPopulating}
 use Rattle.k_types.specs.declared.event.Reply.TheVariants.{Made, Refused}
-use Rattle.k_types.specs.declared.names.Field.{Field}
 use Rattle.k_types.specs.declared.names.Heap.{Heap}
 use Rattle.k_types.specs.declared.names.Heap.TheVariants.{Shared}
 use Rattle.k_types.specs.declared.names.LimitId.{LimitId}
@@ -19,7 +18,7 @@ use Rattle.k_types.specs.Owners.{phase_of}
 use Rattle.k_types.specs.Replies.{is_populating}
 use Rattle.k_types.specs.State.{fresh}
 use Rattle.k_types.specs.Steps.{state_after}
-use Rattle.k_types.specs.Trace.{Trace, kinds_of, limit_of, segment_count, segment_of, size_of_type}
+use Rattle.k_types.specs.Trace.{Trace, kinds_of, limit_of, segment_of, size_of_type}
 use Rattle.k_types.specs.Types.{object_size}
 use Rattle.k_space.specs.Objects.{BodyValue, new_body}
 use Rattle.k_changes.specs.BookChanges.{owner_in, with_charge, with_pin_moved, with_shared_bytes}

@@ -10,7 +10,7 @@ use Rattle.k_types.specs.declared.names.TypeId.{TypeId}
 use Rattle.k_types.specs.declared.op.Op.{Op}
 use Rattle.k_types.specs.declared.op.Op.TheVariants.{New, KNew, SNew, Store, Load, Move, Clear, Dir, Put, Get, Collect, KCollect, Share, Freeze, Attach, Exit}
 use Rattle.k_types.specs.Agree.{book_shown_by}
-use Rattle.k_types.specs.Cells.{BookPart, Cell}
+use Rattle.k_types.specs.Cells.{BookPart}
 use Rattle.k_types.specs.Steps.{in_range}
 use Rattle.k_types.specs.Trace.{Trace}
 use Rattle.k_changes.specs.BookChanges.{owner_in}

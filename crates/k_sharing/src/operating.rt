@@ -16,11 +16,17 @@ use k_heap::HeapCell;
 use k_shared::SharedCell;
 use k_types::{Event, Op};
 
-/// Does an operation that touches the cell of the shared heap beside the process's own, and answers its event, which it appends.
-/// That is `share`, `freeze`, `attach` or `snew` of that heap, or `store`, `load`, `put` or `get` through a register that holds an
-/// object of the heap, which the process shares. A refused operation changes nothing but the journal and the count of operations
-/// done, and for `snew` takes its body; the fault is the lowest that applies. Constant time where the hash spreads the names, but
-/// for the limits that a charge passes, and no memory.
+/// Does an operation that touches the cell of the shared heap beside the process's own, and answers its event, which it appends:
+/// `share`, `freeze`, `attach` or `snew` of that heap, or `store`, `load`, `put` or `get` through a register that holds an object
+/// of the heap, which the process shares.
+///
+/// A refused operation changes nothing but the journal and the count of operations done, and `snew` takes its body all the same.
+/// The fault is the first that applies: for `share` `Taken`; for `freeze` `Null`, `Segv` where the root is no object of the heap,
+/// `NotPopulating`; for `attach` `NotFrozen`, and `LimitFull` where the process does not share the heap yet and its bytes do not
+/// fit; for `snew` `NotPopulating`, `LimitFull`; for an access `NoField`, `WrongKind`, and for a store `Frozen`, and `Segv` where
+/// the value is an object neither of the heap nor of the kernel. Numbers are written into a frozen heap too.
+///
+/// It takes no memory. A charge passes the limits above the process's; all else is constant time where the hash spreads the names.
 pub fn step_shared(cell: &mut HeapCell, shared: &mut SharedCell, book: &mut Book, op: &Op) -> Event
     ghost trace: { Trace }
     requires { CanStepWithShared trace cell.old shared.old book.old op.now }
