@@ -5,3 +5,4 @@ pub mod Setting
 pub mod Changing
 pub mod Commits
 pub mod Charges
+pub mod Tails

@@ -5,3 +5,4 @@ pub mod Changed
 pub mod Owning
 pub mod Stepped
 pub mod Charging
+pub mod Published

@@ -4,7 +4,8 @@
 //! [`meet_kernel`], [`meet_shared`]), changes cells and book, and commits: [`commit_heap`], [`commit_with_kernel`] or
 //! [`commit_with_shared`] counts the operation, appends its event, and lets the cells touch and meet the journal again, so that
 //! cells and book agree. An event that is no such operation is appended by a call of its own. [`set_register`] moves a pin with
-//! its register, and [`charge_process`] charges a process. No call takes memory.
+//! its register, and [`charge_process`] charges a process. [`publish`] appends what a process did inside its heap. No call takes
+//! memory.
 //!
 //! The laws give the conditions of the calls of cells and book that no step asks of its caller: counts fit 32 bits, and bytes 64.
 #![tactic(auto)]
@@ -14,6 +15,7 @@ mod charging;
 mod committing;
 mod laws;
 mod meeting;
+mod publishing;
 mod registers;
 
 pub use appending::{
@@ -24,4 +26,5 @@ pub use charging::charge_process;
 pub use committing::{commit_heap, commit_with_kernel, commit_with_shared};
 pub use laws::{bytes_fit, cells_that_met_have_met, counts_fit, steps_began_before_the_meeting};
 pub use meeting::{meet_heap, meet_kernel, meet_shared};
+pub use publishing::publish;
 pub use registers::set_register;
