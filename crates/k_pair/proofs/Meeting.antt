@@ -47,7 +47,7 @@ module _ (trace : Trace) (bodies : List BodyValue) (k : HoldingsValue) (note : N
   tables_noted (Attach r s) room = room
   tables_noted Exit room = room
 
-  room_noted : (op : Op) → HasRoomFor trace bodies k seg b op → HasRoomFor trace bodies noted seg b op
+  pub room_noted : (op : Op) → HasRoomFor trace bodies k seg b op → HasRoomFor trace bodies noted seg b op
   room_noted op room = record { events = room.events; tables = tables_noted op room.tables }
 
 module _ (trace : Trace) (c : HeapRecord) (k : HoldingsValue) (b : BookRecord) (op : Op) (can : CanStepWithKernel trace c k b op) where
