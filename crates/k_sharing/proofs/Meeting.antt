@@ -9,8 +9,7 @@ use Rattle.k_heap.specs.Heaps.{HeapRecord}
 use Rattle.k_shared.specs.SharedHeaps.{SharedRecord, holdings_of}
 use Rattle.k_commit.specs.Met.{CanMeet, HeapHasMet, SharedHasMet}
 use Rattle.k_commit.specs.Rooms.{HasRoomFor}
-use Rattle.k_commit.proofs.Meetings.{shared_has_met}
-use Rattle.k_pair.proofs.Meeting.{room_noted}
+use Rattle.k_commit.proofs.Meetings.{room_noted, shared_has_met}
 use Rattle.k_sharing.specs.Operating.{CanStepWithShared, HaveMetFor, TouchesShared, as_they_are}
 
 module _ (trace : Trace) (c : HeapRecord) (s : SharedRecord) (b : BookRecord) (op : Op) (can : CanStepWithShared trace c s b op) where
