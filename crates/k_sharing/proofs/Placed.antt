@@ -1,5 +1,5 @@
 -- A new object in a shared heap.
-use Rattle.std.proofs.Common.{◌≡◌, ◌<◌, ◌+◌, ℕ, zero, suc, refl, sym, ap, subst, ◌∙◌, List, [], ◌∷◌, Option, Some, None, drop, get_or, length, slice_index, slice_set, IsTrue, IsFalse, arith}
+use Rattle.std.proofs.Common.{◌≡◌, ◌<◌, ◌+◌, ℕ, refl, sym, ap, subst, ◌∙◌, List, [], ◌∷◌, Option, Some, None, drop, get_or, length, slice_index, slice_set, IsTrue, IsFalse, arith}
 use Rattle.std.proofs.lemmas.List.{length-map}
 use Rattle.k_types.specs.declared.event.Fault.TheVariants.{LimitFull, NotPopulating}
 use Rattle.k_types.specs.declared.event.Reply.TheVariants.{Made, Refused}
@@ -20,6 +20,7 @@ use Rattle.k_types.specs.State.{fresh}
 use Rattle.k_types.specs.Steps.{state_after}
 use Rattle.k_types.specs.Trace.{Trace, kinds_of, limit_of, segment_of, size_of_type}
 use Rattle.k_types.specs.Types.{object_size}
+use Rattle.k_base.proofs.Lists.{some_inside}
 use Rattle.k_space.specs.Objects.{BodyValue, new_body}
 use Rattle.k_changes.specs.BookChanges.{owner_in, with_charge, with_pin_moved, with_shared_bytes}
 use Rattle.k_changes.specs.CellChanges.{next_name_in, with_created}
@@ -41,12 +42,6 @@ use Rattle.k_sharing.proofs.Changing.{commits, idle, refused, settled, shared_id
 use Rattle.k_sharing.proofs.Facts.{populated_segment}
 use Rattle.k_sharing.proofs.Given.{allocated, snew_full, snew_unpopulated}
 use Rattle.k_sharing.proofs.Touching.{snew_below, snew_names}
-
--- a segment that has given serials is there
-inside : {A : Type 0} (xs : List (Option A)) (k : ℕ) (a : A) → get_or xs k None ≡ Some a → k < length xs
-inside [] k a e = absurd (cc e)
-inside (x ∷ xs) zero a e = omega arith
-inside (x ∷ xs) (suc k) a e = let below = inside xs k a e in omega (arith, below)
 
 module _ (before : BeforeWithShared) (c : HeapRecord) (s : SharedRecord) (b : BookRecord) (r : Reg) (id : SharedId) (ty : TypeId) (met : HaveMetFor before c s b (SNew r id ty)) where
   abbrev trace : Trace
@@ -180,7 +175,7 @@ module _ (before : BeforeWithShared) (c : HeapRecord) (s : SharedRecord) (b : Bo
           shared_shown : idle_part shared_value ≡ with_created (segment_of trace (Shared id)) ty (kinds_of trace ty) (idle_part s.value)
           shared_shown =
               ap (λ (one : BodyValue). idle_part (with_body s.seg.0 one s.value)) first_is
-              ∙ new_shown s.value s.seg.0 ty (kinds_of trace ty) (inside s.value.made s.seg.0 serials segment_there)
+              ∙ new_shown s.value s.seg.0 ty (kinds_of trace ty) (some_inside s.value.made s.seg.0 serials segment_there)
               ∙ ap (λ seg. with_created seg ty (kinds_of trace ty) (idle_part s.value)) segment_is
 
           given : GivesBoth trace c.pid op (Made new_name) (Shared id) (idle_part c.value) (with_done (with_register r.0 (Some new_name) (idle_part c.value)))
