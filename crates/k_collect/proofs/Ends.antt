@@ -286,11 +286,11 @@ module _ (trace : Trace) (c : HeapRecord) (b : BookRecord) (can : CanSweep trace
       shares = dropped_shares trace (owners_now trace b) b.value c.value p;
       event_is = refl;
       appended = record { possible = told.possible; journal = refl; same_table = refl; book_is = refl; agrees = after.book_agrees };
-      heap = record {
+      heap_goes_on = record {
         cell_is = refl;
         table = table;
         settled = ap (λ (x : CellValue). x.tail) swept_is.swept.rest ∙ settled;
-        phase = ap (λ (x : CellValue). x.collection) swept_is.swept.rest;
+        in_phase = ap (λ (x : CellValue). x.collection) swept_is.swept.rest;
         met = after.cells_met.0;
         agrees = after.cells_agree.0;
       };
@@ -330,10 +330,10 @@ module _ (trace : Trace) (c : HoldingsValue) (b : BookRecord) (can : CanSweep tr
       exits = dropped_exits c.value;
       event_is = refl;
       appended = record { possible = kernel_possible; journal = refl; same_table = refl; book_is = refl; agrees = kernel_after.book_agrees };
-      kernel = record {
+      kernel_goes_on = record {
         kernel_is = refl;
         table = table;
-        phase = ap (λ (x : CellValue). x.collection) swept_is.swept.rest;
+        in_phase = ap (λ (x : CellValue). x.collection) swept_is.swept.rest;
         met = kernel_after.cells_met.0;
         agrees = kernel_after.cells_agree.0;
       };
@@ -353,7 +353,7 @@ pub heap_can_be_swept : (trace : Trace) (c : HeapRecord) (b : BookRecord) → Ca
 heap_can_be_swept trace c b can told = record {
   book_stands = can.book_stands;
   after = record { met = told.shows.met; shows = told.shows.shows can.collects.settled };
-  marked = can.collects.phase;
+  marked = can.collects.in_phase;
   few = told.few;
   room = can.room told.fits;
 }
@@ -363,7 +363,7 @@ pub kernel_can_be_swept : (trace : Trace) (c : HoldingsValue) (b : BookRecord) �
 kernel_can_be_swept trace c b can told = record {
   book_stands = can.book_stands;
   after = record { met = told.shows.met; shows = told.shows.shows can.collects.agrees.tail };
-  marked = can.collects.phase;
+  marked = can.collects.in_phase;
   few = told.few;
   room = can.room told.fits;
 }
@@ -376,7 +376,14 @@ heap_since_met trace c w note b k e h = record {
   shares = h.shares;
   event_is = h.event_is;
   appended = h.appended;
-  heap = record { cell_is = h.heap.cell_is; table = h.heap.table; settled = h.heap.settled; phase = h.heap.phase; met = h.heap.met; agrees = h.heap.agrees };
+  heap_goes_on = record {
+    cell_is = h.heap_goes_on.cell_is;
+    table = h.heap_goes_on.table;
+    settled = h.heap_goes_on.settled;
+    in_phase = h.heap_goes_on.in_phase;
+    met = h.heap_goes_on.met;
+    agrees = h.heap_goes_on.agrees;
+  };
   left = h.left;
 }
 
@@ -387,7 +394,13 @@ kernel_since_met trace c w note b k e h = record {
   exits = h.exits;
   event_is = h.event_is;
   appended = h.appended;
-  kernel = record { kernel_is = h.kernel.kernel_is; table = h.kernel.table; phase = h.kernel.phase; met = h.kernel.met; agrees = h.kernel.agrees };
+  kernel_goes_on = record {
+    kernel_is = h.kernel_goes_on.kernel_is;
+    table = h.kernel_goes_on.table;
+    in_phase = h.kernel_goes_on.in_phase;
+    met = h.kernel_goes_on.met;
+    agrees = h.kernel_goes_on.agrees;
+  };
   left = h.left;
 }
 
