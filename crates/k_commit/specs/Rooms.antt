@@ -1,5 +1,5 @@
 -- What an operation asks of a setup: cells and book that stand, and room in the tables to which it may add.
-use Rattle.std.specs.Prelude.{◌≡◌, ◌<◌, ℕ, List, ◌∷◌, IsTrue, length}
+use Rattle.std.specs.Prelude.{◌≡◌, ◌<◌, ℕ, List, ◌∷◌, IsTrue, Some, None, length, slice_index_or}
 use Rattle.k_types.specs.declared.names.TypeId.{TypeId}
 use Rattle.k_types.specs.declared.op.Op.{Op}
 use Rattle.k_types.specs.declared.op.Op.TheVariants.{New, KNew, SNew, Store, Load, Move, Clear, Dir, Put, Get, Collect, KCollect, Share, Freeze, Attach, Exit}
@@ -27,10 +27,10 @@ pub record HasBody (trace : Trace) (ty : TypeId) (bodies : List BodyValue) : Typ
   pub rest : List BodyValue
   pub first : bodies ≡ new_body trace.types ty ∷ rest
 
--- there is a body for a new object, and a serial in the segment
+-- there is a body for a new object, and a serial in the segment if it is the heap's
 pub record HasRoomForNew (trace : Trace) (ty : TypeId) (bodies : List BodyValue) (heap : HoldingsValue) (seg : ℕ) : Type 0 where
   pub body : HasBody trace ty bodies
-  pub serial : HasSerialLeft heap seg
+  pub serial : (given : ℕ) → slice_index_or heap.value.made seg None ≡ Some given → HasSerialLeft heap seg
 
 -- the tables have room for what the operation may add to the heap and its segment: a new object, or an exit item
 abbrev pub HasTableRoom : Trace → List BodyValue → HoldingsValue → ℕ → BookRecord → Op → Type 0
