@@ -8,9 +8,9 @@ use Rattle.k_types.specs.declared.names.Heap.{Heap}
 use Rattle.k_types.specs.declared.names.Heap.TheVariants.{Kernel, User}
 use Rattle.k_types.specs.declared.names.Pid.{Pid}
 use Rattle.k_types.specs.Agree.{CellValue}
-use Rattle.k_types.specs.Trace.{Trace}
-use Rattle.k_agree.specs.Meeting.{Fits}
-use Rattle.k_book.specs.Books.{BookRecord}
+use Rattle.k_types.specs.Trace.{Trace, process_count}
+use Rattle.k_agree.specs.Meeting.{Fits, HasMet}
+use Rattle.k_book.specs.Books.{BookRecord, pin_room_of}
 use Rattle.k_book.specs.Machine.{IsBookOf}
 use Rattle.k_cell.specs.Holdings.{HoldingsValue}
 use Rattle.k_heap.specs.Heaps.{HeapRecord}
@@ -23,6 +23,8 @@ use Rattle.k_collect.specs.Collecting.{CanEndHeap, CanEndKernel}
 use Rattle.k_collect.specs.Ended.{HasEndedHeap, HasEndedKernel}
 use Rattle.k_collect.specs.Marking.{CanMark, HasMarkedOn}
 use Rattle.k_collect.specs.Settling.{AreEnds, CanSettleHeap, CanSettleKernel, HasSettledHeap, HasSettledKernel, IsTheEnd, KeepsBook, KeepsCell, ends_to_come}
+use Rattle.k_types.specs.declared.event.Event.TheVariants.{Ended}
+use Rattle.k_agree.specs.Agreement.{Agrees}
 
 -- a collection is open in this phase
 IsOpen : CellPhase → Type 0
@@ -57,7 +59,7 @@ module _ (trace : Trace) (c : HeapRecord) (b : BookRecord) (can : CanSettleHeap 
       keeps = can.book_stands.keeps;
       of_trace = subst (IsBookOf trace) (sym p.book_is) (record { rows = can.book_stands.of_trace.rows; procs = can.book_stands.of_trace.procs; ceiling = can.book_stands.of_trace.ceiling; maxima = can.book_stands.of_trace.maxima });
       agrees = p.book_agrees;
-      pins = subst (λ (x : BookRecord). Rattle.k_book.specs.Books.pin_room_of (Rattle.k_types.specs.Trace.process_count trace) ≤ x.pin_room) (sym p.book_is) can.book_stands.pins;
+      pins = subst (λ (x : BookRecord). pin_room_of (process_count trace) ≤ x.pin_room) (sym p.book_is) can.book_stands.pins;
     }
 
     pub settled_idle : d.value.collection ≡ Idle → HasSettledHeap trace c d b k
@@ -135,7 +137,7 @@ module _ (trace : Trace) (c : HeapRecord) (b : BookRecord) (can : CanSettleHeap 
           shares = h.shares;
           is =
               ap (λ (f : Event). f ∷ []) h.event_is
-              ∙ ap (λ (pid : Pid). Rattle.k_types.specs.declared.event.Event.TheVariants.Ended (User pid) h.objects h.bytes h.exits h.shares ∷ []) same_pid;
+              ∙ ap (λ (pid : Pid). Ended (User pid) h.objects h.bytes h.exits h.shares ∷ []) same_pid;
         });
         journal = h.appended.journal ∙ ap (λ (list : List Event). list ++ e ∷ []) p.journal;
         same_table = h.appended.same_table ∙ p.same_table;
@@ -166,8 +168,8 @@ module _ (trace : Trace) (c : HoldingsValue) (b : BookRecord) (can : CanSettleKe
   kernel_phase : d.value.collection ≡ c.value.collection
   kernel_phase = ap (λ (x : HoldingsValue). x.value.collection) p.kernel_is
 
-  kernel_agrees : Rattle.k_agree.specs.Agreement.Agrees trace Kernel d.note d.value
-  kernel_agrees = subst (λ (x : HoldingsValue). Rattle.k_agree.specs.Agreement.Agrees trace Kernel x.note x.value) (sym p.kernel_is) p.told.shows.agrees
+  kernel_agrees : Agrees trace Kernel d.note d.value
+  kernel_agrees = subst (λ (x : HoldingsValue). Agrees trace Kernel x.note x.value) (sym p.kernel_is) p.told.shows.agrees
 
   kernel_table_of : d.note.table ≡ k.journal.table
   kernel_table_of = ap (λ (x : HoldingsValue). x.note.table) p.kernel_is ∙ can.table ∙ sym (ap (λ (x : BookRecord). x.journal.table) p.book_is)
@@ -192,8 +194,8 @@ module _ (trace : Trace) (c : HoldingsValue) (b : BookRecord) (can : CanSettleKe
           kernel_is = p.kernel_is ∙ sym (ap (λ (x : HoldingsValue). record c { note = x.note; value = x.value }) p.kernel_is);
           table = kernel_table_of;
           in_phase = is;
-          met = subst (λ (x : BookRecord). Rattle.k_agree.specs.Meeting.HasMet trace x.journal Kernel d.note) (sym p.book_is)
-              (subst (λ (x : HoldingsValue). Rattle.k_agree.specs.Meeting.HasMet trace b.journal Kernel x.note) (sym p.kernel_is) p.told.shows.met);
+          met = subst (λ (x : BookRecord). HasMet trace x.journal Kernel d.note) (sym p.book_is)
+              (subst (λ (x : HoldingsValue). HasMet trace b.journal Kernel x.note) (sym p.kernel_is) p.told.shows.met);
           agrees = kernel_agrees;
         };
         agrees = kernel_stands_still.agrees;
@@ -241,7 +243,7 @@ module _ (trace : Trace) (c : HoldingsValue) (b : BookRecord) (can : CanSettleKe
       book_is = h.appended.book_is ∙ ap (λ (y : BookRecord). record y { journal = l.journal; value = l.value }) p.book_is;
       book_kept = kernel_open_then.2 b l;
       cell_kept = kernel_open_then.3 c.value x.value;
-      kernel = record {
+      kernel_goes_on = record {
         kernel_is =
             h.kernel_goes_on.kernel_is
             ∙ ap (λ (y : HoldingsValue). record y { note = x.note; value = x.value }) rest

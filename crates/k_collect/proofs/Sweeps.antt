@@ -1,5 +1,5 @@
 -- What goes at the end of a collection, call by call: the sweep, the drain, the end of the marks, the shares and the credit.
-use Rattle.std.proofs.Common.{◌≡◌, ◌+◌, ◌-◌, ◌<◌, ◌≤◌, ◌^◌, ◌&&◌, ℕ, refl, sym, ap, ap₂, ◌∙◌, subst, List, [], length, get_or, set, arith}
+use Rattle.std.proofs.Common.{◌≡◌, ◌+◌, ◌-◌, ◌<◌, ◌≤◌, ◌^◌, ◌&&◌, Bool, true, ℕ, refl, sym, ap, ap₂, ◌∙◌, subst, List, [], length, get_or, set, arith}
 use Rattle.k_types.specs.declared.event.Event.{Event}
 use Rattle.k_types.specs.declared.event.Event.TheVariants.{Ended}
 use Rattle.k_types.specs.declared.names.CellPhase.TheVariants.{Idle}
@@ -10,6 +10,7 @@ use Rattle.k_types.specs.declared.names.Pid.{Pid}
 use Rattle.k_types.specs.Agree.{CellValue}
 use Rattle.k_types.specs.Names.{name_among}
 use Rattle.k_types.specs.Numbers.{numbers_below}
+use Rattle.k_types.specs.State.{has_share}
 use Rattle.k_types.specs.Trace.{Trace, limit_of}
 use Rattle.k_base.specs.Distinct.{AreDistinctNames}
 use Rattle.k_agree.specs.Ending.{HasLeft, HasSettledWith, bytes_unshared, dropped, dropped_exits, dropped_shares, freed_bytes, freed_objects, keeps_way, swept}
@@ -21,8 +22,9 @@ use Rattle.k_cell.specs.Holdings.{HoldingsValue}
 use Rattle.k_heap.specs.Heaps.{HeapRecord}
 use Rattle.k_collect.specs.Leaving.{HasItsEntries, HasLeftUnmarked}
 use Rattle.k_collect.specs.Sweeping.{CanSweep, HasSweptHeap, HasSweptKernel, IsSwept, owners_now}
-use Rattle.k_collect.specs.Unsharing.{CanUnshare, HasUnshared, bytes_lost, shares_lost}
-use Rattle.k_collect.proofs.Ends.{book_alone, can_unshare, credit_fits, credit_within, entries_there, known, limit_there, limit_told, lost_bytes, lost_shares, settles}
+use Rattle.k_collect.specs.Unsharing.{CanUnshare, HasUnshared, bytes_lost, shares_lost, ways_left}
+use Rattle.k_collect.proofs.Ends.{book_alone, can_unshare, credit_fits, credit_within, entries_there, known, limit_there, limit_told, lost_bytes, lost_shares, settles, ways_same}
+use Rattle.k_collect.proofs.Unshared.{same_bytes_lost, same_shares_lost, same_unshared}
 
 -- the cell without marks
 abbrev pub without_marks : CellValue → CellValue
@@ -60,31 +62,38 @@ module _ (trace : Trace) (c : HeapRecord) (b : BookRecord) (can : CanSweep trace
   pub cell_swept : IsSwept c.value e.value
   cell_swept = swept_value c.value s.value l.value e.value (ap (λ (x : HeapRecord). x.value) sweeps) left distinct (ap (λ (x : HeapRecord). x.value) ends)
 
-  abbrev stays : ℕ → Rattle.std.proofs.Common.Bool
+  abbrev stays : ℕ → Bool
   stays = keeps_way (owners_now trace b) b.value c.value c.pid.0
 
-  pub can_unshare_now : CanUnshare stays e.value e.pid.0 k
-  can_unshare_now = subst (λ (q : Pid). CanUnshare stays e.value q.0 k) (sym same_pid)
-      (can_unshare trace c b can e.value k changes (ap (λ (x : CellValue). x.process) cell_swept.rest) cell_swept.exits)
+  abbrev ways : ℕ → Bool
+  ways = ways_left e.value c.pid.0 k
+
+  pub can_unshare_now : CanUnshare e.value e.pid.0 k
+  can_unshare_now = subst (λ (q : Pid). CanUnshare e.value q.0 k) (sym same_pid) (can_unshare trace c b can e.value k changes (ap (λ (x : CellValue). x.process) cell_swept.rest) cell_swept.exits)
+
+  same_ways : (t : ℕ) → has_share k.value.shares c.pid.0 t ≡ true → ways t ≡ stays t
+  same_ways = ways_same trace c b can e.value k changes (ap (λ (x : CellValue). x.process) cell_swept.rest) cell_swept.exits
 
   left_entries : HasLeft (dropped c.value) b.value k.value
   left_entries = subst (λ (x : CellValue). HasLeft (dropped x) b.value k.value) (ap (λ (x : HeapRecord). x.value) sweeps) entries
 
-  pub lost_bytes_now : bytes_lost stays k.value e.pid.0 (numbers_below (length k.value.phases)) ≡ bytes_unshared trace (owners_now trace b) b.value c.value c.pid.0
+  lost_bytes_now : bytes_lost (ways_left e.value e.pid.0 k) k.value e.pid.0 (numbers_below (length k.value.phases)) ≡ bytes_unshared trace (owners_now trace b) b.value c.value c.pid.0
   lost_bytes_now =
-      ap (λ (q : Pid). bytes_lost stays k.value q.0 (numbers_below (length k.value.phases))) same_pid
+      ap (λ (q : Pid). bytes_lost (ways_left e.value q.0 k) k.value q.0 (numbers_below (length k.value.phases))) same_pid
+      ∙ same_bytes_lost ways stays c.pid.0 k same_ways (numbers_below (length k.value.phases))
       ∙ ap (λ (x : BookRecord). bytes_lost stays x.value c.pid.0 (numbers_below (length x.value.phases))) changes
       ∙ lost_bytes trace c b can
 
-  pub lost_shares_now : shares_lost stays k.value e.pid.0 (numbers_below (length k.value.phases)) ≡ dropped_shares trace (owners_now trace b) b.value c.value c.pid.0
+  pub lost_shares_now : shares_lost (ways_left e.value e.pid.0 k) k.value e.pid.0 (numbers_below (length k.value.phases)) ≡ dropped_shares trace (owners_now trace b) b.value c.value c.pid.0
   lost_shares_now =
-      ap (λ (q : Pid). shares_lost stays k.value q.0 (numbers_below (length k.value.phases))) same_pid
+      ap (λ (q : Pid). shares_lost (ways_left e.value q.0 k) k.value q.0 (numbers_below (length k.value.phases))) same_pid
+      ∙ same_shares_lost ways stays c.pid.0 k same_ways (numbers_below (length k.value.phases))
       ∙ ap (λ (x : BookRecord). shares_lost stays x.value c.pid.0 (numbers_below (length x.value.phases))) changes
       ∙ lost_shares trace c b can
 
-  module _ (m : BookRecord) (unshared : HasUnshared stays e.pid.0 k m) where
+  module _ (m : BookRecord) (unshared : HasUnshared (ways_left e.value e.pid.0 k) e.pid.0 k m) where
     unshared_own : HasUnshared stays c.pid.0 k m
-    unshared_own = subst (λ (q : Pid). HasUnshared stays q.0 k m) same_pid unshared
+    unshared_own = same_unshared ways stays c.pid.0 k same_ways m (subst (λ (q : Pid). HasUnshared (ways_left e.value q.0 k) q.0 k m) same_pid unshared)
 
     -- rows and processes of the book are as they were, and what is charged
     same_rows : m.rows ≡ b.rows
@@ -115,7 +124,7 @@ module _ (trace : Trace) (c : HeapRecord) (b : BookRecord) (can : CanSweep trace
           let there = limit_there trace c b can in
           omega (arith, rows, there, limit_is_of)
 
-      module _ (freed bytes : ℕ) (freed_is : freed ≡ freed_bytes c.value) (bytes_is : bytes ≡ bytes_lost stays k.value e.pid.0 (numbers_below (length k.value.phases))) where
+      module _ (freed bytes : ℕ) (freed_is : freed ≡ freed_bytes c.value) (bytes_is : bytes ≡ bytes_lost (ways_left e.value e.pid.0 k) k.value e.pid.0 (numbers_below (length k.value.phases))) where
         amount_is : freed + bytes ≡ freed_bytes c.value + bytes_unshared trace (owners_now trace b) b.value c.value c.pid.0
         amount_is = ap₂ (λ x y. x + y) freed_is (bytes_is ∙ lost_bytes_now)
 
@@ -157,3 +166,10 @@ module _ (trace : Trace) (c : HoldingsValue) (b : BookRecord) (s l e : HoldingsV
     left = subst (λ (x : CellValue). HasLeft (dropped x) b.value k.value) (ap (λ (x : HoldingsValue). x.value) sweeps) entries;
     event_is = is;
   }
+
+-- the event with the same numbers
+pub ended_same : {q r : Pid} {a b c d u v w x : ℕ} → q ≡ r → a ≡ u → b ≡ v → c ≡ w → d ≡ x → Ended (User q) a b c d ≡ Ended (User r) u v w x
+ended_same p e f g h = cc
+
+pub kernel_ended_same : {a b c u v w : ℕ} → a ≡ u → b ≡ v → c ≡ w → Ended Kernel a b c 0 ≡ Ended Kernel u v w 0
+kernel_ended_same e f g = cc

@@ -19,7 +19,7 @@ append_heap-requires g c =
     c.gray_roots.ensures.rest c.count_done.ensures in
     let room = event_room g.trace c.args.cell.now c.args.book.now c.requires c.meet_heap.new.cell c.meet_heap.new.book c.meet_heap.ensures c.gray_roots.new.cell c.gray_roots.ensures.gray c.count_done.new.self
     c.gray_roots.ensures.rest c.count_done.ensures in
-    (table, (list, room))
+    record { table = table; met = list; room = room }
 
 pub returns : goal.returns
 returns g c =

@@ -24,7 +24,7 @@ append_heap_and_kernel-requires g c =
     c.gray_kernel_roots.new.kernel c.count_done.new.self c.gray_kernel_roots.ensures.rest c.gray_kernel_roots.ensures.gray c.count_done.ensures in
     let room = both_room g.trace c.args.cell.now c.args.kernel.now c.args.book.now c.requires c.meet_heap.new.cell c.meet_heap.new.book c.meet_heap.ensures c.meet_kernel.new.kernel c.meet_kernel.new.book c.meet_kernel.ensures
     c.gray_kernel_roots.new.kernel c.count_done.new.self c.gray_kernel_roots.ensures.rest c.gray_kernel_roots.ensures.gray c.count_done.ensures in
-    ((table, second), ((list, other), room))
+    record { table = (table, second); met = (list, other); room = room }
 
 pub returns : goal.returns
 returns g c =

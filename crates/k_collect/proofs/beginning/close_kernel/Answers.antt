@@ -13,7 +13,7 @@ append_kernel-requires g c =
     c.gray_kernel_roots.ensures.rest c.gray_kernel_roots.ensures.gray c.close.ensures in
     let room = closing_room g.trace c.args.kernel.now c.args.book.now c.requires c.meet_kernel.new.kernel c.meet_kernel.new.book c.meet_kernel.ensures c.gray_kernel_roots.new.kernel c.close.new.self
     c.gray_kernel_roots.ensures.rest c.gray_kernel_roots.ensures.gray c.close.ensures in
-    (table, (list, room))
+    record { table = table; met = list; room = room }
 
 pub returns : goal.returns
 returns g c =

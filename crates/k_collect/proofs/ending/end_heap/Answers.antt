@@ -20,13 +20,11 @@ append_heap-requires g c =
     let k = c.sweep_heap-event.new.book in
     let swept : HasSweptHeap g.trace (record c.args.cell.now { note = met_note c.args.book.now.journal c.args.cell.now.note }) w c.args.book.now k e =
     subst (λ (x : HeapRecord). HasSweptHeap g.trace x w c.args.book.now k e) c.meet_heap.ensures.cell_is (subst (λ (y : BookRecord). HasSweptHeap g.trace c.meet_heap.new.cell w y k e) c.meet_heap.ensures.book_is c.sweep_heap-event.ensures) in
-    (
-      heap_table g.trace c.args.cell.now c.args.book.now c.requires c.meet_heap.ensures.told w k e swept,
-      (
-        heap_list g.trace c.args.cell.now c.args.book.now c.requires c.meet_heap.ensures.told w k e swept,
-        heap_room g.trace c.args.cell.now c.args.book.now c.requires c.meet_heap.ensures.told w k e swept,
-      ),
-    )
+    record {
+      table = heap_table g.trace c.args.cell.now c.args.book.now c.requires c.meet_heap.ensures.told w k e swept;
+      met = heap_list g.trace c.args.cell.now c.args.book.now c.requires c.meet_heap.ensures.told w k e swept;
+      room = heap_room g.trace c.args.cell.now c.args.book.now c.requires c.meet_heap.ensures.told w k e swept;
+    }
 
 pub returns : goal.returns
 returns g c =

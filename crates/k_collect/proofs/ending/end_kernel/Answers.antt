@@ -20,13 +20,11 @@ append_kernel-requires g c =
     let k = c.sweep_kernel-event.new.book in
     let swept : HasSweptKernel g.trace (record c.args.kernel.now { note = met_note c.args.book.now.journal c.args.kernel.now.note }) w c.args.book.now k e =
     subst (λ (x : HoldingsValue). HasSweptKernel g.trace x w c.args.book.now k e) c.meet_kernel.ensures.kernel_is (subst (λ (y : BookRecord). HasSweptKernel g.trace c.meet_kernel.new.kernel w y k e) c.meet_kernel.ensures.book_is c.sweep_kernel-event.ensures) in
-    (
-      kernel_table g.trace c.args.kernel.now c.args.book.now c.requires c.meet_kernel.ensures.told w k e swept,
-      (
-        kernel_list g.trace c.args.kernel.now c.args.book.now c.requires c.meet_kernel.ensures.told w k e swept,
-        kernel_room g.trace c.args.kernel.now c.args.book.now c.requires c.meet_kernel.ensures.told w k e swept,
-      ),
-    )
+    record {
+      table = kernel_table g.trace c.args.kernel.now c.args.book.now c.requires c.meet_kernel.ensures.told w k e swept;
+      met = kernel_list g.trace c.args.kernel.now c.args.book.now c.requires c.meet_kernel.ensures.told w k e swept;
+      room = kernel_room g.trace c.args.kernel.now c.args.book.now c.requires c.meet_kernel.ensures.told w k e swept;
+    }
 
 pub returns : goal.returns
 returns g c =
