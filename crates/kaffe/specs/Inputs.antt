@@ -8,7 +8,7 @@ use Rattle.k_trace.specs.Named.{NamedTrace}
 use Rattle.k_trace.specs.Reasons.{reason_number}
 use Rattle.k_trace.specs.Rules.{Spells}
 use Rattle.kaffe.specs.declared.commands.Command.{Command}
-use Rattle.kaffe.specs.declared.commands.Command.TheVariants.{Run, Replay, Check}
+use Rattle.kaffe.specs.declared.commands.Command.TheVariants.{Check}
 
 -- The most bytes of the command's input. It reads at most one byte more.
 abbrev pub most_bytes : Command → ℕ
