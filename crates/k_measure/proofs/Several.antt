@@ -13,12 +13,6 @@ use Rattle.k_space.proofs.Numbers.{distinct_from, distinct_to, distinct_push, no
 use Rattle.k_measure.specs.Inside.{LeadInto, KeepsInside, AreInside}
 use Rattle.k_measure.proofs.Inside.{same_fields, lead_inside, unmarked_inside, segments_twice, grayed_by}
 
-pub none_inside : AreInside []
-none_inside = record { distinct = distinct_from [] (λ i j s t a b n. absurd (nothing i s a)); each = λ i s a. absurd (nothing i s a) }
-  where
-    nothing : (i : ℕ) (s : SegmentValue) → slice_get [] i ≡ Some s → ⊥
-    nothing i s a = cc
-
 pushed_at : (xs : List SegmentValue) (y s : SegmentValue) (i : ℕ) → slice_get (xs ++ y ∷ []) i ≡ Some s → (slice_get xs i ≡ Some s) ⊎ (y ≡ s)
 pushed_at [] y s zero e = inr (cc)
 pushed_at [] y s (suc i) e = absurd (cc)

@@ -33,6 +33,3 @@ sum_next size goes xs i x inside is =
       | true ↦ refl
       | false ↦ omega arith
     ]
-
-pub sum_last : {A : Type 0} (size : A → ℕ) (goes : A → Bool) (xs : List A) (i : ℕ) → length xs ≤ i → total size (filter goes (drop i xs)) ≡ 0
-sum_last size goes xs i past = ap (λ ys. total size (filter goes ys)) (drop_all i xs past)

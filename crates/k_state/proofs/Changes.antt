@@ -5,7 +5,3 @@ pub map-set : {A B : Type 0} (f : A → B) (xs : List A) (i : ℕ) (v : A) → m
 map-set f [] i v = refl
 map-set f (x ∷ xs) zero v = refl
 map-set f (x ∷ xs) (suc i) v = ap (λ ys. f x ∷ ys) (map-set f xs i v)
-
-pub map_replicate : {A B : Type 0} (f : A → B) (n : ℕ) (x : A) → map f (replicate n x) ≡ replicate n (f x)
-map_replicate f zero x = refl
-map_replicate f (suc n) x = ap (λ ys. f x ∷ ys) (map_replicate f n x)

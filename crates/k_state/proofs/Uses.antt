@@ -32,10 +32,6 @@ pub uses_next : (rows : List LimitRow) (direct : ℕ → ℕ) (depth m c : ℕ) 
 uses_next rows direct depth m c inside =
     numbers_sum_left (child_use rows direct depth) (λ k. is_parent (row_of rows k).parent m) c (length rows) inside
 
-pub uses_end : (rows : List LimitRow) (direct : ℕ → ℕ) (depth m c : ℕ) → length rows ≤ c → uses_left rows direct depth m c ≡ 0
-uses_end rows direct depth m c past =
-    numbers_sum_over (child_use rows direct depth) (λ k. is_parent (row_of rows k).parent m) c (length rows) past
-
 pub use_none : (rows : List LimitRow) (direct : ℕ → ℕ) (depth m : ℕ) → depth ≡ 0 → use_within rows direct depth m ≡ 0
 unfolding use_within
 use_none rows direct depth m none = ap (λ d. use_within rows direct d m) none
