@@ -29,6 +29,3 @@ pub use worked::{
     faults_are_read, histories_are_read, names_are_read, other_events_are_read,
     other_lines_are_none,
 };
-
-#[cfg(test)]
-mod tests;

@@ -27,6 +27,3 @@ pub use reading::read_trace;
 pub use reasons::Reason;
 pub use spelling::{push_op, push_register};
 pub use trace::Trace;
-
-#[cfg(test)]
-mod tests;
