@@ -7,7 +7,7 @@ use Rattle.k_types.specs.Names.{name_eq, name_lt}
 use Rattle.k_types.specs.State.{Content, Object, has, object_at}
 use Rattle.k_types.specs.Updates.{object_after_write, with_object}
 use Rattle.k_types.specs.Sound.{IsOrdered, IsOrderedFrom}
-use Rattle.k_base.proofs.NameTests.{name_eq-false, name_eq-true, name_lt_apart, name_lt_apart_back, name_lt_irrefl, name_lt_total, name_lt_trans}
+use Rattle.k_base.proofs.NameTests.{name_eq-true, name_lt_apart, name_lt_apart_back, name_lt_total, name_lt_trans}
 use Rattle.k_base.proofs.Objects.{written_name}
 use Rattle.k_state.specs.Marks.{marked}
 use Rattle.k_state.specs.Places.{IsPlace}

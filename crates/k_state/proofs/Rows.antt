@@ -1,5 +1,5 @@
 -- Rows of the limits with the maxima that they have now.
-use Rattle.std.proofs.Common.{◌≡◌, ℕ, zero, suc, ◌<◌, refl, ap, List, [], ◌∷◌, length, get_or, arith}
+use Rattle.std.proofs.Common.{◌≡◌, ℕ, zero, suc, ◌<◌, refl, List, [], ◌∷◌, length, get_or, arith}
 use Rattle.k_types.specs.declared.setup.LimitRow.{LimitRow}
 use Rattle.k_types.specs.Trace.{row_of}
 use Rattle.k_types.specs.Limits.{with_maxima}

@@ -1,5 +1,5 @@
 -- What holds of each element of a list.
-use Rattle.std.proofs.Common.{◌≡◌, subst, ℕ, zero, suc, ◌<◌, length, get_or, cond, Bool, true, false, List, [], ◌∷◌, ◌++◌, find, slice_get, Some, arith}
+use Rattle.std.proofs.Common.{◌≡◌, subst, ℕ, zero, suc, ◌<◌, length, get_or, List, [], ◌∷◌, slice_get, Some, arith}
 use Rattle.std.specs.List.{AllByRecursion}
 use Rattle.k_types.specs.declared.names.Phase.{Phase}
 use Rattle.k_types.specs.Known.{IsKnownPhase}

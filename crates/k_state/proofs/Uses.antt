@@ -1,11 +1,11 @@
 -- What is left to add of a use, a charge and a direct charge.
-use Rattle.std.proofs.Common.{◌≡◌, ℕ, zero, suc, ◌+◌, ◌-◌, ◌<◌, ◌≤◌, cond, ap, ◌∙◌, List, length, arith}
+use Rattle.std.proofs.Common.{◌≡◌, ℕ, zero, suc, ◌+◌, ◌-◌, ◌<◌, cond, ap, ◌∙◌, List, length, arith}
 use Rattle.k_types.specs.declared.setup.LimitRow.{LimitRow}
 use Rattle.k_types.specs.Totals.{total}
 use Rattle.k_types.specs.Numbers.{numbers_from}
 use Rattle.k_types.specs.Trace.{row_of}
 use Rattle.k_types.specs.Limits.{is_parent, max_of, use_within}
-use Rattle.k_state.proofs.Sums.{numbers_sum_left, numbers_sum_over}
+use Rattle.k_state.proofs.Sums.{numbers_sum_left}
 use Rattle.std.specs.Prelude.{filter}
 
 -- what a child adds to the use of its parent

@@ -1,5 +1,5 @@
 -- A state of which one list is another.
-use Rattle.std.proofs.Common.{◌≡◌, ℕ, ap, ap₂, ◌∙◌, List}
+use Rattle.std.proofs.Common.{◌≡◌, ap₂, List}
 use Rattle.k_types.specs.State.{ExitItem, Object, Scan, Sharing}
 use Rattle.k_state.specs.Machines.{Machine}
 
