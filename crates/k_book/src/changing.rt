@@ -3,7 +3,7 @@ ghost use Rattle.std.specs.Prelude.{◌≡◌, ◌+◌, ◌-◌, ◌<◌, ◌≤
 ghost use Rattle.k_types.specs.Counted.{counted};
 ghost use Rattle.k_types.specs.Names.{among, name_of};
 ghost use Rattle.k_types.specs.State.{has_share};
-ghost use Rattle.k_entry.specs.Entries.{HasLess, HasMore};
+ghost use Rattle.k_entry.specs.Entries.{AreEntries, HasLess, HasMore};
 ghost use Rattle.k_entered.specs.Entered.{HasRehomed};
 ghost use Rattle.k_limits.specs.Limits.{full_at};
 ghost use Rattle.k_shares.specs.Sharers.{bytes_in_phase, GainsEnded, GainsShare, LosesShare};
@@ -56,7 +56,7 @@ impl Book {
     /// One register more of another process than its owner holds the object.
     pub fn pin(&mut self, target: Link)
         requires home { target.seg.0 < length self.old.value.homes }
-        requires room { counted self.old.value.pins (name_of target) ≡ 0 → length self.old.value.pins < self.old.pin_room }
+        requires room { AreEntries (book_pins self.old) → counted self.old.value.pins (name_of target) ≡ 0 → length self.old.value.pins < self.old.pin_room }
         requires small { counted self.old.value.pins (name_of target) < 2 ^ 32 - 1 }
         ensures more { HasMore (book_pins self.old) (book_pins self.new) (name_of target) }
         ensures rest { self.new ≡ record self.old { value = record self.old.value { pins = self.new.value.pins } } }

@@ -1,5 +1,5 @@
 //! The journal of the book.
-ghost use Rattle.std.specs.Prelude.{◌≡◌, ◌≢◌, ◌+◌, ◌<◌, ◌≤◌, Some, length, slice_get};
+ghost use Rattle.std.specs.Prelude.{◌≡◌, ◌≢◌, ◌+◌, ◌<◌, ◌≤◌, ◌^◌, Some, length, slice_get};
 ghost use Rattle.k_types.specs.Complete.{IsPrefixOf};
 ghost use Rattle.k_tie.specs.Rule.{total_of};
 ghost use Rattle.k_journal.specs.Kept.{with_event, with_touch};
@@ -33,7 +33,7 @@ impl Book {
         self.journal.append(event);
     }
 
-    /// TellsTheMachine that the note's list is a prefix of the journal and that its share is its cell's total, so that no event has
+    /// Tells that the note's list is a prefix of the journal and that its share is its cell's total, so that no event has
     /// touched the cell unseen. The note has the whole journal afterwards.
     pub fn meet(&mut self, note: &mut Note)
         requires { note.old.table ≡ self.old.journal.table }
@@ -41,6 +41,7 @@ impl Book {
         ensures note { note.new ≡ record note.old { list = self.old.journal.list } }
         ensures prefix { IsPrefixOf note.old.list self.old.journal.list }
         ensures share { note.old.share ≡ total_of self.old.journal.touches note.old.cell }
+        ensures few { self.old.event_room < 2 ^ 32 }
     {
         self.journal.meet_in_place(note);
     }
@@ -54,7 +55,7 @@ impl Book {
         self.journal.touch_in_place(note);
     }
 
-    /// TellsTheMachine that two notes have different cells, and leaves both as they were.
+    /// Tells that two notes have different cells, and leaves both as they were.
     pub fn apart(&mut self, one: &mut Note, other: &mut Note)
         requires { (one.old.table ≡ self.old.journal.table) × (other.old.table ≡ self.old.journal.table) }
         ensures same { self.new ≡ self.old }

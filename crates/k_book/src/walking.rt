@@ -2,7 +2,7 @@
 ghost use Rattle.std.specs.Prelude.{◌≡◌, ◌<◌, option_map};
 ghost use Rattle.k_types.specs.Counted.{counted};
 ghost use Rattle.k_types.specs.Names.{name_of};
-ghost use Rattle.k_entry.specs.Entries.{first_object, home_of, items_of, object_after};
+ghost use Rattle.k_entry.specs.Entries.{AreEntries, first_object, home_of, items_of, object_after};
 ghost use Rattle.k_book.specs.Books.{book_entries, book_pins};
 
 use crate::parts::Book;
@@ -11,7 +11,8 @@ use k_types::{Heap, Link};
 impl Book {
     /// The first entered object of the heap, on a walk that passes each of its entered objects once.
     pub fn first_entry(&self, heap: Heap) -> Option<Link>
-        ensures { option_map name_of result ≡ first_object (items_of (book_entries self.now) heap) }
+        ensures first { option_map name_of result ≡ first_object (items_of (book_entries self.now) heap) }
+        ensures items { AreEntries (book_entries self.now) }
     {
         self.entered.first_entry(heap)
     }
@@ -26,7 +27,8 @@ impl Book {
 
     /// The first pinned object of the heap, on a walk that passes each of its pinned objects once.
     pub fn first_pin(&self, heap: Heap) -> Option<Link>
-        ensures { option_map name_of result ≡ first_object (items_of (book_pins self.now) heap) }
+        ensures first { option_map name_of result ≡ first_object (items_of (book_pins self.now) heap) }
+        ensures items { AreEntries (book_pins self.now) }
     {
         self.entered.first_pin(heap)
     }

@@ -129,6 +129,14 @@ joined_kept bound bytes phase a new items s kept idle none below is distinct own
     (subst (λ q. AreHoldings bound bytes q a items → AreHoldings bound (bytes + segment_bytes s) q (record a { segments = a.segments ++ s ∷ [] }) items) (sym idle)
     (λ k. joined_kept_here bound bytes a items s k none below (subst (λ (x : AreaValue). HasDistinct x.segments) is distinct) own) kept)
 
+-- the segment that was added is there
+pub joined_there : (bound : ℕ) (a new : AreaValue) (s : SegmentValue) → HasNoneFrom a.segments bound → segment_at a.segments s.number ≡ None → s.number < bound →
+    new ≡ record a { segments = a.segments ++ s ∷ [] } → get_or (made_list bound new.segments) s.number None ≡ Some (made s)
+joined_there bound a new s numbered none below is =
+    ap (λ (x : AreaValue). get_or (made_list bound x.segments) s.number None) is
+    ∙ made_listed (a.segments ++ s ∷ []) bound s.number (λ k past. at_push_other a.segments s k (λ e. omega (arith, e, past, below)) ∙ numbered k past)
+    ∙ ap (option_map made) (at_push_same a.segments s none)
+
 -- whether a number has no segment
 none_mapped : (o : Option SegmentValue) → option_map made o ≡ None → o ≡ None
 none_mapped None e = refl

@@ -14,7 +14,7 @@ ghost use Rattle.k_types.specs.declared.names.CellPhase.TheVariants.{Begun, Idle
 ghost use Rattle.k_types.specs.declared.names.Name.{Name as Named};
 ghost use Rattle.k_base.specs.Distinct.{AreDistinctNames};
 ghost use Rattle.k_space.specs.Objects.{content_of};
-ghost use Rattle.k_space.specs.Segments.{segment_bytes};
+ghost use Rattle.k_space.specs.Segments.{made, segment_bytes};
 ghost use Rattle.k_agree.specs.Marking.{begun};
 ghost use Rattle.k_agree.specs.Ending.{freed_bytes, freed_objects};
 ghost use Rattle.k_cell.specs.Looks.{field_among, field_count_among, type_among};
@@ -319,7 +319,8 @@ impl Holdings {
         requires new { slice_index_or self.old.value.made segment.number None ≡ None }
         requires room { self.old.bound ≤ self.old.segment_room }
         requires bytes { total object_bytes self.old.value.objects + segment_bytes segment < 2 ^ 64 }
-        ensures { self.new ≡ with_segment_added segment self.old }
+        ensures added { self.new ≡ with_segment_added segment self.old }
+        ensures there { slice_index_or self.new.value.made segment.number None ≡ Some (made segment) }
     {
         self.bytes += segment.bytes();
         self.area.add(segment);

@@ -96,7 +96,7 @@ impl EnteredTables {
     #[tactic(auto, using(crate::proofs::Pinned::pins_are))]
     pub fn pin(&mut self, target: Link)
         requires home { target.seg.0 < length self.old.homes }
-        requires room { counted self.old.pins (name_of target) ≡ 0 → length self.old.pins < self.old.pin_room }
+        requires room { AreEntries (pin_items self.old) → counted self.old.pins (name_of target) ≡ 0 → length self.old.pins < self.old.pin_room }
         requires small { counted self.old.pins (name_of target) < 2 ^ 32 - 1 }
         ensures more { HasMore (pin_items self.old) (pin_items self.new) (name_of target) }
         ensures rest { self.new ≡ record self.old { pins = self.new.pins } }
@@ -116,7 +116,8 @@ impl EnteredTables {
 
     /// The first entered object on the walk of that home.
     pub fn first_entry(&self, heap: Heap) -> Option<Link>
-        ensures { option_map name_of result ≡ first_object (items_of (entry_items self.now) heap) }
+        ensures first { option_map name_of result ≡ first_object (items_of (entry_items self.now) heap) }
+        ensures items { AreEntries (entry_items self.now) }
     {
         self.entries.first_of(heap)
     }
@@ -132,7 +133,8 @@ impl EnteredTables {
     /// The first pinned object on the walk of that home.
     #[tactic(auto, using(crate::proofs::Pinned::pins_are))]
     pub fn first_pin(&self, heap: Heap) -> Option<Link>
-        ensures { option_map name_of result ≡ first_object (items_of (pin_items self.now) heap) }
+        ensures first { option_map name_of result ≡ first_object (items_of (pin_items self.now) heap) }
+        ensures items { AreEntries (pin_items self.now) }
     {
         self.pins.first_of(heap)
     }

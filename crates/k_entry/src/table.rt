@@ -102,7 +102,7 @@ impl EntryTable {
     /// Counts the object once more. It passes one hash chain at most.
     pub fn up(&mut self, target: Link)
         requires home { target.seg.0 < length self.old.homes }
-        requires room { counted self.old.items (name_of target) ≡ 0 → length self.old.items < self.old.room }
+        requires room { AreEntries self.old → counted self.old.items (name_of target) ≡ 0 → length self.old.items < self.old.room }
         requires small { counted self.old.items (name_of target) < 2 ^ 32 - 1 }
         ensures { HasMore self.old self.new (name_of target) }
     {

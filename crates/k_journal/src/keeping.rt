@@ -1,5 +1,5 @@
 //! The events with their seat.
-ghost use Rattle.std.specs.Prelude.{◌≡◌, ◌≢◌, ◌+◌, ◌<◌, ◌≤◌, [], Some, IfOk, length, slice_get, vec_capacity};
+ghost use Rattle.std.specs.Prelude.{◌≡◌, ◌≢◌, ◌+◌, ◌<◌, ◌≤◌, ◌^◌, [], Some, IfOk, length, slice_get, vec_capacity};
 ghost use Rattle.k_types.specs.Complete.{IsPrefixOf};
 ghost use Rattle.k_tie.specs.Rule.{total_of};
 ghost use Rattle.k_journal.specs.Kept.{with_event, with_touch};
@@ -76,6 +76,7 @@ impl Journal {
         ensures note { note.new ≡ record note.old { list = self.old.journal.list } }
         ensures prefix { IsPrefixOf note.old.list self.old.journal.list }
         ensures share { note.old.share ≡ total_of self.old.journal.touches note.old.cell }
+        ensures few { self.old.room < 2 ^ 32 }
     {
         self.seat.meet_in_place(&self.tie, note);
     }

@@ -1,5 +1,5 @@
 //! What the kernel's cell changes of its heap.
-ghost use Rattle.std.specs.Prelude.{◌≡◌, ◌<◌, ◌≤◌, ◌+◌, ◌^◌, ◌==◌, ◌⊎◌, not, [], IfNone, IfSome, IsFalse, IsTrue, None, length, option_map, slice_index_or};
+ghost use Rattle.std.specs.Prelude.{◌≡◌, ◌<◌, ◌≤◌, ◌+◌, ◌^◌, ◌==◌, ◌⊎◌, not, [], IfNone, IfSome, IsFalse, IsTrue, None, Some, length, option_map, slice_index_or};
 ghost use Rattle.std.specs.List.{list_any};
 ghost use Rattle.k_types.specs.Names.{name_among, name_of};
 ghost use Rattle.k_types.specs.Owners.{object_bytes};
@@ -8,7 +8,7 @@ ghost use Rattle.k_types.specs.State.{Holds, Refers};
 ghost use Rattle.k_types.specs.Totals.{total};
 ghost use Rattle.k_types.specs.declared.names.CellPhase.TheVariants.{Begun, Idle, Marked};
 ghost use Rattle.k_types.specs.declared.names.Name.{Name as Named};
-ghost use Rattle.k_space.specs.Segments.{segment_bytes};
+ghost use Rattle.k_space.specs.Segments.{made, segment_bytes};
 ghost use Rattle.k_agree.specs.Marking.{begun};
 ghost use Rattle.k_agree.specs.Ending.{freed_bytes, freed_objects};
 ghost use Rattle.k_cell.specs.Looks.{field_among, field_count_among};
@@ -146,7 +146,8 @@ impl KernelCell {
         requires number { segment.number < self.old.bound }
         requires new { slice_index_or self.old.value.made segment.number None ≡ None }
         requires bytes { total object_bytes self.old.value.objects + segment_bytes segment < 2 ^ 64 }
-        ensures { self.new ≡ with_segment_added segment self.old }
+        ensures added { self.new ≡ with_segment_added segment self.old }
+        ensures there { slice_index_or self.new.value.made segment.number None ≡ Some (made segment) }
     {
         self.holdings.add_segment(segment);
     }
@@ -157,7 +158,8 @@ impl KernelCell {
         requires number { segment.number < self.old.bound }
         requires new { slice_index_or self.old.value.made segment.number None ≡ None }
         requires bytes { total object_bytes self.old.value.objects + segment_bytes segment < 2 ^ 64 }
-        ensures { self.new ≡ with_segment_added segment self.old }
+        ensures added { self.new ≡ with_segment_added segment self.old }
+        ensures there { slice_index_or self.new.value.made segment.number None ≡ Some (made segment) }
     {
         self.holdings.add_segment(segment);
     }

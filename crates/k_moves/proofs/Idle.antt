@@ -1,6 +1,8 @@
 -- What an idle cell shows, and the owners that the book shows.
-use Rattle.std.proofs.Common.{◌≡◌, ℕ, sym, ap, ap₂, subst, ◌∙◌, map, List, Option, None, is_some, not, true}
+use Rattle.std.proofs.Common.{◌≡◌, ◌==◌, ◌-◌, ℕ, sym, ap, ap₂, subst, ◌∙◌, map, cond, List, Option, None, is_some, nat_le, not, Bool, true}
+use Rattle.std.proofs.Math.Path.{fun_ext}
 use Rattle.k_types.specs.declared.names.Heap.{Heap}
+use Rattle.k_types.specs.declared.names.Heap.TheVariants.{Kernel}
 use Rattle.k_types.specs.declared.names.Name.{Name}
 use Rattle.k_types.specs.declared.names.Phase.{Phase}
 use Rattle.k_types.specs.declared.names.CellPhase.TheVariants.{Idle}
@@ -8,8 +10,9 @@ use Rattle.k_types.specs.Agree.{AreMarks, BookValue, CellValue, book_shown_by}
 use Rattle.k_types.specs.Cells.{Cell, CellPart, ShownPart, book_part, part, shown}
 use Rattle.k_types.specs.Names.{among}
 use Rattle.k_types.specs.Numbers.{numbers_below}
+use Rattle.k_types.specs.Owners.{is_absorbed, phase_of, shared, user}
 use Rattle.k_types.specs.State.{State, is_scanned, scan_of}
-use Rattle.k_types.specs.Trace.{Trace, segment_count}
+use Rattle.k_types.specs.Trace.{Trace, process_count, segment_count}
 use Rattle.k_changes.specs.BookChanges.{owner_in}
 use Rattle.k_changes.proofs.Laws.{the_book_tells_the_owners}
 use Rattle.k_agree.specs.Agreement.{BookShows}
@@ -42,15 +45,30 @@ module _ (trace : Trace) (st : State) (c : Cell) (v : CellValue) where
   unscanned s = ap (λ (scan : Option (List Name)). not (is_some scan)) (not_open s)
 
 -- the owners that the book tells depend on who has ended and on the phases alone
-pub owners_kept : (trace : Trace) (b k : BookValue) → KeepsOwners b k → owner_in trace (book_shown_by b) ≡ owner_in trace (book_shown_by k)
-owners_kept trace b k kept =
-    ap₂ (λ (ended : List ℕ) (phases : List Phase). owner_in trace (record (book_shown_by b) { ended = λ p. among p ended; phases = phases })) (sym kept.ended) (sym kept.phases)
+pub owners_kept : (trace : Trace) (b k : BookValue) → k.homes ≡ b.homes → k.ended ≡ b.ended → k.phases ≡ b.phases → KeepsOwners trace b k
+owners_kept trace b k homes ended phases = record {
+  homes = homes;
+  owners = ap₂ (λ (ended : List ℕ) (phases : List Phase). owner_in trace (record (book_shown_by b) { ended = λ p. among p ended; phases = phases })) ended phases;
+}
 
-pub book_follows : (trace : Trace) (st su : State) (b k : BookValue) → BookShows trace st b → KeepsOwners b k → book_shown_by k ≡ book_part trace su → BookShows trace su k
+-- of the phases only which shared heaps were absorbed
+pub owners_by_absorbed : (trace : Trace) (b k : BookValue) → k.homes ≡ b.homes → k.ended ≡ b.ended →
+    ((t : ℕ) → is_absorbed (phase_of k.phases t) ≡ is_absorbed (phase_of b.phases t)) → KeepsOwners trace b k
+owners_by_absorbed trace b k homes ended absorbed = record {
+  homes = homes;
+  owners =
+      fun_ext (λ seg.
+      ap₂ (λ (ended : List ℕ) (gone : Bool).
+      cond (seg == 0) Kernel
+      (cond (nat_le seg (process_count trace)) (cond (among (seg - 1) ended) Kernel (user (seg - 1))) (cond gone Kernel (shared (seg - 1 - process_count trace)))))
+      ended (absorbed (seg - 1 - process_count trace)));
+}
+
+pub book_follows : (trace : Trace) (st su : State) (b k : BookValue) → BookShows trace st b → KeepsOwners trace b k → book_shown_by k ≡ book_part trace su → BookShows trace su k
 book_follows trace st su b k shows kept is = record {
   part = is;
   homes =
       kept.homes ∙ shows.homes
       ∙ ap (λ (own : ℕ → Heap). map own (numbers_below (segment_count trace)))
-      (sym (the_book_tells_the_owners trace st) ∙ ap (owner_in trace) (sym shows.part) ∙ owners_kept trace b k kept ∙ ap (owner_in trace) is ∙ the_book_tells_the_owners trace su);
+      (sym (the_book_tells_the_owners trace st) ∙ ap (owner_in trace) (sym shows.part) ∙ sym kept.owners ∙ ap (owner_in trace) is ∙ the_book_tells_the_owners trace su);
 }

@@ -3,4 +3,5 @@ pub mod Followed
 pub mod Committed
 pub mod Changed
 pub mod Given
+pub mod Beside
 pub mod Stored

@@ -15,6 +15,7 @@ use Rattle.k_types.specs.Steps.{IsLegalHistory, IsPossible, in_range, state_afte
 use Rattle.k_types.specs.Trace.{Trace, process_count}
 use Rattle.k_types.specs.TraceRules.{AreLimits}
 use Rattle.k_tie.specs.Values.{JournalValue, NoteValue}
+use Rattle.k_changes.specs.BookChanges.{owner_in}
 use Rattle.k_agree.specs.Agreement.{AreTotals, BookShows}
 use Rattle.k_agree.specs.Committing.{NotedCell}
 use Rattle.k_agree.specs.Meeting.{HasMet}
@@ -48,11 +49,10 @@ pub record MayAct (trace : Trace) (st : State) (p : ℕ) (op : Op) : Type 0 wher
   pub in_range : IsTrue (in_range trace op)
   pub waits : IsFalse (waits_for_orphans op)
 
--- the owners of the segments, and what they depend on, are as before
-pub record KeepsOwners (old new : BookValue) : Type 0 where
+-- who owns the segments is as before, by the homes and by what the book shows
+pub record KeepsOwners (trace : Trace) (old new : BookValue) : Type 0 where
   pub homes : new.homes ≡ old.homes
-  pub ended : new.ended ≡ old.ended
-  pub phases : new.phases ≡ old.phases
+  pub owners : owner_in trace (book_shown_by new) ≡ owner_in trace (book_shown_by old)
 
 -- cell and book show the state, and their values are changed as the operation in the own cell asks
 pub record MovesAlone (trace : Trace) (st : State) (pid : Pid) (op : Op) (said : Reply) (v w : CellValue) (b k : BookValue) : Type 0 where
@@ -61,7 +61,7 @@ pub record MovesAlone (trace : Trace) (st : State) (pid : Pid) (op : Op) (said :
   pub book : BookShows trace st b
   pub gives : GivesAlone trace pid op said (idle_part v) (idle_part w) (book_shown_by b) (book_shown_by k)
   pub idle : w.collection ≡ Idle
-  pub owners : KeepsOwners b k
+  pub owners : KeepsOwners trace b k
 
 -- cells and book show the state, and their values are changed as the operation that touches both cells asks
 pub record MovesBoth (trace : Trace) (st : State) (pid : Pid) (op : Op) (said : Reply) (cell : Cell) (v w u x : CellValue) (b k : BookValue) : Type 0 where
@@ -72,7 +72,7 @@ pub record MovesBoth (trace : Trace) (st : State) (pid : Pid) (op : Op) (said : 
   pub gives : GivesBoth trace pid op said cell (idle_part v) (idle_part w) (idle_part u) (idle_part x) (book_shown_by b) (book_shown_by k)
   pub idle : w.collection ≡ Idle
   pub other_idle : x.collection ≡ Idle
-  pub owners : KeepsOwners b k
+  pub owners : KeepsOwners trace b k
 
 -- the operation is possible with this reply, and cell and book show the state to which it leads
 pub record HasMoved (trace : Trace) (st : State) (pid : Pid) (op : Op) (said : Reply) (w : CellValue) (k : BookValue) : Type 0 where

@@ -3,11 +3,13 @@
 //! the agreement of k_agree.
 #![tactic(auto)]
 
+mod accessing;
 mod changing;
 mod moving;
 mod operating;
 mod storing;
 
+pub use accessing::{gets_are_given, loads_are_given, puts_are_given};
 pub use changing::value_changes_show;
 pub use moving::{moved_operations_commit, operations_alone_move, operations_of_two_cells_move};
 pub use operating::{new_objects_are_given, refused_operations_count, registers_are_set};

@@ -1,5 +1,5 @@
 //! What operations in the own cell make of its part and of the book's.
-ghost use Rattle.std.specs.Prelude.{◌≡◌, None, Some, [], ◌∷◌};
+ghost use Rattle.std.specs.Prelude.{◌≡◌, IsFalse, None, Some, [], ◌∷◌};
 ghost use Rattle.k_changes.specs.BookChanges.{owner_in, with_charge, with_pin_moved};
 ghost use Rattle.k_changes.specs.CellChanges.{next_name_in, with_created};
 ghost use Rattle.k_frame.specs.PartUpdates.{held_in, with_done, with_register};
@@ -7,13 +7,13 @@ ghost use Rattle.k_moves.specs.Moves.{GivesAlone, GivesBoth};
 ghost use Rattle.k_moves.specs.Shown.{part_alone, two_parts};
 ghost use Rattle.k_squares.specs.Answers.{faults_in, size_fault_in};
 ghost use Rattle.k_squares.specs.Touches.{other_cells_in};
-ghost use Rattle.k_types.specs.Cells.{BookPart, CellPart};
-ghost use Rattle.k_types.specs.Names.{directory};
+ghost use Rattle.k_types.specs.Cells.{BookPart, Cell, CellPart};
+ghost use Rattle.k_types.specs.Names.{directory, heap_eq};
 ghost use Rattle.k_types.specs.Replies.{first_fault};
 ghost use Rattle.k_types.specs.Trace.{Trace, kinds_of, limit_of, segment_of, size_of_type};
 ghost use Rattle.k_types.specs.declared.event.Fault.{Fault};
 ghost use Rattle.k_types.specs.declared.event.Reply.TheVariants.{Done, Loaded, Made, Refused};
-ghost use Rattle.k_types.specs.declared.names.Heap.TheVariants.{Kernel, User};
+ghost use Rattle.k_types.specs.declared.names.Heap.TheVariants.{User};
 ghost use Rattle.k_types.specs.declared.names.Pid.{Pid};
 ghost use Rattle.k_types.specs.declared.names.Reg.{Reg};
 ghost use Rattle.k_types.specs.declared.names.TypeId.{TypeId};
@@ -25,9 +25,9 @@ pub fn refused_operations_count()
     ensures alone { (trace : Trace) (b : BookPart) (v : CellPart) (pid : Pid) (op : Op) (fault : Fault) →
         other_cells_in trace b v pid.0 op ≡ [] → first_fault (faults_in trace b (part_alone v) pid.0 op) ≡ Some fault →
         GivesAlone trace pid op (Refused fault) v (with_done v) b b }
-    ensures kernel { (trace : Trace) (b : BookPart) (v k : CellPart) (pid : Pid) (op : Op) (fault : Fault) →
-        other_cells_in trace b v pid.0 op ≡ (Kernel ∷ []) → first_fault (faults_in trace b (two_parts (User pid) v k) pid.0 op) ≡ Some fault →
-        GivesBoth trace pid op (Refused fault) Kernel v (with_done v) k k b b }
+    ensures both { (trace : Trace) (b : BookPart) (v u : CellPart) (pid : Pid) (cell : Cell) → IsFalse (heap_eq (User pid) cell) →
+        (op : Op) (fault : Fault) → other_cells_in trace b v pid.0 op ≡ (cell ∷ []) → first_fault (faults_in trace b (two_parts (User pid) v u) pid.0 op) ≡ Some fault →
+        GivesBoth trace pid op (Refused fault) cell v (with_done v) u u b b }
 {}
 
 /// `move`, `drop` and `dir` set the register, and move its pin.

@@ -4,7 +4,7 @@ use Rattle.k_types.specs.Owners.{object_bytes}
 use Rattle.k_types.specs.Totals.{total}
 use Rattle.k_space.specs.Areas.{segment_at}
 use Rattle.k_cell.specs.Holdings.{HoldingsValue}
-use Rattle.k_cell.proofs.Moved.{joined_kept, joined_seen, none_there, room_left}
+use Rattle.k_cell.proofs.Moved.{joined_kept, joined_seen, joined_there, none_there, room_left}
 use Rattle.k_cell.proofs.holding.Holdings.add_segment.Goals as goal
 
 pub overflow_add-self : goal.overflow_add-self
@@ -34,11 +34,18 @@ invariant_of-self c =
     rw c.bytes.ensures.value
     (joined_kept c.self.inside.bound c.self.inside.bytes c.self.inside.phase c.self.inside.area c.add.new.self c.self.inside.exits.items c.args.segment c.self.invariant idle none below c.add.ensures.added c.add.ensures.distinct (omega (arith, c.bytes.ensures.sound.begun)))
 
-pub returns : goal.returns
-returns c =
+pub returns-clause-added : goal.returns-clause-added
+returns-clause-added c =
     let idle : c.self.inside.phase ≡ Idle = ap (λ (h : HoldingsValue). h.value.collection) c.self.view_is ∙ c.requires.idle in
     let none : segment_at c.self.inside.area.segments c.args.segment.number ≡ None = none_there c.self.inside.area.segments c.self.inside.bound c.args.segment.number c.self.invariant.numbered.none (ap (λ (h : HoldingsValue). get_or h.value.made c.args.segment.number None) c.self.view_is ∙ c.requires.new) in
     let bound = ap (λ (h : HoldingsValue). h.bound) c.self.view_is in
     let below : c.args.segment.number < c.self.inside.bound = omega (arith, bound, c.requires.number) in
     rw (← c.self.view_is)
     (joined_seen c.self.inside.bound c.self.inside.bytes c.self.inside.phase c.self.inside.area c.add.new.self c.self.inside.exits c.self.inside.note c.args.segment c.self.invariant idle none below c.add.ensures.added)
+
+pub returns-clause-there : goal.returns-clause-there
+returns-clause-there c =
+    let none : segment_at c.self.inside.area.segments c.args.segment.number ≡ None = none_there c.self.inside.area.segments c.self.inside.bound c.args.segment.number c.self.invariant.numbered.none (ap (λ (h : HoldingsValue). get_or h.value.made c.args.segment.number None) c.self.view_is ∙ c.requires.new) in
+    let bound = ap (λ (h : HoldingsValue). h.bound) c.self.view_is in
+    let below : c.args.segment.number < c.self.inside.bound = omega (arith, bound, c.requires.number) in
+    joined_there c.self.inside.bound c.self.inside.area c.add.new.self c.args.segment c.self.invariant.numbered.none none below c.add.ensures.added

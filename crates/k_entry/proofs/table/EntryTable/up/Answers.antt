@@ -7,10 +7,10 @@ use Rattle.k_types.specs.Totals.{total}
 use Rattle.k_lists.specs.Lists.{ListsValue, members}
 use Rattle.k_types.specs.Counted.{counted}
 use Rattle.k_entry.specs.declared.item.Item.{Item}
-use Rattle.k_entry.specs.Entries.{EntryValue, HasMore}
+use Rattle.k_entry.specs.Entries.{AreEntries, EntryValue, HasMore}
 use Rattle.k_entry.specs.Slots.{Parts, shown, used, row_at, AreKept, GivesSlot}
 use Rattle.k_entry.proofs.Counts.{hits, no_hits}
-use Rattle.k_entry.proofs.Items.{found_by, none_by, read_at, walk_read}
+use Rattle.k_entry.proofs.Items.{entries_of, found_by, none_by, read_at, walk_read}
 use Rattle.k_entry.proofs.Recounts.{recount_by, kept_recount, more_recount}
 use Rattle.k_entry.proofs.More.{more_by, kept_more, has_more, slots_fit, moved, fresh}
 use Rattle.k_entry.proofs.Known.{known_recount, known_more}
@@ -47,6 +47,10 @@ returns-in-Some c =
     (subst (λ (t : Name). HasMore (shown p) (shown new) t) c.name-name.ensures
     (more_recount p c.name-name.result (set c.self.inside.slots.items c.in-Some.i c.with_count.result) c.in-Some.i (c.index-item.result.now.count + 1) c.self.invariant.kept f r count))
 
+-- the items are such as a table has
+entries_shown : (p : Parts) (v : EntryValue) → shown p ≡ v → AreKept p → AreEntries v
+entries_shown p v is kept = subst AreEntries is (entries_of p kept)
+
 -- a new object has room, and its segment a home
 room_left : (p : Parts) (v : EntryValue) (t u : Name) → shown p ≡ v → t ≡ u → total (hits t) (shown p).items ≡ 0 → (counted v.items u ≡ 0 → length v.items < v.room) → length (shown p).items < p.room
 room_left p v t u is same none asks =
@@ -64,7 +68,7 @@ pub take_slot-i-requires-clause-room : goal.take_slot-i-requires-clause-room
 take_slot-i-requires-clause-room c = λ empty.
     let p : Parts = record { slots = c.self.inside.slots.items; chains = c.self.inside.chains; segments = c.self.inside.segments; walks = c.self.inside.walks; homes = c.self.inside.homes.items; room = c.self.inside.room } in
     let none = none_by p c.name-name.result c.deref.result.now c.chain_of-chain.result c.self.invariant.kept c.deref.ensures.value c.chain_of-chain.ensures.value c.in-None.ensures.none in
-    let room = room_left p c.args.self.now c.name-name.result (name_of c.args.target) c.self.view_is c.name-name.ensures none c.requires.room in
+    let room = room_left p c.args.self.now c.name-name.result (name_of c.args.target) c.self.view_is c.name-name.ensures none (c.requires.room (entries_shown p c.args.self.now c.self.view_is c.self.invariant.kept)) in
     let free : c.len-in-None.result ≡ length c.self.inside.homes.items = omega (arith, c.len-in-None.ensures, c.self.inside.homes.ok.0) in
     omega (arith, room, c.self.invariant.kept.full, length-map (used p) (row_at p.slots), empty, ap (λ n. length (members c.self.inside.segments n)) free, c.self.invariant.kept.sizes.segments_room)
 
@@ -72,7 +76,7 @@ pub push_front-requires-clause-room : goal.push_front-requires-clause-room
 push_front-requires-clause-room c =
     let p : Parts = record { slots = c.self.inside.slots.items; chains = c.self.inside.chains; segments = c.self.inside.segments; walks = c.self.inside.walks; homes = c.self.inside.homes.items; room = c.self.inside.room } in
     let none = none_by p c.name-name.result c.deref.result.now c.chain_of-chain.result c.self.invariant.kept c.deref.ensures.value c.chain_of-chain.ensures.value c.in-None.ensures.none in
-    let room = room_left p c.args.self.now c.name-name.result (name_of c.args.target) c.self.view_is c.name-name.ensures none c.requires.room in
+    let room = room_left p c.args.self.now c.name-name.result (name_of c.args.target) c.self.view_is c.name-name.ensures none (c.requires.room (entries_shown p c.args.self.now c.self.view_is c.self.invariant.kept)) in
     let free : c.len-in-None.result ≡ length c.self.inside.homes.items = omega (arith, c.len-in-None.ensures, c.self.inside.homes.ok.0) in
     omega (arith, c.self.invariant.kept.sizes.chains_room, slot_in p c.take_slot-i.new.segments c.take_slot-i.new.slots.items (fresh c.name-name.result) c.len-in-None.result c.take_slot-i.result c.self.invariant.kept c.take_slot-i.ensures.given free room)
 
@@ -80,7 +84,7 @@ pub put_in-requires-clause-room : goal.put_in-requires-clause-room
 put_in-requires-clause-room c =
     let p : Parts = record { slots = c.self.inside.slots.items; chains = c.self.inside.chains; segments = c.self.inside.segments; walks = c.self.inside.walks; homes = c.self.inside.homes.items; room = c.self.inside.room } in
     let none = none_by p c.name-name.result c.deref.result.now c.chain_of-chain.result c.self.invariant.kept c.deref.ensures.value c.chain_of-chain.ensures.value c.in-None.ensures.none in
-    let room = room_left p c.args.self.now c.name-name.result (name_of c.args.target) c.self.view_is c.name-name.ensures none c.requires.room in
+    let room = room_left p c.args.self.now c.name-name.result (name_of c.args.target) c.self.view_is c.name-name.ensures none (c.requires.room (entries_shown p c.args.self.now c.self.view_is c.self.invariant.kept)) in
     let free : c.len-in-None.result ≡ length c.self.inside.homes.items = omega (arith, c.len-in-None.ensures, c.self.inside.homes.ok.0) in
     omega (arith, c.take_slot-i.ensures.given.room, c.self.invariant.kept.sizes.segments_room, slot_in p c.take_slot-i.new.segments c.take_slot-i.new.slots.items (fresh c.name-name.result) c.len-in-None.result c.take_slot-i.result c.self.invariant.kept c.take_slot-i.ensures.given free room)
 
@@ -88,7 +92,7 @@ pub invariant_of-self-in-None : goal.invariant_of-self-in-None
 invariant_of-self-in-None c =
     let p : Parts = record { slots = c.self.inside.slots.items; chains = c.self.inside.chains; segments = c.self.inside.segments; walks = c.self.inside.walks; homes = c.self.inside.homes.items; room = c.self.inside.room } in
     let none = none_by p c.name-name.result c.deref.result.now c.chain_of-chain.result c.self.invariant.kept c.deref.ensures.value c.chain_of-chain.ensures.value c.in-None.ensures.none in
-    let room = room_left p c.args.self.now c.name-name.result (name_of c.args.target) c.self.view_is c.name-name.ensures none c.requires.room in
+    let room = room_left p c.args.self.now c.name-name.result (name_of c.args.target) c.self.view_is c.name-name.ensures none (c.requires.room (entries_shown p c.args.self.now c.self.view_is c.self.invariant.kept)) in
     let free : c.len-in-None.result ≡ length c.self.inside.homes.items = omega (arith, c.len-in-None.ensures, c.self.inside.homes.ok.0) in
     let homed = home_in c.args.self.now c.self.inside.homes.items c.name-name.result (name_of c.args.target) (ap (λ (v : EntryValue). v.homes) c.self.view_is) c.name-name.ensures c.requires.home in
     let len : c.len.result ≡ length c.self.inside.homes.items = omega (arith, c.len.ensures, c.self.inside.homes.ok.0) in
@@ -107,7 +111,7 @@ pub returns-in-None : goal.returns-in-None
 returns-in-None c =
     let p : Parts = record { slots = c.self.inside.slots.items; chains = c.self.inside.chains; segments = c.self.inside.segments; walks = c.self.inside.walks; homes = c.self.inside.homes.items; room = c.self.inside.room } in
     let none = none_by p c.name-name.result c.deref.result.now c.chain_of-chain.result c.self.invariant.kept c.deref.ensures.value c.chain_of-chain.ensures.value c.in-None.ensures.none in
-    let room = room_left p c.args.self.now c.name-name.result (name_of c.args.target) c.self.view_is c.name-name.ensures none c.requires.room in
+    let room = room_left p c.args.self.now c.name-name.result (name_of c.args.target) c.self.view_is c.name-name.ensures none (c.requires.room (entries_shown p c.args.self.now c.self.view_is c.self.invariant.kept)) in
     let free : c.len-in-None.result ≡ length c.self.inside.homes.items = omega (arith, c.len-in-None.ensures, c.self.inside.homes.ok.0) in
     let homed = home_in c.args.self.now c.self.inside.homes.items c.name-name.result (name_of c.args.target) (ap (λ (v : EntryValue). v.homes) c.self.view_is) c.name-name.ensures c.requires.home in
     let len : c.len.result ≡ length c.self.inside.homes.items = omega (arith, c.len.ensures, c.self.inside.homes.ok.0) in

@@ -1,0 +1,6 @@
+pub mod Standing
+pub mod Rooms
+pub mod Met
+pub mod Changed
+pub mod Owning
+pub mod Stepped

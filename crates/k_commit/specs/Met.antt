@@ -1,0 +1,86 @@
+-- What a meeting asks and leaves, and cells and book that have met before a step changes them.
+use Rattle.std.specs.Prelude.{◌≡◌, ◌<◌, ◌^◌, ℕ}
+use Rattle.k_types.specs.declared.names.Heap.TheVariants.{Kernel, Shared, User}
+use Rattle.k_types.specs.Agree.{CellValue}
+use Rattle.k_types.specs.Cells.{Cell}
+use Rattle.k_types.specs.Steps.{state_after}
+use Rattle.k_types.specs.Trace.{Trace}
+use Rattle.k_tie.specs.Values.{NoteValue}
+use Rattle.k_agree.specs.Agreement.{Agrees, BookAgrees, Shows}
+use Rattle.k_agree.specs.Meeting.{Fits, HasMet, ShowsTheJournal, met_note}
+use Rattle.k_book.specs.Books.{BookRecord}
+use Rattle.k_cell.specs.Holdings.{HoldingsValue}
+use Rattle.k_heap.specs.Heaps.{HeapRecord}
+use Rattle.k_shared.specs.SharedHeaps.{SharedRecord}
+use Rattle.k_commit.specs.Standing.{BookStands, HeapStands, KernelStands, SharedStands}
+
+-- cell and book agree with one trace and are of one table, whatever the phase of a collection and the unpublished events
+pub record CanMeet (trace : Trace) (cell : Cell) (note : NoteValue) (value : CellValue) (book : BookRecord) : Type 0 where
+  pub agrees : Agrees trace cell note value
+  pub book_agrees : BookAgrees trace book.journal book.value
+  pub table : note.table ≡ book.journal.table
+
+-- what is known of a cell whose note meets the journal: the note fits it, so that the cell speaks of the whole journal, and the
+-- book has room for fewer than 2 ^ 32 events
+pub record FitsTheBook (trace : Trace) (cell : Cell) (note : NoteValue) (value : CellValue) (book : BookRecord) : Type 0 where
+  pub fits : Fits book.journal note
+  pub shows : ShowsTheJournal trace book.journal cell note value
+  pub few : book.event_room < 2 ^ 32
+
+-- the process's cell has met the journal of the book, and nothing else has changed
+pub record HeapHasMet (trace : Trace) (old_cell cell : HeapRecord) (old_book book : BookRecord) : Type 0 where
+  pub cell_is : cell ≡ record old_cell { note = met_note old_book.journal old_cell.note }
+  pub book_is : book ≡ old_book
+  pub told : FitsTheBook trace (User old_cell.pid) old_cell.note old_cell.value old_book
+
+-- the kernel's cell has met it, and nothing else has changed
+pub record KernelHasMet (trace : Trace) (old_kernel kernel : HoldingsValue) (old_book book : BookRecord) : Type 0 where
+  pub kernel_is : kernel ≡ record old_kernel { note = met_note old_book.journal old_kernel.note }
+  pub book_is : book ≡ old_book
+  pub told : FitsTheBook trace Kernel old_kernel.note old_kernel.value old_book
+
+-- the cell of a shared heap has met it, and nothing else has changed
+pub record SharedHasMet (trace : Trace) (old_shared shared : SharedRecord) (old_book book : BookRecord) : Type 0 where
+  pub shared_is : shared ≡ record old_shared { note = met_note old_book.journal old_shared.note }
+  pub book_is : book ≡ old_book
+  pub told : FitsTheBook trace (Shared old_shared.id) old_shared.note old_shared.value old_book
+
+-- the trace, and the process's cell and the book as they are once they have met and before the step changes them
+pub record Before : Type 0 where
+  pub trace : Trace
+  pub cell : HeapRecord
+  pub book : BookRecord
+
+-- the same with the kernel's cell
+pub record BeforeWithKernel : Type 0 where
+  pub own : Before
+  pub kernel : HoldingsValue
+
+-- the same with the cell of a shared heap
+pub record BeforeWithShared : Type 0 where
+  pub own : Before
+  pub shared : SharedRecord
+
+-- the note of the cell knows the whole journal, and its value shows the state after it
+pub record ShowsAfter (trace : Trace) (cell : Cell) (note : NoteValue) (value : CellValue) (book : BookRecord) : Type 0 where
+  pub met : HasMet trace book.journal cell note
+  pub shows : Shows trace (state_after trace book.journal.list) cell value
+
+-- cell and book stand and have met
+pub record HaveMet (before : Before) : Type 0 where
+  pub book : BookStands before.trace before.book
+  pub heap : HeapStands before.trace before.cell before.book
+  pub after : ShowsAfter before.trace (User before.cell.pid) before.cell.note before.cell.value before.book
+  pub few : before.book.event_room < 2 ^ 32
+
+-- so do both cells and the book
+pub record HaveMetWithKernel (before : BeforeWithKernel) : Type 0 where
+  pub own : HaveMet before.own
+  pub kernel : KernelStands before.own.trace before.kernel before.own.book
+  pub after : ShowsAfter before.own.trace Kernel before.kernel.note before.kernel.value before.own.book
+
+-- the same with the cell of a shared heap
+pub record HaveMetWithShared (before : BeforeWithShared) : Type 0 where
+  pub own : HaveMet before.own
+  pub shared : SharedStands before.own.trace before.shared before.own.book
+  pub after : ShowsAfter before.own.trace (Shared before.shared.id) before.shared.note before.shared.value before.own.book

@@ -1,0 +1,98 @@
+//! Events that are appended, with the cells that they touch.
+ghost use Rattle.std.specs.Prelude.{◌≡◌, ◌<◌, [], ◌∷◌, length};
+ghost use Rattle.k_agree.specs.Committing.{journal_after, note_after};
+
+use k_book::Book;
+use k_heap::HeapCell;
+use k_kernel::KernelCell;
+use k_shared::SharedCell;
+use k_types::Event;
+
+/// Appends an event that touches the process's cell, which has met the journal and then meets the longer one.
+pub fn append_heap(cell: &mut HeapCell, book: &mut Book, event: Event)
+    requires table { cell.old.note.table ≡ book.old.journal.table }
+    requires met { cell.old.note.list ≡ book.old.journal.list }
+    requires room { length book.old.journal.list < book.old.event_room }
+    ensures cell { cell.new ≡ record cell.old { note = note_after event cell.old.note } }
+    ensures book { book.new ≡ record book.old { journal = journal_after event (cell.old.note.cell ∷ []) book.old.journal } }
+{
+    book.append(event);
+    book.touch(cell.note_mut());
+    book.meet(cell.note_mut());
+}
+
+/// Appends an event that touches the kernel's cell.
+pub fn append_kernel(kernel: &mut KernelCell, book: &mut Book, event: Event)
+    requires table { kernel.old.note.table ≡ book.old.journal.table }
+    requires met { kernel.old.note.list ≡ book.old.journal.list }
+    requires room { length book.old.journal.list < book.old.event_room }
+    ensures kernel { kernel.new ≡ record kernel.old { note = note_after event kernel.old.note } }
+    ensures book { book.new ≡ record book.old { journal = journal_after event (kernel.old.note.cell ∷ []) book.old.journal } }
+{
+    book.append(event);
+    book.touch(kernel.note_mut());
+    book.meet(kernel.note_mut());
+}
+
+/// Appends an event that touches the process's cell and the kernel's.
+pub fn append_heap_and_kernel(
+    cell: &mut HeapCell,
+    kernel: &mut KernelCell,
+    book: &mut Book,
+    event: Event,
+)
+    requires table { (cell.old.note.table ≡ book.old.journal.table) × (kernel.old.note.table ≡ book.old.journal.table) }
+    requires met { (cell.old.note.list ≡ book.old.journal.list) × (kernel.old.note.list ≡ book.old.journal.list) }
+    requires room { length book.old.journal.list < book.old.event_room }
+    ensures cell { cell.new ≡ record cell.old { note = note_after event cell.old.note } }
+    ensures kernel { kernel.new ≡ record kernel.old { note = note_after event kernel.old.note } }
+    ensures book { book.new ≡ record book.old { journal = journal_after event (cell.old.note.cell ∷ kernel.old.note.cell ∷ []) book.old.journal } }
+{
+    book.append(event);
+    book.touch(cell.note_mut());
+    book.touch(kernel.note_mut());
+    book.meet(cell.note_mut());
+    book.meet(kernel.note_mut());
+}
+
+/// Appends an event that touches the process's cell and that of a shared heap.
+pub fn append_heap_and_shared(
+    cell: &mut HeapCell,
+    shared: &mut SharedCell,
+    book: &mut Book,
+    event: Event,
+)
+    requires table { (cell.old.note.table ≡ book.old.journal.table) × (shared.old.note.table ≡ book.old.journal.table) }
+    requires met { (cell.old.note.list ≡ book.old.journal.list) × (shared.old.note.list ≡ book.old.journal.list) }
+    requires room { length book.old.journal.list < book.old.event_room }
+    ensures cell { cell.new ≡ record cell.old { note = note_after event cell.old.note } }
+    ensures shared { shared.new ≡ record shared.old { note = note_after event shared.old.note } }
+    ensures book { book.new ≡ record book.old { journal = journal_after event (cell.old.note.cell ∷ shared.old.note.cell ∷ []) book.old.journal } }
+{
+    book.append(event);
+    book.touch(cell.note_mut());
+    book.touch(shared.note_mut());
+    book.meet(cell.note_mut());
+    book.meet(shared.note_mut());
+}
+
+/// Appends an event that touches the cell of a shared heap and the kernel's.
+pub fn append_shared_and_kernel(
+    shared: &mut SharedCell,
+    kernel: &mut KernelCell,
+    book: &mut Book,
+    event: Event,
+)
+    requires table { (shared.old.note.table ≡ book.old.journal.table) × (kernel.old.note.table ≡ book.old.journal.table) }
+    requires met { (shared.old.note.list ≡ book.old.journal.list) × (kernel.old.note.list ≡ book.old.journal.list) }
+    requires room { length book.old.journal.list < book.old.event_room }
+    ensures shared { shared.new ≡ record shared.old { note = note_after event shared.old.note } }
+    ensures kernel { kernel.new ≡ record kernel.old { note = note_after event kernel.old.note } }
+    ensures book { book.new ≡ record book.old { journal = journal_after event (shared.old.note.cell ∷ kernel.old.note.cell ∷ []) book.old.journal } }
+{
+    book.append(event);
+    book.touch(shared.note_mut());
+    book.touch(kernel.note_mut());
+    book.meet(shared.note_mut());
+    book.meet(kernel.note_mut());
+}
