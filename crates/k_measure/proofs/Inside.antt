@@ -19,6 +19,7 @@ use Rattle.k_mark.specs.Marking.{fields_lead_to, refers_at}
 use Rattle.k_mark.specs.Sweeping.{survivor, swept, swept_segment}
 use Rattle.k_space.proofs.AreaRows.{found, same_unmarked}
 use Rattle.k_space.proofs.Numbers.{distinct_from, found_at}
+use Rattle.k_base.proofs.Lists.{some_one}
 use Rattle.k_base.proofs.NameTests.{name_eq-true, name_eq_refl}
 use Rattle.k_mark.proofs.Looks.{test_after, black_gray}
 use Rattle.k_mark.proofs.Marked.{refers_fields}
@@ -319,6 +320,18 @@ target_added e t = by_test (has_target e.items t) refl
     by_test false is =
         list_any-append (λ (x : ExitRow). name_eq x.target t) e.items (record { target = t; marked = false } ∷ [])
         ∙ or_right (has_target e.items t) _ (or_left _ _ (name_eq_refl t))
+
+-- a segment keeps to its exit items where one is added, also where a field then refers to its target
+pub kept_added : (old new : ExitList) (s : SegmentValue) (t : Name) → new ≡ with_target old t → KeepsExits old.items s → KeepsExits new.items s
+kept_added old new s t added kept =
+    subst (λ (e : ExitList). KeepsExits e.items s) (sym added) (kept_with old.items (with_target old t).items s (targets_more old t) kept)
+
+pub kept_referred : (old new : ExitList) (s : SegmentValue) (t : Name) (serial : ℕ) (row : Row) (field : ℕ) → new ≡ with_target old t → row_at s serial ≡ Some row → KeepsExits old.items s →
+    KeepsExits new.items (with_row s serial (Some (record row { fields = slice_set row.fields field (Refers (Some t)) })))
+kept_referred old new s t serial row field added at kept =
+    written_to (IsInsideOrExit s.number new.items) s serial row field (Some t) at
+    (λ n is. inr (ap (has_target new.items) (sym (some_one is)) ∙ ap (λ (e : ExitList). has_target e.items t) added ∙ target_added old t))
+    (kept_added old new s t added kept)
 
 -- no exit item is marked
 pub exits_unmarked : (items : List ExitRow) (t : Name) → target_marked (map unmarked_exit items) t ≡ false

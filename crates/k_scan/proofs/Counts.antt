@@ -1,6 +1,6 @@
 -- How many go, by the marks of what stays.
-use Rattle.std.proofs.Common.{◌≡◌, ℕ, ◌+◌, ◌<◌, ◌≤◌, not, cond, Bool, true, false, refl, sym, ap, ◌∙◌, List, [], ◌∷◌, map, filter, drop, get_or, length, count_by, arith}
-use Rattle.std.proofs.lemmas.List.{drop_all, drop_more}
+use Rattle.std.proofs.Common.{◌≡◌, ℕ, ◌+◌, ◌<◌, not, cond, Bool, true, false, refl, sym, ap, ◌∙◌, List, [], ◌∷◌, map, filter, drop, get_or, length, count_by, arith}
+use Rattle.std.proofs.lemmas.List.{drop_more}
 use Rattle.std.proofs.lemmas.List.Sums.{sum_by-cons}
 use Rattle.k_types.specs.Totals.{total}
 

@@ -1,9 +1,8 @@
 -- Tests of numbers in a row, step by step, and of what stands past the end of a list.
-use Rattle.std.proofs.Common.{◌≡◌, ℕ, suc, ◌+◌, ◌-◌, ◌<◌, ◌≤◌, ◌||◌, not, cond, Bool, false, refl, ap, ◌∙◌, List, [], ◌∷◌, get_or, length, Option, Some, None, find, is_none, option_map, arith}
-use Rattle.std.specs.List.{list_any, list_all}
+use Rattle.std.proofs.Common.{◌≡◌, ℕ, ◌+◌, ◌-◌, ◌<◌, ◌≤◌, ◌||◌, Bool, false, refl, ap, List, [], get_or, length, Option, arith}
+use Rattle.std.specs.List.{list_any}
 use Rattle.std.proofs.lemmas.List.{get_or_past}
 use Rattle.k_types.specs.declared.names.Name.{Name}
-use Rattle.k_types.specs.declared.names.SharedId.{SharedId}
 use Rattle.k_types.specs.Numbers.{numbers_from}
 use Rattle.k_types.specs.State.{in_registers}
 use Rattle.k_state.proofs.Sums.{numbers_left}

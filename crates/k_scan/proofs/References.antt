@@ -1,7 +1,7 @@
 -- References of an object that is found by its name.
 use Rattle.std.proofs.Common.{◌≡◌, ◌||◌, ◌&&◌, cond, Bool, true, false, refl, sym, ap, ◌∙◌, inl, inr, List, [], ◌∷◌, map, Option, Some}
 use Rattle.std.specs.List.{list_any}
-use Rattle.std.proofs.lemmas.Bool.{or_left, or_cases}
+use Rattle.std.proofs.lemmas.Bool.{or_cases}
 use Rattle.k_types.specs.declared.names.Name.{Name}
 use Rattle.k_types.specs.Names.{name_eq, name_lt}
 use Rattle.k_types.specs.State.{Object, object_at, refers, refers_in}

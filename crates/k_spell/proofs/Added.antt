@@ -1,16 +1,16 @@
 -- Lines that are added to a text, one after the other.
-use Rattle.std.proofs.Common.{◌≡◌, ◌∙◌, ℕ, ◌+◌, ◌<◌, ◌≤◌, List, [], ◌∷◌, ◌++◌, length, drop, map, get_or, refl, sym, ap, arith, append_assoc, add-one, codes, decimal, Result, Ok, Err, Some, slice_get}
+use Rattle.std.proofs.Common.{◌≡◌, ◌∙◌, ℕ, ◌+◌, ◌<◌, List, [], ◌∷◌, ◌++◌, length, drop, map, get_or, refl, sym, ap, arith, append_assoc, add-one, codes, decimal, Result, Ok, Err, Some, slice_get}
 use Rattle.std.specs.Prelude.{IfSome, OnOk}
 use Rattle.std.specs.List.{join_with_byte}
 use Rattle.std.proofs.Math.Seq.{drop-cons}
-use Rattle.std.proofs.lemmas.List.{append-nil, drop_all, get_or_default}
+use Rattle.std.proofs.lemmas.List.{append-nil, get_or_default}
 use Rattle.std.proofs.lemmas.Option.{slice_get_within, get_or_from_slice_get}
 use Rattle.k_types.specs.declared.names.LimitId.{LimitId}
 use Rattle.k_types.specs.declared.setup.LimitRow.{LimitRow}
 use Rattle.k_types.specs.Trace.{no_row, operations_of}
 use Rattle.k_types.specs.TraceRules.{IsTree}
 use Rattle.k_base.proofs.Lists.{if_some}
-use Rattle.k_words.specs.Words.{Text, word_at, line_text, text_of}
+use Rattle.k_words.specs.Words.{Text, line_text, text_of}
 use Rattle.k_words.specs.Spaced.{spaced}
 use Rattle.k_text.proofs.LineLemmas.{joined, text_of-append}
 use Rattle.k_trace.specs.Named.{NamedTrace}

@@ -1,5 +1,5 @@
 -- The lines of operations, of which each process has done some.
-use Rattle.std.proofs.Common.{◌≡◌, ◌∙◌, ℕ, zero, suc, ◌+◌, ◌<◌, ◌≤◌, ◌==◌, true, false, cond, List, [], ◌∷◌, ◌++◌, length, drop, map, replicate, append_assoc, Vec, Global, get_or, set, refl, sym, ap, subst, ltb-true, nat_lt, inl, inr, arith, add-one, eq-eqb, ne_eqb, IsTrue, Some, slice_get}
+use Rattle.std.proofs.Common.{◌≡◌, ◌∙◌, ℕ, zero, suc, ◌+◌, ◌<◌, ◌≤◌, ◌==◌, true, false, cond, List, [], ◌∷◌, ◌++◌, length, drop, map, replicate, append_assoc, Vec, Global, get_or, set, refl, sym, ap, subst, ltb-true, nat_lt, inl, inr, arith, add-one, eq-eqb, ne_eqb, IsTrue}
 use Rattle.std.specs.List.{AllByRecursion, list_all}
 use Rattle.std.proofs.lemmas.Bool.{and_parts, cases_eq}
 use Rattle.k_types.specs.declared.names.Pid.{Pid}
