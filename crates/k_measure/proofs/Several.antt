@@ -53,10 +53,10 @@ pub distinct_same : (a b : AreaValue) → unmarked b ≡ unmarked a → HasDisti
 distinct_same a b same distinct =
     let images : map unmarked_segment b.segments ≡ map unmarked_segment a.segments = ap (λ (x : AreaValue). x.segments) same in
     distinct_from b.segments (λ i j s t at there numbers.
-        let p = paired unmarked_segment b.segments a.segments i s images at in
-        let q = paired unmarked_segment b.segments a.segments j t images there in
-        distinct_to a.segments distinct i j p.0 q.0 p.1 q.1
-        (sym (ap (λ (x : SegmentValue). x.number) p.2) ∙ numbers ∙ ap (λ (x : SegmentValue). x.number) q.2))
+    let p = paired unmarked_segment b.segments a.segments i s images at in
+    let q = paired unmarked_segment b.segments a.segments j t images there in
+    distinct_to a.segments distinct i j p.0 q.0 p.1 q.1
+    (sym (ap (λ (x : SegmentValue). x.number) p.2) ∙ numbers ∙ ap (λ (x : SegmentValue). x.number) q.2))
 
 pub inside_same : (a b : AreaValue) → unmarked b ≡ unmarked a → AreInside a.segments → AreInside b.segments
 inside_same a b same are =

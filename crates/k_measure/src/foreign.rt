@@ -30,8 +30,8 @@ pub struct Marked {
 
 /// A reference to the object of the other heap that stands for that number; so many do.
 fn far(number: u32, count: u32) -> Link
-    requires { 0 < count }
-    requires { number + count ≤ 4000000000 }
+    requires some { 0 < count }
+    requires small { count ≤ 10000000 }
 {
     link_to(Name {
         seg: FAR,
@@ -41,7 +41,14 @@ fn far(number: u32, count: u32) -> Link
 
 /// Has a field of one object refer to the target, with an exit item to it, where the object is there. That there is room is
 /// tested here.
-fn refer_out(segment: &mut Segment, exits: &mut ExitTable, from: u32, field: u32, target: Link, room: u32)
+fn refer_out(
+    segment: &mut Segment,
+    exits: &mut ExitTable,
+    from: u32,
+    field: u32,
+    target: Link,
+    room: u32,
+)
     requires room { exits.old.room ≡ room }
     requires kept { KeepsExits exits.old.items segment.old }
     ensures room { exits.new.room ≡ room }

@@ -1,6 +1,6 @@
 use Rattle.std.proofs.Common.{sym, subst, ap, ◌∙◌, map}
 use Rattle.k_space.specs.Areas.{AreaValue, HasDistinct, unmarked}
-use Rattle.k_exit.specs.Exits.{ExitList, ExitRow, target_marked, unmarked_row}
+use Rattle.k_exit.specs.Exits.{ExitList, target_marked, unmarked_row}
 use Rattle.k_measure.specs.Inside.{IsOneWith, HasNoBlack}
 use Rattle.k_measure.proofs.Inside.{area_twice, only_distinct, clean_unmarked, exits_kept, exits_unmarked, kept_unmarked, with_same}
 use Rattle.k_measure.proofs.foreign.mark.Goals as goal

@@ -1,9 +1,8 @@
 use Rattle.std.proofs.Common.{sym, subst, ap, ◌∙◌}
 use Rattle.k_space.specs.Areas.{AreaValue, HasDistinct, unmarked}
 use Rattle.k_exit.specs.Exits.{ExitList, target_marked}
-use Rattle.k_measure.specs.Inside.{IsOne, HasNoBlack}
+use Rattle.k_measure.specs.Inside.{HasNoBlack}
 use Rattle.k_measure.proofs.Inside.{one_unmarked, only_distinct, clean_unmarked, exits_there, exits_unmarked, one_same}
-use Rattle.k_measure.proofs.Several.{distinct_same}
 use Rattle.k_measure.proofs.heap.mark.Goals as goal
 
 pub roots-requires-clause-distinct : goal.roots-requires-clause-distinct
