@@ -9,9 +9,3 @@ unfolding first_fault
 first_front [] others = refl
 first_front (Some fault ∷ fs) others = refl
 first_front (None ∷ fs) others = first_front fs others
-
--- the fault that there is
-pub first_one : (fault : Option Fault) → first_fault (fault ∷ []) ≡ fault
-unfolding first_fault
-first_one None = refl
-first_one (Some fault) = refl

@@ -25,13 +25,6 @@ pub record Follows (trace : Trace) (m : Machine) (events : List Event) (order : 
   pub after : m.state ≡ state_after trace events
   pub filed : events ++ file_order_from trace m.state order ≡ file_order trace
 
-pub follows_begin : (trace : Trace) (m : Machine) → m ≡ record { setup = setup_of trace; state = opening trace } → Follows trace m [] trace.order
-follows_begin trace m is = record {
-  setup = ap (λ (n : Machine). n.setup) is;
-  after = ap (λ (n : Machine). n.state) is;
-  filed = ap (λ (n : Machine). file_order_from trace n.state trace.order) is;
-}
-
 -- the events of a part, and those that follow them
 abbrev followed : Trace → State → List ℕ → List Event → List Event
 followed trace st order events = events ++ file_order_from trace (run trace st events) order

@@ -13,15 +13,6 @@ use Rattle.k_state.specs.Rooms.{HasRoom}
 use Rattle.k_solo.specs.Taken.{HasTaken}
 use Rattle.k_solo.proofs.Rooms.{less_room, run_room}
 
--- one step
-pub taken_one : (before after : Machine) (old new : List Event) (event : Event) → after.setup ≡ before.setup → after.state ≡ step before.setup before.state event →
-    new ≡ old ++ event ∷ [] → HasTaken before after old new (event ∷ [])
-taken_one before after old new event setup state journal = record { setup = setup; state = state; journal = journal }
-
--- none
-pub taken_none : (m : Machine) (events : List Event) → HasTaken m m events events []
-taken_none m events = record { setup = refl; state = refl; journal = sym (append-nil events) }
-
 -- both in turn
 pub taken_both : (before now after : Machine) (old new newer xs ys : List Event) → HasTaken before now old new xs → HasTaken now after new newer ys →
     HasTaken before after old newer (xs ++ ys)
