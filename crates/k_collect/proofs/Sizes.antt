@@ -1,14 +1,13 @@
 -- The numbers of the end of a collection fit, and what it credits is charged.
-use Rattle.std.proofs.Common.{◌≡◌, ◌+◌, ◌-◌, ◌*◌, ◌<◌, ◌≤◌, ◌^◌, ◌&&◌, not, Bool, true, false, cond, ℕ, refl, sym, ap, List, [], ◌∷◌, length, filter, map, arith, get_or, IsFalse, suc, zero}
+use Rattle.std.proofs.Common.{◌≡◌, ◌+◌, ◌-◌, ◌*◌, ◌<◌, ◌≤◌, ◌^◌, ◌&&◌, not, Bool, true, false, cond, ℕ, ap, List, [], ◌∷◌, length, filter, map, arith, get_or, IsFalse, suc, zero}
 use Rattle.k_types.specs.declared.names.Heap.{Heap}
 use Rattle.k_types.specs.Agree.{BookValue, CellValue}
-use Rattle.k_types.specs.Bounds.{most_fields}
 use Rattle.k_types.specs.Cells.{BookPart, Cell, ShownPart, book_part, part}
 use Rattle.k_types.specs.Names.{among, heap_eq, name_among}
 use Rattle.k_types.specs.Numbers.{numbers_below}
 use Rattle.k_types.specs.Owners.{bytes_by, bytes_of, object_bytes, objects_of, owner_of, shared, user}
 use Rattle.k_types.specs.Sound.{IsSound}
-use Rattle.k_types.specs.State.{Object, State, has_share}
+use Rattle.k_types.specs.State.{State, has_share}
 use Rattle.k_types.specs.Steps.{IsLegalHistory, state_after}
 use Rattle.k_types.specs.Totals.{total}
 use Rattle.k_types.specs.Trace.{Trace, limit_of, process_count}
@@ -22,7 +21,6 @@ use Rattle.k_bounds.proofs.Laws.{objects_are_at_most_the_allocations}
 use Rattle.k_known.proofs.Fitting.{objects_bounded}
 use Rattle.k_agree.specs.Agreement.{BookShows, Shows}
 use Rattle.k_agree.specs.Ending.{bytes_unshared, freed_bytes, freed_objects, keeps_way}
-use Rattle.k_changes.specs.BookChanges.{bytes_in}
 use Rattle.k_squares.proofs.Laws.{what_is_let_go_is_counted-charges}
 
 -- no more pass a test than there are

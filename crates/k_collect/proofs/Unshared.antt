@@ -1,11 +1,11 @@
 -- The shares of a process that are dropped one by one.
-use Rattle.std.proofs.Common.{◌≡◌, ℕ, zero, suc, ◌+◌, ◌-◌, ◌<◌, ◌≤◌, ◌^◌, ◌==◌, ◌||◌, ◌&&◌, not, nat_lt, Bool, true, false, cond, refl, sym, ap, ap₂, ◌∙◌, subst, List, [], ◌∷◌, ◌++◌, length, take, get_or, arith, add-one, eqb-true, eq-eqb}
+use Rattle.std.proofs.Common.{◌≡◌, ℕ, zero, suc, ◌+◌, ◌-◌, ◌<◌, ◌≤◌, ◌^◌, ◌==◌, ◌||◌, ◌&&◌, not, nat_lt, Bool, true, false, cond, refl, sym, ap, ap₂, ◌∙◌, subst, List, [], ◌∷◌, length, take, get_or, arith, add-one, eqb-true, eq-eqb}
 use Rattle.std.specs.List.{list_any}
 use Rattle.std.proofs.lemmas.Bool.{and_parts, false≢true, lt-ltb, ltb-true, or_left, or_right}
 use Rattle.std.proofs.lemmas.List.{take_more}
 use Rattle.std.proofs.lemmas.List.Folds.{list_any-append}
 use Rattle.k_types.specs.Agree.{BookValue, CellValue}
-use Rattle.k_types.specs.Numbers.{numbers_below, numbers_from}
+use Rattle.k_types.specs.Numbers.{numbers_below}
 use Rattle.k_types.specs.State.{has_share}
 use Rattle.k_types.specs.Totals.{total}
 use Rattle.k_base.proofs.Charges.{or_none}
@@ -97,9 +97,9 @@ below_same : (t s : ℕ) → (s == t) ≡ false → nat_lt t s ≡ nat_lt t (s +
 below_same t s other = same_test (nat_lt t s) (nat_lt t (s + 1))
     (λ low. let l = ltb-true t s low in lt-ltb t (s + 1) (omega (arith, l)))
     (λ low.
-        let l = ltb-true t (s + 1) low in
-        let apart : s ≡ t → ⊥ = λ same. false≢true (sym other ∙ eq-eqb s t same) in
-        lt-ltb t s (omega (arith, l, apart)))
+    let l = ltb-true t (s + 1) low in
+    let apart : s ≡ t → ⊥ = λ same. false≢true (sym other ∙ eq-eqb s t same) in
+    lt-ltb t s (omega (arith, l, apart)))
 
 below_next : (s : ℕ) → nat_lt s (s + 1) ≡ true
 below_next s = lt-ltb s (s + 1) (omega arith)
