@@ -1,3 +1,1 @@
-pub mod Tails
-pub mod Setting
-pub mod Moved
+pub mod Told

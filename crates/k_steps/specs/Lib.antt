@@ -1,2 +1,1 @@
-pub mod Published
-pub mod Stepped
+pub mod Reaching

@@ -1,13 +1,16 @@
 //! The step calls: each is lent just the cells that its event touches and the book, appends one event, and keeps agreement.
 //!
-//! No call takes memory. A call meets the journal first, so that the cell speaks of all of it, then changes cell and book, and
-//! then appends the event, touches its cells and meets again.
+//! [`reach`] tells which cell an operation touches beside its process's own, and so which step call does it. [`publish`] appends
+//! what a process did inside its heap. A call meets the journal first, so that each cell speaks of all of it, then changes cells and
+//! book, and then appends the event, touches its cells and meets again. No call takes memory.
 #![tactic(auto)]
 
-mod committing;
-mod publishing;
-mod registers;
-mod stepping;
+mod laws;
+mod reached;
+mod reaching;
 
-pub use publishing::publish;
-pub use stepping::{step_clear, step_dir, step_move};
+pub use k_commit::publish;
+pub use k_own::step_own;
+pub use laws::reached_cells_are_touched;
+pub use reached::Reach;
+pub use reaching::reach;
