@@ -1,8 +1,11 @@
 //! The step calls: each is lent just the cells that its event touches and the book, appends one event, and keeps agreement.
 //!
-//! [`reach`] tells which cell an operation touches beside its process's own, and so which step call does it. [`publish`] appends
-//! what a process did inside its heap. A call meets the journal first, so that each cell speaks of all of it, then changes cells and
-//! book, and then appends the event, touches its cells and meets again. No call takes memory.
+//! [`reach`] tells which cell an operation touches beside its process's own, and so which call does it: [`step_own`],
+//! [`step_kernel`] or [`step_shared`]. The end of a process is [`exit`], and the absorption of a shared heap that nobody shares is
+//! [`absorb`]. [`publish`] appends what a process did inside its heap.
+//!
+//! A call meets the journal first, so that each cell speaks of all of it, then changes cells and book, and then appends the event,
+//! touches its cells and meets again. No call takes memory.
 #![tactic(auto)]
 
 mod laws;
@@ -10,7 +13,10 @@ mod reached;
 mod reaching;
 
 pub use k_commit::publish;
+pub use k_depart::{absorb, exit};
 pub use k_own::step_own;
+pub use k_pair::step_kernel;
+pub use k_sharing::step_shared;
 pub use laws::reached_cells_are_touched;
 pub use reached::Reach;
 pub use reaching::reach;

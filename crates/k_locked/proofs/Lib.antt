@@ -1,0 +1,7 @@
+pub mod RoomLeft
+pub mod LocalKept
+pub mod CanDo
+pub mod Kept
+pub mod Steps
+pub mod NeverEnds
+pub mod Opened

@@ -1,0 +1,4 @@
+pub mod Reached
+pub mod Stepping
+pub mod Over
+pub mod Places

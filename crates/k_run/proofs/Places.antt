@@ -1,0 +1,65 @@
+-- Places that fill up.
+use Rattle.std.proofs.Common.{◌≡◌, ◌≢◌, ℕ, zero, suc, ◌+◌, ◌<◌, ◌≤◌, List, [], ◌∷◌, ◌++◌, length, map, set, Some, None, Option, slice_get, slice_index_or, replicate, reverse, refl, sym, ap, ◌∙◌, subst, arith, inl, inr, ◌⊎◌}
+use Rattle.k_run.specs.Places.{AreFilled, filled, one_if_some}
+
+-- a place that was free is taken
+pub filled_set : {A : Type 0} (xs : List (Option A)) (k : ℕ) (x : Option A) (v : A) → slice_get xs k ≡ Some None → filled (set (set xs k x) k (Some v)) ≡ filled xs + 1
+filled_set [] k x v e = absurd (cc)
+filled_set {A = A} (y ∷ xs) zero x v e = let is : y ≡ None = cc in let z : one_if_some y ≡ 0 = ap (one_if_some {A = A}) is in omega (arith, z)
+filled_set (y ∷ xs) (suc k) x v e = omega (arith, filled_set xs k x v e)
+
+pub filled_low : {A : Type 0} (xs : List (Option A)) → filled xs ≤ length xs
+filled_low [] = omega arith
+filled_low (Some v ∷ xs) = omega (arith, filled_low xs)
+filled_low (None ∷ xs) = omega (arith, filled_low xs)
+
+-- where all are taken each is
+pub filled_all : {A : Type 0} (xs : List (Option A)) (k : ℕ) → filled xs ≡ length xs → k < length xs → (v : A) × (slice_get xs k ≡ Some (Some v))
+filled_all [] k e inside = absurd (omega (arith, inside))
+filled_all (Some v ∷ xs) zero e inside = (v, refl)
+filled_all (None ∷ xs) zero e inside = absurd (omega (arith, e, filled_low xs))
+filled_all (Some v ∷ xs) (suc k) e inside = filled_all xs k (omega (arith, e)) (omega (arith, inside))
+filled_all (None ∷ xs) (suc k) e inside = absurd (omega (arith, e, filled_low xs))
+
+pub filled_none : {A : Type 0} (n : ℕ) → filled (replicate n (None {A = A})) ≡ 0
+filled_none zero = refl
+filled_none (suc n) = filled_none n
+
+pub none_there : {A : Type 0} (n k : ℕ) (v : A) → slice_get (replicate n None) k ≡ Some (Some v) → ⊥
+none_there zero k v e = cc
+none_there (suc n) zero v e = cc
+none_there (suc n) (suc k) v e = none_there n k v e
+
+pub get_set_here : {A : Type 0} (xs : List A) (k : ℕ) (x : A) → k < length xs → slice_get (set xs k x) k ≡ Some x
+get_set_here [] k x inside = absurd (omega (arith, inside))
+get_set_here (y ∷ xs) zero x inside = refl
+get_set_here (y ∷ xs) (suc k) x inside = get_set_here xs k x (omega (arith, inside))
+
+pub get_set_else : {A : Type 0} (xs : List A) (k j : ℕ) (x : A) → j ≢ k → slice_get (set xs k x) j ≡ slice_get xs j
+get_set_else [] k j x n = refl
+get_set_else (y ∷ xs) zero zero x n = absurd (n refl)
+get_set_else (y ∷ xs) zero (suc j) x n = refl
+get_set_else (y ∷ xs) (suc k) zero x n = refl
+get_set_else (y ∷ xs) (suc k) (suc j) x n = get_set_else xs k j x (λ e. n (ap suc e))
+
+-- what is found after a write was there, or is what was written
+pub get_set_cases : {A : Type 0} (xs : List A) (k j : ℕ) (x y : A) → slice_get (set xs k x) j ≡ Some y → ((j ≡ k) × (x ≡ y)) ⊎ (slice_get xs j ≡ Some y)
+get_set_cases [] k j x y e = inr e
+get_set_cases (z ∷ xs) zero zero x y e = inl (refl, cc)
+get_set_cases (z ∷ xs) zero (suc j) x y e = inr e
+get_set_cases (z ∷ xs) (suc k) zero x y e = inr e
+get_set_cases (z ∷ xs) (suc k) (suc j) x y e = elim (get_set_cases xs k j x y e) [ inl here ↦ inl (ap suc here.0, here.1) | inr there ↦ inr there ]
+
+pub get_at : {A : Type 0} (xs : List A) (k : ℕ) (x : A) → k < length xs → x ≡ slice_index_or xs k x → slice_get xs k ≡ Some x
+get_at [] k x inside e = absurd (omega (arith, inside))
+get_at (y ∷ xs) zero x inside e = ap Some (sym e)
+get_at (y ∷ xs) (suc k) x inside e = get_at xs k x (omega (arith, inside)) e
+
+-- what is found among elements that are all there
+pub get_mapped_some : {A : Type 0} (xs : List A) (places : List (Option A)) (k : ℕ) (x : A) → map Some xs ≡ places → slice_get xs k ≡ Some x → slice_get places k ≡ Some (Some x)
+get_mapped_some xs places k x is at = subst (λ ps. slice_get ps k ≡ Some (Some x)) is (go xs k at)
+  where
+    go : {A : Type 0} {x : A} (xs : List A) (k : ℕ) → slice_get xs k ≡ Some x → slice_get (map Some xs) k ≡ Some (Some x)
+    go [] k at = absurd (cc)
+    go (y ∷ xs) zero at = ap Some at
+    go (y ∷ xs) (suc k) at = go xs k at
