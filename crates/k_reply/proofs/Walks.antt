@@ -1,5 +1,5 @@
 -- Tests of the numbers that are left below a bound.
-use Rattle.std.proofs.Common.{◌≡◌, ℕ, suc, ◌+◌, ◌-◌, ◌<◌, ◌≤◌, ◌&&◌, Bool, true, ap, ◌∙◌, ◌∷◌, arith}
+use Rattle.std.proofs.Common.{◌≡◌, ℕ, ◌+◌, ◌-◌, ◌<◌, ◌≤◌, ◌&&◌, Bool, true, ap, arith}
 use Rattle.std.specs.List.{list_all}
 use Rattle.k_types.specs.Numbers.{numbers_from}
 use Rattle.k_state.proofs.Sums.{numbers_left}

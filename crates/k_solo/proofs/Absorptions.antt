@@ -1,17 +1,15 @@
 -- Orphans absorbed one after the other: what is left to absorb.
 use Rattle.std.proofs.Common.{◌≡◌, ◌≢◌, ℕ, zero, suc, ◌+◌, ◌-◌, ◌<◌, ◌≤◌, ◌&&◌, not, Bool, true, false, cond, refl, sym, ap, ap₂, subst, ◌∙◌, List, [], ◌∷◌, ◌++◌, map, filter, length, arith, get_or-set_other, if◌then◌else◌}
-use Rattle.std.proofs.lemmas.List.{append-nil, append_assoc}
+use Rattle.std.proofs.lemmas.List.{append_assoc}
 use Rattle.std.proofs.lemmas.List.{length-map}
 use Rattle.std.proofs.lemmas.List.Sums.{count_by-le-length, length-filter}
 use Rattle.k_types.specs.declared.op.Op.{Op}
 use Rattle.k_types.specs.declared.event.Event.{Event}
 use Rattle.k_types.specs.declared.event.Event.TheVariants.{Absorbed as AbsorbedEvent}
-use Rattle.k_types.specs.declared.names.Phase.{Phase}
 use Rattle.k_types.specs.declared.names.Phase.TheVariants.{Unmade, Absorbed}
 use Rattle.k_types.specs.Effects.{step, after_absorbed}
 use Rattle.k_types.specs.FileOrder.{absorptions}
 use Rattle.k_types.specs.Numbers.{numbers_from}
-use Rattle.k_types.specs.Owners.{phase_of}
 use Rattle.k_types.specs.State.{State}
 use Rattle.k_types.specs.Steps.{IsPossible, IsRun, run, is_live, is_orphan, has_sharer, waits_for_orphans}
 use Rattle.k_types.specs.Trace.{Trace}

@@ -1,9 +1,8 @@
 -- Events taken one after the other.
-use Rattle.std.proofs.Common.{◌≡◌, ℕ, ◌+◌, ◌≤◌, refl, sym, ap, ap₂, subst, ◌∙◌, List, [], ◌∷◌, ◌++◌, length, Result, Ok, Err}
+use Rattle.std.proofs.Common.{◌≡◌, ℕ, ◌+◌, ◌≤◌, sym, ap, ap₂, subst, ◌∙◌, List, ◌++◌, length, Result, Ok, Err}
 use Rattle.std.specs.Prelude.{OnOk}
-use Rattle.std.proofs.lemmas.List.{append-nil, append_assoc}
+use Rattle.std.proofs.lemmas.List.{append_assoc}
 use Rattle.k_types.specs.declared.event.Event.{Event}
-use Rattle.k_types.specs.Effects.{step}
 use Rattle.k_types.specs.State.{State}
 use Rattle.k_types.specs.Steps.{IsRun, run}
 use Rattle.k_types.specs.Trace.{Trace}

@@ -11,7 +11,7 @@ use Rattle.k_types.specs.Numbers.{numbers_from}
 use Rattle.k_types.specs.Names.{name_eq, leads_to}
 use Rattle.k_types.specs.Trace.{Trace, limit_of, process_count}
 use Rattle.k_types.specs.TraceRules.{AreLimits}
-use Rattle.k_types.specs.State.{Content, Refers, Holds, Object, State, content_leads_to, fields_of, has, object_at, refers, refers_in}
+use Rattle.k_types.specs.State.{Content, Refers, Holds, Object, State, content_leads_to, fields_of, has, object_at, refers_in}
 use Rattle.k_types.specs.Limits.{direct_by, limits_in, use_of, use_within}
 use Rattle.k_types.specs.Owners.{charge_of}
 use Rattle.k_types.specs.Replies.{field_at, reference}

@@ -1,10 +1,10 @@
 -- The object that follows a name in the order of names.
-use Rattle.std.proofs.Common.{◌≡◌, inl, inr, ℕ, zero, suc, ◌+◌, ◌<◌, ◌≤◌, Bool, true, false, cond, refl, sym, ap, subst, ◌∙◌, List, [], ◌∷◌, find, length, get_or, slice_get, Option, Some, None, arith}
+use Rattle.std.proofs.Common.{◌≡◌, inl, inr, ℕ, zero, suc, ◌<◌, ◌≤◌, Bool, true, false, cond, refl, ap, subst, ◌∙◌, List, [], ◌∷◌, find, length, get_or, slice_get, Some, None, arith}
 use Rattle.std.specs.Prelude.{option_map}
 use Rattle.std.proofs.lemmas.Bool.{cases_eq}
 use Rattle.k_types.specs.declared.names.Name.{Name}
 use Rattle.k_types.specs.Names.{name_lt}
-use Rattle.k_types.specs.Sound.{IsOrdered, IsOrderedFrom}
+use Rattle.k_types.specs.Sound.{IsOrdered}
 use Rattle.k_types.specs.State.{Object}
 use Rattle.k_base.proofs.NameTests.{name_lt_trans}
 use Rattle.k_text.specs.Shown.{comes_after, next_name_after}

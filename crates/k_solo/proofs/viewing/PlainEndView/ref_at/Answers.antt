@@ -1,8 +1,6 @@
-use Rattle.std.proofs.Common.{◌≡◌, subst, sym, ap, ◌∙◌}
+use Rattle.std.proofs.Common.{sym, ap, ◌∙◌}
 use Rattle.k_types.specs.Known.{IsKnownName}
-use Rattle.k_types.specs.Replies.{field_at, reference}
-use Rattle.k_state.specs.Contents.{content}
-use Rattle.k_solo.specs.Runs.{Run}
+use Rattle.k_types.specs.Replies.{reference}
 use Rattle.k_solo.proofs.Known.{field_known}
 use Rattle.k_solo.proofs.viewing.PlainEndView.ref_at.Goals as goal
 use Rattle.k_base.proofs.Lists.{if_some}
