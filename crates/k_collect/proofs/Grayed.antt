@@ -22,10 +22,6 @@ use Rattle.k_collect.proofs.Walks.{IsOnWalk, distinct_walk, first_on_walk, next_
 use Rattle.k_types.specs.Counted.{Counted, counted}
 use Rattle.k_base.specs.Distinct.{AreDistinctNames}
 
--- a collection that has begun has that phase
-pub phase_begun : (v : CellValue) → HasBegun v → v.collection ≡ Begun
-phase_begun v begins = ap (λ (x : CellValue). x.collection) begins
-
 pub grays_none : (v : CellValue) → HasBegun v → HasGrayed (λ n. false) v v
 grays_none v begins = record { rest = begins; gray = λ n. sym (or_none (name_among n v.gray)) }
 
@@ -70,20 +66,6 @@ among_last names t n = list_any-append (λ m. name_eq m n) names (t ∷ []) ∙ 
 -- what the first registers hold
 abbrev pub held_by_first : ℕ → CellValue → Name → Bool
 held_by_first count v n = list_any (λ r. leads_to r n) (take count (registers_in v.process))
-
-pub held_is : (process : Option ProcessPart) (r : ℕ) → get_or (registers_in process) r None ≡ held_in process r
-held_is None r = refl
-held_is (Some q) r = refl
-
-pub held_more : (v : CellValue) (r : ℕ) → r < length (registers_in v.process) → (n : Name) →
-    held_by_first (r + 1) v n ≡ (held_by_first r v n || leads_to (held_in v.process r) n)
-held_more v r inside n =
-    ap (list_any (λ x. leads_to x n)) (take_more (registers_in v.process) r None inside)
-    ∙ list_any-append (λ x. leads_to x n) (take r (registers_in v.process)) (get_or (registers_in v.process) r None ∷ [])
-    ∙ ap (λ b. held_by_first r v n || b) (or_none (leads_to (get_or (registers_in v.process) r None) n) ∙ ap (λ x. leads_to x n) (held_is v.process r))
-
-pub held_none : (v : CellValue) (n : Name) → false ≡ held_by_first 0 v n
-held_none v n = refl
 
 module _ (v : EntryValue) (heap : Heap) (are : AreEntries v) where
   abbrev items : List Counted
