@@ -21,6 +21,7 @@ use Rattle.k_types.specs.Steps.{in_range, state_after}
 use Rattle.k_types.specs.Totals.{total}
 use Rattle.k_types.specs.Trace.{kinds_of, limit_of, segment_count, segment_of, size_of_type}
 use Rattle.k_types.specs.Types.{object_size}
+use Rattle.k_base.proofs.Lists.{some_inside}
 use Rattle.k_base.proofs.NameTests.{heap_eq_refl}
 use Rattle.k_frame.proofs.OwnerOf.{owner_user}
 use Rattle.k_space.specs.Objects.{BodyValue, new_body}
@@ -42,17 +43,13 @@ use Rattle.k_commit.specs.Met.{Before}
 use Rattle.k_commit.proofs.Fitting.{bytes_small}
 use Rattle.k_commit.proofs.Setting.{process_known, process_lives}
 use Rattle.k_own.specs.Own.{IsDue}
+use Rattle.k_own.proofs.Away.{some_is}
 use Rattle.k_own.proofs.Due.{set_last}
 
 -- the first of the bodies and the others
 abbrev first_of : {A : Type 0} → A → List A → A
 first_of d [] = d
 first_of d (x ∷ xs) = x
-
-read_within : {A : Type 0} (xs : List (Option A)) (i : ℕ) (a : A) → get_or xs i None ≡ Some a → i < length xs
-read_within [] i a is = absurd (cc is)
-read_within (x ∷ xs) zero a is = omega arith
-read_within (x ∷ xs) (suc i) a is = omega (arith, read_within xs i a is)
 
 module _ (before : Before) (c : HeapRecord) (b : BookRecord) (r : Reg) (ty : TypeId) (due : IsDue before c b (New r ty)) where
   pub new_below : r.0 < 16
@@ -137,7 +134,7 @@ module _ (before : Before) (c : HeapRecord) (b : BookRecord) (r : Reg) (ty : Typ
         ap (λ (x : BodyValue). idle_part (with_body (own_segment c.pid) x c.value)) body_is
         ∙ ap (λ (w : HeapRecord). idle_part (with_body (own_segment w.pid) (new_body before.trace.types ty) w.value)) due.cell_is
         ∙ new_shown before.cell.value (own_segment before.cell.pid) ty (kinds_of before.trace ty)
-        (read_within before.cell.value.made (own_segment before.cell.pid) _ segment_made)
+        (some_inside before.cell.value.made (own_segment before.cell.pid) _ segment_made)
 
     module _ (bytes : ℕ) (bytes_are : bytes ≡ size_of_type before.trace ty) (k : BookRecord) where
       pub refused_changed : (limit : LimitId) → IsFullFor before.trace b k before.cell.pid.0 bytes limit → HasChanged before (record c { bodies = left }) k (New r ty) (Refused (LimitFull limit))
@@ -171,13 +168,6 @@ module _ (before : Before) (c : HeapRecord) (b : BookRecord) (r : Reg) (ty : Typ
           there = λ n is. subst (λ (m : Name). m.seg.0 < segment_count before.trace) (some_is new_name n is) within;
         }
           where
-            some_is : (x y : Name) → Some x ≡ Some y → x ≡ y
-            some_is x y e = ap or_first e
-              where
-                or_first : Option Name → Name
-                or_first None = x
-                or_first (Some z) = z
-
             within : c.pid.0 + 1 < segment_count before.trace
             within = let known = due.have_met.after.met.there in let same = ap (λ (w : HeapRecord). w.pid.0) due.cell_is in omega (arith, known, same)
 

@@ -40,7 +40,8 @@ pub some_if_away : (p : ℕ) (held : Option Name) → IsFalse (is_own p held) �
 some_if_away p None away = absurd (false≢true (sym away))
 some_if_away p (Some x) away = refl
 
-some_is : {A : Type 0} (x y : A) → Some x ≡ Some y → x ≡ y
+-- what is Some is one thing
+pub some_is : {A : Type 0} (x y : A) → Some x ≡ Some y → x ≡ y
 some_is {A} x y e = ap or_first e
   where
     or_first : Option A → A

@@ -69,9 +69,6 @@ refers_to (Holds number) n is = absurd (cc is)
 
 -- an operation that is due, of whose base the object is known
 module _ (before : Before) (c : HeapRecord) (b : BookRecord) (op : Op) (due : IsDue before c b op) where
-  pid_is : c.pid ≡ before.cell.pid
-  pid_is = ap (λ (w : HeapRecord). w.pid) due.cell_is
-
   pub held_then : (r : ℕ) (x : Name) → held_in c.value.process r ≡ Some x → held_in before.cell.value.process r ≡ Some x
   held_then r x is = sym (held_before before c b op due r) ∙ is
 

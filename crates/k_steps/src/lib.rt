@@ -1,7 +1,27 @@
 //! The step calls: each is lent just the cells that its event touches and the book, appends one event, and keeps agreement.
 //!
-//! No call takes memory. A call meets the journal first, so that the cell speaks of all of it, then changes cell and book, and
-//! then appends the event, touches its cells and meets again.
+//! [`reach`] tells which cell an operation touches beside its process's own, and so which call does it: [`step_own`],
+//! [`step_kernel`] or [`step_shared`]. The end of a process is [`exit`], and the absorption of a shared heap that nobody shares is
+//! [`absorb`]. Collections begin with [`begin_heap`], [`begin_kernel`] and [`close_kernel`], and end with [`end_heap`] and
+//! [`end_kernel`]; between the two a cell is marked alone. [`publish`] appends what a process did inside its heap, and
+//! [`settle_heap`] and [`settle_kernel`] end what is still open.
+//!
+//! A call meets the journal first, so that each cell speaks of all of it, then changes cells and book, and then appends the event,
+//! touches its cells and meets again. No call takes memory.
 #![tactic(auto)]
 
+mod laws;
+mod reached;
+mod reaching;
+
+pub use k_collect::{
+    begin_heap, begin_kernel, close_kernel, end_heap, end_kernel, settle_heap, settle_kernel,
+};
 pub use k_commit::publish;
+pub use k_depart::{absorb, exit};
+pub use k_own::step_own;
+pub use k_pair::step_kernel;
+pub use k_sharing::step_shared;
+pub use laws::reached_cells_are_touched;
+pub use reached::Reach;
+pub use reaching::reach;

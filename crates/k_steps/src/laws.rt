@@ -1,0 +1,20 @@
+//! What is reached is what is touched.
+ghost use Rattle.std.specs.Prelude.{◌≡◌, ◌∷◌};
+ghost use Rattle.k_commit.specs.Met.{Before, HaveMet};
+ghost use Rattle.k_moves.specs.Shown.{idle_part};
+ghost use Rattle.k_squares.specs.Touches.{other_cells_in};
+ghost use Rattle.k_types.specs.Agree.{book_shown_by};
+ghost use Rattle.k_types.specs.Cells.{cells_touched};
+ghost use Rattle.k_types.specs.Steps.{state_after};
+ghost use Rattle.k_types.specs.declared.event.Event.TheVariants.{Done};
+ghost use Rattle.k_types.specs.declared.event.Reply.{Reply};
+ghost use Rattle.k_types.specs.declared.names.Heap.TheVariants.{User};
+ghost use Rattle.k_types.specs.declared.op.Op.{Op};
+
+/// Once the process's cell has met the journal, the cells that the event of an operation touches are that cell and those that the
+/// values of the cell and of the book tell: what `reach` answers.
+pub fn reached_cells_are_touched()
+    ensures { (before : Before) → HaveMet before → (op : Op) (said : Reply) →
+        cells_touched before.trace (state_after before.trace before.book.journal.list) (Done before.cell.pid op said)
+        ≡ (User before.cell.pid ∷ other_cells_in before.trace (book_shown_by before.book.value) (idle_part before.cell.value) before.cell.pid.0 op) }
+{}

@@ -1,0 +1,88 @@
+//! The cell beside the process's own that an operation touches.
+ghost use Rattle.std.specs.Prelude.{◌≡◌, ◌<◌, Some, length, option_map};
+ghost use Rattle.k_frame.specs.PartUpdates.{held_in};
+ghost use Rattle.k_moves.specs.Shown.{idle_part};
+ghost use Rattle.k_squares.specs.Touches.{access_cell_in, base_cell_in, other_cells_in};
+ghost use Rattle.k_steps.specs.Reaching.{CanReach, CanReachOwner, CanReachThrough, cells_of};
+ghost use Rattle.k_types.specs.Agree.{book_shown_by};
+ghost use Rattle.k_types.specs.Trace.{Trace};
+
+use crate::reached::Reach;
+use k_book::Book;
+use k_heap::HeapCell;
+use k_types::{Heap, Op, Pid, Reg};
+
+/// The cell that an access to an object of that heap touches beside the process's own.
+fn reach_owner(book: &Book, pid: Pid, owner: Heap) -> Reach
+    requires { CanReachOwner book.now pid.0 owner }
+    ensures { cells_of result ≡ base_cell_in (book_shown_by book.now.value) pid.0 owner }
+{
+    match owner {
+        Heap::Kernel => Reach::Kernel,
+        Heap::User(_) => Reach::Own,
+        Heap::Shared(shared) => {
+            if book.shares(pid, shared) {
+                Reach::Shared(shared)
+            } else {
+                Reach::Own
+            }
+        }
+    }
+}
+
+/// The cell that an access through the register touches beside the process's own.
+fn reach_through(cell: &HeapCell, book: &Book, base: Reg) -> Reach
+    ghost trace: { Trace }
+    requires { CanReachThrough trace cell.now book.now base.0 }
+    ensures { cells_of result ≡ access_cell_in trace (book_shown_by book.now.value) cell.now.pid.0 (held_in cell.now.value.process base.0) }
+{
+    match cell.reg(base) {
+        Some(link) => reach_owner(book, cell.pid(), book.owner(link.seg)),
+        None => Reach::Own,
+    }
+}
+
+/// The cell that the operation touches beside its process's own, as cell and book are now; a cell that has met the journal is
+/// as the machine has it. While the process's cell is held the answer changes at most once, from `Own` to `Kernel`, where the
+/// kernel absorbs the shared heap that owns the object. Constant time.
+#[tactic(auto, unfolding(k_squares::specs::Touches::other_cells_in))]
+pub fn reach(cell: &HeapCell, book: &Book, op: &Op) -> Reach
+    ghost trace: { Trace }
+    requires { CanReach trace cell.now book.now op.now }
+    ensures { cells_of result ≡ other_cells_in trace (book_shown_by book.now.value) (idle_part cell.now.value) cell.now.pid.0 op.now }
+{
+    match *op {
+        Op::KNew { reg: _, ty: _ } => Reach::Kernel,
+        Op::KCollect => Reach::Kernel,
+        Op::Exit => Reach::Kernel,
+        Op::SNew {
+            reg: _,
+            shared,
+            ty: _,
+        } => Reach::Shared(shared),
+        Op::Share { shared } => Reach::Shared(shared),
+        Op::Freeze { shared, root: _ } => Reach::Shared(shared),
+        Op::Attach { reg: _, shared } => Reach::Shared(shared),
+        Op::Store {
+            base,
+            field: _,
+            value: _,
+        } => reach_through(cell, book, base),
+        Op::Load {
+            reg: _,
+            base,
+            field: _,
+        } => reach_through(cell, book, base),
+        Op::Put {
+            base,
+            field: _,
+            number: _,
+        } => reach_through(cell, book, base),
+        Op::Get { base, field: _ } => reach_through(cell, book, base),
+        Op::New { reg: _, ty: _ } => Reach::Own,
+        Op::Move { reg: _, from: _ } => Reach::Own,
+        Op::Clear { reg: _ } => Reach::Own,
+        Op::Dir { reg: _ } => Reach::Own,
+        Op::Collect => Reach::Own,
+    }
+}
