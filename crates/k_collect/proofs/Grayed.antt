@@ -1,13 +1,10 @@
 -- What has been made gray so far.
-use Rattle.std.proofs.Common.{◌≡◌, ℕ, ◌+◌, ◌-◌, ◌<◌, ◌||◌, ◌&&◌, Bool, true, false, refl, sym, ap, ap₂, ◌∙◌, subst, List, [], ◌∷◌, ◌++◌, length, take, get_or, Option, Some, None}
+use Rattle.std.proofs.Common.{◌≡◌, ℕ, ◌-◌, ◌<◌, ◌||◌, ◌&&◌, Bool, true, false, refl, sym, ap, ap₂, ◌∙◌, subst, List, [], ◌∷◌, ◌++◌, length, take, Option, Some, None}
 use Rattle.std.specs.List.{list_any}
-use Rattle.std.proofs.lemmas.List.{take_more}
 use Rattle.std.proofs.lemmas.List.Folds.{list_any-append}
-use Rattle.k_types.specs.declared.names.CellPhase.TheVariants.{Begun}
 use Rattle.k_types.specs.declared.names.Heap.{Heap}
 use Rattle.k_types.specs.declared.names.Name.{Name}
 use Rattle.k_types.specs.Agree.{CellValue}
-use Rattle.k_types.specs.Cells.{ProcessPart}
 use Rattle.k_types.specs.Names.{leads_to, name_among, name_eq}
 use Rattle.k_types.specs.State.{Object, has}
 use Rattle.k_base.proofs.Charges.{or_none}
@@ -16,7 +13,6 @@ use Rattle.k_agree.specs.Marking.{begun}
 use Rattle.k_cell.specs.Changes.{HasRoot}
 use Rattle.k_changes.specs.BookChanges.{registers_in}
 use Rattle.k_entry.specs.Entries.{AreEntries, EntryValue, first_object, home_of, items_of, object_after, objects}
-use Rattle.k_frame.specs.PartUpdates.{held_in}
 use Rattle.k_collect.specs.Graying.{HasBegun, HasGrayed, is_counted_at}
 use Rattle.k_collect.proofs.Walks.{IsOnWalk, distinct_walk, first_on_walk, next_on_walk, none_before, on_walk_counted, passed_before, passed_more, passed_next, walk_counts}
 use Rattle.k_types.specs.Counted.{Counted, counted}

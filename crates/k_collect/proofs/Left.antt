@@ -1,6 +1,6 @@
 -- Exit items that are left one by one until the marked ones alone are there.
-use Rattle.std.proofs.Common.{◌≡◌, ℕ, ◌+◌, ◌-◌, ◌<◌, ◌≤◌, ◌||◌, ◌&&◌, not, Bool, true, false, cond, refl, sym, ap, ap₂, ◌∙◌, List, [], ◌∷◌, map, filter, length, arith}
-use Rattle.std.proofs.lemmas.Bool.{and_from, and_parts, false≢true}
+use Rattle.std.proofs.Common.{◌≡◌, ◌+◌, ◌-◌, ◌≤◌, ◌||◌, ◌&&◌, not, Bool, true, false, cond, refl, sym, ap, ◌∙◌, List, [], ◌∷◌, map, filter, length, arith}
+use Rattle.std.proofs.lemmas.Bool.{and_from}
 use Rattle.k_types.specs.declared.names.Heap.TheVariants.{Kernel}
 use Rattle.k_types.specs.declared.names.Name.{Name}
 use Rattle.k_types.specs.Agree.{BookValue, CellValue}
@@ -10,17 +10,12 @@ use Rattle.k_types.specs.Sound.{AreDistinctExits}
 use Rattle.k_types.specs.State.{ExitItem, has_exit}
 use Rattle.k_types.specs.Totals.{total}
 use Rattle.k_base.specs.Distinct.{AreDistinctNames}
-use Rattle.k_base.proofs.NameTests.{name_eq-true}
 use Rattle.k_base.proofs.Sums.{ones}
 use Rattle.k_base.proofs.Tests.{same_test}
 use Rattle.k_bounds.proofs.Distinct.{targets_sum}
 use Rattle.k_agree.specs.Ending.{HasLeft, dropped, dropped_exits}
 use Rattle.k_agree.proofs.Credited.{kept_distinct}
 use Rattle.k_agree.proofs.Swept.{among_kept}
-use Rattle.k_book.specs.Books.{BookRecord, book_entries}
-use Rattle.k_cell.specs.Changes.{HasDroppedExit}
-use Rattle.k_entry.specs.Entries.{HasLess}
-use Rattle.k_collect.specs.Leaving.{HasItsEntries, HasLeftUnmarked}
 
 -- some exit items that are not black are gone, each with one entry
 pub record IsLeaving (old now : CellValue) (before after : BookValue) : Type 0 where

@@ -1,5 +1,5 @@
 -- The numbers of the end of a collection fit, and what it credits is charged.
-use Rattle.std.proofs.Common.{◌≡◌, ◌+◌, ◌-◌, ◌*◌, ◌<◌, ◌≤◌, ◌^◌, ◌&&◌, not, Bool, true, false, cond, ℕ, ap, List, [], ◌∷◌, length, filter, map, arith, get_or, IsFalse, suc, zero}
+use Rattle.std.proofs.Common.{◌≡◌, ◌+◌, ◌-◌, ◌*◌, ◌<◌, ◌≤◌, ◌^◌, ◌&&◌, not, Bool, true, false, cond, ℕ, ap, List, [], ◌∷◌, length, map, arith, get_or, IsFalse, suc, zero}
 use Rattle.k_types.specs.declared.names.Heap.{Heap}
 use Rattle.k_types.specs.Agree.{BookValue, CellValue}
 use Rattle.k_types.specs.Cells.{BookPart, Cell, ShownPart, book_part, part}
@@ -14,7 +14,7 @@ use Rattle.k_types.specs.Trace.{Trace, limit_of, process_count}
 use Rattle.k_types.specs.TraceRules.{KeepsRules}
 use Rattle.k_types.specs.declared.event.Event.{Event}
 use Rattle.k_base.proofs.Lists.{numbers_length}
-use Rattle.k_base.proofs.Sums.{ones, total_at_most}
+use Rattle.k_base.proofs.Sums.{total_at_most}
 use Rattle.k_bounds.specs.Counts.{has_allocated}
 use Rattle.k_bounds.proofs.Counting.{count_low, total_fewer}
 use Rattle.k_bounds.proofs.Laws.{objects_are_at_most_the_allocations}

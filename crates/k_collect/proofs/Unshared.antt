@@ -1,14 +1,10 @@
 -- The shares of a process that are dropped one by one.
-use Rattle.std.proofs.Common.{◌≡◌, ℕ, zero, suc, ◌+◌, ◌-◌, ◌<◌, ◌≤◌, ◌^◌, ◌==◌, ◌||◌, ◌&&◌, not, nat_lt, Bool, true, false, cond, refl, sym, ap, ap₂, ◌∙◌, subst, List, [], ◌∷◌, length, take, get_or, arith, add-one, eqb-true, eq-eqb}
-use Rattle.std.specs.List.{list_any}
-use Rattle.std.proofs.lemmas.Bool.{and_parts, false≢true, lt-ltb, ltb-true, or_left, or_right}
-use Rattle.std.proofs.lemmas.List.{take_more}
-use Rattle.std.proofs.lemmas.List.Folds.{list_any-append}
+use Rattle.std.proofs.Common.{◌≡◌, ℕ, zero, suc, ◌+◌, ◌-◌, ◌<◌, ◌≤◌, ◌^◌, ◌==◌, ◌||◌, ◌&&◌, not, nat_lt, Bool, true, false, cond, refl, sym, ap, ap₂, ◌∙◌, subst, List, length, get_or, arith, add-one, eqb-true, eq-eqb}
+use Rattle.std.proofs.lemmas.Bool.{and_parts, false≢true, lt-ltb, ltb-true}
 use Rattle.k_types.specs.Agree.{BookValue, CellValue}
 use Rattle.k_types.specs.Numbers.{numbers_below}
 use Rattle.k_types.specs.State.{has_share}
 use Rattle.k_types.specs.Totals.{total}
-use Rattle.k_base.proofs.Charges.{or_none}
 use Rattle.k_base.proofs.Lists.{numbers_length, numbers_push}
 use Rattle.k_base.proofs.Sums.{ones, sum_same, total_at_most, total_push}
 use Rattle.k_base.proofs.Tests.{same_test}
