@@ -10,11 +10,12 @@ mod names;
 use entries::EntryTable;
 use exits::ExitTable;
 use heap::{Area, Field, Kind, Segment, Swept};
-use names::Name;
+use names::{Name, Reference};
 use std::env;
 use std::process::exit;
 
 const SEGMENT: u32 = 1;
+const FAR: u32 = 2;
 const ROUNDS: u32 = 10;
 const SEGMENTS: u32 = 129;
 const MOST: u32 = 10_000_000;
@@ -262,6 +263,49 @@ fn wide(watch: &mut Watch, size: u32) -> String {
     format!("wide {size}: {} bytes are marked", area.bytes())
 }
 
+/// Has each field that would refer to an object past the last one refer to one of `count` objects of another heap.
+fn link_out(segment: &mut Segment, exits: &mut ExitTable, size: u32, count: u32) {
+    for i in 1..size + 1 {
+        let Some(from) = segment.find(i) else {
+            continue;
+        };
+        let first = 2 * i + i % 2;
+        for field in 0..2 {
+            if first + 2 * field <= size {
+                continue;
+            }
+            let target = Reference {
+                segment: FAR,
+                slot: 0,
+                serial: 1 + (2 * i + field) % count,
+            };
+            exits.add(target.name());
+            segment.set_ref(from, field as usize, Some(target));
+        }
+    }
+}
+
+/// Marks objects half of whose references lead to another heap.
+fn foreign(watch: &mut Watch, size: u32) -> String {
+    let count = size / ROUNDS + 1;
+    let mut segment = Segment::with_capacity(SEGMENT, size as usize);
+    place(&mut segment, make(size));
+    link(&mut segment, size);
+    let mut exits = ExitTable::with_capacity(count as usize + 1);
+    link_out(&mut segment, &mut exits, size, count);
+    let mut area = Area::of(vec![segment]);
+    watch.lap("before");
+    mark_from(&mut area, &mut exits, 2);
+    watch.lap("mark_foreign");
+    let mut others = 0;
+    exits.drain_unmarked(|_| others += 1);
+    format!(
+        "mark_foreign {size}: {} bytes, {} exit items marked, {others} not",
+        area.bytes(),
+        exits.len()
+    )
+}
+
 fn walk(watch: &mut Watch, size: u32) -> String {
     let targets = scattered(size / ROUNDS, false);
     let mut table = EntryTable::with_capacity(&[0, 1, 2, 3, 4], (size / ROUNDS) as usize);
@@ -321,6 +365,7 @@ fn main() {
         "add" | "has" => exits(&mut watch, size, word == "has"),
         "up" | "down" => entries(&mut watch, size, word == "down"),
         "wide" => wide(&mut watch, size),
+        "mark_foreign" => foreign(&mut watch, size),
         "walk" => walk(&mut watch, size),
         "drain" => drain(&mut watch, size),
         "again" => again(&mut watch, word, size, size / 10 * 3, 4_000),

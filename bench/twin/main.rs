@@ -16,6 +16,7 @@ use std::env;
 use std::process::exit;
 
 const SEG: Seg = Seg(1);
+const FAR: Seg = Seg(2);
 const ROUNDS: u32 = 10;
 const SEGMENTS: u32 = 129;
 const MOST: u32 = 10_000_000;
@@ -325,6 +326,50 @@ fn wide(watch: &mut Watch, size: u32) -> String {
     format!("wide {size}: {bytes} bytes are marked")
 }
 
+/// Has each field that would refer to an object past the last one refer to one of `count` objects of another heap.
+fn link_out(segment: &mut Segment, exits: &mut ExitTable, size: u32, count: u32) {
+    for i in 1..size + 1 {
+        let Some(from) = segment.find(Serial(i)) else {
+            continue;
+        };
+        let first = 2 * i + i % 2;
+        for field in 0..2 {
+            if first + 2 * field <= size {
+                continue;
+            }
+            let target = link_to(Name {
+                seg: FAR,
+                serial: Serial(1 + (2 * i + field) % count),
+            });
+            exits.add(target);
+            segment.write_ref(from, field, Some(target));
+        }
+    }
+}
+
+/// Marks objects half of whose references lead to another heap.
+fn foreign(watch: &mut Watch, size: u32) -> String {
+    let count = size / ROUNDS + 1;
+    let mut segment = Segment::make(SEG, size);
+    place(&mut segment, make(size));
+    link(&mut segment, size);
+    let mut exits = ExitTable::make(count + 1);
+    link_out(&mut segment, &mut exits, size, count);
+    let bytes = segment.bytes;
+    let mut area = Area::of(segment);
+    watch.lap("before");
+    mark_from(&mut area, &mut exits, 2);
+    watch.lap("mark_foreign");
+    let mut others = 0;
+    while exits.take_unmarked().is_some() {
+        others += 1;
+    }
+    format!(
+        "mark_foreign {size}: {bytes} bytes, {} exit items marked, {others} not",
+        exits.len()
+    )
+}
+
 fn walk(watch: &mut Watch, size: u32) -> String {
     let targets = scattered(size / ROUNDS, false);
     let mut table = EntryTable::make(&[0, 1, 2, 3, 4], size / ROUNDS);
@@ -386,6 +431,7 @@ fn main() {
         None if word == "add" || word == "has" => exits(&mut watch, size, word == "has"),
         None if word == "up" || word == "down" => entries(&mut watch, size, word == "down"),
         None if word == "wide" => wide(&mut watch, size),
+        None if word == "mark_foreign" => foreign(&mut watch, size),
         None if word == "walk" => walk(&mut watch, size),
         None if word == "drain" => drain(&mut watch, size),
         None if word == "again" => again(&mut watch, word, size, size / 10 * 3, 4_000),

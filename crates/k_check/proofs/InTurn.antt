@@ -1,6 +1,6 @@
 -- An event that comes next: it is possible, and does its process's next operation.
-use Rattle.std.proofs.Common.{◌≡◌, ◌∙◌, ℕ, zero, suc, ◌+◌, ◌<◌, ◌≤◌, Bool, true, false, cond, eqb, List, [], ◌∷◌, ◌++◌, length, Option, Some, None, refl, sym, ap, subst, arith, append_assoc}
-use Rattle.std.specs.Prelude.{IsFalse, slice_get}
+use Rattle.std.proofs.Common.{◌≡◌, ◌∙◌, ℕ, ◌<◌, Bool, true, false, eqb, List, [], ◌∷◌, ◌++◌, length, Some, None, refl, sym, ap, subst, append_assoc}
+use Rattle.std.specs.Prelude.{slice_get}
 use Rattle.std.proofs.lemmas.List.{append-nil}
 use Rattle.k_types.specs.declared.op.Op.{Op}
 use Rattle.k_types.specs.declared.names.Pid.{Pid}
@@ -13,7 +13,7 @@ use Rattle.k_types.specs.Steps.{IsPossible, done_by, state_after}
 use Rattle.k_types.specs.Trace.{Trace, process_count, operations_of}
 use Rattle.k_frame.proofs.Histories.{done_append, legal_append, legal_rest}
 use Rattle.k_history.specs.Good.{IsBegun}
-use Rattle.k_history.proofs.Possible.{at_process, itself, same_front}
+use Rattle.k_history.proofs.Possible.{at_process, itself}
 use Rattle.k_check.specs.Turns.{IsInTurn}
 
 -- ---- an event that comes next
@@ -67,17 +67,6 @@ next_is done ops op first is = go first.0 (sym (get_behind done first.0) ∙ ap 
 pub next_at : (done ops : List Op) (op : Op) → IsPrefixOf (done ++ op ∷ []) ops → slice_get ops (length done) ≡ Some op
 next_at done ops op first =
     ap (λ (xs : List Op). slice_get xs (length done)) (sym first.1 ∙ append_assoc done (op ∷ []) first.0) ∙ get_behind done (op ∷ first.0)
-
--- Nothing comes next where all is done.
-pub none_next : (done ops : List Op) → IsPrefixOf done ops → slice_get ops (length done) ≡ None → done ≡ ops
-none_next done ops first none = go first.0 (sym (get_behind done first.0) ∙ ap (λ (xs : List Op). slice_get xs (length done)) first.1 ∙ none) first.1
-  where
-    go : (rest : List Op) → slice_get rest 0 ≡ None → done ++ rest ≡ ops → done ≡ ops
-    go [] e all = sym (append-nil done) ∙ all
-    go (o ∷ rest) e all = absurd (cc e)
-
-pub all_next : (done ops : List Op) → done ≡ ops → slice_get ops (length done) ≡ None
-all_next done ops same = ap (λ (xs : List Op). slice_get xs (length done)) (sym same ∙ sym (append-nil done)) ∙ get_behind done []
 
 -- ---- whether an operation is the next one
 

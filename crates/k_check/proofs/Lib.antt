@@ -1,7 +1,6 @@
 pub mod LinesRead
 pub mod InTurn
 pub mod Rooms
-pub mod Closings
 pub mod Splits
 pub mod Walks
 pub mod Lifted

@@ -1,6 +1,6 @@
 -- A report that is good, or refused at a line, is so and nothing else.
 use Rattle.k_words.specs.Words.{Text}
-use Rattle.std.proofs.Common.{◌≡◌, ℕ}
+use Rattle.std.proofs.Common.{ℕ}
 use Rattle.k_trace.specs.Named.{NamedTrace}
 use Rattle.k_trace.specs.Rules.{IsTrace}
 use Rattle.k_history.specs.Good.{IsGoodReport, IsRefusedAt}

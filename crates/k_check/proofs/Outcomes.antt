@@ -1,5 +1,5 @@
 -- What the comparison of a report with that of its history tells.
-use Rattle.std.proofs.Common.{◌≡◌, ◌∙◌, ℕ, ◌+◌, List, [], ◌∷◌, length, Some, None, codes, sym, ap}
+use Rattle.std.proofs.Common.{◌≡◌, ◌∙◌, ℕ, List, [], ◌∷◌, Some, None, codes, sym, ap}
 use Rattle.k_types.specs.declared.event.Event.{Event}
 use Rattle.k_types.specs.Complete.{IsComplete}
 use Rattle.k_types.specs.Steps.{state_after}
@@ -9,7 +9,7 @@ use Rattle.k_trace.specs.Rules.{IsTrace}
 use Rattle.k_text.specs.Report.{text_over, report_text}
 use Rattle.k_text.proofs.Setups.{setup_alone}
 use Rattle.k_history.specs.Difference.{difference}
-use Rattle.k_history.specs.Good.{IsGoodReport, IsReadUpTo, IsRefusedAt}
+use Rattle.k_history.specs.Good.{IsReadUpTo}
 use Rattle.k_history.specs.Good.IsRefusedAt.{OfGraph, OfReport}
 use Rattle.k_history.proofs.Differences.{same_text}
 use Rattle.k_reports.specs.Verdicts.{IsAccepted, IsRefused}

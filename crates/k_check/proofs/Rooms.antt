@@ -1,10 +1,9 @@
 -- How long a history that is begun can be.
-use Rattle.std.proofs.Common.{◌≡◌, ℕ, ◌+◌, ◌*◌, ◌<◌, ◌≤◌, ◌^◌, List, length, arith, subst, sym}
+use Rattle.std.proofs.Common.{◌≤◌, List, length, arith, subst, sym}
 use Rattle.k_types.specs.declared.event.Event.{Event}
 use Rattle.k_types.specs.Steps.{state_after}
 use Rattle.k_types.specs.Trace.{Trace}
 use Rattle.k_types.specs.TraceRules.{KeepsRules}
-use Rattle.k_bounds.specs.Counts.{operation_count}
 use Rattle.k_bounds.proofs.Laws.{histories_are_short}
 use Rattle.k_known.proofs.Laws.{histories_do_the_operations_of_the_trace}
 use Rattle.k_history.specs.Good.{IsBegun}

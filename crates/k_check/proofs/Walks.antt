@@ -1,23 +1,18 @@
 -- What a machine that walks along a history is, and how it goes on.
-use Rattle.std.proofs.Common.{◌≡◌, ◌∙◌, ℕ, ◌+◌, ◌<◌, ◌≤◌, List, [], ◌∷◌, ◌++◌, length, get_or, Bool, true, false, not, refl, sym, ap, subst, arith}
-use Rattle.std.specs.Prelude.{IsFalse, is_some, slice_get}
+use Rattle.std.proofs.Common.{◌≡◌, ◌∙◌, ℕ, List, [], ◌∷◌, ◌++◌, length, get_or, Bool, true, refl, sym, ap, subst}
+use Rattle.std.specs.Prelude.{slice_get}
 use Rattle.std.specs.List.{AllByRecursion}
 use Rattle.k_types.specs.declared.op.Op.{Op}
 use Rattle.k_types.specs.Known.{IsKnownEvent}
-use Rattle.k_types.specs.Names.{among}
 use Rattle.k_known.proofs.Laws.{events_are_known}
 use Rattle.k_solo.proofs.Lines.{setup_rules}
 use Rattle.k_solo.specs.Runs.{Run}
 use Rattle.k_types.specs.declared.event.Event.{Event}
 use Rattle.k_types.specs.Effects.{step}
-use Rattle.k_types.specs.declared.names.Heap.{Heap}
-use Rattle.k_types.specs.declared.names.Heap.TheVariants.{Kernel, User, Shared}
-use Rattle.k_types.specs.Complete.{all_ended, EndsWithClosing, IsComplete}
-use Rattle.k_types.specs.Owners.{user}
-use Rattle.k_types.specs.Sound.{IsSound}
-use Rattle.k_types.specs.State.{State, is_scanned, opening}
-use Rattle.k_types.specs.Steps.{IsPossible, done_by, no_orphan, run, state_after}
-use Rattle.k_types.specs.Trace.{Trace, IsHeap, operations_of, process_count}
+use Rattle.k_types.specs.Complete.{IsComplete}
+use Rattle.k_types.specs.State.{State, opening}
+use Rattle.k_types.specs.Steps.{IsPossible, done_by, state_after}
+use Rattle.k_types.specs.Trace.{Trace, operations_of, process_count}
 use Rattle.k_trace.specs.Named.{NamedTrace}
 use Rattle.k_trace.specs.Rules.{IsTrace}
 use Rattle.k_frame.proofs.Histories.{run_append}
@@ -25,9 +20,6 @@ use Rattle.k_bounds.proofs.Laws.{operations_done_are_those_of_the_history}
 use Rattle.k_history.specs.Good.{IsBegun}
 use Rattle.k_state.specs.Machines.{Machine, setup_of}
 use Rattle.k_solo.proofs.Unread.{legal_unread, possible_read, possible_unread, step_unread}
-use Rattle.k_laws.proofs.SoundSteps.{legal_sound}
-use Rattle.k_order.proofs.Laws.{scans_are_of_the_heaps_of_the_trace}
-use Rattle.k_check.specs.Turns.{AreDone}
 use Rattle.k_check.specs.Walks.{IsWalk, Walked}
 
 -- A machine that was just opened.
@@ -64,48 +56,13 @@ goes_on t history more m n e walk begun setup state is = subst (λ (h : List Eve
 
 -- ---- whether the history is complete
 
--- What all of them have done, as the machine tells it.
-pub ended_is : (w : Walked) (m : Machine) → IsWalk w m → all_ended m.setup m.state ≡ all_ended w.trace.trace (state_after w.trace.trace w.history)
-ended_is w m walk = ap (λ (setup : Trace). all_ended setup m.state) walk.setup ∙ ap (all_ended w.trace.trace) walk.state
-
-pub orphans_are : (w : Walked) (m : Machine) → IsWalk w m → no_orphan m.setup m.state ≡ no_orphan w.trace.trace (state_after w.trace.trace w.history)
-orphans_are w m walk = ap (λ (setup : Trace). no_orphan setup m.state) walk.setup ∙ ap (no_orphan w.trace.trace) walk.state
-
--- No collection is open where neither the kernel's heap nor that of a process is scanned.
-pub none_open : (w : Walked) (m : Machine) → IsWalk w m → IsFalse (is_scanned m.state.scans Kernel)
-    → ((p : ℕ) → p < process_count w.trace.trace → IsFalse (is_scanned (state_after w.trace.trace w.history).scans (user p))) → (state_after w.trace.trace w.history).scans ≡ []
-none_open w m walk kernel users = scans_are_of_the_heaps_of_the_trace w.trace.trace st sound not_scanned
-  where
-    st : State
-    st = state_after w.trace.trace w.history
-
-    sound : IsSound w.trace.trace st
-    sound = legal_sound w.trace.trace w.history walk.is_trace.rules.limits walk.begun.legal
-
-    not_scanned : (h : Heap) → IsHeap w.trace.trace h → IsFalse (is_scanned st.scans h)
-    not_scanned Kernel known = ap (λ (s : State). is_scanned s.scans Kernel) (sym walk.state) ∙ kernel
-    not_scanned (User p) known = users p.0 known
-    not_scanned (Shared s) known = ap is_some (sound.scans.none_shared s.0)
-
--- While some process lives, all that is asked is that operations are done and no collection is open.
-pub open_complete : (w : Walked) (m : Machine) → IsWalk w m → AreDone w.trace.trace w.history → (state_after w.trace.trace w.history).scans ≡ [] → all_ended m.setup m.state ≡ false → IsComplete w.trace.trace w.history
-open_complete w m walk done scans lives = record {
-  in_order = walk.begun.in_order;
-  all = done;
-  no_scan = scans;
-  no_orphan = λ ended. absurd (let f : true ≡ false = sym ended ∙ sym (ended_is w m walk) ∙ lives in cc);
-  ends = λ ended. absurd (let f : true ≡ false = sym ended ∙ sym (ended_is w m walk) ∙ lives in cc);
-}
-
--- Where every process has ended there is no orphan, and the last collection stands at the end.
-pub closed_complete : (w : Walked) (m : Machine) → IsWalk w m → AreDone w.trace.trace w.history → (state_after w.trace.trace w.history).scans ≡ [] → no_orphan m.setup m.state ≡ true → EndsWithClosing w.history → IsComplete w.trace.trace w.history
-closed_complete w m walk done scans none ends = record {
-  in_order = walk.begun.in_order;
-  all = done;
-  no_scan = scans;
-  no_orphan = λ ended. sym (orphans_are w m walk) ∙ none;
-  ends = λ ended. ends;
-}
+-- What is said of all traces of which the machine tells, is said of the walk's.
+pub complete_is : (w : Walked) (m : Machine) (ops : List (List Op)) (events : List Event) (b : Bool) → IsWalk w m → ops ≡ w.trace.trace.operations → events ≡ w.history
+    → ((trace : Trace) → setup_of trace ≡ m.setup → trace.operations ≡ ops → state_after trace events ≡ m.state → (b ≡ true → IsComplete trace events) × (IsComplete trace events → b ≡ true))
+    → (b ≡ true → IsComplete w.trace.trace w.history) × (IsComplete w.trace.trace w.history → b ≡ true)
+complete_is w m ops events b walk same all said =
+    subst (λ (es : List Event). (b ≡ true → IsComplete w.trace.trace es) × (IsComplete w.trace.trace es → b ≡ true)) all
+    (said w.trace.trace (sym walk.setup) (sym same) (ap (state_after w.trace.trace) all ∙ sym walk.state))
 
 -- ---- processes
 
@@ -114,17 +71,6 @@ pub next_found : (w : Walked) (m : Machine) → IsWalk w m → (operations : Lis
     → slice_get (get_or operations p []) done ≡ slice_get (operations_of w.trace.trace p) (length (done_by p w.history))
 next_found w m walk operations same p done is =
     ap (λ (ops : List (List Op)). slice_get (get_or ops p []) done) same ∙ ap (slice_get (operations_of w.trace.trace p)) (is ∙ done_is w m walk p)
-
--- A process that lives has not ended.
-pub lives_on : (w : Walked) (m : Machine) → IsWalk w m → (p : ℕ) (b : Bool) → b ≡ not (among p m.state.ended) → b ≡ true → IsFalse (among p (state_after w.trace.trace w.history).ended)
-lives_on w m walk p b is lives = ap (λ (st : State). among p st.ended) (sym walk.state) ∙ not_true (among p m.state.ended) (sym is ∙ lives)
-  where
-    not_true : (t : Bool) → not t ≡ true → t ≡ false
-    not_true true e = absurd cc
-    not_true false e = refl
-
-pub has_ended : (w : Walked) (m : Machine) → IsWalk w m → (p : ℕ) (b : Bool) → b ≡ not (among p m.state.ended) → b ≡ false → ¬ IsFalse (among p (state_after w.trace.trace w.history).ended)
-has_ended w m walk p b is gone lives = absurd (let f : true ≡ false = sym (ap not (ap (λ (st : State). among p st.ended) walk.state ∙ lives)) ∙ sym is ∙ gone in cc)
 
 -- How many processes the machine tells.
 pub count_is : (w : Walked) (m : Machine) → IsWalk w m → process_count m.setup ≡ process_count w.trace.trace

@@ -8,8 +8,6 @@
 
 mod checking;
 mod lines;
-#[cfg(test)]
-mod tests;
 mod verdicts;
 mod walking;
 

@@ -1,20 +1,19 @@
 //! A machine that walks along the events of a report.
 ghost use Rattle.std.specs.Prelude.{◌≡◌, ◌↔◌, ◌<◌, ◌++◌, ◌∷◌, [], IfOk, OnErr, IsTrue, IsFalse, length, map, option_copied, slice_get, slice_index_or};
-ghost use Rattle.k_types.specs.Complete.{EndsWithClosing, IsComplete};
+ghost use Rattle.k_types.specs.Complete.{IsComplete};
 ghost use Rattle.k_types.specs.Steps.{done_by, state_after};
 ghost use Rattle.k_types.specs.Trace.{process_count, operations_of};
 ghost use Rattle.k_trace.specs.Meaning.{meaning_of};
 ghost use Rattle.k_trace.specs.Rules.{IsTrace};
 ghost use Rattle.k_history.specs.Good.{IsBegun};
 ghost use Rattle.k_state.specs.Machines.{setup_of};
-ghost use Rattle.k_check.specs.Turns.{AreDone, IsInTurn};
+ghost use Rattle.k_check.specs.Turns.{IsInTurn};
 
 use k_io::NoMemory;
-use k_plain::{PlainState, plain_step};
-use k_reply::{all_ended, no_orphan};
+use k_plain::{PlainState, is_complete, plain_step};
 use k_solo::PlainEnd;
 use k_trace::{Names, Trace};
-use k_types::{Event, Heap, Op, Pid};
+use k_types::{Event, Op, Pid};
 use std::alloc::Global;
 use std::marker::Model;
 
@@ -126,65 +125,11 @@ impl<'a> Walk<'a> {
         }
     }
 
-    // Whether each process that lives has done all its operations.
-    fn are_done(&self) -> bool
-        ensures { IsTrue result ↔ AreDone self.now.trace.trace self.now.history }
-    {
-        let lists = self.state.lists();
-        for p in 0..lists.process_count() {
-            let pid = Pid(p as u32);
-            if lists.lives(pid) && self.next_operation(pid).is_some() {
-                return false;
-            }
-        }
-        true
-    }
-
-    // Whether a collection is open.
-    fn is_collecting(&self) -> bool
-        ensures { IsFalse result ↔ (state_after self.now.trace.trace self.now.history).scans ≡ [] }
-    {
-        let lists = self.state.lists();
-        if lists.is_scanned(Heap::Kernel) {
-            return true;
-        }
-        for p in 0..lists.process_count() {
-            if lists.is_scanned(Heap::User(Pid(p as u32))) {
-                return true;
-            }
-        }
-        false
-    }
-
-    // Whether the last two events are the opening of the last collection and its end.
-    fn is_closed(&self) -> bool
-        ensures { IsTrue result ↔ EndsWithClosing self.now.history }
-    {
-        let count = self.events.len();
-        if count < 2 {
-            return false;
-        }
-        match self.events[count - 2] {
-            Event::Closing => matches!(
-                self.events[count - 1],
-                Event::Ended {
-                    heap: Heap::Kernel,
-                    ..
-                }
-            ),
-            _ => false,
-        }
-    }
-
-    /// Whether the history is complete. Asks each process and each shared heap, and the last two events.
+    /// Whether the history is complete. Walks over the events for each process.
     pub fn is_complete(&self) -> bool
         ensures { IsTrue result ↔ IsComplete self.now.trace.trace self.now.history }
     {
-        if !self.are_done() || self.is_collecting() {
-            return false;
-        }
-        let lists = self.state.lists();
-        !all_ended(lists) || (no_orphan(lists) && self.is_closed())
+        is_complete(&self.state, &self.trace.ops, &self.events)
     }
 
     /// The machine's state with the events, to be printed. `NoMemory` comes where what is sorted finds no memory.

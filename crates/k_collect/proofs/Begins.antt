@@ -1,29 +1,26 @@
 -- Events that begin a collection, with the roots of the heap gray, are appended.
-use Rattle.std.proofs.Common.{◌≡◌, ◌+◌, ◌-◌, ◌<◌, ◌^◌, ℕ, Bool, true, false, cond, not, refl, sym, ap, ap₂, ◌∙◌, subst, List, [], ◌∷◌, ◌++◌, length, Option, Some, None, IsTrue, IsFalse, arith, option_map}
+use Rattle.std.proofs.Common.{◌≡◌, ◌+◌, ◌-◌, ◌<◌, ◌^◌, cond, not, refl, sym, ap, ◌∙◌, subst, List, [], ◌∷◌, length, Option, Some, option_map}
 use Rattle.std.specs.List.{list_all}
 use Rattle.std.proofs.lemmas.Bool.{and_from}
 use Rattle.k_types.specs.declared.event.Event.{Event}
-use Rattle.k_types.specs.declared.event.Event.TheVariants.{Closing, Done}
+use Rattle.k_types.specs.declared.event.Event.TheVariants.{Done}
 use Rattle.k_types.specs.declared.event.Reply.TheVariants.{Done as DoneReply}
-use Rattle.k_types.specs.declared.names.CellPhase.TheVariants.{Begun, Idle}
+use Rattle.k_types.specs.declared.names.CellPhase.TheVariants.{Begun}
 use Rattle.k_types.specs.declared.names.Heap.{Heap}
-use Rattle.k_types.specs.declared.names.Heap.TheVariants.{Kernel, User}
+use Rattle.k_types.specs.declared.names.Heap.TheVariants.{User}
 use Rattle.k_types.specs.declared.names.Name.{Name}
-use Rattle.k_types.specs.declared.op.Op.{Op}
-use Rattle.k_types.specs.declared.op.Op.TheVariants.{Collect, KCollect}
-use Rattle.k_types.specs.Agree.{AreMarks, BookValue, CellValue, book_shown_by, shown_by}
+use Rattle.k_types.specs.declared.op.Op.TheVariants.{Collect}
+use Rattle.k_types.specs.Agree.{AreMarks, CellValue}
 use Rattle.k_types.specs.Bounds.{register_count}
-use Rattle.k_types.specs.Cells.{BookPart, Cell, CellPart, ProcessPart, ShownPart, book_part, cells_touched, other_cells, part, shown}
+use Rattle.k_types.specs.Cells.{CellPart, ProcessPart, ShownPart, book_part, cells_touched, other_cells, part, shown}
 use Rattle.k_types.specs.Effects.{step}
-use Rattle.k_types.specs.FileOrder.{heap_begun}
-use Rattle.k_types.specs.Names.{heap_eq, name_among}
-use Rattle.k_types.specs.Owners.{user}
+use Rattle.k_types.specs.Names.{name_among}
 use Rattle.k_types.specs.Reach.{roots_of}
 use Rattle.k_types.specs.Replies.{first_fault}
 use Rattle.k_types.specs.Sound.{IsSound}
 use Rattle.k_types.specs.State.{State, is_scanned, scan_of}
-use Rattle.k_types.specs.Steps.{IsPossible, in_range, no_orphan, state_after, waits_for_orphans}
-use Rattle.k_types.specs.Trace.{Trace, process_count}
+use Rattle.k_types.specs.Steps.{IsPossible, in_range, state_after}
+use Rattle.k_types.specs.Trace.{Trace}
 use Rattle.k_base.proofs.Lists.{some_one}
 use Rattle.k_base.proofs.NameTests.{heap_eq_refl}
 use Rattle.k_changes.specs.BookChanges.{registers_in}
@@ -31,32 +28,30 @@ use Rattle.k_changes.specs.CellChanges.{with_scan}
 use Rattle.k_changes.specs.Roots.{roots_in}
 use Rattle.k_changes.proofs.RootsTold.{roots_told}
 use Rattle.k_frame.specs.PartUpdates.{done_in, process_with_done, with_done}
-use Rattle.k_agree.specs.Agreement.{Agrees, BookAgrees, BookShows, Shows}
-use Rattle.k_agree.specs.Committing.{CanCommit, IsCommitted, NotedCell, journal_after, note_after, state_to_come}
+use Rattle.k_agree.specs.Agreement.{BookShows, Shows}
+use Rattle.k_agree.specs.Committing.{CanCommit, IsCommitted, NotedCell, journal_after, note_after}
 use Rattle.k_agree.specs.GivingAway.{with_one_done}
 use Rattle.k_agree.specs.Marking.{begun, heap_begun_by}
-use Rattle.k_agree.specs.Meeting.{HasMet, met_note}
+use Rattle.k_agree.specs.Meeting.{met_note}
 use Rattle.k_agree.proofs.Begun.{begun_gray}
 use Rattle.k_agree.proofs.Commits.{committed}
 use Rattle.k_agree.proofs.Touched.{as_listed}
 use Rattle.k_book.specs.Books.{BookRecord}
-use Rattle.k_cell.specs.Holdings.{HoldingsValue}
 use Rattle.k_heap.specs.Heaps.{HeapRecord}
 use Rattle.k_moves.specs.Moves.{noted}
-use Rattle.k_moves.specs.Shown.{ShowsIdle, idle_part}
-use Rattle.k_moves.proofs.Idle.{book_follows, not_open, part_shown, shows_part, unscanned}
+use Rattle.k_moves.specs.Shown.{ShowsIdle}
+use Rattle.k_moves.proofs.Idle.{book_follows, unscanned}
 use Rattle.k_squares.specs.Answers.{answer_in, faults_in, reply_in}
 use Rattle.k_squares.specs.BookAfter.{book_after, book_operated}
 use Rattle.k_squares.specs.CellAfter.{cell_after, cells_operated}
 use Rattle.k_squares.proofs.Laws.{replies_are_told, steps_show_in_the_parts-book, steps_show_in_the_parts-cells}
-use Rattle.k_commit.specs.Met.{Before, BeforeWithKernel, FitsTheBook, HaveMet, HaveMetWithKernel}
-use Rattle.k_commit.specs.Rooms.{HasEventRoom}
-use Rattle.k_commit.specs.Standing.{BookStands, HeapStands, KernelStands}
+use Rattle.k_commit.specs.Met.{Before, FitsTheBook, HaveMet}
+use Rattle.k_commit.specs.Standing.{BookStands, HeapStands}
 use Rattle.k_commit.proofs.Fitting.{done_small}
 use Rattle.k_commit.proofs.Meetings.{heap_has_met}
 use Rattle.k_commit.proofs.Placed.{sound_now}
 use Rattle.k_commit.proofs.Setting.{process_known, process_lives}
-use Rattle.k_collect.specs.Begun.{HasAppended, HasBegunHeap, HasBegunKernel, HasClosed, HeapGoesOn, IsGrayAtTheRoots, KernelGoesOn}
+use Rattle.k_collect.specs.Begun.{HasBegunHeap}
 use Rattle.k_collect.specs.Collecting.{CanBeginHeap}
 use Rattle.k_collect.specs.Graying.{HasGrayed, is_root_by}
 use Rattle.k_collect.proofs.Roots.{gray_at_roots, registers_all}

@@ -1,6 +1,5 @@
 -- The calls of a beginning, one after the other: the meeting, the roots, the count and the append.
 use Rattle.std.proofs.Common.{◌≡◌, ◌-◌, ◌<◌, ◌^◌, sym, ap, subst, ◌∙◌, [], ◌∷◌, length, true}
-use Rattle.k_types.specs.declared.event.Event.{Event}
 use Rattle.k_types.specs.declared.event.Event.TheVariants.{Closing, Done}
 use Rattle.k_types.specs.declared.event.Reply.TheVariants.{Done as DoneReply}
 use Rattle.k_types.specs.declared.names.Heap.TheVariants.{Kernel, User}

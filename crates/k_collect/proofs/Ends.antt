@@ -1,34 +1,30 @@
 -- The end of a collection: what goes, and its event, appended.
-use Rattle.std.proofs.Common.{◌≡◌, ◌+◌, ◌-◌, ◌*◌, ◌<◌, ◌≤◌, ◌^◌, ◌==◌, ◌&&◌, ◌||◌, not, Bool, true, false, cond, ℕ, refl, sym, ap, ap₂, ◌∙◌, subst, List, [], ◌∷◌, ◌++◌, length, get_or, set, Option, Some, None, arith, IsTrue, IsFalse}
+use Rattle.std.proofs.Common.{◌≡◌, ◌+◌, ◌-◌, ◌*◌, ◌<◌, ◌≤◌, ◌^◌, ◌==◌, ◌&&◌, ◌||◌, not, Bool, true, false, ℕ, refl, sym, ap, ap₂, ◌∙◌, subst, List, [], ◌∷◌, length, get_or, set, Option, Some, None, arith, IsFalse}
 use Rattle.std.proofs.Math.Path.{fun_ext}
 use Rattle.std.proofs.lemmas.Bool.{and_parts, false≢true}
-use Rattle.std.specs.List.{list_any}
 use Rattle.k_types.specs.declared.event.Event.{Event}
 use Rattle.k_types.specs.declared.event.Event.TheVariants.{Ended}
-use Rattle.k_types.specs.declared.names.CellPhase.TheVariants.{Idle, Marked}
-use Rattle.k_types.specs.declared.names.Heap.{Heap}
 use Rattle.k_types.specs.declared.names.Heap.TheVariants.{Kernel, User}
 use Rattle.k_types.specs.declared.names.Name.{Name}
 use Rattle.k_types.specs.declared.names.Phase.{Phase}
 use Rattle.k_types.specs.declared.names.Phase.TheVariants.{Absorbed, Frozen, Populating, Unmade}
 use Rattle.k_types.specs.Agree.{AreMarks, BookValue, CellValue, shown_by}
-use Rattle.k_types.specs.Cells.{BookPart, Cell, ShownPart, book_part, cells_touched, part, shown}
+use Rattle.k_types.specs.Cells.{BookPart, Cell, ShownPart, book_part, cells_touched, part}
 use Rattle.k_types.specs.Counted.{counted}
 use Rattle.k_types.specs.Effects.{after_ended, step}
 use Rattle.k_types.specs.Names.{among, name_among}
 use Rattle.k_types.specs.Numbers.{numbers_below}
-use Rattle.k_types.specs.Owners.{is_absorbed, owner_of, phase_of, user}
+use Rattle.k_types.specs.Owners.{is_absorbed, phase_of}
 use Rattle.k_types.specs.Sound.{IsSound}
 use Rattle.k_types.specs.State.{Sharing, State, has_share, scan_of}
 use Rattle.k_types.specs.Steps.{IsPossible, has_sharer, state_after}
-use Rattle.k_types.specs.Trace.{Trace, limit_of, process_count, segment_of}
-use Rattle.k_base.specs.Distinct.{AreDistinctNames}
+use Rattle.k_types.specs.Trace.{Trace, limit_of, process_count}
 use Rattle.k_base.proofs.Lists.{any_weaker}
 use Rattle.k_bounds.specs.Counts.{one_if}
 use Rattle.k_laws.proofs.SoundSteps.{legal_sound}
 use Rattle.k_tie.specs.Values.{NoteValue}
 use Rattle.k_agree.specs.Agreement.{BookShows, Shows}
-use Rattle.k_agree.specs.Committing.{CanCommit, IsCommitted, NotedCell, journal_after, note_after, state_to_come}
+use Rattle.k_agree.specs.Committing.{CanCommit, IsCommitted, NotedCell, journal_after, note_after}
 use Rattle.k_agree.specs.Ending.{HasLeft, HasSettledWith, ShowsItsEnd, TellsItsShares, bytes_unshared, dropped, dropped_exits, dropped_shares, freed_bytes, freed_objects, keeps_way, swept}
 use Rattle.k_agree.specs.Meeting.{met_note}
 use Rattle.k_agree.proofs.Commits.{committed}
@@ -38,17 +34,14 @@ use Rattle.k_agree.proofs.Swept.{shows_end}
 use Rattle.k_agree.proofs.Touched.{as_listed}
 use Rattle.k_book.specs.Books.{BookRecord}
 use Rattle.k_book.specs.Calls.{ChangesEntries}
-use Rattle.k_cell.specs.Changes.{with_black_alone}
 use Rattle.k_cell.specs.Holdings.{HoldingsValue}
 use Rattle.k_changes.specs.BookChanges.{registers_in}
 use Rattle.k_heap.specs.Heaps.{HeapRecord}
 use Rattle.k_moves.specs.Moves.{noted}
 use Rattle.k_squares.proofs.Laws.{what_is_let_go_is_counted-entries}
-use Rattle.k_commit.specs.Met.{FitsTheBook, ShowsAfter}
-use Rattle.k_commit.specs.Standing.{BookStands}
-use Rattle.k_collect.specs.Begun.{HasAppended, HeapGoesOn, KernelGoesOn}
+use Rattle.k_commit.specs.Met.{FitsTheBook}
 use Rattle.k_collect.specs.Collecting.{CanEndHeap, CanEndKernel}
-use Rattle.k_collect.specs.Ended.{HasEndedHeap, HasEndedKernel, HaveWhatIsLeft, ended_state}
+use Rattle.k_collect.specs.Ended.{HasEndedHeap, HasEndedKernel, HaveWhatIsLeft}
 use Rattle.k_collect.specs.Leaving.{HasItsEntries}
 use Rattle.k_collect.specs.Sweeping.{CanSweep, HasSweptHeap, HasSweptKernel, IsSwept, owners_now}
 use Rattle.k_collect.specs.Unsharing.{CanUnshare, HasUnshared, bytes_lost, has_way_by, shares_lost, ways_left}

@@ -1,14 +1,10 @@
 -- What has been made gray so far.
-use Rattle.std.proofs.Common.{◌≡◌, ℕ, ◌+◌, ◌-◌, ◌<◌, ◌||◌, ◌&&◌, Bool, true, false, refl, sym, ap, ap₂, ◌∙◌, subst, List, [], ◌∷◌, ◌++◌, length, take, get_or, Option, Some, None, option_map, arith}
+use Rattle.std.proofs.Common.{◌≡◌, ℕ, ◌-◌, ◌<◌, ◌||◌, ◌&&◌, Bool, true, false, refl, sym, ap, ap₂, ◌∙◌, subst, List, [], ◌∷◌, ◌++◌, length, take, Option, Some, None}
 use Rattle.std.specs.List.{list_any}
-use Rattle.std.proofs.lemmas.List.{take_more}
 use Rattle.std.proofs.lemmas.List.Folds.{list_any-append}
-use Rattle.k_types.specs.declared.names.CellPhase.{CellPhase}
-use Rattle.k_types.specs.declared.names.CellPhase.TheVariants.{Begun}
 use Rattle.k_types.specs.declared.names.Heap.{Heap}
 use Rattle.k_types.specs.declared.names.Name.{Name}
 use Rattle.k_types.specs.Agree.{CellValue}
-use Rattle.k_types.specs.Cells.{ProcessPart}
 use Rattle.k_types.specs.Names.{leads_to, name_among, name_eq}
 use Rattle.k_types.specs.State.{Object, has}
 use Rattle.k_base.proofs.Charges.{or_none}
@@ -17,15 +13,10 @@ use Rattle.k_agree.specs.Marking.{begun}
 use Rattle.k_cell.specs.Changes.{HasRoot}
 use Rattle.k_changes.specs.BookChanges.{registers_in}
 use Rattle.k_entry.specs.Entries.{AreEntries, EntryValue, first_object, home_of, items_of, object_after, objects}
-use Rattle.k_frame.specs.PartUpdates.{held_in}
 use Rattle.k_collect.specs.Graying.{HasBegun, HasGrayed, is_counted_at}
 use Rattle.k_collect.proofs.Walks.{IsOnWalk, distinct_walk, first_on_walk, next_on_walk, none_before, on_walk_counted, passed_before, passed_more, passed_next, walk_counts}
 use Rattle.k_types.specs.Counted.{Counted, counted}
 use Rattle.k_base.specs.Distinct.{AreDistinctNames}
-
--- a collection that has begun has that phase
-pub phase_begun : (v : CellValue) → HasBegun v → v.collection ≡ Begun
-phase_begun v begins = ap (λ (x : CellValue). x.collection) begins
 
 pub grays_none : (v : CellValue) → HasBegun v → HasGrayed (λ n. false) v v
 grays_none v begins = record { rest = begins; gray = λ n. sym (or_none (name_among n v.gray)) }
@@ -71,20 +62,6 @@ among_last names t n = list_any-append (λ m. name_eq m n) names (t ∷ []) ∙ 
 -- what the first registers hold
 abbrev pub held_by_first : ℕ → CellValue → Name → Bool
 held_by_first count v n = list_any (λ r. leads_to r n) (take count (registers_in v.process))
-
-pub held_is : (process : Option ProcessPart) (r : ℕ) → get_or (registers_in process) r None ≡ held_in process r
-held_is None r = refl
-held_is (Some q) r = refl
-
-pub held_more : (v : CellValue) (r : ℕ) → r < length (registers_in v.process) → (n : Name) →
-    held_by_first (r + 1) v n ≡ (held_by_first r v n || leads_to (held_in v.process r) n)
-held_more v r inside n =
-    ap (list_any (λ x. leads_to x n)) (take_more (registers_in v.process) r None inside)
-    ∙ list_any-append (λ x. leads_to x n) (take r (registers_in v.process)) (get_or (registers_in v.process) r None ∷ [])
-    ∙ ap (λ b. held_by_first r v n || b) (or_none (leads_to (get_or (registers_in v.process) r None) n) ∙ ap (λ x. leads_to x n) (held_is v.process r))
-
-pub held_none : (v : CellValue) (n : Name) → false ≡ held_by_first 0 v n
-held_none v n = refl
 
 module _ (v : EntryValue) (heap : Heap) (are : AreEntries v) where
   abbrev items : List Counted

@@ -1,6 +1,6 @@
 -- Exit items that are left one by one until the marked ones alone are there.
-use Rattle.std.proofs.Common.{◌≡◌, ℕ, ◌+◌, ◌-◌, ◌<◌, ◌≤◌, ◌||◌, ◌&&◌, not, Bool, true, false, cond, refl, sym, ap, ap₂, ◌∙◌, subst, List, [], ◌∷◌, map, filter, length, arith}
-use Rattle.std.proofs.lemmas.Bool.{and_from, and_parts, false≢true}
+use Rattle.std.proofs.Common.{◌≡◌, ◌+◌, ◌-◌, ◌≤◌, ◌||◌, ◌&&◌, not, Bool, true, false, cond, refl, sym, ap, ◌∙◌, List, [], ◌∷◌, map, filter, length, arith}
+use Rattle.std.proofs.lemmas.Bool.{and_from}
 use Rattle.k_types.specs.declared.names.Heap.TheVariants.{Kernel}
 use Rattle.k_types.specs.declared.names.Name.{Name}
 use Rattle.k_types.specs.Agree.{BookValue, CellValue}
@@ -10,17 +10,12 @@ use Rattle.k_types.specs.Sound.{AreDistinctExits}
 use Rattle.k_types.specs.State.{ExitItem, has_exit}
 use Rattle.k_types.specs.Totals.{total}
 use Rattle.k_base.specs.Distinct.{AreDistinctNames}
-use Rattle.k_base.proofs.NameTests.{name_eq-true}
 use Rattle.k_base.proofs.Sums.{ones}
 use Rattle.k_base.proofs.Tests.{same_test}
 use Rattle.k_bounds.proofs.Distinct.{targets_sum}
 use Rattle.k_agree.specs.Ending.{HasLeft, dropped, dropped_exits}
 use Rattle.k_agree.proofs.Credited.{kept_distinct}
 use Rattle.k_agree.proofs.Swept.{among_kept}
-use Rattle.k_book.specs.Books.{BookRecord, book_entries}
-use Rattle.k_cell.specs.Changes.{HasDroppedExit}
-use Rattle.k_entry.specs.Entries.{HasLess}
-use Rattle.k_collect.specs.Leaving.{HasItsEntries, HasLeftUnmarked}
 
 -- some exit items that are not black are gone, each with one entry
 pub record IsLeaving (old now : CellValue) (before after : BookValue) : Type 0 where
@@ -29,63 +24,6 @@ pub record IsLeaving (old now : CellValue) (before after : BookValue) : Type 0 w
   pub stays : (n : Name) → (name_among n old.exits && name_among n old.black_exits) ≡ true → name_among n now.exits ≡ true
   pub black : (n : Name) → name_among n now.black_exits ≡ name_among n old.black_exits
   pub counts : (n : Name) → counted after.entries n + cond (name_among n old.exits && not (name_among n now.exits)) 1 0 ≡ counted before.entries n
-
-none_gone : (a : Bool) (x : ℕ) → x + cond (a && not a) 1 0 ≡ x
-none_gone true x = omega arith
-none_gone false x = omega arith
-
-pub leaving_begins : (v : CellValue) (b : BookValue) → IsLeaving v v b b
-leaving_begins v b = record {
-  rest = refl;
-  kept = λ n there. there;
-  stays = λ n both. (and_parts (name_among n v.exits) (name_among n v.black_exits) both).0;
-  black = λ n. refl;
-  counts = λ n. none_gone (name_among n v.exits) (counted b.entries n);
-}
-
-one_gone : (old now same : Bool) (after mid before : ℕ) → (now ≡ true → old ≡ true) → (same ≡ true → now ≡ true) → after + cond same 1 0 ≡ mid → mid + cond (old && not now) 1 0 ≡ before →
-    after + cond (old && not (now && not same)) 1 0 ≡ before
-one_gone true true true after mid before kept was less counts = omega (arith, less, counts)
-one_gone true true false after mid before kept was less counts = omega (arith, less, counts)
-one_gone true false true after mid before kept was less counts = absurd (false≢true (was refl))
-one_gone true false false after mid before kept was less counts = omega (arith, less, counts)
-one_gone false true same after mid before kept was less counts = absurd (false≢true (kept refl))
-one_gone false false true after mid before kept was less counts = absurd (false≢true (was refl))
-one_gone false false false after mid before kept was less counts = omega (arith, less, counts)
-
-not_same : (a b : Bool) → (b ≡ true → a ≡ false) → (a && not b) ≡ a
-not_same true true apart = absurd (false≢true (sym (apart refl)))
-not_same true false apart = refl
-not_same false b apart = refl
-
-module _ (old now new : CellValue) (before mid after : BookRecord) (t : Name) (is : IsLeaving old now before.value mid.value) (taken : HasDroppedExit now new t)
-    (unmarked : name_among t now.black_exits ≡ false) where
-  pub entry_there : HasItsEntries old before.value → 0 < counted mid.value.entries t
-  entry_there entries =
-      let here : (name_among t old.exits && not (name_among t now.exits)) ≡ false = ap₂ (λ a b. a && not b) (is.kept t taken.was) taken.was in
-      let none : ◌≡◌ {A = ℕ} (cond (name_among t old.exits && not (name_among t now.exits)) 1 0) 0 = ap (λ b. cond b 1 0) here in
-      let count = is.counts t in
-      let there = entries t (is.kept t taken.was) in
-      omega (arith, none, count, there)
-
-  pub leaving_goes_on : HasLess (book_entries mid) (book_entries after) t → IsLeaving old new before.value after.value
-  leaving_goes_on less = record {
-    rest = taken.rest ∙ ap (λ (v : CellValue). record v { exits = new.exits; black_exits = new.black_exits }) is.rest;
-    kept = λ n there. is.kept n (and_parts (name_among n now.exits) (not (name_eq t n)) (sym (taken.exits n) ∙ there)).0;
-    stays = λ n both.
-        let was = is.stays n both in
-        let marks = and_parts (name_among n old.exits) (name_among n old.black_exits) both in
-        taken.exits n ∙ and_from _ _ was (other n (is.black n ∙ marks.1) (name_eq t n) refl);
-    black = λ n. taken.black n ∙ not_same (name_among n now.black_exits) (name_eq t n) (λ same. ap (λ m. name_among m now.black_exits) (sym (name_eq-true t n same)) ∙ unmarked) ∙ is.black n;
-    counts = λ n.
-        ap (λ b. counted after.value.entries n + cond (name_among n old.exits && not b) 1 0) (taken.exits n)
-        ∙ one_gone (name_among n old.exits) (name_among n now.exits) (name_eq t n) (counted after.value.entries n) (counted mid.value.entries n) (counted before.value.entries n)
-        (is.kept n) (λ same. ap (λ m. name_among m now.exits) (sym (name_eq-true t n same)) ∙ taken.was) (less.counts n) (is.counts n);
-  }
-    where
-      other : (n : Name) → name_among n now.black_exits ≡ true → (b : Bool) → name_eq t n ≡ b → not b ≡ true
-      other n marked true same = absurd (false≢true (sym unmarked ∙ ap (λ m. name_among m now.black_exits) (name_eq-true t n same) ∙ marked))
-      other n marked false same = refl
 
 -- names as exit items of one heap
 as_items : List Name → List ExitItem
@@ -128,9 +66,6 @@ module _ (old now : CellValue) (before after : BookValue) (is : IsLeaving old no
     (none : (n : Name) → name_among n now.exits ≡ true → name_among n now.black_exits ≡ true) where
   marked_alone : (n : Name) → name_among n now.exits ≡ (name_among n old.exits && name_among n old.black_exits)
   marked_alone n = same_test _ _ (λ there. and_from _ _ (is.kept n there) (sym (is.black n) ∙ none n there)) (is.stays n)
-
-  pub unmarked_left : HasLeftUnmarked old now
-  unmarked_left = record { rest = is.rest; exits = marked_alone }
 
   pub book_left : HasLeft (dropped old) before after
   book_left n =

@@ -1,21 +1,17 @@
 -- A cell that agrees can be marked.
 use Rattle.std.proofs.Common.{◌≡◌, not, Bool, true, false, cond, sym, ap, ◌∙◌, Some, None, is_some, get_or, List, refl, subst}
 use Rattle.std.proofs.lemmas.Bool.{and_parts, false≢true}
-use Rattle.k_types.specs.declared.names.CellPhase.TheVariants.{Marked}
-use Rattle.k_types.specs.declared.names.Name.{Name}
 use Rattle.k_types.specs.Agree.{CellValue}
-use Rattle.k_types.specs.Cells.{Cell, ShownPart, made_of, part}
-use Rattle.k_types.specs.Names.{heap_eq, name_among}
+use Rattle.k_types.specs.Cells.{Cell, ShownPart, part}
+use Rattle.k_types.specs.Names.{heap_eq}
 use Rattle.k_types.specs.Owners.{owner_of}
 use Rattle.k_types.specs.Sound.{IsSound}
 use Rattle.k_types.specs.State.{Object, State, has_exit, refers_in}
 use Rattle.k_types.specs.Trace.{Trace}
-use Rattle.k_types.specs.TraceRules.{KeepsRules}
 use Rattle.k_base.proofs.NameTests.{heap_eq-true, heap_eq_sym}
 use Rattle.k_base.proofs.Objects.{refers_in-kept}
 use Rattle.k_tie.specs.Values.{NoteValue}
 use Rattle.k_agree.specs.Agreement.{Agrees, Shows}
-use Rattle.k_agree.specs.Marking.{is_foreign_in, marked}
 use Rattle.k_agree.proofs.AtTheEnd.{cell_sound}
 use Rattle.k_agree.proofs.Marked.{marked_agrees}
 use Rattle.k_cell.specs.Changes.{HasItsExits, HasMarked}

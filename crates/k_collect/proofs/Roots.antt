@@ -1,25 +1,24 @@
 -- The objects that are gray once all roots were walked.
-use Rattle.std.proofs.Common.{◌≡◌, ℕ, ◌<◌, ◌||◌, ◌&&◌, nat_lt, Bool, true, false, refl, sym, ap, ap₂, ◌∙◌, List, [], ◌∷◌, map, filter, length}
+use Rattle.std.proofs.Common.{◌≡◌, ◌<◌, ◌||◌, ◌&&◌, nat_lt, Bool, true, false, refl, sym, ap, ◌∙◌, List, [], ◌∷◌, map, filter, length}
 use Rattle.std.proofs.lemmas.Bool.{and_parts, false≢true}
-use Rattle.std.specs.List.{list_any}
 use Rattle.k_types.specs.declared.names.Heap.{Heap}
 use Rattle.k_types.specs.declared.names.Heap.TheVariants.{User}
 use Rattle.k_types.specs.declared.names.Name.{Name}
 use Rattle.k_types.specs.declared.names.Pid.{Pid}
-use Rattle.k_types.specs.Agree.{BookValue, CellValue, book_shown_by}
+use Rattle.k_types.specs.Agree.{CellValue, book_shown_by}
 use Rattle.k_types.specs.Bounds.{register_count}
-use Rattle.k_types.specs.Cells.{Cell, ShownPart, part}
+use Rattle.k_types.specs.Cells.{ShownPart, part}
 use Rattle.k_types.specs.Counted.{counted}
 use Rattle.k_types.specs.Names.{heap_eq, name_among, name_eq}
 use Rattle.k_types.specs.Owners.{objects_of, owner_of}
 use Rattle.k_types.specs.Sound.{IsSound}
 use Rattle.k_types.specs.State.{Object, State, has}
-use Rattle.k_types.specs.Trace.{Trace, process_count, segment_count}
+use Rattle.k_types.specs.Trace.{Trace, process_count}
 use Rattle.k_base.proofs.Objects.{has-kept}
 use Rattle.k_agree.specs.Agreement.{BookShows, Shows}
 use Rattle.k_agree.specs.Marking.{begun, idle_part, roots_seen}
 use Rattle.k_agree.proofs.Openings.{home_at}
-use Rattle.k_book.specs.Books.{BookRecord, book_entries, book_pins}
+use Rattle.k_book.specs.Books.{BookRecord}
 use Rattle.k_changes.specs.BookChanges.{registers_in}
 use Rattle.k_changes.specs.Roots.{entered_in, held_by}
 use Rattle.k_entry.specs.Entries.{home_of}

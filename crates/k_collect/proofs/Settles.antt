@@ -1,5 +1,5 @@
 -- A cell that settles.
-use Rattle.std.proofs.Common.{◌≡◌, ◌+◌, ◌<◌, ◌≤◌, ℕ, refl, sym, ap, subst, ◌∙◌, List, [], ◌∷◌, ◌++◌, length, arith, append-nil}
+use Rattle.std.proofs.Common.{◌≡◌, ◌≤◌, refl, sym, ap, subst, ◌∙◌, List, [], ◌∷◌, ◌++◌, length, arith, append-nil}
 use Rattle.std.proofs.lemmas.List.{length-append}
 use Rattle.k_types.specs.declared.event.Event.{Event}
 use Rattle.k_types.specs.declared.names.CellPhase.{CellPhase}
@@ -9,7 +9,7 @@ use Rattle.k_types.specs.declared.names.Heap.TheVariants.{Kernel, User}
 use Rattle.k_types.specs.declared.names.Pid.{Pid}
 use Rattle.k_types.specs.Agree.{CellValue}
 use Rattle.k_types.specs.Trace.{Trace, process_count}
-use Rattle.k_agree.specs.Meeting.{Fits, HasMet}
+use Rattle.k_agree.specs.Meeting.{HasMet}
 use Rattle.k_book.specs.Books.{BookRecord, pin_room_of}
 use Rattle.k_book.specs.Machine.{IsBookOf}
 use Rattle.k_cell.specs.Holdings.{HoldingsValue}
@@ -18,7 +18,6 @@ use Rattle.k_commit.specs.Met.{KernelHasMet}
 use Rattle.k_commit.specs.Published.{CanPublish, HasPublished}
 use Rattle.k_commit.specs.Rooms.{HasEventRoom}
 use Rattle.k_commit.specs.Standing.{BookStands}
-use Rattle.k_collect.specs.Begun.{HeapGoesOn, KernelGoesOn}
 use Rattle.k_collect.specs.Collecting.{CanEndHeap, CanEndKernel}
 use Rattle.k_collect.specs.Ended.{HasEndedHeap, HasEndedKernel}
 use Rattle.k_collect.specs.Marking.{CanMark, HasMarkedOn}

@@ -1,37 +1,28 @@
 -- The numbers of the end of a collection fit, and what it credits is charged.
-use Rattle.std.proofs.Common.{◌≡◌, ◌+◌, ◌-◌, ◌*◌, ◌<◌, ◌≤◌, ◌^◌, ◌&&◌, not, Bool, true, false, cond, ℕ, refl, sym, ap, List, [], ◌∷◌, length, filter, map, arith, get_or, IsFalse, suc, zero}
+use Rattle.std.proofs.Common.{◌≡◌, ◌+◌, ◌-◌, ◌*◌, ◌<◌, ◌≤◌, ◌^◌, ◌&&◌, not, Bool, true, false, cond, ℕ, ap, List, [], ◌∷◌, length, map, arith, get_or, IsFalse, suc, zero}
 use Rattle.k_types.specs.declared.names.Heap.{Heap}
 use Rattle.k_types.specs.Agree.{BookValue, CellValue}
-use Rattle.k_types.specs.Bounds.{most_fields}
 use Rattle.k_types.specs.Cells.{BookPart, Cell, ShownPart, book_part, part}
 use Rattle.k_types.specs.Names.{among, heap_eq, name_among}
 use Rattle.k_types.specs.Numbers.{numbers_below}
 use Rattle.k_types.specs.Owners.{bytes_by, bytes_of, object_bytes, objects_of, owner_of, shared, user}
 use Rattle.k_types.specs.Sound.{IsSound}
-use Rattle.k_types.specs.State.{Object, State, has_share}
+use Rattle.k_types.specs.State.{State, has_share}
 use Rattle.k_types.specs.Steps.{IsLegalHistory, state_after}
 use Rattle.k_types.specs.Totals.{total}
 use Rattle.k_types.specs.Trace.{Trace, limit_of, process_count}
 use Rattle.k_types.specs.TraceRules.{KeepsRules}
 use Rattle.k_types.specs.declared.event.Event.{Event}
 use Rattle.k_base.proofs.Lists.{numbers_length}
-use Rattle.k_base.proofs.Sums.{ones, total_at_most}
+use Rattle.k_base.proofs.Sums.{total_at_most}
 use Rattle.k_bounds.specs.Counts.{has_allocated}
 use Rattle.k_bounds.proofs.Counting.{count_low, total_fewer}
 use Rattle.k_bounds.proofs.Laws.{objects_are_at_most_the_allocations}
 use Rattle.k_known.proofs.Fitting.{objects_bounded}
+use Rattle.k_laws.proofs.Closure.{length-kept}
 use Rattle.k_agree.specs.Agreement.{BookShows, Shows}
 use Rattle.k_agree.specs.Ending.{bytes_unshared, freed_bytes, freed_objects, keeps_way}
-use Rattle.k_changes.specs.BookChanges.{bytes_in}
 use Rattle.k_squares.proofs.Laws.{what_is_let_go_is_counted-charges}
-
--- no more pass a test than there are
-few_kept : {A : Type 0} (q : A → Bool) (xs : List A) → length (filter q xs) ≤ length xs
-few_kept q xs =
-    let fewer = total_fewer (λ x. 1) q xs in
-    let kept = ones (filter q xs) in
-    let all = ones xs in
-    omega (arith, fewer, kept, all)
 
 -- a sum of numbers that are at most 2 ^ 40
 sum_low : (f : ℕ → ℕ) (xs : List ℕ) → ((x : ℕ) → f x ≤ 2 ^ 40) → total f xs ≤ 2 ^ 40 * length xs
@@ -72,9 +63,9 @@ module _ (trace : Trace) (history : List Event) (keeps : KeepsRules trace) (lega
 
     pub freed_few : freed_objects v ≤ 1 + length history
     freed_few =
-        let kept = few_kept (λ o. not (name_among o.name v.black)) v.objects in
+        let kept = length-kept (λ o. not (name_among o.name v.black)) v.objects in
         let own = ap length objects_are in
-        let mine = few_kept (λ o. heap_eq (owner_of trace now o.name.seg.0) cell) now.objects in
+        let mine = length-kept (λ o. heap_eq (owner_of trace now o.name.seg.0) cell) now.objects in
         omega (arith, kept, own, mine, objects_few)
 
     pub freed_own : freed_bytes v ≤ total object_bytes v.objects

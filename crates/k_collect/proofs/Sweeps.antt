@@ -1,11 +1,10 @@
 -- What goes at the end of a collection, call by call: the sweep, the drain, the end of the marks, the shares and the credit.
-use Rattle.std.proofs.Common.{◌≡◌, ◌+◌, ◌-◌, ◌<◌, ◌≤◌, ◌^◌, ◌&&◌, Bool, true, ℕ, refl, sym, ap, ap₂, ◌∙◌, subst, List, [], length, get_or, set, arith}
+use Rattle.std.proofs.Common.{◌≡◌, ◌+◌, ◌-◌, ◌<◌, ◌≤◌, ◌^◌, ◌&&◌, Bool, true, ℕ, sym, ap, ap₂, ◌∙◌, subst, List, [], length, get_or, set, arith}
 use Rattle.k_types.specs.declared.event.Event.{Event}
 use Rattle.k_types.specs.declared.event.Event.TheVariants.{Ended}
 use Rattle.k_types.specs.declared.names.CellPhase.TheVariants.{Idle}
 use Rattle.k_types.specs.declared.names.Heap.TheVariants.{Kernel, User}
 use Rattle.k_types.specs.declared.names.LimitId.{LimitId}
-use Rattle.k_types.specs.declared.names.Name.{Name}
 use Rattle.k_types.specs.declared.names.Pid.{Pid}
 use Rattle.k_types.specs.Agree.{CellValue}
 use Rattle.k_types.specs.Names.{name_among}
@@ -13,17 +12,17 @@ use Rattle.k_types.specs.Numbers.{numbers_below}
 use Rattle.k_types.specs.State.{has_share}
 use Rattle.k_types.specs.Trace.{Trace, limit_of}
 use Rattle.k_base.specs.Distinct.{AreDistinctNames}
-use Rattle.k_agree.specs.Ending.{HasLeft, HasSettledWith, bytes_unshared, dropped, dropped_exits, dropped_shares, freed_bytes, freed_objects, keeps_way, swept}
+use Rattle.k_agree.specs.Ending.{HasLeft, bytes_unshared, dropped, dropped_exits, dropped_shares, freed_bytes, freed_objects, keeps_way, swept}
 use Rattle.k_agree.proofs.Swept.{among_kept}
 use Rattle.k_book.specs.Books.{BookRecord}
 use Rattle.k_book.specs.Calls.{ChangesEntries}
 use Rattle.k_cell.specs.Changes.{with_black_alone}
 use Rattle.k_cell.specs.Holdings.{HoldingsValue}
 use Rattle.k_heap.specs.Heaps.{HeapRecord}
-use Rattle.k_collect.specs.Leaving.{HasItsEntries, HasLeftUnmarked}
+use Rattle.k_collect.specs.Leaving.{HasLeftUnmarked}
 use Rattle.k_collect.specs.Sweeping.{CanSweep, HasSweptHeap, HasSweptKernel, IsSwept, owners_now}
 use Rattle.k_collect.specs.Unsharing.{CanUnshare, HasUnshared, bytes_lost, shares_lost, ways_left}
-use Rattle.k_collect.proofs.Ends.{book_alone, can_unshare, credit_fits, credit_within, entries_there, known, limit_there, limit_told, lost_bytes, lost_shares, settles, ways_same}
+use Rattle.k_collect.proofs.Ends.{book_alone, can_unshare, credit_fits, credit_within, known, limit_there, limit_told, lost_bytes, lost_shares, settles, ways_same}
 use Rattle.k_collect.proofs.Unshared.{same_bytes_lost, same_shares_lost, same_unshared}
 
 -- the cell without marks

@@ -1,32 +1,16 @@
 -- The shares of a process that are dropped one by one.
-use Rattle.std.proofs.Common.{◌≡◌, ℕ, zero, suc, ◌+◌, ◌-◌, ◌<◌, ◌≤◌, ◌^◌, ◌==◌, ◌||◌, ◌&&◌, not, nat_lt, Bool, true, false, cond, refl, sym, ap, ap₂, ◌∙◌, subst, List, [], ◌∷◌, ◌++◌, length, take, get_or, arith, add-one, eqb-true, eq-eqb}
-use Rattle.std.specs.List.{list_any}
-use Rattle.std.proofs.lemmas.Bool.{and_parts, false≢true, lt-ltb, ltb-true, or_left, or_right}
-use Rattle.std.proofs.lemmas.List.{take_more}
-use Rattle.std.proofs.lemmas.List.Folds.{list_any-append}
+use Rattle.std.proofs.Common.{◌≡◌, ℕ, zero, suc, ◌+◌, ◌-◌, ◌<◌, ◌≤◌, ◌^◌, ◌==◌, ◌||◌, ◌&&◌, not, nat_lt, Bool, true, false, cond, refl, sym, ap, ap₂, ◌∙◌, subst, List, length, get_or, arith, add-one, eqb-true, eq-eqb}
+use Rattle.std.proofs.lemmas.Bool.{and_parts, false≢true, lt-ltb, ltb-true}
 use Rattle.k_types.specs.Agree.{BookValue, CellValue}
-use Rattle.k_types.specs.Numbers.{numbers_below, numbers_from}
+use Rattle.k_types.specs.Numbers.{numbers_below}
 use Rattle.k_types.specs.State.{has_share}
 use Rattle.k_types.specs.Totals.{total}
-use Rattle.k_base.proofs.Charges.{or_none}
 use Rattle.k_base.proofs.Lists.{numbers_length, numbers_push}
 use Rattle.k_base.proofs.Sums.{ones, sum_same, total_at_most, total_push}
 use Rattle.k_base.proofs.Tests.{same_test}
 use Rattle.k_book.specs.Books.{BookRecord}
 use Rattle.k_shares.specs.Sharers.{LosesShare}
 use Rattle.k_collect.specs.Unsharing.{CanUnshare, HasUnshared, bytes_lost, shares_lost, ways_left}
-
--- the first elements with one more pass the test where they or that one do
-pub any_more : {A : Type 0} (p : A → Bool) (xs : List A) (i : ℕ) (d : A) → i < length xs → list_any p (take (i + 1) xs) ≡ (list_any p (take i xs) || p (get_or xs i d))
-any_more p xs i d inside =
-    ap (list_any p) (take_more xs i d inside)
-    ∙ list_any-append p (take i xs) (get_or xs i d ∷ [])
-    ∙ ap (λ b. list_any p (take i xs) || b) (or_none (p (get_or xs i d)))
-
-pub any_at : {A : Type 0} (p : A → Bool) (xs : List A) (i : ℕ) (d : A) → i < length xs → p (get_or xs i d) ≡ true → list_any p xs ≡ true
-any_at p [] i d inside holds = absurd (omega (arith, inside))
-any_at p (x ∷ xs) zero d inside holds = or_left (p x) (list_any p xs) holds
-any_at p (x ∷ xs) (suc i) d inside holds = or_right (p x) (list_any p xs) (any_at p xs i d (omega (arith, inside)) holds)
 
 -- one number more in a sum
 pub total_more : (f : ℕ → ℕ) (n : ℕ) → total f (numbers_below (n + 1)) ≡ total f (numbers_below n) + f n
@@ -63,23 +47,6 @@ and_or_true true true = refl
 and_or_true true false = refl
 and_or_true false b = refl
 
-none_below : (t : ℕ) → nat_lt t 0 ≡ false
-none_below t = go (nat_lt t 0) refl
-  where
-    go : (b : Bool) → nat_lt t 0 ≡ b → b ≡ false
-    go true low = let l = ltb-true t 0 low in absurd (omega (arith, l))
-    go false e = refl
-
-pub unsharing_begins : (stays : ℕ → Bool) (p : ℕ) (b : BookRecord) → IsUnsharing stays p b b 0 0 0
-unsharing_begins stays p b = record {
-  rest = refl;
-  left = λ q t.
-      and_or_true (has_share b.value.shares q t) (not (q == p))
-      ∙ ap (λ x. has_share b.value.shares q t && (not (q == p) || (not x || stays t))) (sym (none_below t));
-  count = refl;
-  sum = refl;
-}
-
 one_lost : (a b : Bool) → cond a (cond b 0 1) 0 ≤ 1
 one_lost true true = omega arith
 one_lost true false = omega arith
@@ -97,9 +64,9 @@ below_same : (t s : ℕ) → (s == t) ≡ false → nat_lt t s ≡ nat_lt t (s +
 below_same t s other = same_test (nat_lt t s) (nat_lt t (s + 1))
     (λ low. let l = ltb-true t s low in lt-ltb t (s + 1) (omega (arith, l)))
     (λ low.
-        let l = ltb-true t (s + 1) low in
-        let apart : s ≡ t → ⊥ = λ same. false≢true (sym other ∙ eq-eqb s t same) in
-        lt-ltb t s (omega (arith, l, apart)))
+    let l = ltb-true t (s + 1) low in
+    let apart : s ≡ t → ⊥ = λ same. false≢true (sym other ∙ eq-eqb s t same) in
+    lt-ltb t s (omega (arith, l, apart)))
 
 below_next : (s : ℕ) → nat_lt s (s + 1) ≡ true
 below_next s = lt-ltb s (s + 1) (omega arith)
@@ -211,21 +178,6 @@ module _ (stays : ℕ → Bool) (p : ℕ) (old now : BookRecord) (s shares bytes
           and_false_not true true = refl
           and_false_not true false = refl
           and_false_not false b = refl
-
--- once every heap of the book has had its turn
-pub unsharing_ends : (stays : ℕ → Bool) (v : CellValue) (p : ℕ) (old now : BookRecord) (shares bytes : ℕ) → CanUnshare v p old →
-    IsUnsharing stays p old now (length old.value.phases) shares bytes → HasUnshared stays p old now
-unsharing_ends stays v p old now shares bytes can is = record {
-  rest = is.rest;
-  shares = λ q t. is.left q t ∙ go q t (has_share old.value.shares q t) (q == p) refl refl;
-}
-  where
-    go : (q t : ℕ) (a b : Bool) → has_share old.value.shares q t ≡ a → (q == p) ≡ b → (a && (not b || (not (nat_lt t (length old.value.phases)) || stays t))) ≡ (a && (not b || stays t))
-    go q t true true there mine =
-        let low = lt-ltb t (length old.value.phases) (can.known t (ap (λ k. has_share old.value.shares k t) (sym (eqb-true q p mine)) ∙ there)) in
-        ap (λ b. not b || stays t) low
-    go q t true false there other = refl
-    go q t false b none e = refl
 
 -- the bytes so far, with one heap more, fit
 bytes_go_on : (stays : ℕ → Bool) (p : ℕ) (old : BookRecord) (s : ℕ) → bytes_lost stays old.value p (numbers_below (length old.value.phases)) < 2 ^ 64 → s < length old.value.phases →

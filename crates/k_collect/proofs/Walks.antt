@@ -1,5 +1,5 @@
 -- How far a walk over the objects of a heap has come.
-use Rattle.std.proofs.Common.{◌≡◌, ℕ, ◌+◌, ◌-◌, ◌≤◌, ◌<◌, ◌||◌, ◌&&◌, Bool, true, false, cond, refl, sym, ap, ◌∙◌, subst, List, [], ◌∷◌, ◌++◌, length, Option, Some, None, arith, nat_lt, ltb-true}
+use Rattle.std.proofs.Common.{◌≡◌, ◌-◌, ◌≤◌, ◌<◌, ◌||◌, Bool, true, false, cond, refl, sym, ap, ◌∙◌, List, [], ◌∷◌, ◌++◌, length, Option, Some, None, arith, nat_lt, ltb-true}
 use Rattle.std.proofs.lemmas.Bool.{false≢true, or_left, or_right, and_parts}
 use Rattle.std.proofs.lemmas.List.{length-append}
 use Rattle.k_types.specs.declared.names.Heap.{Heap}
@@ -8,7 +8,7 @@ use Rattle.k_types.specs.Counted.{Counted, counted}
 use Rattle.k_types.specs.Names.{heap_eq, name_among, name_eq}
 use Rattle.k_base.specs.Distinct.{AreDistinctNames}
 use Rattle.k_base.proofs.Lists.{some_one}
-use Rattle.k_base.proofs.NameTests.{heap_eq-true, name_eq-same, name_eq-true, name_eq_refl, name_eq_sym}
+use Rattle.k_base.proofs.NameTests.{heap_eq-true, name_eq-same, name_eq-true, name_eq_refl}
 use Rattle.k_entry.specs.Entries.{AreEntries, EntryValue, first_object, home_of, items_of, object_after, objects}
 use Rattle.k_entry.proofs.WholeWalks.{walk_distinct, walk_has}
 use Rattle.k_collect.specs.Graying.{is_counted_at}

@@ -1,12 +1,10 @@
 -- A way into a shared heap, by the heap's segment.
-use Rattle.std.proofs.Common.{◌≡◌, ◌+◌, ◌-◌, ◌<◌, ◌≤◌, ◌==◌, ◌||◌, ◌&&◌, not, nat_le, Bool, true, false, cond, ℕ, refl, sym, ap, ap₂, ◌∙◌, subst, List, [], ◌∷◌, filter, Option, Some, None, IsFalse, IsTrue, arith, eqb-true, eq-eqb, inl, inr, leb-false}
+use Rattle.std.proofs.Common.{◌≡◌, ◌+◌, ◌-◌, ◌==◌, ◌||◌, nat_le, Bool, true, false, cond, ℕ, refl, sym, ap, ap₂, ◌∙◌, List, [], ◌∷◌, Option, Some, None, IsFalse, arith, eqb-true, eq-eqb, inl, inr, leb-false}
 use Rattle.std.specs.List.{list_any}
 use Rattle.std.proofs.lemmas.Bool.{false≢true, or_cases, or_left, or_right}
-use Rattle.k_types.specs.declared.names.Heap.{Heap}
 use Rattle.k_types.specs.declared.names.Heap.TheVariants.{Kernel}
 use Rattle.k_types.specs.declared.names.Name.{Name}
 use Rattle.k_types.specs.declared.names.Phase.{Phase}
-use Rattle.k_types.specs.declared.names.Phase.TheVariants.{Absorbed, Frozen, Populating, Unmade}
 use Rattle.k_types.specs.Agree.{BookValue, CellValue}
 use Rattle.k_types.specs.Names.{among, heap_eq, name_among, name_eq}
 use Rattle.k_types.specs.Owners.{is_absorbed, owner_of, owner_of_process, owner_of_segment, owner_of_shared, phase_of, shared, user}

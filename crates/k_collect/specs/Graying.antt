@@ -1,9 +1,9 @@
 -- Objects of a cell that are made gray.
-use Rattle.std.specs.Prelude.{◌≡◌, ◌&&◌, ◌||◌, nat_lt, Bool, List}
+use Rattle.std.specs.Prelude.{◌≡◌, ◌&&◌, ◌||◌, nat_lt, Bool}
 use Rattle.k_types.specs.declared.names.Heap.{Heap}
 use Rattle.k_types.specs.declared.names.Name.{Name}
 use Rattle.k_types.specs.Agree.{CellValue}
-use Rattle.k_types.specs.Counted.{Counted, counted}
+use Rattle.k_types.specs.Counted.{counted}
 use Rattle.k_types.specs.Names.{heap_eq, name_among}
 use Rattle.k_types.specs.State.{has}
 use Rattle.k_agree.specs.Marking.{begun, idle_part}

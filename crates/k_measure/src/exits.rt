@@ -91,7 +91,7 @@ fn mark_there(table: &mut ExitTable, names: &[Name])
 }
 
 /// Removes the targets that aren't marked, and counts them.
-fn drain(table: &mut ExitTable) -> u64
+pub fn drain(table: &mut ExitTable) -> u64
     ensures { table.new.room ≡ table.old.room }
 {
     let mut drained: u64 = 0;

@@ -1,5 +1,6 @@
 //! The measurements of a heap: creation, links, marking and sweeping.
 ghost use Rattle.std.specs.Prelude.{◌≡◌, ◌+◌, ◌<◌, ◌≤◌, length, IfOk, IfSome};
+ghost use Rattle.k_space.specs.Areas.{HasDistinct, unmarked};
 ghost use Rattle.k_measure.specs.Inside.{AreNew, KeepsInside, IsOne, HasNoBlack};
 
 use crate::watch::Watch;
@@ -33,7 +34,7 @@ pub struct Outcome {
 }
 
 /// The segment of all objects.
-const SEG: Seg = Seg(1);
+pub const SEG: Seg = Seg(1);
 
 /// More serials than a measurement gives.
 const MANY: u32 = 20_000_000;
@@ -120,9 +121,9 @@ pub fn link(segment: &mut Segment, size: u32)
 
 /// Makes the object of that serial a root, if it is there.
 fn root_at(area: &mut Area, serial: u32)
-    requires one { IsOne area.old }
+    requires distinct { HasDistinct area.old.segments }
     requires clean { HasNoBlack area.old }
-    ensures one { IsOne area.new }
+    ensures kept { unmarked area.new ≡ unmarked area.old }
     ensures clean { HasNoBlack area.new }
 {
     let Some(segment) = area.get(SEG) else {
@@ -134,10 +135,10 @@ fn root_at(area: &mut Area, serial: u32)
 }
 
 /// Makes the object of serial 1 a root, and with `both` that of serial 2.
-fn roots(area: &mut Area, both: bool)
-    requires one { IsOne area.old }
+pub fn roots(area: &mut Area, both: bool)
+    requires distinct { HasDistinct area.old.segments }
     requires clean { HasNoBlack area.old }
-    ensures one { IsOne area.new }
+    ensures kept { unmarked area.new ≡ unmarked area.old }
     ensures clean { HasNoBlack area.new }
 {
     root_at(area, 1);

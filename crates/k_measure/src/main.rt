@@ -3,7 +3,7 @@
 //! The words are the name of a measurement and a size, such as `mark 1000000`. Those of the heap are `make`, `place`, `link`,
 //! `mark`, `sweep`, `mark_half` and `sweep_half`; each does those before it, too. `add`, `has` and `drain` are those of the
 //! exit items, `up`, `down` and `walk` those of the entry items. `again` and `dead` collect one heap again and again,
-//! and `wide` marks one of 129 segments. With a third word `timed` the processor time of each phase, in nanoseconds, goes
+//! `wide` marks one of 129 segments, and `mark_foreign` one of whose references half lead to another heap. With a third word `timed` the processor time of each phase, in nanoseconds, goes
 //! to standard error. The line on standard output depends on no time, so it is compared with that of the twin in `bench/`. The
 //! exit status is 0, or 2 where the words are no measurement, or 1 where memory, the words or the output fail.
 #![tactic(auto)]
@@ -12,6 +12,7 @@ ghost use Rattle.std.specs.Prelude.{◌≤◌};
 
 mod entries;
 mod exits;
+mod foreign;
 mod heap;
 mod names;
 mod watch;
@@ -95,6 +96,13 @@ fn measured(
     if word == "wide" {
         let bytes = wide::run(rt, watch, size)?;
         return Ok(Some(format!(in alloc; "{word} {size}: {bytes} bytes are marked")?));
+    }
+    if word == "mark_foreign" {
+        let found = foreign::run(rt, watch, size)?;
+        return Ok(Some(format!(in alloc;
+            "{word} {size}: {} bytes, {} exit items marked, {} not",
+            found.bytes, found.targets, found.others
+        )?));
     }
     if word == "walk" {
         let total = entries::run(rt, watch, size, Last::Walk)?;

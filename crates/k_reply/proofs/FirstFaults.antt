@@ -1,5 +1,5 @@
 -- The first fault of lists that are joined.
-use Rattle.std.proofs.Common.{◌≡◌, refl, ap, sym, ◌∙◌, List, [], ◌∷◌, ◌++◌, Option, Some, None}
+use Rattle.std.proofs.Common.{◌≡◌, refl, List, [], ◌∷◌, ◌++◌, Option, Some, None}
 use Rattle.k_types.specs.declared.event.Fault.{Fault}
 use Rattle.k_types.specs.Replies.{first_fault}
 
@@ -9,9 +9,3 @@ unfolding first_fault
 first_front [] others = refl
 first_front (Some fault ∷ fs) others = refl
 first_front (None ∷ fs) others = first_front fs others
-
--- the fault that there is
-pub first_one : (fault : Option Fault) → first_fault (fault ∷ []) ≡ fault
-unfolding first_fault
-first_one None = refl
-first_one (Some fault) = refl

@@ -1,13 +1,8 @@
 -- Tests of the numbers that are left below a bound.
-use Rattle.std.proofs.Common.{◌≡◌, ℕ, suc, ◌+◌, ◌-◌, ◌<◌, ◌≤◌, ◌&&◌, Bool, true, ap, ◌∙◌, ◌∷◌, arith}
+use Rattle.std.proofs.Common.{◌≡◌, ℕ, ◌+◌, ◌-◌, ◌<◌, ◌≤◌, ◌&&◌, Bool, true, ap, arith}
 use Rattle.std.specs.List.{list_all}
 use Rattle.k_types.specs.Numbers.{numbers_from}
-
-numbers_left : (i n : ℕ) → i < n → numbers_from i (n - i) ≡ i ∷ numbers_from (i + 1) (n - (i + 1))
-numbers_left i n inside =
-    let one : n - i ≡ suc (n - (i + 1)) = omega arith in
-    let next : suc i ≡ i + 1 = omega arith in
-    ap (numbers_from i) one ∙ ap (λ k. i ∷ numbers_from k (n - (i + 1))) next
+use Rattle.k_state.proofs.Sums.{numbers_left}
 
 -- the next number that is left, and the others
 pub all_next : (f : ℕ → Bool) (i n : ℕ) → i < n → list_all f (numbers_from i (n - i)) ≡ (f i && list_all f (numbers_from (i + 1) (n - (i + 1))))

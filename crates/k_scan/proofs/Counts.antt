@@ -1,6 +1,6 @@
 -- How many go, by the marks of what stays.
-use Rattle.std.proofs.Common.{◌≡◌, ℕ, ◌+◌, ◌<◌, ◌≤◌, not, cond, Bool, true, false, refl, sym, ap, ◌∙◌, List, [], ◌∷◌, map, filter, drop, get_or, length, count_by, arith}
-use Rattle.std.proofs.lemmas.List.{drop_all, drop_more}
+use Rattle.std.proofs.Common.{◌≡◌, ℕ, ◌+◌, ◌<◌, not, cond, Bool, true, false, refl, sym, ap, ◌∙◌, List, [], ◌∷◌, map, filter, drop, get_or, length, count_by, arith}
+use Rattle.std.proofs.lemmas.List.{drop_more}
 use Rattle.std.proofs.lemmas.List.Sums.{sum_by-cons}
 use Rattle.k_types.specs.Totals.{total}
 
@@ -33,6 +33,3 @@ sum_next size goes xs i x inside is =
       | true ↦ refl
       | false ↦ omega arith
     ]
-
-pub sum_last : {A : Type 0} (size : A → ℕ) (goes : A → Bool) (xs : List A) (i : ℕ) → length xs ≤ i → total size (filter goes (drop i xs)) ≡ 0
-sum_last size goes xs i past = ap (λ ys. total size (filter goes ys)) (drop_all i xs past)

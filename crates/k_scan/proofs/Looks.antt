@@ -26,16 +26,6 @@ or_if false b true h = sym (and_from b true (h refl) refl)
 or_if false true false h = refl
 or_if false false false h = refl
 
--- where there is no object of the name
-pub mark_none : (xs : List Object) (name : Name) (old : List Bool) → has xs name ≡ false → IsMarked xs name old old false
-mark_none xs name old none = record {
-  size = refl;
-  marks = λ n. or_more (is_marked xs old n) (has xs n) (name_eq name n) (λ h e. absurd (false≢true (sym none ∙ ap (has xs) (name_eq-true name n e) ∙ h)));
-  same = λ f. refl;
-  there = λ t. absurd (false≢true t);
-  left = omega arith;
-}
-
 no_object : Name → Object
 no_object name = record { name = name; ty = None; fields = [] }
 

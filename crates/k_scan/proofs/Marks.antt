@@ -9,6 +9,7 @@ use Rattle.k_types.specs.State.{Object, has}
 use Rattle.k_types.specs.Sound.{IsOrdered, IsOrderedFrom}
 use Rattle.k_base.proofs.NameTests.{name_eq-true, name_eq_refl, name_lt_irrefl, name_lt_trans}
 use Rattle.k_scan.specs.Marks.{is_marked}
+use Rattle.k_base.proofs.Ordered.{ordered_tail}
 
 set_first : (a b m : Bool) → ((a && true) || m) ≡ (((a && b) || m) || a)
 set_first true b m = grind arith
@@ -65,10 +66,6 @@ apart x xs marks ordered =
       | inr f ↦ f
     ]
 
-pub ordered_rest : (n : Name) (xs : List Object) → IsOrderedFrom n xs → IsOrdered xs
-ordered_rest n [] ordered = tt
-ordered_rest n (x ∷ xs) ordered = ordered.1
-
 first_mark : (a b m : Bool) → a ≡ true → m ≡ false → b ≡ ((a && b) || m)
 first_mark a b m t f = grind arith
 
@@ -82,7 +79,7 @@ marks_are (x ∷ xs) (b ∷ marks) f ordered size each =
     ap₂ (λ c ms. c ∷ ms)
     (first_mark (name_eq x.name x.name) b (is_marked xs marks x.name) (name_eq_refl x.name) (apart x xs marks ordered)
     ∙ each x.name (or_left _ _ (name_eq_refl x.name)))
-    (marks_are xs marks f (ordered_rest x.name xs ordered) (omega arith)
+    (marks_are xs marks f (ordered_tail x.name xs ordered) (omega arith)
     (λ n there.
     sym (elim (name_eq x.name n) as (λ e. name_eq x.name n ≡ e → ((e && b) || is_marked xs marks n) ≡ is_marked xs marks n) [
       | true ↦ λ e. absurd (name_lt_irrefl x.name (ap (name_lt x.name) (name_eq-true x.name n e) ∙ later x.name xs n ordered there))

@@ -14,12 +14,12 @@ use Rattle.k_types.specs.Sound.{IsOrdered}
 use Rattle.k_types.specs.State.{Object, State, has, object_at, refers, refers_in}
 use Rattle.k_types.specs.Trace.{Trace}
 use Rattle.k_base.proofs.NameTests.{name_eq-true, name_eq_refl}
-use Rattle.k_base.proofs.Objects.{has-kept, is_some-object_at, refers_in-kept, refers_in_has, referrer}
+use Rattle.k_base.proofs.Objects.{has-kept, is_some-object_at, referrer, refers_found, refers_in-kept, refers_in_has}
 use Rattle.k_base.proofs.Tests.{same_test}
 use Rattle.k_laws.proofs.Closure.{set, in_set, set_has, set_refers, closed_refers, start_in, length-kept}
 use Rattle.k_scan.specs.Marks.{is_marked, HasLooked}
 use Rattle.k_scan.proofs.Marks.{marked_has, marks_are, none_marked}
-use Rattle.k_scan.proofs.References.{refers_found, refers_only}
+use Rattle.k_scan.proofs.References.{refers_only}
 
 -- the objects of the heap
 abbrev pub pool_of : Trace → State → Heap → List Object

@@ -1,26 +1,18 @@
 -- References of an object that is found by its name.
 use Rattle.std.proofs.Common.{◌≡◌, ◌||◌, ◌&&◌, cond, Bool, true, false, refl, sym, ap, ◌∙◌, inl, inr, List, [], ◌∷◌, map, Option, Some}
 use Rattle.std.specs.List.{list_any}
-use Rattle.std.proofs.lemmas.Bool.{or_left, or_cases}
+use Rattle.std.proofs.lemmas.Bool.{or_cases}
 use Rattle.k_types.specs.declared.names.Name.{Name}
 use Rattle.k_types.specs.Names.{name_eq, name_lt}
 use Rattle.k_types.specs.State.{Object, object_at, refers, refers_in}
 use Rattle.k_types.specs.Sound.{IsOrdered}
 use Rattle.k_base.proofs.NameTests.{name_eq-true, name_lt_irrefl}
 use Rattle.k_base.proofs.Objects.{refers_in_has}
-use Rattle.k_scan.proofs.Marks.{later, ordered_rest}
+use Rattle.k_scan.proofs.Marks.{later}
+use Rattle.k_base.proofs.Ordered.{ordered_tail}
 
 same_object : {x y : Object} → ◌≡◌ {A = Option Object} (Some x) (Some y) → x ≡ y
 same_object e = cc
-
--- what the found object refers to
-pub refers_found : (xs : List Object) (a b : Name) (o : Object) → object_at xs a ≡ Some o → refers o b ≡ true → refers_in xs a b ≡ true
-refers_found [] a b o found r = absurd (cc found)
-refers_found (x ∷ xs) a b o found r =
-    elim (name_eq x.name a) as (λ t. cond t (Some x) (object_at xs a) ≡ Some o → ((t && refers x b) || refers_in xs a b) ≡ true) [
-      | true ↦ λ is. or_left _ _ (ap (λ y. refers y b) (same_object is) ∙ r)
-      | false ↦ λ is. refers_found xs a b o is r
-    ] found
 
 -- among objects in order only the found one has the name
 pub refers_only : (xs : List Object) (a b : Name) (o : Object) → IsOrdered xs → object_at xs a ≡ Some o → refers_in xs a b ≡ true → refers o b ≡ true
@@ -33,7 +25,7 @@ refers_only (x ∷ xs) a b o ordered found r =
             | inr there ↦
                 absurd (name_lt_irrefl x.name (ap (name_lt x.name) (name_eq-true x.name a same) ∙ later x.name xs a ordered (refers_in_has xs a b there)))
           ]
-      | false ↦ λ same is t. refers_only xs a b o (ordered_rest x.name xs ordered) is t
+      | false ↦ λ same is t. refers_only xs a b o (ordered_tail x.name xs ordered) is t
     ] refl found r
 
 -- a test of what the values of a list stand for

@@ -46,7 +46,7 @@ fn gone(stays: &[bool]) -> u32
 }
 
 // The bytes of the objects that go.
-#[tactic(auto, using(crate::proofs::Marks::mark_is, crate::proofs::Counts::sum_next, crate::proofs::Counts::sum_last))]
+#[tactic(auto, using(crate::proofs::Marks::mark_is, crate::proofs::Counts::sum_next, k_state::proofs::Sums::sum_over))]
 fn bytes_gone(lists: &PlainLists, heap: Heap, stays: &[bool]) -> u64
     requires marks { stays.now ≡ map (λ (o : Object). survives lists.now.setup lists.now.state heap o.name) lists.now.state.objects }
     requires few { length lists.now.state.objects < 2 ^ 32 }

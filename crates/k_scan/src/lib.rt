@@ -11,13 +11,11 @@ mod changes;
 mod collecting;
 mod holding;
 mod marking;
-mod orphans;
 mod reaching;
 mod rooting;
 mod surviving;
 
 pub use changes::{absorb, begin, close, end_of_process};
 pub use collecting::{end_collection, ending};
-pub use orphans::{first_orphan, is_orphan, no_orphan};
 pub use reaching::reached;
 pub use rooting::roots;

@@ -1,17 +1,15 @@
 -- Orphans absorbed one after the other: what is left to absorb.
 use Rattle.std.proofs.Common.{◌≡◌, ◌≢◌, ℕ, zero, suc, ◌+◌, ◌-◌, ◌<◌, ◌≤◌, ◌&&◌, not, Bool, true, false, cond, refl, sym, ap, ap₂, subst, ◌∙◌, List, [], ◌∷◌, ◌++◌, map, filter, length, arith, get_or-set_other, if◌then◌else◌}
-use Rattle.std.proofs.lemmas.List.{append-nil, append_assoc}
+use Rattle.std.proofs.lemmas.List.{append_assoc}
 use Rattle.std.proofs.lemmas.List.{length-map}
 use Rattle.std.proofs.lemmas.List.Sums.{count_by-le-length, length-filter}
 use Rattle.k_types.specs.declared.op.Op.{Op}
 use Rattle.k_types.specs.declared.event.Event.{Event}
 use Rattle.k_types.specs.declared.event.Event.TheVariants.{Absorbed as AbsorbedEvent}
-use Rattle.k_types.specs.declared.names.Phase.{Phase}
 use Rattle.k_types.specs.declared.names.Phase.TheVariants.{Unmade, Absorbed}
 use Rattle.k_types.specs.Effects.{step, after_absorbed}
 use Rattle.k_types.specs.FileOrder.{absorptions}
 use Rattle.k_types.specs.Numbers.{numbers_from}
-use Rattle.k_types.specs.Owners.{phase_of}
 use Rattle.k_types.specs.State.{State}
 use Rattle.k_types.specs.Steps.{IsPossible, IsRun, run, is_live, is_orphan, has_sharer, waits_for_orphans}
 use Rattle.k_types.specs.Trace.{Trace}
@@ -20,6 +18,8 @@ use Rattle.k_state.specs.Machines.{Machine}
 use Rattle.k_state.specs.Rooms.{HasRoom}
 use Rattle.k_solo.specs.Taken.{HasTaken, first_events}
 use Rattle.k_solo.proofs.Rooms.{less_room, step_room}
+use Rattle.k_state.proofs.Sums.{numbers_left}
+use Rattle.k_base.proofs.Lists.{numbers_length}
 
 abbrev absorb : ℕ → Event
 absorb s = AbsorbedEvent (record { 0 = s })
@@ -46,12 +46,6 @@ left_same setup st s =
     ap (map absorb) (same_above (is_orphan (step setup st (absorb s))) (is_orphan st) (s + 1) (setup.shared_heaps - (s + 1))
     (λ t le. other_orphan setup st s t (λ e. absurd (omega arith))))
 
-numbers_left : (i n : ℕ) → i < n → numbers_from i (n - i) ≡ i ∷ numbers_from (i + 1) (n - (i + 1))
-numbers_left i n inside =
-    let one : n - i ≡ suc (n - (i + 1)) = omega arith in
-    let next : suc i ≡ i + 1 = omega arith in
-    ap (numbers_from i) one ∙ ap (λ k. i ∷ numbers_from k (n - (i + 1))) next
-
 left_next : (setup : Trace) (st : State) (s : ℕ) (b : Bool) → s < setup.shared_heaps → is_orphan st s ≡ b →
     left setup st s ≡ cond b (absorb s ∷ left setup st (s + 1)) (left setup st (s + 1))
 left_next setup st s b inside is =
@@ -72,18 +66,6 @@ pub record Absorbing (before now : Machine) (old new : List Event) (s : ℕ) : T
   pub state : run before.setup now.state (left before.setup now.state s) ≡ run before.setup before.state (absorptions before.setup before.state)
   pub legal : IsRun before.setup now.state (left before.setup now.state s)
   pub room : HasRoom (64 - s) now.state
-
-pub absorbing_begins : (m : Machine) (old : List Event) → IsRun m.setup m.state (absorptions m.setup m.state) → HasRoom 64 m.state → Absorbing m m old old 0
-absorbing_begins m old legal room =
-    let all : m.setup.shared_heaps - 0 ≡ m.setup.shared_heaps = omega arith in
-    let same : absorptions m.setup m.state ≡ left m.setup m.state 0 = ap (λ n. map absorb (filter (is_orphan m.state) (numbers_from 0 n))) (sym all) in
-    record {
-      setup = refl;
-      journal = ap (λ es. old ++ es) (sym same);
-      state = ap (run m.setup m.state) (sym same);
-      legal = subst (IsRun m.setup m.state) same legal;
-      room = less_room (64 - 0) 64 m.state (omega arith) room;
-    }
 
 -- the next one is no orphan
 pub absorbing_passes : (before now : Machine) (old new : List Event) (s : ℕ) → s < before.setup.shared_heaps → is_orphan now.state s ≡ false →
@@ -122,22 +104,6 @@ absorbing_takes before now after old new newer s inside low orphan a taken =
           (subst (λ (st : State). IsRun before.setup st (left before.setup now.state (s + 1))) (sym moved) legal.1);
       room = subst (HasRoom (64 - (s + 1))) (sym moved) (step_room (64 - s) (64 - (s + 1)) before.setup now.state (absorb s) (omega arith) a.room);
     }
-
--- none is left at the end
-pub absorbing_ends : (before now : Machine) (old new : List Event) (s : ℕ) → before.setup.shared_heaps ≤ s → Absorbing before now old new s →
-    HasTaken before now old new (absorptions before.setup before.state)
-absorbing_ends before now old new s past a =
-    let none : before.setup.shared_heaps - s ≡ 0 = omega arith in
-    let empty : left before.setup now.state s ≡ [] = ap (λ n. map absorb (filter (is_orphan now.state) (numbers_from s n))) none in
-    record {
-      setup = a.setup;
-      state = ap (run before.setup now.state) (sym empty) ∙ a.state;
-      journal = sym (append-nil new) ∙ ap (λ es. new ++ es) (sym empty) ∙ a.journal;
-    }
-
-numbers_length : (first n : ℕ) → length (numbers_from first n) ≡ n
-numbers_length first zero = refl
-numbers_length first (suc n) = ap suc (numbers_length (suc first) n)
 
 -- there are no more absorptions than shared heaps
 pub few_absorptions : (setup : Trace) (st : State) → length (absorptions setup st) ≤ setup.shared_heaps

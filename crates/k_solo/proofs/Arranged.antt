@@ -1,6 +1,5 @@
 -- The targets of exit items beside the lists.
-use Rattle.std.proofs.Common.{◌≡◌, ℕ, zero, suc, ◌+◌, ◌-◌, ◌<◌, ◌≤◌, ◌==◌, Bool, true, false, cond, nat_le, refl, sym, ap, subst, ◌∙◌, List, [], ◌∷◌, map, filter, length, get_or, eqb-true, eq-eqb, arith, Vec, Global}
-use Rattle.std.specs.Prelude.{IsTrue}
+use Rattle.std.proofs.Common.{◌≡◌, ℕ, zero, suc, ◌<◌, ◌≤◌, Bool, true, false, cond, refl, sym, ◌∙◌, List, [], ◌∷◌, map, filter, length, get_or, arith, Vec, Global}
 use Rattle.std.proofs.lemmas.Bool.{or_left, or_right}
 use Rattle.std.proofs.lemmas.Bool.Decides.{nat_tests}
 use Rattle.std.proofs.lemmas.List.{length-map}
@@ -12,7 +11,7 @@ use Rattle.k_types.specs.Known.{IsKnownName}
 use Rattle.k_types.specs.Names.{heap_eq, name_among, name_eq, name_lt}
 use Rattle.k_types.specs.Sound.{IsSound}
 use Rattle.k_types.specs.State.{ExitItem, State}
-use Rattle.k_types.specs.Trace.{IsHeap, Trace, process_count, segment_of}
+use Rattle.k_types.specs.Trace.{IsHeap, Trace, segment_of}
 use Rattle.k_base.proofs.NameTests.{name_eq_refl}
 use Rattle.k_text.specs.Shown.{exits_of, in_order, with_name}
 use Rattle.k_text.proofs.InOrder.{in_order_among}

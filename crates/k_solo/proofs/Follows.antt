@@ -1,6 +1,6 @@
 -- A machine that does the operations of a trace in the order of the file.
-use Rattle.std.proofs.Common.{◌≡◌, ℕ, ◌+◌, ◌<◌, ◌^◌, refl, ap, ap₂, subst, sym, ◌∙◌, List, [], ◌∷◌, ◌++◌, length, Option, Some, None, arith}
-use Rattle.std.proofs.lemmas.List.{append-nil, append_assoc}
+use Rattle.std.proofs.Common.{◌≡◌, ℕ, refl, ap, ap₂, subst, sym, ◌∙◌, List, [], ◌∷◌, ◌++◌, Option, Some, None}
+use Rattle.std.proofs.lemmas.List.{append_assoc}
 use Rattle.std.specs.List.{AllByRecursion}
 use Rattle.k_types.specs.declared.op.Op.{Op}
 use Rattle.k_types.specs.declared.event.Event.{Event}
@@ -14,7 +14,7 @@ use Rattle.k_frame.proofs.Histories.{legal_front, legal_rest, run_append}
 use Rattle.k_known.proofs.KnownEvents.{history_known}
 use Rattle.k_order.proofs.FileOrders.{file_order_complete, file_order_legal}
 use Rattle.k_state.specs.Machines.{Machine, setup_of}
-use Rattle.k_solo.specs.Runs.{IsFiled, Run}
+use Rattle.k_solo.specs.Runs.{IsFiled}
 use Rattle.k_solo.specs.Taken.{HasTaken}
 use Rattle.k_solo.proofs.Lines.{setup_rules}
 use Rattle.k_solo.proofs.Unread.{events_unread, last_unread, legal_unread, run_unread}
@@ -24,13 +24,6 @@ pub record Follows (trace : Trace) (m : Machine) (events : List Event) (order : 
   pub setup : m.setup ≡ setup_of trace
   pub after : m.state ≡ state_after trace events
   pub filed : events ++ file_order_from trace m.state order ≡ file_order trace
-
-pub follows_begin : (trace : Trace) (m : Machine) → m ≡ record { setup = setup_of trace; state = opening trace } → Follows trace m [] trace.order
-follows_begin trace m is = record {
-  setup = ap (λ (n : Machine). n.setup) is;
-  after = ap (λ (n : Machine). n.state) is;
-  filed = ap (λ (n : Machine). file_order_from trace n.state trace.order) is;
-}
 
 -- the events of a part, and those that follow them
 abbrev followed : Trace → State → List ℕ → List Event → List Event

@@ -1,9 +1,8 @@
 -- Events taken one after the other.
-use Rattle.std.proofs.Common.{◌≡◌, ℕ, ◌+◌, ◌≤◌, refl, sym, ap, ap₂, subst, ◌∙◌, List, [], ◌∷◌, ◌++◌, length, Result, Ok, Err}
+use Rattle.std.proofs.Common.{◌≡◌, ℕ, ◌+◌, ◌≤◌, sym, ap, ap₂, subst, ◌∙◌, List, ◌++◌, length, Result, Ok, Err}
 use Rattle.std.specs.Prelude.{OnOk}
-use Rattle.std.proofs.lemmas.List.{append-nil, append_assoc}
+use Rattle.std.proofs.lemmas.List.{append_assoc}
 use Rattle.k_types.specs.declared.event.Event.{Event}
-use Rattle.k_types.specs.Effects.{step}
 use Rattle.k_types.specs.State.{State}
 use Rattle.k_types.specs.Steps.{IsRun, run}
 use Rattle.k_types.specs.Trace.{Trace}
@@ -12,15 +11,6 @@ use Rattle.k_state.specs.Machines.{Machine}
 use Rattle.k_state.specs.Rooms.{HasRoom}
 use Rattle.k_solo.specs.Taken.{HasTaken}
 use Rattle.k_solo.proofs.Rooms.{less_room, run_room}
-
--- one step
-pub taken_one : (before after : Machine) (old new : List Event) (event : Event) → after.setup ≡ before.setup → after.state ≡ step before.setup before.state event →
-    new ≡ old ++ event ∷ [] → HasTaken before after old new (event ∷ [])
-taken_one before after old new event setup state journal = record { setup = setup; state = state; journal = journal }
-
--- none
-pub taken_none : (m : Machine) (events : List Event) → HasTaken m m events events []
-taken_none m events = record { setup = refl; state = refl; journal = sym (append-nil events) }
 
 -- both in turn
 pub taken_both : (before now after : Machine) (old new newer xs ys : List Event) → HasTaken before now old new xs → HasTaken now after new newer ys →

@@ -11,7 +11,7 @@ use Rattle.k_types.specs.Numbers.{numbers_from}
 use Rattle.k_types.specs.Names.{name_eq, leads_to}
 use Rattle.k_types.specs.Trace.{Trace, limit_of, process_count}
 use Rattle.k_types.specs.TraceRules.{AreLimits}
-use Rattle.k_types.specs.State.{Content, Refers, Holds, Object, State, content_leads_to, fields_of, has, object_at, refers, refers_in}
+use Rattle.k_types.specs.State.{Content, Refers, Holds, Object, State, content_leads_to, fields_of, has, object_at, refers_in}
 use Rattle.k_types.specs.Limits.{direct_by, limits_in, use_of, use_within}
 use Rattle.k_types.specs.Owners.{charge_of}
 use Rattle.k_types.specs.Replies.{field_at, reference}
@@ -20,18 +20,11 @@ use Rattle.k_types.specs.Known.{IsKnownName}
 use Rattle.k_base.proofs.Maxima.{length_in}
 use Rattle.k_base.proofs.NameTests.{name_eq_refl}
 use Rattle.k_text.specs.Shown.{comes_after, next_name_after}
+use Rattle.k_base.proofs.Objects.{refers_found}
 
 -- an object lies in a segment of the trace
 pub object_known : (trace : Trace) (st : State) → IsSound trace st → (n : Name) → IsTrue (has st.objects n) → IsKnownName trace n
 object_known trace st sound n there = (sound.shape.placed n there).1
-
-pub if_known : {A : Type 0} (P : A → Type 0) (o : Option A) → ((a : A) → o ≡ Some a → P a) → IfSome o P
-if_known P None gives = tt
-if_known P (Some a) gives = gives a refl
-
-refers_found : (xs : List Object) (x y : Name) (o : Object) → object_at xs x ≡ Some o → refers o y ≡ true → refers_in xs x y ≡ true
-refers_found [] x y o found leads = grind arith
-refers_found (z ∷ zs) x y o found leads = grind (arith, refers_found zs x y o)
 
 leads_from : (contents : List Content) (i : ℕ) (y : Name) → reference (get_or contents i (Holds 0)) ≡ Some y → list_any (content_leads_to y) contents ≡ true
 leads_from [] i y e = absurd (cc e)

@@ -1,29 +1,15 @@
 -- The object that follows a name in the order of names.
-use Rattle.std.proofs.Common.{◌≡◌, inl, inr, ℕ, zero, suc, ◌+◌, ◌<◌, ◌≤◌, Bool, true, false, cond, refl, sym, ap, subst, ◌∙◌, List, [], ◌∷◌, find, length, get_or, slice_get, Option, Some, None, arith}
+use Rattle.std.proofs.Common.{◌≡◌, inl, inr, ℕ, zero, suc, ◌<◌, ◌≤◌, Bool, true, false, cond, refl, ap, subst, ◌∙◌, List, [], ◌∷◌, find, length, get_or, slice_get, Some, None, arith}
 use Rattle.std.specs.Prelude.{option_map}
 use Rattle.std.proofs.lemmas.Bool.{cases_eq}
 use Rattle.k_types.specs.declared.names.Name.{Name}
 use Rattle.k_types.specs.Names.{name_lt}
-use Rattle.k_types.specs.Sound.{IsOrdered, IsOrderedFrom}
+use Rattle.k_types.specs.Sound.{IsOrdered}
 use Rattle.k_types.specs.State.{Object}
 use Rattle.k_base.proofs.NameTests.{name_lt_trans}
 use Rattle.k_text.specs.Shown.{comes_after, next_name_after}
 use Rattle.k_solo.specs.Places.{IsPlaceAfter}
-
-ordered_rest : (x : Object) (xs : List Object) → IsOrdered (x ∷ xs) → IsOrdered xs
-ordered_rest x [] ordered = tt
-ordered_rest x (y ∷ ys) ordered = ordered.1
-
-before_all : (n : Name) (xs : List Object) (i : ℕ) (d : Object) → IsOrderedFrom n xs → i < length xs → name_lt n (get_or xs i d).name ≡ true
-before_all n [] i d ordered inside = absurd (omega arith)
-before_all n (x ∷ xs) zero d ordered inside = ordered.0
-before_all n (x ∷ xs) (suc i) d ordered inside = name_lt_trans n x.name (get_or xs i d).name ordered.0 (before_all x.name xs i d ordered.1 (omega arith))
-
-rises_at : (xs : List Object) (i j : ℕ) (d : Object) → IsOrdered xs → i < j → j < length xs → name_lt (get_or xs i d).name (get_or xs j d).name ≡ true
-rises_at [] i j d ordered below inside = absurd (omega arith)
-rises_at (x ∷ xs) i zero d ordered below inside = absurd (omega arith)
-rises_at (x ∷ xs) zero (suc j) d ordered below inside = before_all x.name xs j d ordered (omega arith)
-rises_at (x ∷ xs) (suc i) (suc j) d ordered below inside = rises_at xs i j d (ordered_rest x xs ordered) (omega arith) (omega arith)
+use Rattle.k_state.proofs.Placed.{ordered_at}
 
 -- what stands after an object that comes after the name comes after it too
 pub after_from : (xs : List Object) (n : Name) (m k : ℕ) (d : Object) → IsOrdered xs → m ≤ k → k < length xs → name_lt n (get_or xs m d).name ≡ true →
@@ -31,7 +17,7 @@ pub after_from : (xs : List Object) (n : Name) (m k : ℕ) (d : Object) → IsOr
 after_from xs n m k d ordered low inside lt =
     elim (cases_eq m k) [
       | inl same ↦ subst (λ i. name_lt n (get_or xs i d).name ≡ true) same lt
-      | inr apart ↦ name_lt_trans n (get_or xs m d).name (get_or xs k d).name lt (rises_at xs m k d ordered (omega (arith, apart)) inside)
+      | inr apart ↦ name_lt_trans n (get_or xs m d).name (get_or xs k d).name lt (ordered_at xs m k d ordered (omega (arith, apart)) inside)
     ]
 
 -- and what stands before one that does not, does not

@@ -1,5 +1,5 @@
 -- Room that is left after several steps.
-use Rattle.std.proofs.Common.{◌≡◌, ℕ, zero, suc, ◌+◌, ◌-◌, ◌<◌, ◌≤◌, ◌^◌, ◌==◌, Bool, true, false, cond, subst, refl, List, [], ◌∷◌, ◌++◌, length, length-append, map, replicate, get_or, arith}
+use Rattle.std.proofs.Common.{ℕ, zero, suc, ◌+◌, ◌<◌, ◌≤◌, ◌^◌, List, [], ◌∷◌, length, replicate, get_or, arith}
 use Rattle.k_types.specs.declared.event.Event.{Event}
 use Rattle.k_types.specs.Effects.{step}
 use Rattle.k_types.specs.State.{State, opening}

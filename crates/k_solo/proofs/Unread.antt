@@ -1,13 +1,11 @@
 -- No definition of the machine reads the operations of the trace.
-use Rattle.std.proofs.Common.{◌≡◌, ℕ, refl, ap, sym, subst, ◌∙◌, List, [], ◌∷◌, ◌++◌, not, Option, Some, None, if◌then◌else◌, ◌||◌}
-use Rattle.std.specs.Prelude.{IsTrue}
+use Rattle.std.proofs.Common.{◌≡◌, ℕ, refl, ap, sym, subst, ◌∙◌, List, [], ◌∷◌, ◌++◌, not, Option, Some, None, if◌then◌else◌}
 use Rattle.std.specs.List.{list_all}
 use Rattle.k_types.specs.declared.names.Heap.{Heap}
 use Rattle.k_types.specs.declared.names.Heap.TheVariants.{Kernel}
 use Rattle.k_types.specs.declared.op.Op.{Op}
 use Rattle.k_types.specs.declared.op.Op.TheVariants.{New, KNew, SNew, Store, Load, Move, Clear, Dir, Put, Get, Collect, KCollect, Share, Freeze, Attach, Exit}
 use Rattle.k_types.specs.declared.event.Fault.{Fault}
-use Rattle.k_types.specs.declared.event.Reply.{Reply}
 use Rattle.k_types.specs.declared.event.Event.{Event}
 use Rattle.k_types.specs.declared.event.Event.TheVariants.{Done, Ended, Absorbed, Closing}
 use Rattle.k_types.specs.Trace.{Trace}
@@ -19,7 +17,7 @@ use Rattle.k_types.specs.Effects.{after_absorbed, after_closing, after_end_of, a
 use Rattle.k_types.specs.Updates.{count_done}
 use Rattle.k_types.specs.Complete.{all_ended}
 use Rattle.k_types.specs.FileOrder.{absorptions, end_of, events_of, heap_begun, last_events, with_end}
-use Rattle.k_types.specs.Steps.{IsPossible, IsRun, in_range, run, waits_for_orphans, no_orphan}
+use Rattle.k_types.specs.Steps.{IsPossible, IsRun, in_range, run, waits_for_orphans}
 use Rattle.k_state.specs.Machines.{setup_of}
 
 module _ (trace : Trace) where

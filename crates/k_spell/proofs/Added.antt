@@ -1,16 +1,16 @@
 -- Lines that are added to a text, one after the other.
-use Rattle.std.proofs.Common.{◌≡◌, ◌∙◌, ℕ, ◌+◌, ◌<◌, ◌≤◌, List, [], ◌∷◌, ◌++◌, length, drop, map, get_or, refl, sym, ap, arith, append_assoc, add-one, codes, decimal, Result, Ok, Err, Some, slice_get}
+use Rattle.std.proofs.Common.{◌≡◌, ◌∙◌, ℕ, ◌+◌, ◌<◌, List, [], ◌∷◌, ◌++◌, length, drop, map, get_or, refl, sym, ap, arith, append_assoc, add-one, codes, decimal, Result, Ok, Err, Some, slice_get}
 use Rattle.std.specs.Prelude.{IfSome, OnOk}
 use Rattle.std.specs.List.{join_with_byte}
 use Rattle.std.proofs.Math.Seq.{drop-cons}
-use Rattle.std.proofs.lemmas.List.{append-nil, drop_all, get_or_default}
+use Rattle.std.proofs.lemmas.List.{append-nil, get_or_default}
 use Rattle.std.proofs.lemmas.Option.{slice_get_within, get_or_from_slice_get}
 use Rattle.k_types.specs.declared.names.LimitId.{LimitId}
 use Rattle.k_types.specs.declared.setup.LimitRow.{LimitRow}
 use Rattle.k_types.specs.Trace.{no_row, operations_of}
 use Rattle.k_types.specs.TraceRules.{IsTree}
 use Rattle.k_base.proofs.Lists.{if_some}
-use Rattle.k_words.specs.Words.{Text, word_at, line_text, text_of}
+use Rattle.k_words.specs.Words.{Text, line_text, text_of}
 use Rattle.k_words.specs.Spaced.{spaced}
 use Rattle.k_text.proofs.LineLemmas.{joined, text_of-append}
 use Rattle.k_trace.specs.Named.{NamedTrace}
@@ -29,18 +29,8 @@ line_added old line new all ws left rest e l n h =
 pub none_left : (text all : Text) (left : List (List Text)) → left ≡ [] → text ++ text_of left ≡ all → text ≡ all
 none_left text all left e h = sym (append-nil text) ∙ ap (λ (ls : List (List Text)). text ++ text_of ls) (sym e) ∙ h
 
-pub declared_next : {A : Type 0} (words : Text → A → List Text) (names : List Text) (xs : List A) (i : ℕ) (d : A) → i < length names → i < length xs →
-    declarations words (drop i names) (drop i xs) ≡ words (word_at names i) (get_or xs i d) ∷ declarations words (drop (i + 1) names) (drop (i + 1) xs)
-declared_next words names xs i d n x = rw (drop-cons names i [] n, drop-cons xs i d x, add-one) refl
-
-pub declared_none : {A : Type 0} (words : Text → A → List Text) (names : List Text) (xs : List A) (i : ℕ) → length names ≤ i → declarations words (drop i names) xs ≡ []
-declared_none words names xs i le = rw (drop_all i names le) refl
-
 pub mapped_next : {A B : Type 0} (f : A → B) (xs : List A) (i : ℕ) (d : A) → i < length xs → map f (drop i xs) ≡ f (get_or xs i d) ∷ map f (drop (i + 1) xs)
 mapped_next f xs i d lt = rw (drop-cons xs i d lt, add-one) refl
-
-pub mapped_none : {A B : Type 0} (f : A → B) (xs : List A) (i : ℕ) → length xs ≤ i → map f (drop i xs) ≡ []
-mapped_none f xs i le = rw (drop_all i xs le) refl
 
 -- A word was added to a line, and the others are left.
 pub word_added : (old new all word : Text) (left rest : List Text) → left ≡ word ∷ rest → new ≡ old ++ 32 ∷ word → old ++ spaced left ≡ all → new ++ spaced rest ≡ all
@@ -49,9 +39,6 @@ word_added old new all word left rest e n h =
     ∙ append_assoc old (32 ∷ word) (spaced rest)
     ∙ ap (λ (ws : List Text). old ++ spaced ws) (sym e)
     ∙ h
-
-pub no_word_left : (line all : Text) (left : List Text) → left ≡ [] → line ++ spaced left ≡ all → line ≡ all
-no_word_left line all left e h = sym (append-nil line) ∙ ap (λ (ws : List Text). line ++ spaced ws) (sym e) ∙ h
 
 -- One part of a text was added behind others.
 pub part_added : (old new : Text) (first second : List (List Text)) → old ≡ text_of first → new ≡ old ++ text_of second → new ≡ text_of (first ++ second)

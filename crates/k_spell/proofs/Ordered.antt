@@ -1,5 +1,5 @@
 -- The lines of operations, of which each process has done some.
-use Rattle.std.proofs.Common.{◌≡◌, ◌∙◌, ℕ, zero, suc, ◌+◌, ◌<◌, ◌≤◌, ◌==◌, true, false, cond, List, [], ◌∷◌, ◌++◌, length, drop, map, replicate, append_assoc, Vec, Global, get_or, set, refl, sym, ap, subst, ltb-true, nat_lt, inl, inr, arith, add-one, eq-eqb, ne_eqb, IsTrue, Some, slice_get}
+use Rattle.std.proofs.Common.{◌≡◌, ◌∙◌, ℕ, zero, suc, ◌+◌, ◌<◌, ◌≤◌, ◌==◌, true, false, cond, List, [], ◌∷◌, ◌++◌, length, drop, map, replicate, append_assoc, Vec, Global, get_or, set, refl, sym, ap, subst, ltb-true, nat_lt, inl, inr, arith, add-one, eq-eqb, ne_eqb, IsTrue}
 use Rattle.std.specs.List.{AllByRecursion, list_all}
 use Rattle.std.proofs.lemmas.Bool.{and_parts, cases_eq}
 use Rattle.k_types.specs.declared.names.Pid.{Pid}
@@ -20,6 +20,7 @@ use Rattle.k_trace.specs.Spelling.{after_first, first_line, operation_lines}
 use Rattle.k_spell.proofs.Added.{mapped_next}
 use Rattle.k_text.specs.Named.{AreNamed}
 use Rattle.k_text.proofs.Known.{named_op}
+use Rattle.k_frame.proofs.Sizes.{zeros_at}
 
 -- The operations of each process behind those that it has done.
 abbrev pub behind : (ℕ → List Op) → List ℕ → ℕ → List Op
@@ -68,12 +69,6 @@ all_named names trace (op ∷ ops) named ranged =
 pub names_all : (t : NamedTrace) → IsTrace t → (ops : List Op) → IsTrue (list_all (in_range t.trace) ops) → AllByRecursion (IsNamedOp t.names) ops
 names_all t is ops ranged = all_named t.names t.trace ops (record { types = is.types_named; limits = is.limits_named; procs = is.procs_named; shared = is.shared_named }) ranged
 
--- An element that is there.
-pub holds_at : {A : Type 0} (P : A → Type 0) (xs : List A) (i : ℕ) (x : A) → AllByRecursion P xs → slice_get xs i ≡ Some x → P x
-holds_at P [] i x all e = absurd cc
-holds_at P (y ∷ ys) zero x all e = let same : y ≡ x = cc in subst P same all.0
-holds_at P (y ∷ ys) (suc i) x all e = holds_at P ys i x all.1 e
-
 -- What stands for a process past the last of the order.
 abbrev pub no_pid : Pid
 no_pid = record { 0 = 0 }
@@ -105,11 +100,6 @@ listed_at t p v is inside e = get_or-map (λ (ops : Vec Op Global). ops.items) t
 pub named_at : (t : Trace) (p : ℕ) (v : Vec Op Global) → IsTrace (meaning_of t) → p < length t.setup.procs.items → v ≡ get_or t.ops.items p v → AllByRecursion (IsNamedOp t.names) v.items
 named_at t p v is inside e =
     names_all (meaning_of t) is v.items (subst (λ (ops : List Op). IsTrue (list_all (in_range (meaning_of t).trace) ops)) (listed_at t p v is inside e) (is.rules.operations.in_range p inside))
-
-pub zeros_at : (n p : ℕ) → get_or {A = ℕ} (replicate n 0) p 0 ≡ 0
-zeros_at zero p = refl
-zeros_at (suc n) zero = refl
-zeros_at (suc n) (suc p) = zeros_at n p
 
 -- No process has done more than were done.
 pub few_next : (done : List ℕ) (p n : ℕ) → ((q : ℕ) → get_or done q 0 ≤ n) → (q : ℕ) → get_or (set done p (get_or done p 0 + 1)) q 0 ≤ n + 1

@@ -125,7 +125,7 @@ declared_placed setup o (x ∷ xs) is all =
       | false ↦ (is, all)
     ]
 
-placed_length : (o : Object) (xs : List Object) → length (with_object o xs) ≡ 1 + length xs
+pub placed_length : (o : Object) (xs : List Object) → length (with_object o xs) ≡ 1 + length xs
 placed_length o [] = refl
 placed_length o (x ∷ xs) =
     elim (name_lt x.name o.name) as (λ b. length (cond b (x ∷ with_object o xs) (o ∷ x ∷ xs)) ≡ 1 + suc (length xs)) [

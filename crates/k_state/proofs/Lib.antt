@@ -9,7 +9,6 @@ pub mod Placed
 pub mod RoomLaws
 pub mod Rows
 pub mod Shapes
-pub mod SmallSetups
 pub mod Sums
 pub mod Totals
 pub mod Uses

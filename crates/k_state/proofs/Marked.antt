@@ -125,13 +125,6 @@ turned_no heaps (y ∷ ys) all k i inside same given so_far =
     = ap (λ hs. staying_items hs (drop i exits)) here ∙ ap (staying_items (None ∷ drop (i + 1) heaps)) (drop_more exits i y (omega arith)) in
     ap (λ zs. take k exits ++ zs) (sym next) ∙ so_far
 
-pub turned_end : (heaps : List (Option Heap)) (exits all : List ExitItem) (k i : ℕ) → length heaps ≤ i →
-    take k exits ++ staying_items (drop i heaps) (drop i exits) ≡ all → take k exits ≡ all
-turned_end heaps exits all k i past so_far =
-    sym (append-nil (take k exits))
-    ∙ ap (λ hs. take k exits ++ staying_items hs (drop i exits)) (sym (drop_all heaps i past))
-    ∙ so_far
-
 pub length_staying : (heaps : List (Option Heap)) (exits : List ExitItem) → length (staying_items heaps exits) ≤ length exits
 length_staying [] exits = grind arith
 length_staying (heap ∷ heaps) [] = omega arith

@@ -7,17 +7,14 @@ use Rattle.k_types.specs.Names.{name_eq, name_lt}
 use Rattle.k_types.specs.State.{Content, Object, has, object_at}
 use Rattle.k_types.specs.Updates.{object_after_write, with_object}
 use Rattle.k_types.specs.Sound.{IsOrdered, IsOrderedFrom}
-use Rattle.k_base.proofs.NameTests.{name_eq-false, name_eq-true, name_lt_irrefl, name_lt_total, name_lt_trans}
+use Rattle.k_base.proofs.NameTests.{name_eq-true, name_lt_apart, name_lt_apart_back, name_lt_total, name_lt_trans}
 use Rattle.k_base.proofs.Objects.{written_name}
 use Rattle.k_state.specs.Marks.{marked}
 use Rattle.k_state.specs.Places.{IsPlace}
-
-ordered_rest : (n : Name) (xs : List Object) → IsOrderedFrom n xs → IsOrdered xs
-ordered_rest n [] ordered = tt
-ordered_rest n (x ∷ xs) ordered = ordered.1
+use Rattle.k_base.proofs.Ordered.{ordered_tail}
 
 -- what follows comes after
-before_all : (n : Name) (xs : List Object) (i : ℕ) (d : Object) → IsOrderedFrom n xs → i < length xs → name_lt n (get_or xs i d).name ≡ true
+pub before_all : (n : Name) (xs : List Object) (i : ℕ) (d : Object) → IsOrderedFrom n xs → i < length xs → name_lt n (get_or xs i d).name ≡ true
 before_all n [] i d ordered inside = absurd (omega arith)
 before_all n (x ∷ xs) zero d ordered inside = ordered.0
 before_all n (x ∷ xs) (suc i) d ordered inside = name_lt_trans n x.name (get_or xs i d).name ordered.0 (before_all x.name xs i d ordered.1 (omega arith))
@@ -25,24 +22,18 @@ before_all n (x ∷ xs) (suc i) d ordered inside = name_lt_trans n x.name (get_o
 place_first : (o x : Object) (xs : List Object) → name_lt x.name o.name ≡ true → with_object o (x ∷ xs) ≡ x ∷ with_object o xs
 place_first o x xs lt = ap (λ b. cond b (x ∷ with_object o xs) (o ∷ x ∷ xs)) lt
 
-apart_from : (a b : Name) → name_lt a b ≡ true → name_eq a b ≡ false
-apart_from a b lt = name_eq-false a b (λ same. name_lt_irrefl a (ap (name_lt a) same ∙ lt))
-
-apart_to : (a b : Name) → name_lt a b ≡ true → name_eq b a ≡ false
-apart_to a b lt = name_eq-false b a (λ same. name_lt_irrefl a (ap (name_lt a) (sym same) ∙ lt))
-
 none_later : (n m : Name) (xs : List Object) → name_lt n m ≡ true → IsOrderedFrom m xs → has xs n ≡ false
 none_later n m [] lt ordered = refl
 none_later n m (x ∷ xs) lt ordered =
     let more = name_lt_trans n m x.name lt ordered.0 in
-    ap (λ b. b || has xs n) (apart_to n x.name more) ∙ none_later n x.name xs more ordered.1
+    ap (λ b. b || has xs n) (name_lt_apart_back n x.name more) ∙ none_later n x.name xs more ordered.1
 
 -- of two objects the earlier comes first
-ordered_at : (xs : List Object) (i j : ℕ) (d : Object) → IsOrdered xs → i < j → j < length xs → name_lt (get_or xs i d).name (get_or xs j d).name ≡ true
+pub ordered_at : (xs : List Object) (i j : ℕ) (d : Object) → IsOrdered xs → i < j → j < length xs → name_lt (get_or xs i d).name (get_or xs j d).name ≡ true
 ordered_at [] i j d ordered low inside = absurd (omega arith)
 ordered_at (x ∷ xs) i zero d ordered low inside = absurd (omega arith)
 ordered_at (x ∷ xs) zero (suc j) d ordered low inside = before_all x.name xs j d ordered (omega arith)
-ordered_at (x ∷ xs) (suc i) (suc j) d ordered low inside = ordered_at xs i j d (ordered_rest x.name xs ordered) (omega arith) (omega arith)
+ordered_at (x ∷ xs) (suc i) (suc j) d ordered low inside = ordered_at xs i j d (ordered_tail x.name xs ordered) (omega arith) (omega arith)
 
 -- where one object comes before the name all up to it do
 pub before_through : (xs : List Object) (n : Name) (m k : ℕ) (d : Object) → IsOrdered xs → m < length xs → name_lt (get_or xs m d).name n ≡ true → k ≤ m →
@@ -86,8 +77,8 @@ none_named n (x ∷ xs) zero ordered place other =
     ap (λ b. b || has xs n) apart ∙ none_later n x.name xs lt ordered
 none_named n (x ∷ xs) (suc at) ordered place other =
     let lt = place.before 0 x (omega arith) in
-    ap (λ b. b || has xs n) (apart_from x.name n lt)
-    ∙ none_named n xs at (ordered_rest x.name xs ordered) (place_rest n x xs at place) (λ d inside. other d (omega arith))
+    ap (λ b. b || has xs n) (name_lt_apart x.name n lt)
+    ∙ none_named n xs at (ordered_tail x.name xs ordered) (place_rest n x xs at place) (λ d inside. other d (omega arith))
 
 -- the object of an index that has the name is the one that is found
 pub found_at : (n : Name) (xs : List Object) (k : ℕ) (d : Object) → IsOrdered xs → k < length xs → name_eq (get_or xs k d).name n ≡ true →
@@ -97,8 +88,8 @@ found_at n (x ∷ xs) zero d ordered inside named = ap (λ b. cond b (Some x) (o
 found_at n (x ∷ xs) (suc k) d ordered inside named =
     let lt : name_lt x.name n ≡ true
     = ap (name_lt x.name) (sym (name_eq-true (get_or xs k d).name n named)) ∙ before_all x.name xs k d ordered (omega arith) in
-    ap (λ b. cond b (Some x) (object_at xs n)) (apart_from x.name n lt)
-    ∙ found_at n xs k d (ordered_rest x.name xs ordered) (omega arith) named
+    ap (λ b. cond b (Some x) (object_at xs n)) (name_lt_apart x.name n lt)
+    ∙ found_at n xs k d (ordered_tail x.name xs ordered) (omega arith) named
 
 pub found_none : (n : Name) (xs : List Object) → has xs n ≡ false → object_at xs n ≡ None
 found_none n [] none = refl
@@ -113,14 +104,14 @@ all_later : (n : Name) (i : ℕ) (c : Content) (xs : List Object) (m : Name) →
 all_later n i c [] m same ordered = refl
 all_later n i c (x ∷ xs) m same ordered =
     let lt : name_lt n x.name ≡ true = ap (λ k. name_lt k x.name) (sym same) ∙ ordered.0 in
-    ap (λ y. y ∷ map (object_after_write n i c) xs) (unwritten n i c x (apart_to n x.name lt))
+    ap (λ y. y ∷ map (object_after_write n i c) xs) (unwritten n i c x (name_lt_apart_back n x.name lt))
     ∙ ap (λ ys. x ∷ ys) (after_more n i c xs x.name lt ordered.1)
   where
     after_more : (n : Name) (i : ℕ) (c : Content) (xs : List Object) (k : Name) → name_lt n k ≡ true → IsOrderedFrom k xs → map (object_after_write n i c) xs ≡ xs
     after_more n i c [] k lt ordered = refl
     after_more n i c (y ∷ ys) k lt ordered =
         let more = name_lt_trans n k y.name lt ordered.0 in
-        ap (λ z. z ∷ map (object_after_write n i c) ys) (unwritten n i c y (apart_to n y.name more))
+        ap (λ z. z ∷ map (object_after_write n i c) ys) (unwritten n i c y (name_lt_apart_back n y.name more))
         ∙ ap (λ zs. y ∷ zs) (after_more n i c ys y.name more ordered.1)
 
 -- a write changes the one object of the name
@@ -132,8 +123,8 @@ written_once n i c (x ∷ xs) zero d ordered inside named =
 written_once n i c (x ∷ xs) (suc k) d ordered inside named =
     let lt : name_lt x.name n ≡ true
     = ap (name_lt x.name) (sym (name_eq-true (get_or xs k d).name n named)) ∙ before_all x.name xs k d ordered (omega arith) in
-    ap (λ y. y ∷ map (object_after_write n i c) xs) (unwritten n i c x (apart_from x.name n lt))
-    ∙ ap (λ ys. x ∷ ys) (written_once n i c xs k d (ordered_rest x.name xs ordered) (omega arith) named)
+    ap (λ y. y ∷ map (object_after_write n i c) xs) (unwritten n i c x (name_lt_apart x.name n lt))
+    ∙ ap (λ ys. x ∷ ys) (written_once n i c xs k d (ordered_tail x.name xs ordered) (omega arith) named)
 
 -- where there is no such object nothing changes
 pub written_none : (n : Name) (i : ℕ) (c : Content) (xs : List Object) → has xs n ≡ false → map (object_after_write n i c) xs ≡ xs
@@ -185,7 +176,7 @@ pub ordered_marked : (marks : List Bool) (xs : List Object) → IsOrdered xs →
 ordered_marked [] xs t = tt
 ordered_marked (mark ∷ marks) [] t = tt
 ordered_marked (true ∷ marks) (o ∷ xs) t = ordered_marked_from marks o.name o.name xs (inl refl) t
-ordered_marked (false ∷ marks) (o ∷ xs) t = ordered_marked marks xs (ordered_rest o.name xs t)
+ordered_marked (false ∷ marks) (o ∷ xs) t = ordered_marked marks xs (ordered_tail o.name xs t)
 
 pub has_marked : (marks : List Bool) (xs : List Object) (n : Name) → IsTrue (has (marked marks xs) n) → IsTrue (has xs n)
 has_marked [] xs n there = absurd (false≢true there)

@@ -13,15 +13,16 @@ use Rattle.k_types.specs.declared.event.Fault.{Fault}
 use Rattle.k_types.specs.declared.event.Event.{Event}
 use Rattle.k_types.specs.declared.event.Event.TheVariants.{Done, Ended, Absorbed, Closing}
 use Rattle.k_types.specs.Effects.{step, effect, effect_unless, after_new, after_operation, after_store, after_put, after_freeze, after_end_of, after_ended, after_absorbed, after_closing, exit_after, exit_stays, share_stays, stays_after_absorb, survives, with_exit_of_store}
-use Rattle.k_types.specs.Names.{heap_eq, name_lt}
+use Rattle.k_types.specs.Names.{heap_eq}
 use Rattle.k_types.specs.Owners.{owner_of}
 use Rattle.k_types.specs.Replies.{faults, first_fault}
-use Rattle.k_types.specs.State.{State, Object, Content, Refers, Holds, fresh, has_exit, has_share, opening}
+use Rattle.k_types.specs.State.{State, Content, Refers, Holds, fresh, has_exit, has_share, opening}
 use Rattle.k_types.specs.Trace.{Trace, kinds_of, process_count}
-use Rattle.k_types.specs.Updates.{next_name, count_done, set_register, create, with_object, write, object_after_write, add_exit, open_scan, set_phase, add_share, keep_objects, keep_exits, keep_shares, close_scan, clear_registers, end_process, turn_exits, close}
+use Rattle.k_types.specs.Updates.{next_name, count_done, set_register, create, write, object_after_write, add_exit, open_scan, set_phase, add_share, keep_objects, keep_exits, keep_shares, close_scan, clear_registers, end_process, turn_exits, close}
 use Rattle.k_base.proofs.Lists.{get_or-set_cases}
 use Rattle.k_frame.proofs.Sizes.{zeros_at}
 use Rattle.k_state.specs.Rooms.{HasRoom}
+use Rattle.k_state.proofs.Kept.{placed_length}
 
 -- each count but that of the operations done is one more at most, and that stays
 record IsNext (before after : State) : Type 0 where
@@ -32,14 +33,6 @@ record IsNext (before after : State) : Type 0 where
   scans : length after.scans ≤ 1 + length before.scans
   serials : (seg : ℕ) → get_or after.made seg 0 ≤ 1 + get_or before.made seg 0
   done : after.done ≡ before.done
-
-placed_length : (o : Object) (xs : List Object) → length (with_object o xs) ≡ 1 + length xs
-placed_length o [] = refl
-placed_length o (x ∷ xs) =
-    elim (name_lt x.name o.name) as (λ b. length (cond b (x ∷ with_object o xs) (o ∷ x ∷ xs)) ≡ 1 + suc (length xs)) [
-      | true ↦ omega (arith, placed_length o xs)
-      | false ↦ omega arith
-    ]
 
 kept_length : {A : Type 0} (p : A → Bool) (xs : List A) → length (filter p xs) ≤ length xs
 kept_length p xs = omega (arith, length-filter_both p (λ x. not (p x)) (λ x. refl) xs)

@@ -1,5 +1,5 @@
 -- Rows of the limits with the maxima that they have now.
-use Rattle.std.proofs.Common.{◌≡◌, ℕ, zero, suc, ◌<◌, refl, ap, List, [], ◌∷◌, length, get_or, arith}
+use Rattle.std.proofs.Common.{◌≡◌, ℕ, zero, suc, ◌<◌, refl, List, [], ◌∷◌, length, get_or, arith}
 use Rattle.k_types.specs.declared.setup.LimitRow.{LimitRow}
 use Rattle.k_types.specs.Trace.{row_of}
 use Rattle.k_types.specs.Limits.{with_maxima}
@@ -10,8 +10,3 @@ row_in [] maxima m d inside same = absurd (omega arith)
 row_in (row ∷ rows) [] m d inside same = absurd (omega arith)
 row_in (row ∷ rows) (max ∷ maxima) zero d inside same = refl
 row_in (row ∷ rows) (max ∷ maxima) (suc m) d inside same = row_in rows maxima m d (omega arith) (omega arith)
-
-pub rows_in_length : (rows : List LimitRow) (maxima : List ℕ) → length (with_maxima rows maxima) ≡ length rows
-rows_in_length [] maxima = refl
-rows_in_length (row ∷ rows) [] = refl
-rows_in_length (row ∷ rows) (max ∷ maxima) = ap suc (rows_in_length rows maxima)

@@ -1,26 +1,14 @@
 -- What holds of each element of a list.
-use Rattle.std.proofs.Common.{◌≡◌, subst, ℕ, zero, suc, ◌<◌, length, get_or, cond, Bool, true, false, List, [], ◌∷◌, ◌++◌, find, slice_get, Some, arith}
+use Rattle.std.proofs.Common.{◌≡◌, subst, ℕ, zero, suc, ◌<◌, length, get_or, List, [], ◌∷◌, slice_get, Some, arith}
 use Rattle.std.specs.List.{AllByRecursion}
 use Rattle.k_types.specs.declared.names.Phase.{Phase}
 use Rattle.k_types.specs.Known.{IsKnownPhase}
 use Rattle.k_types.specs.Trace.{Trace}
 
-pub all_snoc : {A : Type 0} (P : A → Type 0) (xs : List A) (x : A) → AllByRecursion P xs → P x → AllByRecursion P (xs ++ x ∷ [])
-all_snoc P [] x all holds = (holds, tt)
-all_snoc P (y ∷ ys) x all holds = (all.0, all_snoc P ys x all.1 holds)
-
 pub all_got : {A : Type 0} (P : A → Type 0) (xs : List A) (i : ℕ) (x : A) → AllByRecursion P xs → slice_get xs i ≡ Some x → P x
 all_got P [] i x all found = grind arith
 all_got P (y ∷ ys) zero x all found = let same : y ≡ x = cc in subst P same all.0
 all_got P (y ∷ ys) (suc i) x all found = all_got P ys i x all.1 found
-
-pub all_found : {A : Type 0} (P : A → Type 0) (test : A → Bool) (xs : List A) (x : A) → AllByRecursion P xs → find test xs ≡ Some x → P x
-all_found P test [] x all found = grind arith
-all_found P test (y ∷ ys) x all found = go (test y) (all_found P test ys x all.1) found
-  where
-    go : (b : Bool) → (find test ys ≡ Some x → P x) → cond b (Some y) (find test ys) ≡ Some x → P x
-    go true later is = let same : y ≡ x = cc in subst P same all.0
-    go false later is = later is
 
 -- the phase that is found is known
 pub phase_known : (setup : Trace) (phases : List Phase) (i : ℕ) (phase : Phase) → AllByRecursion (IsKnownPhase setup) phases → slice_get phases i ≡ Some phase → IsKnownPhase setup phase

@@ -20,7 +20,7 @@ sum_left f g xs i d inside = ap (λ ys. total f (filter g ys)) (drop_more xs i d
 pub sum_over : {A : Type 0} (f : A → ℕ) (g : A → Bool) (xs : List A) (i : ℕ) → length xs ≤ i → total f (filter g (drop i xs)) ≡ 0
 sum_over f g xs i past = at_drop_all (λ ys. total f (filter g ys)) xs i past
 
-numbers_left : (i n : ℕ) → i < n → numbers_from i (n - i) ≡ i ∷ numbers_from (i + 1) (n - (i + 1))
+pub numbers_left : (i n : ℕ) → i < n → numbers_from i (n - i) ≡ i ∷ numbers_from (i + 1) (n - (i + 1))
 numbers_left i n inside =
     let one : n - i ≡ suc (n - (i + 1)) = omega arith in
     let next : suc i ≡ i + 1 = omega arith in

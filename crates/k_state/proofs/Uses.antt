@@ -1,11 +1,11 @@
 -- What is left to add of a use, a charge and a direct charge.
-use Rattle.std.proofs.Common.{◌≡◌, ℕ, zero, suc, ◌+◌, ◌-◌, ◌<◌, ◌≤◌, cond, ap, ◌∙◌, List, length, arith}
+use Rattle.std.proofs.Common.{◌≡◌, ℕ, zero, suc, ◌+◌, ◌-◌, ◌<◌, cond, ap, ◌∙◌, List, length, arith}
 use Rattle.k_types.specs.declared.setup.LimitRow.{LimitRow}
 use Rattle.k_types.specs.Totals.{total}
 use Rattle.k_types.specs.Numbers.{numbers_from}
 use Rattle.k_types.specs.Trace.{row_of}
 use Rattle.k_types.specs.Limits.{is_parent, max_of, use_within}
-use Rattle.k_state.proofs.Sums.{numbers_sum_left, numbers_sum_over}
+use Rattle.k_state.proofs.Sums.{numbers_sum_left}
 use Rattle.std.specs.Prelude.{filter}
 
 -- what a child adds to the use of its parent
@@ -31,10 +31,6 @@ pub uses_next : (rows : List LimitRow) (direct : ℕ → ℕ) (depth m c : ℕ) 
     uses_left rows direct depth m c ≡ cond (is_parent (row_of rows c).parent m) (child_use rows direct depth c) 0 + uses_left rows direct depth m (c + 1)
 uses_next rows direct depth m c inside =
     numbers_sum_left (child_use rows direct depth) (λ k. is_parent (row_of rows k).parent m) c (length rows) inside
-
-pub uses_end : (rows : List LimitRow) (direct : ℕ → ℕ) (depth m c : ℕ) → length rows ≤ c → uses_left rows direct depth m c ≡ 0
-uses_end rows direct depth m c past =
-    numbers_sum_over (child_use rows direct depth) (λ k. is_parent (row_of rows k).parent m) c (length rows) past
 
 pub use_none : (rows : List LimitRow) (direct : ℕ → ℕ) (depth m : ℕ) → depth ≡ 0 → use_within rows direct depth m ≡ 0
 unfolding use_within

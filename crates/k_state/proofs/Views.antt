@@ -1,5 +1,5 @@
 -- A state of which one list is another.
-use Rattle.std.proofs.Common.{◌≡◌, ℕ, ap, ap₂, ◌∙◌, List}
+use Rattle.std.proofs.Common.{◌≡◌, ap₂, List}
 use Rattle.k_types.specs.State.{ExitItem, Object, Scan, Sharing}
 use Rattle.k_state.specs.Machines.{Machine}
 
@@ -14,9 +14,3 @@ scans_are m n scans scans' same are = ap₂ (λ (k : Machine) xs. record k.state
 
 pub objects_are : (m n : Machine) (objects objects' : List Object) → m ≡ n → objects ≡ objects' → record m.state { objects = objects } ≡ record n.state { objects = objects' }
 objects_are m n objects objects' same are = ap₂ (λ (k : Machine) xs. record k.state { objects = xs }) same are
-
-pub created_are : (m n : Machine) (objects objects' : List Object) (made made' : List ℕ) → m ≡ n → objects ≡ objects' → made ≡ made' →
-    record m.state { objects = objects; made = made } ≡ record n.state { objects = objects'; made = made' }
-created_are m n objects objects' made made' same are given =
-    ap (λ (k : Machine). record k.state { objects = objects; made = made }) same
-    ∙ ap₂ (λ xs ks. record n.state { objects = xs; made = ks }) are given

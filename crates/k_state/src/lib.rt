@@ -21,8 +21,6 @@ mod owners;
 mod readers;
 mod registers;
 mod rooms;
-#[cfg(test)]
-mod tests;
 mod turning;
 mod updates;
 mod writing;

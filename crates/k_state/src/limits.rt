@@ -61,7 +61,7 @@ impl PlainLists {
 
     // What is used at the limit where the tree below it is at most so deep, or the greatest number of 64 bits where it is
     // more.
-    #[tactic(auto, using(crate::proofs::Uses::use_none, crate::proofs::Rows::rows_in_length))]
+    #[tactic(auto, using(crate::proofs::Uses::use_none, k_base::proofs::Maxima::length_in))]
     fn use_within(&self, depth: u32, limit: u32) -> u64
         ensures { result ≡ min
             (use_within (limits_in self.now.setup self.now.state) (direct_by self.now.setup (charge_of self.now.setup self.now.state)) depth limit)
@@ -87,7 +87,7 @@ impl PlainLists {
 
     /// What is used at the limit, in bytes, or the greatest number of 64 bits where it is more. Summed afresh from the charges
     /// of the processes at and below the limit.
-    #[tactic(auto, using(crate::proofs::Rows::rows_in_length))]
+    #[tactic(auto, using(k_base::proofs::Maxima::length_in))]
     pub fn use_of(&self, limit: LimitId) -> u64
         ensures { result ≡ min (use_of self.now.setup self.now.state limit.0) (2 ^ 64 - 1) }
     {

@@ -55,7 +55,7 @@ fn copy_of(alloc: Global, setup: &Setup) -> Result<Setup, NoMemory>
 }
 
 // The directory alone, with so many fields.
-#[tactic(auto, using(crate::proofs::Changes::map_replicate))]
+#[tactic(auto, using(k_base::proofs::Lists::map_replicate))]
 fn first_objects(alloc: Global, fields: usize) -> Result<Vec<PlainObject>, NoMemory>
     requires { fields ≤ 16 }
     ensures { IfOk result (λ v. v.items ≡ record { name = directory; ty = None; fields = replicate fields (Refers None) } ∷ []) }

@@ -3,7 +3,7 @@ use Rattle.std.proofs.Common.{◌≡◌, ◌<◌, ◌≤◌, List, [], ◌∷◌
 use Rattle.std.specs.Prelude.{codes, if◌then◌else◌}
 use Rattle.std.specs.Str.{bytes_eq}
 use Rattle.std.proofs.lemmas.Slice.Eq.{bytes_eq-Decides}
-use Rattle.kaffe.specs.declared.commands.Command.TheVariants.{Run, Replay}
+use Rattle.kaffe.specs.declared.commands.Command.TheVariants.{Run, Replay, Check}
 use Rattle.k_words.specs.Words.{Text}
 use Rattle.kaffe.specs.Commands.{command_of, command_named}
 
@@ -13,13 +13,14 @@ of_one f [] x lo hi e = absurd (omega (arith, lo))
 of_one f (y ∷ []) x lo hi e = ap (λ z. command_named (f z)) (sym e)
 of_one f (y ∷ z ∷ ys) x lo hi e = absurd (omega (arith, hi))
 
-neither : (b c : Bool) → (b ≡ true → ⊥) → (c ≡ true → ⊥) → (if b then Some Run else if c then Some Replay else None) ≡ None
-neither true c f g = absurd (f refl)
-neither false true f g = absurd (g refl)
-neither false false f g = refl
+no_other : (b c d : Bool) → (b ≡ true → ⊥) → (c ≡ true → ⊥) → (d ≡ true → ⊥) → (if b then Some Run else if c then Some Replay else if d then Some Check else None) ≡ None
+no_other true c d f g h = absurd (f refl)
+no_other false true d f g h = absurd (g refl)
+no_other false false true f g h = absurd (h refl)
+no_other false false false f g h = refl
 
 -- A word that is no command's names none.
-pub of_other : (word : Text) → (word ≡ codes "run" → ⊥) → (word ≡ codes "replay" → ⊥) → command_named word ≡ None
-of_other word f g =
-    neither (bytes_eq word (codes "run")) (bytes_eq word (codes "replay"))
-    (λ t. f ((bytes_eq-Decides word (codes "run")).0 t)) (λ t. g ((bytes_eq-Decides word (codes "replay")).0 t))
+pub of_other : (word : Text) → (word ≡ codes "run" → ⊥) → (word ≡ codes "replay" → ⊥) → (word ≡ codes "check" → ⊥) → command_named word ≡ None
+of_other word f g h =
+    no_other (bytes_eq word (codes "run")) (bytes_eq word (codes "replay")) (bytes_eq word (codes "check"))
+    (λ t. f ((bytes_eq-Decides word (codes "run")).0 t)) (λ t. g ((bytes_eq-Decides word (codes "replay")).0 t)) (λ t. h ((bytes_eq-Decides word (codes "check")).0 t))

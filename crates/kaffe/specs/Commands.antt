@@ -3,11 +3,12 @@ use Rattle.std.specs.Prelude.{◌≡◌, List, [], ◌∷◌, Option, Some, None
 use Rattle.std.specs.Str.{bytes_eq}
 use Rattle.k_words.specs.Words.{Text}
 use Rattle.kaffe.specs.declared.commands.Command.{Command}
-use Rattle.kaffe.specs.declared.commands.Command.TheVariants.{Run, Replay}
+use Rattle.kaffe.specs.declared.commands.Command.TheVariants.{Run, Replay, Check}
 
--- The command that the word names. The words `check` and `big` name none yet.
+-- The command that the word names. The word `big` names none yet.
 abbrev pub command_named : Text → Option Command
-command_named word = if bytes_eq word (codes "run") then Some Run else if bytes_eq word (codes "replay") then Some Replay else None
+command_named word =
+    if bytes_eq word (codes "run") then Some Run else if bytes_eq word (codes "replay") then Some Replay else if bytes_eq word (codes "check") then Some Check else None
 
 -- The command that the words are: one word that names it. The words are those after the program's name.
 abbrev pub command_of : List Text → Option Command
@@ -22,3 +23,8 @@ IsCommand words = (command : Command) × (command_of words ≡ Some command)
 -- The words are no command.
 abbrev pub IsNoCommand : List Text → Type 0
 IsNoCommand words = command_of words ≡ None
+
+-- The command reads a trace alone, and runs it.
+abbrev pub RunsTrace : Command → Type 0
+RunsTrace Check = ⊥
+RunsTrace _ = Unit {0}

@@ -1,6 +1,7 @@
 pub mod Commands
 pub mod Texts
 pub mod Ends
+pub mod Inputs
 pub mod Reports
 pub mod Answers
 pub mod Parts

@@ -1,17 +1,20 @@
--- What the parts of a call tell: the writing of a text, the run of a trace, the judgement of an input.
-use Rattle.std.specs.Prelude.{◌≡◌, ◌⊎◌, ℕ, [], Result, Ok, Err}
-use Rattle.k_types.specs.Bounds.{most_trace_bytes}
+-- What the parts of a call tell: the writing of a text, the run of a trace, the check of a report, the judgement of an input.
+use Rattle.std.specs.Prelude.{◌≡◌, ◌⊎◌, ℕ, List, [], Result, Ok, Err}
 use Rattle.k_types.specs.FileOrder.{file_order}
 use Rattle.k_words.specs.Words.{Text}
 use Rattle.k_trace.specs.Named.{NamedTrace}
 use Rattle.k_trace.specs.Judgement.{IsBad}
 use Rattle.k_trace.specs.Rules.{Spells}
+use Rattle.k_reports.specs.Verdicts.{IsAccepted, IsRefused}
+use Rattle.kaffe.specs.declared.commands.Command.TheVariants.{Check}
 use Rattle.kaffe.specs.declared.status.Status.{Status}
-use Rattle.kaffe.specs.declared.status.Status.TheVariants.{Good, BadTrace, WantOfMemory, ReadFault, WriteFault}
-use Rattle.kaffe.specs.Answers.{IsUnwritten, WasRead}
+use Rattle.kaffe.specs.declared.status.Status.TheVariants.{Good, BadTrace, Usage, WantOfMemory, ReadFault, WriteFault, Refused}
+use Rattle.kaffe.specs.Answers.{IsBadInput, IsChecked, IsDone, IsMisused, IsRefusedReport, IsUnwritten, WasRead}
+use Rattle.kaffe.specs.Commands.{IsCommand}
 use Rattle.kaffe.specs.Ends.{Input, Output, SourceFailed, Took, TookFront}
+use Rattle.kaffe.specs.Inputs.{AreTraceAndReport, IsBadFor}
 use Rattle.kaffe.specs.Reports.{IsReportOf}
-use Rattle.kaffe.specs.Texts.{bad_trace_text}
+use Rattle.kaffe.specs.Texts.{bad_trace_text, good_text, refused_text}
 
 -- The status after its text was handed to the sink.
 abbrev pub status_after : {E : Type 0} → Status → Result (Unit {0}) E → Status
@@ -36,17 +39,40 @@ TellsOfTrace t Good text = IsReportOf t (file_order t.trace) text
 TellsOfTrace t WantOfMemory text = text ≡ []
 TellsOfTrace t _ text = ⊥
 
--- What each status tells of the bytes that were read, and of the text to be written.
+-- What each status tells of the bytes that were read as a trace, and of the text to be written.
 abbrev pub TellsOfBytes : Text → Status → Text → Type 0
 TellsOfBytes bytes Good text = (t : NamedTrace) × Spells bytes t × IsReportOf t (file_order t.trace) text
 TellsOfBytes bytes BadTrace text = (line : ℕ) × (reason : ℕ) × IsBad bytes line reason × (text ≡ bad_trace_text line reason)
 TellsOfBytes bytes WantOfMemory text = text ≡ []
 TellsOfBytes bytes _ text = ⊥
 
--- What each status tells of a source that is read and run.
-abbrev pub TellsOfSource : Input → Status → Text → Type 0
-TellsOfSource input Good text = (bytes : Text) × WasRead most_trace_bytes input bytes × TellsOfBytes bytes Good text
-TellsOfSource input BadTrace text = (bytes : Text) × WasRead most_trace_bytes input bytes × TellsOfBytes bytes BadTrace text
-TellsOfSource input WantOfMemory text = text ≡ []
-TellsOfSource input ReadFault text = SourceFailed input × (text ≡ [])
-TellsOfSource input _ text = ⊥
+-- What each status tells of a report that is checked against its trace, and of the text to be written.
+abbrev pub TellsOfReport : NamedTrace → Text → Status → Text → Type 0
+TellsOfReport t report Good text = IsAccepted t report × (text ≡ good_text)
+TellsOfReport t report Refused text = (line : ℕ) × IsRefused t report line × (text ≡ refused_text line)
+TellsOfReport t report WantOfMemory text = text ≡ []
+TellsOfReport t report _ text = ⊥
+
+-- What each status tells of the bytes that were read as a trace and a report, and of the text to be written.
+abbrev pub TellsOfCheck : Text → Status → Text → Type 0
+TellsOfCheck bytes Good text = (t : NamedTrace) × (report : Text) × AreTraceAndReport bytes t report × TellsOfReport t report Good text
+TellsOfCheck bytes Refused text = (t : NamedTrace) × (report : Text) × AreTraceAndReport bytes t report × TellsOfReport t report Refused text
+TellsOfCheck bytes BadTrace text = (line : ℕ) × (reason : ℕ) × IsBadFor Check bytes line reason × (text ≡ bad_trace_text line reason)
+TellsOfCheck bytes WantOfMemory text = text ≡ []
+TellsOfCheck bytes _ text = ⊥
+
+-- What each status tells of a source that is read up to this limit, by what it tells of the bytes that were read.
+abbrev pub TellsOfSource : ℕ → (Text → Status → Text → Type 0) → Input → Status → Text → Type 0
+TellsOfSource limit tells input ReadFault text = SourceFailed input × (text ≡ [])
+TellsOfSource limit tells input WantOfMemory text = text ≡ []
+TellsOfSource limit tells input status text = (bytes : Text) × WasRead limit input bytes × tells bytes status text
+
+-- What each status means of the words and the source, and of the text to be written.
+abbrev pub Means : List Text → Input → Status → Text → Type 0
+Means words input Good text = IsDone words input text ⊎ IsChecked words input text
+Means words input BadTrace text = IsBadInput words input text
+Means words input Usage text = IsMisused words text
+Means words input WantOfMemory text = IsCommand words × (text ≡ [])
+Means words input ReadFault text = IsCommand words × SourceFailed input × (text ≡ [])
+Means words input WriteFault text = ⊥
+Means words input Refused text = IsRefusedReport words input text

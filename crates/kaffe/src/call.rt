@@ -3,6 +3,7 @@ ghost use Rattle.std.specs.Prelude.{◌≡◌, map, string_bytes};
 ghost use Rattle.kaffe.specs.Answers.{IsAnswered, IsUnwritten};
 ghost use Rattle.kaffe.specs.Commands.{IsNoCommand};
 
+use crate::checking::check_file;
 use crate::commands::{Command, command_of};
 use crate::file_order::run_file;
 use crate::status::Status;
@@ -12,13 +13,13 @@ use std::alloc::Global;
 
 /// Does what the words say, and writes the text of its status.
 ///
-/// The words are decided first, then the source is read, then the trace is judged and run, and then
-/// the text is written. So the source is not read where the words are no command, and nothing is
-/// written before the run has ended.
+/// The words are decided first, then the source is read, then the trace is judged, then it is run or its
+/// report checked, and then the text is written. So the source is not read where the words are no command,
+/// and nothing is written before the run or the check has ended.
 ///
 /// `rt` and `gate` are what a run on threads needs; the one-thread run does not use them. It takes
-/// memory for the bytes of the trace, for the trace, and for the journal and the machine's state, each
-/// in proportion to the trace; docs/PERFORMANCE.md has what it costs in time.
+/// memory for the bytes of the input, for the trace, and for the journal and the machine's state, each
+/// in proportion to the input; docs/PERFORMANCE.md has what it costs in time.
 pub fn kaffe<S: Source, K: Sink, G: Gate, R: Sync>(
     _rt: &R,
     alloc: Global,
@@ -35,7 +36,9 @@ pub fn kaffe<S: Source, K: Sink, G: Gate, R: Sync>(
     ensures unwritten { IsUnwritten result → out.new ≡ out.old }
 {
     match command_of(words) {
-        Some(Command::Run | Command::Replay) => run_file(alloc, src, out),
+        Some(Command::Run) => run_file(alloc, src, out),
+        Some(Command::Replay) => run_file(alloc, src, out),
+        Some(Command::Check) => check_file(alloc, src, out),
         None => write_usage(out),
     }
 }

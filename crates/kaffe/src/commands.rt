@@ -9,6 +9,8 @@ pub enum Command {
     Run,
     /// The same in the order of the file, so that the report is a function of the trace.
     Replay,
+    /// Reads a trace and a report, and says whether the report is that of a run of the trace.
+    Check,
 }
 
 /// The command that the words, those after the program's name, are; `None` where they are none.
@@ -19,6 +21,7 @@ pub fn command_of(words: &[String]) -> Option<Command>
         [word] => match word.as_str() {
             "run" => Some(Command::Run),
             "replay" => Some(Command::Replay),
+            "check" => Some(Command::Check),
             _ => None,
         },
         _ => None,

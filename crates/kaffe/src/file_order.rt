@@ -1,5 +1,6 @@
 //! The commands that run a trace: today both do its operations in the order of the file.
 ghost use Rattle.std.specs.Prelude.{◌≡◌};
+ghost use Rattle.k_types.specs.Bounds.{most_trace_bytes};
 ghost use Rattle.k_types.specs.FileOrder.{file_order};
 ghost use Rattle.k_solo.specs.Runs.{IsFiled};
 ghost use Rattle.k_text.specs.Report.{report_text};
@@ -21,7 +22,7 @@ use std::alloc::Global;
 /// most bytes of a trace.
 pub fn run_file<S: Source, K: Sink>(alloc: Global, src: &mut S, out: &mut K) -> Status
     ensures answered { Answers
-        (TellsOfSource (record { left = S.left src.old; rest = S.left src.new; failed_before = S.faults src.old; failed_after = S.faults src.new }))
+        (TellsOfSource most_trace_bytes TellsOfBytes (record { left = S.left src.old; rest = S.left src.new; failed_before = S.faults src.old; failed_after = S.faults src.new }))
         (record { agreed = K.Holds out.old; agrees = K.Holds out.new; failed_before = K.faults out.old; failed_after = K.faults out.new })
         result }
     ensures unwritten { IsUnwritten result → out.new ≡ out.old }

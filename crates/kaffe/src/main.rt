@@ -1,5 +1,5 @@
 //! The program: reads a trace from standard input, runs it and writes its report to standard
-//! output, or does what else its words say. Its exit status says how that ended.
+//! output, or checks a report, or does what else its words say. Its exit status says how that ended.
 //!
 //! The contract of `kaffe` promises, for any source and sink, which status comes and what was
 //! written, and that of `program` that the exit status is the number of this status. `main` gives it
@@ -7,9 +7,16 @@
 #![tactic(auto)]
 
 mod call;
+#[cfg(test)]
+mod checked;
+mod checking;
 mod command_line;
 mod commands;
 mod file_order;
+#[cfg(test)]
+mod ranges;
+#[cfg(test)]
+mod server;
 mod status;
 #[cfg(test)]
 mod tests;

@@ -21,7 +21,7 @@ pub enum Status {
     ReadFault,
     /// The sink failed. It took a front of a text that another status would have written whole.
     WriteFault,
-    /// A report is not that of its trace. No command answers it yet.
+    /// The report that was read is not that of a legal and complete history of its trace.
     Refused,
 }
 

@@ -1,7 +1,7 @@
 //! The top call as tables: words, traces, bad traces, and each read and write that fails in turn.
 use crate::call::kaffe;
 use crate::status::Status;
-use k_io::{DripSink, MemSink, MemSource, NoGate, Sink};
+use k_io::{DripSink, DripSource, MemSink, MemSource, NoGate, Sink};
 use std::alloc::Global;
 use std::process::Abort;
 use std::test::Fail;
@@ -48,7 +48,7 @@ end
 const USAGE: &str = "usage: kaffe run | replay | check | big N\n";
 
 /// A header with a tree of limits, two processes and a shared heap; an operation behind it stands on line 10.
-const HEADER: &str = "kaffe 1
+pub const HEADER: &str = "kaffe 1
 kernel 200 2
 type Node ref ref int
 limit root 1000
@@ -60,7 +60,7 @@ shared s
 ";
 
 /// Calls the program with these words and this input. The read of that number fails; none where it is 0.
-fn call<K: Sink, R: Sync>(
+pub fn call<K: Sink, R: Sync>(
     rt: &R,
     alloc: Global,
     words: &str,
@@ -78,12 +78,12 @@ fn call<K: Sink, R: Sync>(
 }
 
 /// A sink that takes whole pieces. The write of that number fails; none where it is 0.
-fn sink(alloc: Global, failing_write: u32) -> Result<MemSink, Fail> {
+pub fn sink(alloc: Global, failing_write: u32) -> Result<MemSink, Fail> {
     Ok(MemSink::make(alloc, 4096, vec![in alloc; failing_write]?)?)
 }
 
 /// Calls the program without a fault, and compares the status and what was written.
-fn check_call<R: Abort + Sync>(
+pub fn check_call<R: Abort + Sync>(
     rt: &R,
     alloc: Global,
     words: &str,
@@ -111,7 +111,7 @@ fn reports_the_first_trace(rt: HostRuntime) -> Result<(), Fail> {
 #[test]
 fn refuses_other_words(rt: HostRuntime) -> Result<(), Fail> {
     for words in [
-        "", "run x", "x run", "runs", "Replay", "big 0", "big 007", "big 10", "check",
+        "", "run x", "x run", "runs", "Replay", "checks", "big 0", "big 007", "big 10",
     ] {
         let mut out = sink(rt.alloc(), 0)?;
         let status = call(&rt, rt.alloc(), words, TRACE, 1, &mut out)?;
@@ -130,6 +130,10 @@ fn tells_the_first_bad_line_of_a_header(rt: HostRuntime) -> Result<(), Fail> {
         ("kaffe 1\nkernel 32\t2\n", "bad trace: line 2 reason 3\n"),
         ("kaffe 1\nkernel 32 17\n", "bad trace: line 2 reason 5\n"),
         ("kaffe 1\nkernel 31 2\n", "bad trace: line 2 reason 10\n"),
+        (
+            "kaffe 1\nkernel 32 2\ntype Node ref ref int\nlimit a 1099511627776\n",
+            "bad trace: line 4 reason 5\n",
+        ),
         (
             "kaffe 1\nkernel 32 2\ntype end ref\n",
             "bad trace: line 3 reason 6\n",
@@ -161,9 +165,24 @@ fn tells_the_first_bad_operation(rt: HostRuntime) -> Result<(), Fail> {
     for (rest, text) in [
         ("p1 new r0 No", "bad trace: line 10 reason 8\n"),
         ("p1 new r16 No\n", "bad trace: line 10 reason 5\n"),
+        (
+            "p1 put r0 2 18446744073709551616\n",
+            "bad trace: line 10 reason 5\n",
+        ),
         ("p1  collect\n", "bad trace: line 10 reason 4\n"),
         ("p1 collect \n", "bad trace: line 10 reason 4\n"),
+        ("p1\tcollect\n", "bad trace: line 10 reason 3\n"),
+        ("px foo\n", "bad trace: line 10 reason 4\n"),
+        ("limit new r0 Node\n", "bad trace: line 10 reason 4\n"),
         ("shared p2\n", "bad trace: line 10 reason 7\n"),
+        (
+            "p1 exit\nlimit new r0 Node\n",
+            "bad trace: line 11 reason 8\n",
+        ),
+        (
+            "p1 exit\np1 new r0 Nobody\n",
+            "bad trace: line 11 reason 8\n",
+        ),
         (
             "p1 exit\np1 new r0 Node\n",
             "bad trace: line 11 reason 11\n",
@@ -181,38 +200,70 @@ fn tells_the_first_bad_operation(rt: HostRuntime) -> Result<(), Fail> {
 }
 
 #[test]
-fn tells_a_line_that_is_too_long(rt: HostRuntime) -> Result<(), Fail> {
-    let mut input = String::from_str(rt.alloc(), "kaffe 1\nkernel 32 2\ntype ")?;
-    for _ in 0..4092 {
-        input.push_str("x")?;
+fn tells_the_first_bad_limit(rt: HostRuntime) -> Result<(), Fail> {
+    for (rest, text) in [
+        ("limit d b hard 101\n", "bad trace: line 7 reason 10\n"),
+        ("limit d root hard 881\n", "bad trace: line 7 reason 10\n"),
+        ("limit d nobody hard 881\n", "bad trace: line 7 reason 8\n"),
+        ("limit c b hard 101\n", "bad trace: line 7 reason 7\n"),
+        ("limit end b hard 101\n", "bad trace: line 7 reason 6\n"),
+        (
+            "limit d b soft 1099511627776\n",
+            "bad trace: line 7 reason 5\n",
+        ),
+        ("limit d b firm 1\n", "bad trace: line 7 reason 4\n"),
+        ("limit d 1\n", "bad trace: line 7 reason 4\n"),
+        ("limit d b soft 5000\n", "bad trace: line 8 reason 12\n"),
+    ] {
+        let mut input = String::from_str(
+            rt.alloc(),
+            "kaffe 1\nkernel 32 2\nlimit root 1000\nlimit a root hard 120\nlimit b root soft 400\nlimit c b hard 300\n",
+        )?;
+        input.push_str(rest)?;
+        check_call(&rt, rt.alloc(), "replay", &input, Status::BadTrace, text)?;
     }
-    // a line of 4,097 bytes, whose name is too long as well
-    check_call(
-        &rt,
-        rt.alloc(),
-        "run",
-        &input,
-        Status::BadTrace,
-        "bad trace: line 3 reason 2\n",
-    )
+    Ok(())
 }
 
 #[test]
 fn tells_each_read_that_fails(rt: HostRuntime) -> Result<(), Fail> {
     // the first read gives the trace, the second the end of input, and there is no third
-    for (failing_read, want, text) in [
-        (1, Status::ReadFault, ""),
-        (2, Status::ReadFault, ""),
-        (3, Status::Good, REPORT),
+    for (words, failing_read, want, text) in [
+        ("run", 1, Status::ReadFault, ""),
+        ("run", 2, Status::ReadFault, ""),
+        ("run", 3, Status::Good, REPORT),
+        ("check", 1, Status::ReadFault, ""),
+        ("check", 2, Status::ReadFault, ""),
+        ("check", 3, Status::Refused, "refused 1\n"),
     ] {
         let mut out = sink(rt.alloc(), 0)?;
-        let status = call(&rt, rt.alloc(), "run", TRACE, failing_read, &mut out)?;
-        assert_eq!(rt; status, want, "read {failing_read}");
+        let status = call(&rt, rt.alloc(), words, TRACE, failing_read, &mut out)?;
+        assert_eq!(rt; status, want, "{words}: read {failing_read}");
         assert_eq!(rt;
             str::from_utf8(out.bytes()),
             Ok(text),
-            "read {failing_read}"
+            "{words}: read {failing_read}"
         );
+    }
+    Ok(())
+}
+
+#[test]
+fn tells_each_byte_that_is_not_given(rt: HostRuntime) -> Result<(), Fail> {
+    let words = vec![in rt.alloc(); String::from_str(rt.alloc(), "replay")?]?;
+    // the last but one read gives the end of input, and the last one is not asked for
+    for given in 0..=TRACE.len() + 1 {
+        let bytes = Vec::from_slice(rt.alloc(), TRACE.as_bytes())?;
+        let mut source = DripSource::of(bytes, vec![in rt.alloc(); given as u32 + 1]?);
+        let mut out = sink(rt.alloc(), 0)?;
+        let status = kaffe(&rt, rt.alloc(), &words, &mut source, &mut out, &NoGate);
+        let (want, text) = if given <= TRACE.len() {
+            (Status::ReadFault, "")
+        } else {
+            (Status::Good, REPORT)
+        };
+        assert_eq!(rt; status, want, "byte {given}");
+        assert!(rt; out.bytes() == text.as_bytes(), "byte {given}");
     }
     Ok(())
 }
@@ -238,7 +289,7 @@ fn tells_each_line_that_is_not_taken(rt: HostRuntime) -> Result<(), Fail> {
         call(&rt, rt.alloc(), "replay", TRACE, 0, &mut out)?,
         Status::Good
     );
-    for (words, input) in [("run", ""), ("help", TRACE)] {
+    for (words, input) in [("run", ""), ("help", TRACE), ("check", TRACE)] {
         let mut out = sink(rt.alloc(), 1)?;
         assert_eq!(rt;
             call(&rt, rt.alloc(), words, input, 0, &mut out)?,

@@ -1,7 +1,7 @@
 //! The texts that are no reports, and the status after a text was written.
 ghost use Rattle.std.specs.Prelude.{◌≡◌};
 ghost use Rattle.kaffe.specs.Parts.{IsWritten, status_after};
-ghost use Rattle.kaffe.specs.Texts.{usage_text, bad_trace_text};
+ghost use Rattle.kaffe.specs.Texts.{usage_text, bad_trace_text, good_text, refused_text};
 
 use crate::status::Status;
 use k_io::{Sink, WriteFailed, write_all};
@@ -40,4 +40,26 @@ pub fn write_bad_trace<K: Sink>(out: &mut K, line: u32, reason: u32) -> Status
     text.push_text(b" reason");
     text.push_number(u64::from(reason));
     after_writing(Status::BadTrace, text.write_to(out))
+}
+
+/// Writes that a report is good, as one piece.
+pub fn write_good<K: Sink>(out: &mut K) -> Status
+    ensures { IsWritten
+        (record { agreed = K.Holds out.old; agrees = K.Holds out.new; failed_before = K.faults out.old; failed_after = K.faults out.new })
+        Status.Good good_text result }
+{
+    let written = write_all(out, b"good\n");
+    after_writing(Status::Good, written)
+}
+
+/// Writes the first wrong line of a report, counted from 1, as one piece.
+pub fn write_refused<K: Sink>(out: &mut K, line: u32) -> Status
+    ensures { IsWritten
+        (record { agreed = K.Holds out.old; agrees = K.Holds out.new; failed_before = K.faults out.old; failed_after = K.faults out.new })
+        Status.Refused (refused_text line) result }
+{
+    let mut text = LineBuffer::new();
+    text.push_text(b"refused");
+    text.push_number(u64::from(line));
+    after_writing(Status::Refused, text.write_to(out))
 }

@@ -1,22 +1,12 @@
 //! Worked traces, replayed: the lines of their events, which were worked out by hand.
-use crate::call::kaffe;
 use crate::status::Status;
-use k_io::{MemSink, MemSource, NoGate};
+use crate::tests::{HEADER, call, sink};
+use std::alloc::Global;
+use std::process::Abort;
 use std::test::Fail;
 
-const HEADER: &str = "kaffe 1
-kernel 200 2
-type Node ref ref int
-limit root 1000
-limit a root hard 120
-limit b root soft 400
-proc p1 a
-proc p2 b
-shared s
-";
-
-/// The events of each trace. An operation's line of the trace is the part before ` = `.
-const WORKED: [&str; 10] = [
+/// The events of each trace behind the header. An operation's line of the trace is the part before ` = `.
+const WORKED: [&str; 12] = [
     "",
     "p1 new r0 Node = p1.1
 p1 new r1 Node = p1.2
@@ -42,6 +32,30 @@ ended p1 0 0 0 0
 p2 drop r2 = ok
 p1 collect = ok
 ended p1 1 40 0 0
+",
+    "p1 new r0 Node = p1.1
+p1 dir r1 = kernel.1
+p1 store r1 0 r0 = ok
+p2 dir r1 = kernel.1
+p2 load r2 r1 0 = p1.1
+p2 new r0 Node = p2.1
+p2 store r0 0 r2 = fault Segv
+p2 load r3 r2 0 = fault Foreign
+p2 drop r2 = ok
+p1 drop r0 = ok
+p1 store r1 0 r0 = ok
+p1 collect = ok
+ended p1 0 0 0 0
+p1 kcollect = ok
+ended kernel 0 0 1 0
+p1 collect = ok
+ended p1 1 40 0 0
+",
+    "p1 new r0 Node = p1.1
+p1 drop r0 = ok
+p1 collect = ok
+ended p1 1 40 0 0
+p1 new r0 Node = p1.2
 ",
     "p1 new r0 Node = p1.1
 p1 knew r1 Node = kernel.2
@@ -119,26 +133,86 @@ p2 get r2 2 = 0
 ",
 ];
 
+/// The header's first lines, up to the first limit below the root.
+const FRONT: &str = "kaffe 1
+kernel 200 2
+type Node ref ref int
+limit root 1000
+limit a root hard 120
+";
+
+/// Other headers, by the lines behind the first ones, and the events of a trace behind each.
+const OTHERS: [(&str, &str); 4] = [
+    (
+        "limit b root soft 60\nproc p1 a\nproc p2 b\nshared s\n",
+        "p1 share s = ok
+p1 snew r0 s Node = s.1
+p1 snew r1 s Node = s.2
+p1 store r0 0 r1 = ok
+p1 freeze s r0 = ok
+p2 attach r0 s = fault LimitFull b
+",
+    ),
+    (
+        "limit b root soft 400\nproc p1 a\nproc p2 b\nshared s\nshared t\n",
+        "p1 new r0 Node = p1.1
+p1 share s = ok
+p1 share t = ok
+p1 snew r1 s Node = s.1
+p1 snew r2 t Node = t.1
+p1 store r1 0 r0 = fault Segv
+p1 store r1 0 r2 = fault Segv
+p1 dir r3 = kernel.1
+p1 store r1 0 r3 = ok
+p1 store r0 0 r1 = ok
+",
+    ),
+    (
+        "limit b root soft 400\nlimit c b hard 300\nlimit e b hard 100\nproc p1 a\nproc p2 b\nshared s\n",
+        "p2 new r0 Node = fault LimitFull b
+",
+    ),
+    (
+        "limit b root soft 40\nlimit d b soft 500\nproc p1 a\nproc p2 d\nshared s\n",
+        "p2 new r0 Node = p2.1
+p2 new r1 Node = fault LimitFull b
+",
+    ),
+];
+
+/// Replays the operations of the events behind the header, and compares the report up to the line `graph`.
+fn check_events<R: Abort + Sync>(
+    rt: &R,
+    alloc: Global,
+    header: &str,
+    events: &str,
+) -> Result<(), Fail> {
+    let mut input = String::from_str(alloc, header)?;
+    for line in events.lines() {
+        if let Some((operation, _)) = line.split_once(" = ") {
+            input.push_str(operation)?;
+            input.push_str("\n")?;
+        }
+    }
+    let mut want = String::from_str(alloc, "report 1\n")?;
+    want.push_str(events)?;
+    want.push_str("graph\n")?;
+    let mut out = sink(alloc, 0)?;
+    let status = call(rt, alloc, "replay", &input, 0, &mut out)?;
+    assert_eq!(rt; status, Status::Good, "{events}");
+    assert!(rt; out.bytes().starts_with(want.as_bytes()), "{events}");
+    Ok(())
+}
+
 #[test]
 fn replays_worked_traces(rt: HostRuntime) -> Result<(), Fail> {
     for events in WORKED {
-        let mut input = String::from_str(rt.alloc(), HEADER)?;
-        let mut want = String::from_str(rt.alloc(), "report 1\n")?;
-        for line in events.lines() {
-            if let Some((operation, _)) = line.split_once(" = ") {
-                input.push_str(operation)?;
-                input.push_str("\n")?;
-            }
-        }
-        want.push_str(events)?;
-        want.push_str("graph\n")?;
-        let words = vec![in rt.alloc(); String::from_str(rt.alloc(), "replay")?]?;
-        let bytes = Vec::from_slice(rt.alloc(), input.as_bytes())?;
-        let mut source = MemSource::of(bytes, Vec::new(rt.alloc()));
-        let mut sink = MemSink::make(rt.alloc(), 4096, Vec::new(rt.alloc()))?;
-        let status = kaffe(&rt, rt.alloc(), &words, &mut source, &mut sink, &NoGate);
-        assert_eq!(rt; status, Status::Good, "{events}");
-        assert!(rt; sink.bytes().starts_with(want.as_bytes()), "{events}");
+        check_events(&rt, rt.alloc(), HEADER, events)?;
+    }
+    for (rest, events) in OTHERS {
+        let mut header = String::from_str(rt.alloc(), FRONT)?;
+        header.push_str(rest)?;
+        check_events(&rt, rt.alloc(), &header, events)?;
     }
     Ok(())
 }

@@ -1,9 +1,9 @@
-use Rattle.std.proofs.Common.{◌≡◌, ◌∙◌, ap, subst, sym}
+use Rattle.std.proofs.Common.{◌∙◌, ap, subst, sym}
 use Rattle.k_types.specs.Complete.{IsComplete}
 use Rattle.k_trace.specs.Meaning.{meaning_of}
 use Rattle.k_trace.specs.Named.{NamedTrace}
 use Rattle.k_history.specs.Good.{IsRefusedAt}
-use Rattle.k_check.specs.Stops.{IsAtGraph, IsStop}
+use Rattle.k_check.specs.Stops.{IsAtGraph}
 use Rattle.k_check.specs.Walks.{Walked}
 use Rattle.k_check.proofs.Lifted.{refused}
 use Rattle.k_check.proofs.Outcomes.{incomplete}

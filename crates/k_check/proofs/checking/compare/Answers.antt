@@ -1,8 +1,8 @@
-use Rattle.std.proofs.Common.{◌≡◌, ◌∙◌, ◌++◌, [], ap, subst, sym}
+use Rattle.std.proofs.Common.{◌≡◌, ◌∙◌, [], ap, subst, sym}
 use Rattle.k_words.specs.Words.{Text}
 use Rattle.k_text.specs.Report.{text_over, report_text}
 use Rattle.k_trace.specs.Meaning.{meaning_of}
-use Rattle.k_trace.specs.Named.{DeclaredNames, NamedTrace}
+use Rattle.k_trace.specs.Named.{NamedTrace}
 use Rattle.k_history.specs.Difference.{difference}
 use Rattle.k_reports.specs.Verdicts.{IsAccepted, IsRefused}
 use Rattle.k_check.proofs.Outcomes.{same_report, other_report, written}

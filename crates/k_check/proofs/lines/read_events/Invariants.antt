@@ -1,5 +1,4 @@
-use Rattle.std.proofs.Common.{◌≡◌, ◌+◌, ◌≤◌, length}
-use Rattle.k_words.specs.Words.{lines_of}
+use Rattle.std.proofs.Common.{length}
 use Rattle.k_check.proofs.LinesRead.{IsReading}
 use Rattle.k_check.proofs.lines.read_events.Given as goal
 

@@ -1,4 +1,3 @@
-use Rattle.std.proofs.Common.{sym, ◌∙◌}
 use Rattle.k_collect.proofs.Called.{called, counted_list, counted_table, done_counts, event_room, registers_met}
 use Rattle.k_collect.proofs.beginning.begin_heap.Goals as goal
 

@@ -1,4 +1,3 @@
-use Rattle.std.proofs.Common.{sym, ◌∙◌}
 use Rattle.k_collect.proofs.Called.{both_room, called_both, cell_list, cell_table, kernel_can_meet, kernel_done_counts, second_list, second_table}
 use Rattle.k_collect.proofs.beginning.begin_kernel.Goals as goal
 

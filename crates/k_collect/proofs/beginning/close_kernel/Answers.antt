@@ -1,4 +1,3 @@
-use Rattle.std.proofs.Common.{sym, ◌∙◌}
 use Rattle.k_collect.proofs.Called.{called_closing, closing_list, closing_room, closing_table}
 use Rattle.k_collect.proofs.beginning.close_kernel.Goals as goal
 

@@ -1,5 +1,4 @@
-use Rattle.std.proofs.Common.{◌≡◌, ◌+◌, refl, ap, sym, arith, ◌∙◌}
-use Rattle.k_types.specs.declared.event.Event.{Event}
+use Rattle.std.proofs.Common.{◌≡◌, ap, sym, arith, ◌∙◌}
 use Rattle.k_types.specs.declared.event.Event.TheVariants.{Ended}
 use Rattle.k_types.specs.declared.names.Heap.TheVariants.{Kernel}
 use Rattle.k_types.specs.Names.{name_among}

@@ -1,4 +1,4 @@
-use Rattle.std.proofs.Common.{◌∙◌, ap, option_map, refl, sym, subst}
+use Rattle.std.proofs.Common.{◌∙◌, ap, option_map, refl}
 use Rattle.k_types.specs.declared.names.Heap.TheVariants.{Kernel}
 use Rattle.k_types.specs.Names.{name_of}
 use Rattle.k_book.specs.Books.{book_entries}

@@ -1,4 +1,4 @@
-use Rattle.std.proofs.Common.{◌≡◌, ◌+◌, ◌<◌, ◌≤◌, ◌^◌, length, get_or, sym, ap, subst, arith, ◌∙◌}
+use Rattle.std.proofs.Common.{◌≡◌, ◌<◌, get_or, sym, ap, subst, arith, ◌∙◌}
 use Rattle.k_types.specs.declared.names.Pid.{Pid}
 use Rattle.k_book.specs.Books.{BookRecord}
 use Rattle.k_shares.specs.Sharers.{LosesShare}

@@ -1,7 +1,6 @@
-use Rattle.std.proofs.Common.{◌≡◌, ℕ, ◌<◌, ◌+◌, ◌*◌, ◌^◌, ◌≤◌, nat_lt, true, List, [], ◌∷◌, ◌++◌, Option, Some, None, Result, Ok, Err, map, drop, length, get_or, option_copied, ap, subst, sym, ◌∙◌, refl, arith, Vec, Global}
+use Rattle.std.proofs.Common.{◌≡◌, ℕ, ◌<◌, ◌+◌, ◌*◌, ◌≤◌, nat_lt, true, List, [], ◌∷◌, Some, None, Result, Ok, Err, map, drop, length, get_or, option_copied, ap, subst, sym, ◌∙◌, arith, Vec, Global}
 use Rattle.std.specs.Prelude.{IfOk}
 use Rattle.std.specs.List.{list_all}
-use Rattle.std.proofs.lemmas.List.{length-append}
 use Rattle.k_types.specs.declared.names.Pid.{Pid}
 use Rattle.k_types.specs.declared.op.Op.{Op}
 use Rattle.k_types.specs.declared.event.Event.{Event}
@@ -9,9 +8,9 @@ use Rattle.k_types.specs.FileOrder.{events_of, last_events, next_operation}
 use Rattle.k_types.specs.Trace.{Trace, process_count}
 use Rattle.k_types.specs.TraceRules.{KeepsRules}
 use Rattle.k_trace.specs.Meaning.{meaning_of}
-use Rattle.k_state.specs.Machines.{Machine, setup_of}
+use Rattle.k_state.specs.Machines.{Machine}
 use Rattle.k_state.specs.Rooms.{HasRoom}
-use Rattle.k_solo.specs.Runs.{IsFiled, Run}
+use Rattle.k_solo.specs.Runs.{IsFiled}
 use Rattle.k_solo.specs.Taken.{HasTaken}
 use Rattle.k_solo.proofs.Follows.{Follows, filed_run, follows_none, follows_some, last_known, last_legal, line_legal}
 use Rattle.k_solo.proofs.Lines.{few_events, few_last, few_more, order_length, order_next, order_over, process_known}

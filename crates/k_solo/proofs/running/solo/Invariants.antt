@@ -1,4 +1,4 @@
-use Rattle.std.proofs.Common.{◌+◌, ◌*◌, ◌≤◌, map, drop, length}
+use Rattle.std.proofs.Common.{◌*◌, ◌≤◌, map, drop, length}
 use Rattle.k_types.specs.declared.names.Pid.{Pid}
 use Rattle.k_trace.specs.Meaning.{meaning_of}
 use Rattle.k_solo.proofs.Follows.{Follows}

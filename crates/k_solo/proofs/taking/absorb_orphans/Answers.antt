@@ -1,4 +1,4 @@
-use Rattle.std.proofs.Common.{◌≡◌, ◌<◌, true, false, ◌+◌, ap, subst, sym, ◌∙◌, arith, Vec, Global}
+use Rattle.std.proofs.Common.{◌≡◌, ◌<◌, true, ◌+◌, ap, subst, sym, ◌∙◌, arith, Vec, Global}
 use Rattle.k_types.specs.declared.event.Event.{Event}
 use Rattle.k_types.specs.Steps.{is_orphan}
 use Rattle.k_state.specs.Machines.{Machine}

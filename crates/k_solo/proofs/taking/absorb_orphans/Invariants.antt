@@ -1,4 +1,4 @@
-use Rattle.std.proofs.Common.{◌≡◌, ◌≤◌}
+use Rattle.std.proofs.Common.{◌≡◌}
 use Rattle.k_solo.proofs.Absorptions.{Absorbing}
 use Rattle.k_solo.proofs.taking.absorb_orphans.Given as goal
 

@@ -2,8 +2,9 @@ use Rattle.std.proofs.Common.{◌∙◌, map, get_or, sym, arith, refl, length-s
 use Rattle.k_types.specs.declared.names.Pid.{Pid}
 use Rattle.k_types.specs.Trace.{operations_of}
 use Rattle.k_trace.specs.Meaning.{meaning_of}
-use Rattle.k_spell.proofs.Ordered.{few_next, listed, listed_at, low_in, named_at, no_pid, none_done, order_next, operation_added, zeros_at}
+use Rattle.k_spell.proofs.Ordered.{few_next, listed, listed_at, low_in, named_at, no_pid, none_done, order_next, operation_added}
 use Rattle.k_spell.proofs.operations.add_operations.Goals as goal
+use Rattle.k_frame.proofs.Sizes.{zeros_at}
 
 pub loop-pid-init : goal.loop-pid-init
 loop-pid-init c = record {

@@ -1,9 +1,22 @@
-use Rattle.std.proofs.Common.{sym, ◌∙◌}
-use Rattle.kaffe.proofs.Contract.{of_command, of_no_command}
+use Rattle.std.proofs.Common.{sym, ◌∙◌, ap, refl, Some}
+use Rattle.kaffe.specs.declared.commands.Command.{Command}
+use Rattle.kaffe.specs.declared.commands.Command.TheVariants.{Run, Replay}
+use Rattle.kaffe.proofs.Answered.{answered_more, answered_written}
+use Rattle.kaffe.proofs.Contract.{contract}
+use Rattle.kaffe.proofs.Meanings.{check_means, run_means}
 use Rattle.kaffe.proofs.call.kaffe.Goals as goal
 
 pub returns-in-Some-Run-clause-answered : goal.returns-in-Some-Run-clause-answered
-returns-in-Some-Run-clause-answered g c = of_command _ _ _ _ c.in-Some-Run.field-0 (sym c.command_of.ensures ∙ c.in-Some-Run.is) c.run_file.ensures.answered
+returns-in-Some-Run-clause-answered g c =
+    contract _ _ _ _ (answered_more _ _ _ _ (run_means _ _ Run (sym c.command_of.ensures ∙ c.in-Some-Run.is ∙ ap (λ (command : Command). Some command) c.in-Some-Run.field-0-is) tt) c.run_file.ensures.answered)
+
+pub returns-in-Some-Replay-clause-answered : goal.returns-in-Some-Replay-clause-answered
+returns-in-Some-Replay-clause-answered g c =
+    contract _ _ _ _ (answered_more _ _ _ _ (run_means _ _ Replay (sym c.command_of.ensures ∙ c.in-Some-Replay.is ∙ ap (λ (command : Command). Some command) c.in-Some-Replay.field-0-is) tt) c.run_file-in-Some-Replay.ensures.answered)
+
+pub returns-in-Some-Check-clause-answered : goal.returns-in-Some-Check-clause-answered
+returns-in-Some-Check-clause-answered g c =
+    contract _ _ _ _ (answered_more _ _ _ _ (check_means _ _ (sym c.command_of.ensures ∙ c.in-Some-Check.is ∙ ap (λ (command : Command). Some command) c.in-Some-Check.field-0-is)) c.check_file.ensures.answered)
 
 pub returns-in-None-clause-answered : goal.returns-in-None-clause-answered
-returns-in-None-clause-answered g c = of_no_command _ _ _ _ (sym c.command_of.ensures ∙ c.in-None.is) c.write_usage.ensures
+returns-in-None-clause-answered g c = contract _ _ _ _ (answered_written _ _ _ _ _ (record { no_command = sym c.command_of.ensures ∙ c.in-None.is; says = refl }) c.write_usage.ensures)

@@ -1,6 +1,5 @@
-use Rattle.std.proofs.Common.{◌≡◌, ◌∙◌, List, Result, Ok, Err, ap, arith, subst}
+use Rattle.std.proofs.Common.{◌∙◌, Result, Ok, Err, ap, arith, subst}
 use Rattle.std.specs.Prelude.{IfOk}
-use Rattle.k_types.specs.declared.event.Event.{Event}
 use Rattle.k_trace.specs.Meaning.{meaning_of}
 use Rattle.k_solo.specs.Runs.{Run}
 use Rattle.k_check.specs.Walks.{IsWalk, Walked}

@@ -1,5 +1,4 @@
-use Rattle.std.proofs.Common.{◌∙◌, ap, List, map, get_or, subst}
-use Rattle.k_types.specs.declared.op.Op.{Op}
+use Rattle.std.proofs.Common.{◌∙◌, ap, map, get_or, subst}
 use Rattle.k_state.specs.Machines.{Machine}
 use Rattle.k_check.specs.Walks.{IsWalk, Walked}
 use Rattle.k_check.proofs.Walks.{next_found}

@@ -1,7 +1,7 @@
-use Rattle.std.proofs.Common.{◌≡◌, ◌<◌, [], length, map, get_or, ap, subst, sym, ◌∙◌, arith, Vec, Global}
+use Rattle.std.proofs.Common.{◌≡◌, ◌<◌, length, ap, subst, sym, ◌∙◌, arith, Vec, Global}
 use Rattle.std.proofs.lemmas.List.{length-map}
 use Rattle.k_types.specs.declared.names.Name.{Name}
-use Rattle.k_types.specs.Trace.{IsHeap, segment_count, segment_of}
+use Rattle.k_types.specs.Trace.{IsHeap}
 use Rattle.k_text.specs.Shown.{exits_of}
 use Rattle.k_solo.specs.Runs.{Run, heap_at}
 use Rattle.k_solo.proofs.Arranged.{begins_with, row_at}

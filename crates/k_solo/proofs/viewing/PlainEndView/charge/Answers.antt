@@ -1,5 +1,5 @@
-use Rattle.std.proofs.Common.{◌≡◌, ◌≤◌, ◌<◌, subst, sym, ap, ◌∙◌, arith, min, length}
-use Rattle.k_types.specs.Limits.{limits_in, max_of, use_of}
+use Rattle.std.proofs.Common.{◌≡◌, ◌<◌, subst, sym, ap, ◌∙◌, arith}
+use Rattle.k_types.specs.Limits.{limits_in, max_of}
 use Rattle.k_types.specs.Trace.{limit_of, process_count}
 use Rattle.k_solo.specs.Runs.{Run}
 use Rattle.k_solo.proofs.Known.{charge_at_most}

@@ -1,8 +1,7 @@
-use Rattle.std.proofs.Common.{◌≡◌, ◌<◌, length, ap, subst, sym, ◌∙◌, get_or, List}
+use Rattle.std.proofs.Common.{subst, sym, get_or, List}
 use Rattle.k_types.specs.Known.{IsKnownName}
 use Rattle.k_types.specs.declared.names.Name.{Name}
-use Rattle.k_text.specs.Shown.{exits_of}
-use Rattle.k_solo.specs.Runs.{IsArranged, Run}
+use Rattle.k_solo.specs.Runs.{Run}
 use Rattle.k_plain.specs.Sounds.{IsSoundMachine}
 use Rattle.k_solo.proofs.Arranged.{target_known}
 use Rattle.k_solo.proofs.viewing.PlainEndView.exit.Goals as goal

@@ -1,4 +1,4 @@
-use Rattle.std.proofs.Common.{◌≡◌, subst}
+use Rattle.std.proofs.Common.{subst}
 use Rattle.std.specs.Prelude.{IfSome}
 use Rattle.k_types.specs.Known.{IsKnownName}
 use Rattle.k_types.specs.declared.names.Name.{Name}

@@ -4,17 +4,17 @@ use Rattle.k_types.specs.Owners.{charge_of}
 use Rattle.k_types.specs.Trace.{row_of}
 use Rattle.k_types.specs.declared.setup.LimitRow.{LimitRow}
 use Rattle.k_state.specs.Machines.{Machine}
-use Rattle.k_state.proofs.Rows.{rows_in_length}
 use Rattle.k_state.proofs.Uses.{child_use, uses_begin, uses_left, uses_next}
 use Rattle.k_state.proofs.lists.PlainLists.+use_within.Goals as goal
 use Rattle.k_state.proofs.lists.PlainLists.+use_within.Goals.{then-is_parent, then-row, else-row, else-is_parent}
+use Rattle.k_base.proofs.Maxima.{length_in}
 
 pub loop-c-init : goal.loop-c-init
 loop-c-init t c =
     let m = c.args.self.now in
     let rows = limits_in m.setup m.state in
     let direct = direct_by m.setup (charge_of m.setup m.state) in
-    let same = rows_in_length m.setup.limits m.state.maxima in
+    let same = length_in m.setup.limits m.state.maxima in
     let shown = ap (λ (n : Machine). length n.setup.limits) c.self.view_is in
     let begin = uses_begin rows direct c.args.depth c.args.limit (omega arith) in
     record { deep = omega arith; all = omega arith; small = omega arith; sum = omega arith }

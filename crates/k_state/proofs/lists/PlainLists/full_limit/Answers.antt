@@ -3,9 +3,9 @@ use Rattle.k_types.specs.declared.setup.LimitRow.{LimitRow}
 use Rattle.k_types.specs.Limits.{limits_in, max_of, path_within, use_of}
 use Rattle.k_types.specs.Trace.{row_of}
 use Rattle.k_state.specs.Machines.{IsPlain, Machine}
-use Rattle.k_state.proofs.Rows.{rows_in_length}
 use Rattle.k_state.proofs.Paths.{parent_known, path_hard, path_here, path_none, path_root, path_up}
 use Rattle.k_state.proofs.lists.PlainLists.full_limit.Goals as goal
+use Rattle.k_base.proofs.Maxima.{length_in}
 
 -- so many bytes more do not fit at the limit
 abbrev is_full : Machine → ℕ → ℕ → Bool
@@ -21,7 +21,7 @@ pub loop-init : goal.loop-init
 loop-init c =
     let m = c.args.self.now in
     let rows = limits_in m.setup m.state in
-    let same = rows_in_length m.setup.limits m.state.maxima in
+    let same = length_in m.setup.limits m.state.maxima in
     let shown = ap (λ (n : Machine). length n.setup.limits) c.self.view_is in
     let all : c.len-end.result ≡ length rows = omega arith in
     let begin : c.len-end.result - 0 ≡ length rows = omega arith in
