@@ -7,7 +7,7 @@ use Rattle.k_types.specs.Cells.{BookPart}
 use Rattle.k_types.specs.Replies.{limit_fault}
 use Rattle.k_types.specs.State.{State}
 use Rattle.k_types.specs.Steps.{state_after}
-use Rattle.k_types.specs.Trace.{Trace, limit_of, process_count}
+use Rattle.k_types.specs.Trace.{Trace, limit_of}
 use Rattle.k_limits.specs.Limits.{full_at}
 use Rattle.k_book.specs.Books.{BookRecord, book_limits}
 use Rattle.k_book.proofs.Telling.{tells_limits}

@@ -1,5 +1,5 @@
 -- Publishing the unpublished events one by one.
-use Rattle.std.proofs.Common.{◌≡◌, ◌+◌, ◌<◌, ◌≤◌, ℕ, refl, sym, ap, subst, ◌∙◌, List, [], ◌∷◌, ◌++◌, length, arith}
+use Rattle.std.proofs.Common.{◌≡◌, ◌+◌, ◌<◌, refl, sym, ap, subst, ◌∙◌, List, [], ◌∷◌, ◌++◌, length, arith}
 use Rattle.std.proofs.lemmas.List.{append_assoc, append-nil, length-append}
 use Rattle.k_types.specs.declared.event.Event.{Event}
 use Rattle.k_types.specs.declared.names.Heap.TheVariants.{User}
@@ -7,7 +7,7 @@ use Rattle.k_types.specs.Steps.{touch_count}
 use Rattle.k_types.specs.Trace.{Trace}
 use Rattle.k_agree.specs.Agreement.{Agrees, BookAgrees}
 use Rattle.k_agree.specs.Committing.{journal_after, note_after}
-use Rattle.k_agree.specs.Meeting.{Fits, HasMet, ShowsTheJournal, met_note}
+use Rattle.k_agree.specs.Meeting.{Fits, ShowsTheJournal, met_note}
 use Rattle.k_agree.specs.Publishing.{PublishesItsOldest}
 use Rattle.k_agree.proofs.Published.{publishes}
 use Rattle.k_book.specs.Books.{BookRecord}

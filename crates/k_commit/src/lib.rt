@@ -7,8 +7,6 @@
 //! its register, and [`charge_process`] charges a process. [`publish`] appends what a process did inside its heap. No call takes
 //! memory.
 //!
-//! What a process did inside its heap alone is appended by [`publish`].
-//!
 //! The laws give the conditions of the calls of cells and book that no step asks of its caller: counts fit 32 bits, and bytes 64.
 #![tactic(auto)]
 

@@ -1,5 +1,5 @@
 -- Objects that a process makes in its own heap.
-use Rattle.std.proofs.Common.{◌≡◌, ◌+◌, ◌<◌, ◌^◌, ℕ, zero, suc, sym, ap, subst, ◌∙◌, List, [], ◌∷◌, cond, drop, length, Option, Some, None, arith, get_or, nat_lt}
+use Rattle.std.proofs.Common.{◌≡◌, ◌+◌, ◌<◌, ◌^◌, ℕ, sym, ap, subst, ◌∙◌, List, [], ◌∷◌, cond, drop, length, Some, None, arith, get_or, nat_lt}
 use Rattle.std.proofs.lemmas.Bool.{and_parts, ltb-true}
 use Rattle.std.proofs.lemmas.List.{length-map}
 use Rattle.k_types.specs.declared.event.Fault.TheVariants.{LimitFull}

@@ -1,5 +1,4 @@
-use Rattle.std.proofs.Common.{◌≡◌, ap, subst, sym, ◌∙◌, Option, Some, option_map}
-use Rattle.k_types.specs.declared.names.Name.{Name}
+use Rattle.std.proofs.Common.{ap, subst, sym, ◌∙◌, option_map}
 use Rattle.k_types.specs.declared.names.Pid.{Pid}
 use Rattle.k_types.specs.Agree.{book_shown_by}
 use Rattle.k_types.specs.Names.{name_of}
