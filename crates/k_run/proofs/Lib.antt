@@ -1,4 +1,4 @@
-pub mod Reached
-pub mod Stepping
+pub mod Homes
+pub mod StepsKept
 pub mod Over
 pub mod Places

@@ -127,11 +127,11 @@ module _ (world : WorldValue) (p : Process) (b l : BookRecord) (op : Op) (w : He
     kernel = kernel_keeps world.trace world.table p.cell w k x b l op event can.kernel can.due.pair.book s;
   }
 
-  pub done_with_shared : (k x : SharedRecord) → CanDoWithShared world p k b op → Fits b.journal k.note → HasSteppedWithShared world.trace op p.cell w k x b l event →
+  pub done_with_shared : (k x : SharedRecord) → CanDoWithShared world p k b op → HasSteppedWithShared world.trace op p.cell w k x b l event →
       HasDoneWithShared world op p (record p { cell = w }) k x l
-  done_with_shared k x can fits s = record {
+  done_with_shared k x can s = record {
     own = done_alone world p b l op w event can.due.pair can.due.next s.own;
-    shared = shared_keeps world.trace world.table p.cell w k x b l op event can.shared can.due.pair.book fits s;
+    shared = shared_keeps world.trace world.table p.cell w k x b l op event can.shared can.due.pair.book s;
     same = ap (λ (y : SharedRecord). y.id) s.shared_is;
   }
 
