@@ -4,3 +4,5 @@ pub mod Placed
 pub mod Setting
 pub mod Changing
 pub mod Commits
+pub mod Charges
+pub mod Tails

@@ -4,3 +4,5 @@ pub mod Met
 pub mod Changed
 pub mod Owning
 pub mod Stepped
+pub mod Charging
+pub mod Published

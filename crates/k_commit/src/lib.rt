@@ -3,23 +3,29 @@
 //! A step call is lent the cells that its event touches and the book. It lets each cell meet the journal ([`meet_heap`],
 //! [`meet_kernel`], [`meet_shared`]), changes cells and book, and commits: [`commit_heap`], [`commit_with_kernel`] or
 //! [`commit_with_shared`] counts the operation, appends its event, and lets the cells touch and meet the journal again, so that
-//! cells and book agree. An event that is no such operation is appended by a call of its own. No call takes memory or tests
-//! anything.
+//! cells and book agree. An event that is no such operation is appended by a call of its own. [`set_register`] moves a pin with
+//! its register, and [`charge_process`] charges a process. No call takes memory.
+//!
+//! What a process did inside its heap alone is appended by [`publish`].
 //!
 //! The laws give the conditions of the calls of cells and book that no step asks of its caller: counts fit 32 bits, and bytes 64.
 #![tactic(auto)]
 
 mod appending;
+mod charging;
 mod committing;
 mod laws;
 mod meeting;
+mod publishing;
 mod registers;
 
 pub use appending::{
     append_heap, append_heap_and_kernel, append_heap_and_shared, append_kernel,
     append_shared_and_kernel,
 };
+pub use charging::charge_process;
 pub use committing::{commit_heap, commit_with_kernel, commit_with_shared};
 pub use laws::{bytes_fit, cells_that_met_have_met, counts_fit, steps_began_before_the_meeting};
 pub use meeting::{meet_heap, meet_kernel, meet_shared};
+pub use publishing::publish;
 pub use registers::set_register;

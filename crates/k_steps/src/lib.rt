@@ -4,10 +4,4 @@
 //! then appends the event, touches its cells and meets again.
 #![tactic(auto)]
 
-mod committing;
-mod publishing;
-mod registers;
-mod stepping;
-
-pub use publishing::publish;
-pub use stepping::{step_clear, step_dir, step_move};
+pub use k_commit::publish;

@@ -1,0 +1,108 @@
+-- What has been made gray so far.
+use Rattle.std.proofs.Common.{◌≡◌, ℕ, ◌+◌, ◌<◌, ◌||◌, ◌&&◌, Bool, true, false, refl, sym, ap, ap₂, ◌∙◌, subst, List, [], ◌∷◌, ◌++◌, length, take, get_or, Option, Some, None, option_map, arith}
+use Rattle.std.specs.List.{list_any}
+use Rattle.std.proofs.lemmas.List.{take_more}
+use Rattle.std.proofs.lemmas.List.Folds.{list_any-append}
+use Rattle.k_types.specs.declared.names.CellPhase.{CellPhase}
+use Rattle.k_types.specs.declared.names.CellPhase.TheVariants.{Begun}
+use Rattle.k_types.specs.declared.names.Heap.{Heap}
+use Rattle.k_types.specs.declared.names.Name.{Name}
+use Rattle.k_types.specs.Agree.{CellValue}
+use Rattle.k_types.specs.Cells.{ProcessPart}
+use Rattle.k_types.specs.Names.{leads_to, name_among, name_eq}
+use Rattle.k_types.specs.State.{Object, has}
+use Rattle.k_base.proofs.Charges.{or_none}
+use Rattle.k_base.proofs.NameTests.{name_eq-true}
+use Rattle.k_agree.specs.Marking.{begun}
+use Rattle.k_cell.specs.Changes.{HasRoot}
+use Rattle.k_changes.specs.BookChanges.{registers_in}
+use Rattle.k_entry.specs.Entries.{AreEntries, EntryValue, first_object, home_of, items_of, object_after, objects}
+use Rattle.k_frame.specs.PartUpdates.{held_in}
+use Rattle.k_collect.specs.Graying.{HasBegun, HasGrayed, is_counted_at}
+use Rattle.k_collect.proofs.Walks.{IsOnWalk, all_passed, first_on_walk, next_on_walk, none_before, passed_before, passed_next, walk_counts}
+
+-- a collection that has begun has that phase
+pub phase_begun : (v : CellValue) → HasBegun v → v.collection ≡ Begun
+phase_begun v begins = ap (λ (x : CellValue). x.collection) begins
+
+pub grays_none : (v : CellValue) → HasBegun v → HasGrayed (λ n. false) v v
+grays_none v begins = record { rest = begins; gray = λ n. sym (or_none (name_among n v.gray)) }
+
+or_and_more : (g f h e : Bool) → ((g || (f && h)) || (e && h)) ≡ (g || ((f || e) && h))
+or_and_more true f h e = refl
+or_and_more false true true e = refl
+or_and_more false true false true = refl
+or_and_more false true false false = refl
+or_and_more false false h e = refl
+
+still_begun : (v w x : CellValue) → w ≡ begun w.gray v → x ≡ begun x.gray w → x ≡ begun x.gray v
+still_begun v w x first second = second ∙ ap (λ (u : CellValue). begun x.gray u) first
+
+-- what was made gray first, and then
+pub grays_both : (f g : Name → Bool) (v w x : CellValue) → HasGrayed f v w → HasGrayed g w x → HasGrayed (λ n. f n || g n) v x
+grays_both f g v w x first second = record {
+  rest = still_begun v w x first.rest second.rest;
+  gray = λ n.
+      second.gray n
+      ∙ ap₂ (λ a (os : List Object). a || (g n && has os n)) (first.gray n) (ap (λ (u : CellValue). u.objects) first.rest)
+      ∙ or_and_more (name_among n v.gray) (f n) (has v.objects n) (g n);
+}
+
+pub grays_one : (f : Name → Bool) (t : Name) (v w x : CellValue) → HasGrayed f v w → HasRoot w x t → HasGrayed (λ n. f n || name_eq t n) v x
+grays_one f t v w x first root =
+    grays_both f (name_eq t) v w x first (record { rest = root.rest; gray = λ n. root.gray n ∙ ap (λ b. name_among n w.gray || b) (same_object n (name_eq t n) refl) })
+  where
+    same_object : (n : Name) (b : Bool) → name_eq t n ≡ b → (b && has w.objects t) ≡ (b && has w.objects n)
+    same_object n true same = ap (has w.objects) (name_eq-true t n same)
+    same_object n false other = refl
+
+pub grays_same : (f g : Name → Bool) (v w : CellValue) → ((n : Name) → f n ≡ g n) → HasGrayed f v w → HasGrayed g v w
+grays_same f g v w same grayed = record {
+  rest = grayed.rest;
+  gray = λ n. grayed.gray n ∙ ap (λ t. name_among n v.gray || (t && has v.objects n)) (same n);
+}
+
+-- that name alone comes after these
+pub among_last : (names : List Name) (t n : Name) → name_among n (names ++ t ∷ []) ≡ (name_among n names || name_eq t n)
+among_last names t n = list_any-append (λ m. name_eq m n) names (t ∷ []) ∙ ap (λ b. name_among n names || b) (or_none (name_eq t n))
+
+-- what the first registers hold
+abbrev pub held_by_first : ℕ → CellValue → Name → Bool
+held_by_first count v n = list_any (λ r. leads_to r n) (take count (registers_in v.process))
+
+pub held_is : (process : Option ProcessPart) (r : ℕ) → get_or (registers_in process) r None ≡ held_in process r
+held_is None r = refl
+held_is (Some q) r = refl
+
+pub held_more : (v : CellValue) (r : ℕ) → r < length (registers_in v.process) → (n : Name) →
+    held_by_first (r + 1) v n ≡ (held_by_first r v n || leads_to (held_in v.process r) n)
+held_more v r inside n =
+    ap (list_any (λ x. leads_to x n)) (take_more (registers_in v.process) r None inside)
+    ∙ list_any-append (λ x. leads_to x n) (take r (registers_in v.process)) (get_or (registers_in v.process) r None ∷ [])
+    ∙ ap (λ b. held_by_first r v n || b) (or_none (leads_to (get_or (registers_in v.process) r None) n) ∙ ap (λ x. leads_to x n) (held_is v.process r))
+
+pub held_none : (v : CellValue) (n : Name) → false ≡ held_by_first 0 v n
+held_none v n = refl
+
+module _ (v : EntryValue) (heap : Heap) (are : AreEntries v) where
+  abbrev items : List Rattle.k_types.specs.Counted.Counted
+  items = items_of v heap
+
+  pub walk_begins : (w : CellValue) → HasBegun w → HasGrayed (λ n. name_among n (passed_before items (first_object items))) w w
+  walk_begins w begins = grays_same (λ n. false) (λ n. name_among n (passed_before items (first_object items))) w w (λ n. sym (ap (name_among n) (none_before items))) (grays_none w begins)
+
+  pub walk_goes_on : (t : Name) (w x y : CellValue) → Rattle.k_base.specs.Distinct.AreDistinctNames (objects items) → name_among t (objects items) ≡ true →
+      HasGrayed (λ n. name_among n (passed_before items (Some t))) w x → HasRoot x y t →
+      HasGrayed (λ n. name_among n (passed_before items (object_after items t))) w y
+  walk_goes_on t w x y distinct there grayed root =
+      grays_same (λ n. name_among n (passed_before items (Some t)) || name_eq t n) (λ n. name_among n (passed_before items (object_after items t))) w y
+      (λ n. sym (ap (name_among n) (passed_next items t distinct there) ∙ among_last (passed_before items (Some t)) t n))
+      (grays_one (λ n. name_among n (passed_before items (Some t))) t w x y grayed root)
+
+  pub walk_ends : (w x : CellValue) → HasGrayed (λ n. name_among n (passed_before items None)) w x → HasGrayed (is_counted_at v heap) w x
+  walk_ends w x grayed = grays_same (λ n. name_among n (passed_before items None)) (is_counted_at v heap) w x (walk_counts v heap are) grayed
+
+-- so far the walk over the items has made gray what it has passed, and the cell is otherwise as it was
+pub record IsGraying (items : List Rattle.k_types.specs.Counted.Counted) (old now : CellValue) (at : Option Name) : Type 0 where
+  pub grayed : HasGrayed (λ n. name_among n (passed_before items at)) old now
+  pub on_walk : IsOnWalk items at

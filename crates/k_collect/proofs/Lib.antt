@@ -1,0 +1,13 @@
+pub mod Walks
+pub mod Grayed
+pub mod Left
+pub mod Unshared
+pub mod Marked
+pub mod Roots
+pub mod Ways
+pub mod Sizes
+pub mod Begins
+pub mod KernelBegins
+pub mod Ends
+pub mod Settles
+pub mod Called

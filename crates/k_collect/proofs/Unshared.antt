@@ -1,0 +1,278 @@
+-- The shares of a process that are dropped one by one.
+use Rattle.std.proofs.Common.{◌≡◌, ℕ, zero, suc, ◌+◌, ◌-◌, ◌<◌, ◌≤◌, ◌^◌, ◌==◌, ◌||◌, ◌&&◌, not, nat_lt, Bool, true, false, cond, refl, sym, ap, ap₂, ◌∙◌, subst, List, [], ◌∷◌, ◌++◌, length, take, get_or, arith, add-one, eqb-true, eq-eqb}
+use Rattle.std.specs.List.{list_any}
+use Rattle.std.proofs.lemmas.Bool.{and_parts, false≢true, lt-ltb, ltb-true, or_left, or_right}
+use Rattle.std.proofs.lemmas.List.{take_more}
+use Rattle.std.proofs.lemmas.List.Folds.{list_any-append}
+use Rattle.k_types.specs.Agree.{BookValue, CellValue}
+use Rattle.k_types.specs.Numbers.{numbers_below, numbers_from}
+use Rattle.k_types.specs.State.{has_share}
+use Rattle.k_types.specs.Totals.{total}
+use Rattle.k_base.proofs.Charges.{or_none}
+use Rattle.k_base.proofs.Lists.{numbers_length, numbers_push}
+use Rattle.k_base.proofs.Sums.{ones, total_at_most, total_push}
+use Rattle.k_base.proofs.Tests.{same_test}
+use Rattle.k_book.specs.Books.{BookRecord}
+use Rattle.k_shares.specs.Sharers.{LosesShare}
+use Rattle.k_collect.specs.Unsharing.{CanUnshare, HasUnshared, bytes_lost, has_way_by, shares_lost}
+
+-- the first elements with one more pass the test where they or that one do
+pub any_more : {A : Type 0} (p : A → Bool) (xs : List A) (i : ℕ) (d : A) → i < length xs → list_any p (take (i + 1) xs) ≡ (list_any p (take i xs) || p (get_or xs i d))
+any_more p xs i d inside =
+    ap (list_any p) (take_more xs i d inside)
+    ∙ list_any-append p (take i xs) (get_or xs i d ∷ [])
+    ∙ ap (λ b. list_any p (take i xs) || b) (or_none (p (get_or xs i d)))
+
+pub any_at : {A : Type 0} (p : A → Bool) (xs : List A) (i : ℕ) (d : A) → i < length xs → p (get_or xs i d) ≡ true → list_any p xs ≡ true
+any_at p [] i d inside holds = absurd (omega (arith, inside))
+any_at p (x ∷ xs) zero d inside holds = or_left (p x) (list_any p xs) holds
+any_at p (x ∷ xs) (suc i) d inside holds = or_right (p x) (list_any p xs) (any_at p xs i d (omega (arith, inside)) holds)
+
+-- one number more in a sum
+pub total_more : (f : ℕ → ℕ) (n : ℕ) → total f (numbers_below (n + 1)) ≡ total f (numbers_below n) + f n
+total_more f n =
+    let same : 0 + n ≡ n = omega arith in
+    ap (λ k. total f (numbers_below k)) (add-one n)
+    ∙ ap (total f) (numbers_push 0 n)
+    ∙ total_push f (numbers_below n) (0 + n)
+    ∙ ap (λ k. total f (numbers_below n) + f k) same
+
+total_rises : (f : ℕ → ℕ) (n d : ℕ) → total f (numbers_below n) ≤ total f (numbers_below (n + d))
+total_rises f n zero = let same : n + 0 ≡ n = omega arith in let e = ap (λ k. total f (numbers_below k)) same in omega (arith, e)
+total_rises f n (suc d) =
+    let next : n + suc d ≡ (n + d) + 1 = omega arith in
+    let e = ap (λ k. total f (numbers_below k)) next ∙ total_more f (n + d) in
+    let less = total_rises f n d in
+    omega (arith, e, less)
+
+pub first_total : (f : ℕ → ℕ) (n m : ℕ) → n ≤ m → total f (numbers_below n) ≤ total f (numbers_below m)
+first_total f n m within =
+    let same : n + (m - n) ≡ m = omega (arith, within) in
+    let e = ap (λ k. total f (numbers_below k)) same in
+    let less = total_rises f n (m - n) in
+    omega (arith, e, less)
+
+pub record IsUnsharing (stays : ℕ → Bool) (p : ℕ) (old now : BookRecord) (s shares bytes : ℕ) : Type 0 where
+  pub rest : now ≡ record old { value = record old.value { shares = now.value.shares } }
+  pub left : (q t : ℕ) → has_share now.value.shares q t ≡ (has_share old.value.shares q t && (not (q == p) || (not (nat_lt t s) || stays t)))
+  pub count : shares ≡ shares_lost stays old.value p (numbers_below s)
+  pub sum : bytes ≡ bytes_lost stays old.value p (numbers_below s)
+
+and_or_true : (a b : Bool) → a ≡ (a && (b || true))
+and_or_true true true = refl
+and_or_true true false = refl
+and_or_true false b = refl
+
+none_below : (t : ℕ) → nat_lt t 0 ≡ false
+none_below t = go (nat_lt t 0) refl
+  where
+    go : (b : Bool) → nat_lt t 0 ≡ b → b ≡ false
+    go true low = let l = ltb-true t 0 low in absurd (omega (arith, l))
+    go false e = refl
+
+pub unsharing_begins : (stays : ℕ → Bool) (p : ℕ) (b : BookRecord) → IsUnsharing stays p b b 0 0 0
+unsharing_begins stays p b = record {
+  rest = refl;
+  left = λ q t.
+      and_or_true (has_share b.value.shares q t) (not (q == p))
+      ∙ ap (λ x. has_share b.value.shares q t && (not (q == p) || (not x || stays t))) (sym (none_below t));
+  count = refl;
+  sum = refl;
+}
+
+one_lost : (a b : Bool) → cond a (cond b 0 1) 0 ≤ 1
+one_lost true true = omega arith
+one_lost true false = omega arith
+one_lost false b = omega arith
+
+pub few_lost : (stays : ℕ → Bool) (b : BookValue) (p n : ℕ) → shares_lost stays b p (numbers_below n) ≤ n
+few_lost stays b p n =
+    let most = total_at_most (λ t. cond (has_share b.shares p t) (cond (stays t) 0 1) 0) (λ t. 1) (λ t. one_lost (has_share b.shares p t) (stays t)) (numbers_below n) in
+    let all = ones (numbers_below n) in
+    let size = numbers_length 0 n in
+    omega (arith, most, all, size)
+
+-- below one number more are the same ones and that one
+below_same : (t s : ℕ) → (s == t) ≡ false → nat_lt t s ≡ nat_lt t (s + 1)
+below_same t s other = same_test (nat_lt t s) (nat_lt t (s + 1))
+    (λ low. let l = ltb-true t s low in lt-ltb t (s + 1) (omega (arith, l)))
+    (λ low.
+        let l = ltb-true t (s + 1) low in
+        let apart : s ≡ t → ⊥ = λ same. false≢true (sym other ∙ eq-eqb s t same) in
+        lt-ltb t s (omega (arith, l, apart)))
+
+below_next : (s : ℕ) → nat_lt s (s + 1) ≡ true
+below_next s = lt-ltb s (s + 1) (omega arith)
+
+not_below : (s : ℕ) → nat_lt s s ≡ false
+not_below s = go (nat_lt s s) refl
+  where
+    go : (b : Bool) → nat_lt s s ≡ b → b ≡ false
+    go true low = let l = ltb-true s s low in absurd (omega (arith, l))
+    go false e = refl
+
+-- what the share of that heap is, once its turn has come, for each process
+kept_share : (a q s : Bool) → (q ≡ true → (a && not s) ≡ false) → (a && (not q || true)) ≡ (a && (not q || s))
+kept_share true true true kept = refl
+kept_share true true false kept = absurd (false≢true (sym (kept refl)))
+kept_share true false s kept = refl
+kept_share false q s kept = refl
+
+lost_share : (a q e : Bool) → q ≡ e → ((a && (not q || true)) && not (e && true)) ≡ (a && (not q || false))
+lost_share true true true same = refl
+lost_share true true false same = absurd (false≢true (sym same))
+lost_share true false true same = absurd (false≢true same)
+lost_share true false false same = refl
+lost_share false q e same = refl
+
+pub eqb_turned : (a b : ℕ) → (a == b) ≡ (b == a)
+eqb_turned a b = same_test (a == b) (b == a) (λ t. eq-eqb b a (sym (eqb-true a b t))) (λ t. eq-eqb a b (sym (eqb-true b a t)))
+
+and_true : (a : Bool) → a ≡ (a && not false)
+and_true true = refl
+and_true false = refl
+
+module _ (stays : ℕ → Bool) (p : ℕ) (old now : BookRecord) (s shares bytes : ℕ) (is : IsUnsharing stays p old now s shares bytes) where
+  -- nothing was decided of this heap yet
+  pub share_as_before : has_share now.value.shares p s ≡ has_share old.value.shares p s
+  share_as_before =
+      is.left p s
+      ∙ ap (λ b. has_share old.value.shares p s && (not (p == p) || (not b || stays s))) (not_below s)
+      ∙ sym (and_or_true (has_share old.value.shares p s) (not (p == p)))
+
+  -- a heap that is not shared, or into which there is a way, changes nothing
+  pub unsharing_passes : (has_share old.value.shares p s && not (stays s)) ≡ false → IsUnsharing stays p old now (s + 1) shares bytes
+  unsharing_passes kept = record {
+    rest = is.rest;
+    left = λ q t. is.left q t ∙ go q t (s == t) refl;
+    count =
+        let more = total_more (λ t. cond (has_share old.value.shares p t) (cond (stays t) 0 1) 0) s in
+        let here = none_lost (has_share old.value.shares p s) (stays s) kept in
+        let was = is.count in
+        omega (arith, more, here, was);
+    sum =
+        let more = total_more (λ t. cond (has_share old.value.shares p t && not (stays t)) (get_or old.value.shared_bytes t 0) 0) s in
+        let here = ap (λ b. cond b (get_or old.value.shared_bytes s 0) 0) kept in
+        let was = is.sum in
+        omega (arith, more, here, was);
+  }
+    where
+      none_lost : (a b : Bool) → (a && not b) ≡ false → ◌≡◌ {A = ℕ} (cond a (cond b 0 1) 0) 0
+      none_lost true true e = refl
+      none_lost true false e = absurd (false≢true (sym e))
+      none_lost false b e = refl
+
+      go : (q t : ℕ) (e : Bool) → (s == t) ≡ e →
+          (has_share old.value.shares q t && (not (q == p) || (not (nat_lt t s) || stays t))) ≡ (has_share old.value.shares q t && (not (q == p) || (not (nat_lt t (s + 1)) || stays t)))
+      go q t true same =
+          subst (λ k. (has_share old.value.shares q k && (not (q == p) || (not (nat_lt k s) || stays k))) ≡ (has_share old.value.shares q k && (not (q == p) || (not (nat_lt k (s + 1)) || stays k))))
+          (eqb-true s t same)
+          (ap (λ b. has_share old.value.shares q s && (not (q == p) || (not b || stays s))) (not_below s)
+          ∙ kept_share (has_share old.value.shares q s) (q == p) (stays s)
+          (λ mine. ap (λ k. has_share old.value.shares k s && not (stays s)) (eqb-true q p mine) ∙ kept)
+          ∙ ap (λ b. has_share old.value.shares q s && (not (q == p) || (not b || stays s))) (sym (below_next s)))
+      go q t false other = ap (λ b. has_share old.value.shares q t && (not (q == p) || (not b || stays t))) (below_same t s other)
+
+  -- a share without a way goes
+  pub unsharing_drops : (new : BookRecord) → has_share old.value.shares p s ≡ true → stays s ≡ false → LosesShare now.value.shares new.value.shares p s →
+      new ≡ record now { value = record now.value { shares = new.value.shares } } →
+      IsUnsharing stays p old new (s + 1) (shares + 1) (bytes + get_or old.value.shared_bytes s 0)
+  unsharing_drops new there gone loses changed = record {
+    rest = changed ∙ ap (λ (b : BookRecord). record b { value = record b.value { shares = new.value.shares } }) is.rest;
+    left = λ q t. loses q t ∙ ap (λ b. b && not ((p == q) && (s == t))) (is.left q t) ∙ go q t (s == t) refl;
+    count =
+        let more = total_more (λ t. cond (has_share old.value.shares p t) (cond (stays t) 0 1) 0) s in
+        let here : ◌≡◌ {A = ℕ} (cond (has_share old.value.shares p s) (cond (stays s) 0 1) 0) 1 = ap₂ (λ a b. cond a (cond b 0 1) 0) there gone in
+        let was = is.count in
+        omega (arith, more, here, was);
+    sum =
+        let more = total_more (λ t. cond (has_share old.value.shares p t && not (stays t)) (get_or old.value.shared_bytes t 0) 0) s in
+        let here : cond (has_share old.value.shares p s && not (stays s)) (get_or old.value.shared_bytes s 0) 0 ≡ get_or old.value.shared_bytes s 0 = ap₂ (λ a b. cond (a && not b) (get_or old.value.shared_bytes s 0) 0) there gone in
+        let was = is.sum in
+        omega (arith, more, here, was);
+  }
+    where
+      go : (q t : ℕ) (e : Bool) → (s == t) ≡ e →
+          ((has_share old.value.shares q t && (not (q == p) || (not (nat_lt t s) || stays t))) && not ((p == q) && (s == t)))
+          ≡ (has_share old.value.shares q t && (not (q == p) || (not (nat_lt t (s + 1)) || stays t)))
+      go q t true same =
+          subst (λ k. ((has_share old.value.shares q k && (not (q == p) || (not (nat_lt k s) || stays k))) && not ((p == q) && (s == k)))
+          ≡ (has_share old.value.shares q k && (not (q == p) || (not (nat_lt k (s + 1)) || stays k))))
+          (eqb-true s t same)
+          (ap₂ (λ b d. (has_share old.value.shares q s && (not (q == p) || (not b || stays s))) && not ((p == q) && d)) (not_below s) (eq-eqb s s refl)
+          ∙ lost_share (has_share old.value.shares q s) (q == p) (p == q) (eqb_turned q p)
+          ∙ ap₂ (λ b d. has_share old.value.shares q s && (not (q == p) || (not b || d))) (sym (below_next s)) (sym gone))
+      go q t false other =
+          ap (λ d. (has_share old.value.shares q t && (not (q == p) || (not (nat_lt t s) || stays t))) && not ((p == q) && d)) other
+          ∙ and_false_not (has_share old.value.shares q t && (not (q == p) || (not (nat_lt t s) || stays t))) (p == q)
+          ∙ ap (λ b. has_share old.value.shares q t && (not (q == p) || (not b || stays t))) (below_same t s other)
+        where
+          and_false_not : (a b : Bool) → (a && not (b && false)) ≡ a
+          and_false_not true true = refl
+          and_false_not true false = refl
+          and_false_not false b = refl
+
+-- once every heap of the book has had its turn
+pub unsharing_ends : (stays : ℕ → Bool) (v : CellValue) (p : ℕ) (old now : BookRecord) (shares bytes : ℕ) → CanUnshare stays v p old →
+    IsUnsharing stays p old now (length old.value.phases) shares bytes → HasUnshared stays p old now
+unsharing_ends stays v p old now shares bytes can is = record {
+  rest = is.rest;
+  shares = λ q t. is.left q t ∙ go q t (has_share old.value.shares q t) (q == p) refl refl;
+}
+  where
+    go : (q t : ℕ) (a b : Bool) → has_share old.value.shares q t ≡ a → (q == p) ≡ b → (a && (not b || (not (nat_lt t (length old.value.phases)) || stays t))) ≡ (a && (not b || stays t))
+    go q t true true there mine =
+        let low = lt-ltb t (length old.value.phases) (can.known t (ap (λ k. has_share old.value.shares k t) (sym (eqb-true q p mine)) ∙ there)) in
+        ap (λ b. not b || stays t) low
+    go q t true false there other = refl
+    go q t false b none e = refl
+
+-- the bytes so far, with one heap more, fit
+pub bytes_go_on : (stays : ℕ → Bool) (v : CellValue) (p : ℕ) (old : BookRecord) (s : ℕ) → CanUnshare stays v p old → s < length old.value.phases → has_share old.value.shares p s ≡ true → stays s ≡ false →
+    bytes_lost stays old.value p (numbers_below s) + get_or old.value.shared_bytes s 0 < 2 ^ 64
+bytes_go_on stays v p old s can low there gone =
+    let more = total_more (λ t. cond (has_share old.value.shares p t && not (stays t)) (get_or old.value.shared_bytes t 0) 0) s in
+    let here : cond (has_share old.value.shares p s && not (stays s)) (get_or old.value.shared_bytes s 0) 0 ≡ get_or old.value.shared_bytes s 0 = ap₂ (λ a b. cond (a && not b) (get_or old.value.shared_bytes s 0) 0) there gone in
+    let less = first_total (λ t. cond (has_share old.value.shares p t && not (stays t)) (get_or old.value.shared_bytes t 0) 0) (s + 1) (length old.value.phases) (omega (arith, low)) in
+    let most = can.bytes in
+    omega (arith, more, here, less, most)
+
+-- whether the share of the next heap goes
+pub loses_is : (stays : ℕ → Bool) (v : CellValue) (p : ℕ) (old now : BookRecord) (s shares bytes : ℕ) → CanUnshare stays v p old → IsUnsharing stays p old now s shares bytes →
+    (has_share now.value.shares p s && not (has_way_by v now.value p (1 + length now.procs + s) s)) ≡ (has_share old.value.shares p s && not (stays s))
+loses_is stays v p old now s shares bytes can is =
+    ap₂ (λ a b. a && not b) (share_as_before stays p old now s shares bytes is)
+    (ap (λ (k : BookRecord). has_way_by v k.value p (1 + length k.procs + s) s) is.rest)
+    ∙ go (has_share old.value.shares p s) refl
+  where
+    go : (a : Bool) → has_share old.value.shares p s ≡ a → (a && not (has_way_by v old.value p (1 + length old.procs + s) s)) ≡ (a && not (stays s))
+    go true there = ap not (can.ways s there)
+    go false none = refl
+
+-- what it means that the next share goes, or stays
+module _ (stays : ℕ → Bool) (v : CellValue) (p : ℕ) (old now : BookRecord) (s shares bytes : ℕ) (can : CanUnshare stays v p old) (is : IsUnsharing stays p old now s shares bytes) where
+  pub lost_means : (has_share now.value.shares p s && not (has_way_by v now.value p (1 + length now.procs + s) s)) ≡ true → (has_share old.value.shares p s ≡ true) × (stays s ≡ false)
+  lost_means lost =
+      let both = and_parts (has_share old.value.shares p s) (not (stays s)) (sym (loses_is stays v p old now s shares bytes can is) ∙ lost) in
+      (both.0, not_true (stays s) both.1)
+    where
+      not_true : (b : Bool) → not b ≡ true → b ≡ false
+      not_true true e = absurd (false≢true e)
+      not_true false e = refl
+
+  pub kept_means : (has_share now.value.shares p s && not (has_way_by v now.value p (1 + length now.procs + s) s)) ≡ false → (has_share old.value.shares p s && not (stays s)) ≡ false
+  kept_means kept = sym (loses_is stays v p old now s shares bytes can is) ∙ kept
+
+  pub bytes_so_far : s < length old.value.phases → (has_share old.value.shares p s ≡ true) × (stays s ≡ false) → bytes + get_or now.value.shared_bytes s 0 < 2 ^ 64
+  bytes_so_far low means =
+      let fits = bytes_go_on stays v p old s can low means.0 means.1 in
+      let sum = is.sum in
+      let same = ap (λ (b : BookRecord). get_or b.value.shared_bytes s 0) is.rest in
+      omega (arith, fits, sum, same)
+
+  pub shares_so_far : s < length old.value.phases → shares + 1 < 2 ^ 32
+  shares_so_far low =
+      let few = few_lost stays old.value p s in
+      let count = is.count in
+      let numbers = can.segments in
+      omega (arith, few, count, numbers, low)

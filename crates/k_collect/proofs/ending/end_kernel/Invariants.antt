@@ -1,0 +1,7 @@
+use Rattle.k_collect.proofs.ending.end_kernel.Given as goal
+
+abbrev pub ghost-meet_kernel : goal.ghost-meet_kernel
+ghost-meet_kernel g a = g.trace
+
+abbrev pub ghost-sweep_kernel : goal.ghost-sweep_kernel
+ghost-sweep_kernel g a = g.trace

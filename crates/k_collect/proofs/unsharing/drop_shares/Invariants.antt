@@ -1,0 +1,5 @@
+use Rattle.k_collect.proofs.Unshared.{IsUnsharing}
+use Rattle.k_collect.proofs.unsharing.drop_shares.Given as goal
+
+abbrev pub invariant-loop-s : goal.invariant-loop-s
+invariant-loop-s g l = IsUnsharing g.stays l.cell.pid.0 l.fn.book l.book l.s l.unshared.shares l.unshared.bytes

@@ -1,0 +1,9 @@
+pub mod Graying
+pub mod Leaving
+pub mod Marking
+pub mod Unsharing
+pub mod Collecting
+pub mod Begun
+pub mod Sweeping
+pub mod Ended
+pub mod Settling

@@ -1,0 +1,12 @@
+pub mod Leaving
+pub mod Unpinned
+pub mod Dropped
+pub mod Given
+pub mod Told
+pub mod Weighed
+pub mod Orphaned
+pub mod TakenOver
+pub mod Once
+pub mod Leaver
+pub mod GivenUp
+pub mod Appended
