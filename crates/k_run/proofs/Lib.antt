@@ -1,4 +1,5 @@
 pub mod Homes
+pub mod Published
 pub mod StepsKept
 pub mod Over
 pub mod Places

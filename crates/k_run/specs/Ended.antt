@@ -40,8 +40,8 @@ pub record HasCompleted (world : WorldValue) (old new : Process) (kernel : Holdi
   pub through : IsThroughWith world.trace new.cell
 
 -- all processes, the kernel, the shared heaps and the book stand, and no operation is put off
-pub record AllStand (world : WorldValue) (processes : List Process) (kernel : HoldingsValue) (shared : List SharedRecord) (book : BookRecord) : Type 0 where
-  pub processes : ProcessesStand world processes
+pub record AllStand (world : WorldValue) (ps : List Process) (kernel : HoldingsValue) (shared : List SharedRecord) (book : BookRecord) : Type 0 where
+  pub processes : ProcessesStand world ps
   pub rest : RestStands world kernel shared book
   pub slice : IsSlice world.trace
 
