@@ -1,0 +1,9 @@
+pub mod Faulted
+pub mod Touching
+pub mod Changing
+pub mod Exits
+pub mod Stored
+pub mod Loaded
+pub mod Put
+pub mod Made
+pub mod Meeting

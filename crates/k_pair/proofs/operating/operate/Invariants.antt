@@ -1,0 +1,16 @@
+use Rattle.k_pair.proofs.operating.operate.Given as goal
+
+abbrev pub ghost-store : goal.ghost-store
+ghost-store g a = g.before
+
+abbrev pub ghost-load : goal.ghost-load
+ghost-load g a = g.before
+
+abbrev pub ghost-put : goal.ghost-put
+ghost-put g a = g.before
+
+abbrev pub ghost-get : goal.ghost-get
+ghost-get g a = g.before
+
+abbrev pub ghost-allocate : goal.ghost-allocate
+ghost-allocate g a = g.before

@@ -1,0 +1,11 @@
+use Rattle.k_pair.specs.Operating.{as_they_are}
+use Rattle.k_pair.proofs.operating.step_kernel.Given as goal
+
+abbrev pub ghost-meet_heap : goal.ghost-meet_heap
+ghost-meet_heap g a = g.trace
+
+abbrev pub ghost-meet_kernel : goal.ghost-meet_kernel
+ghost-meet_kernel g a = g.trace
+
+abbrev pub ghost-operate : goal.ghost-operate
+ghost-operate g a = as_they_are g.trace a.cell.now a.kernel.now a.book.now

@@ -1,0 +1,59 @@
+-- What an operation asks that touches an object of the kernel, or makes one.
+use Rattle.std.specs.Prelude.{◌≡◌, Bool, true, false, IsFalse, IsTrue, [], ◌∷◌}
+use Rattle.k_types.specs.declared.names.Heap.TheVariants.{Kernel}
+use Rattle.k_types.specs.declared.op.Op.{Op}
+use Rattle.k_types.specs.declared.op.Op.TheVariants.{New, KNew, SNew, Store, Load, Move, Clear, Dir, Put, Get, Collect, KCollect, Share, Freeze, Attach, Exit}
+use Rattle.k_types.specs.Agree.{book_shown_by}
+use Rattle.k_types.specs.Steps.{in_range}
+use Rattle.k_types.specs.Trace.{Trace}
+use Rattle.k_agree.specs.Meeting.{Fits}
+use Rattle.k_squares.specs.Touches.{other_cells_in}
+use Rattle.k_book.specs.Books.{BookRecord}
+use Rattle.k_cell.specs.Holdings.{HoldingsValue}
+use Rattle.k_heap.specs.Heaps.{HeapRecord}
+use Rattle.k_moves.specs.Shown.{idle_part}
+use Rattle.k_commit.specs.Met.{BeforeWithKernel, HaveMetWithKernel}
+use Rattle.k_commit.specs.Rooms.{CanOperateWithKernel, HasRoomFor}
+
+-- the operation touches the kernel's cell beside the process's own, by what the cell and the book show
+abbrev pub TouchesKernel : Trace → HeapRecord → BookRecord → Op → Type 0
+TouchesKernel trace cell book op = other_cells_in trace (book_shown_by book.value) (idle_part cell.value) cell.pid.0 op ≡ Kernel ∷ []
+
+-- the operation opens a collection of the kernel, or ends its process
+abbrev pub collects_or_exits : Op → Bool
+collects_or_exits (New r ty) = false
+collects_or_exits (KNew r ty) = false
+collects_or_exits (SNew r s ty) = false
+collects_or_exits (Store base i value) = false
+collects_or_exits (Load r base i) = false
+collects_or_exits (Move r from) = false
+collects_or_exits (Clear r) = false
+collects_or_exits (Dir r) = false
+collects_or_exits (Put base i number) = false
+collects_or_exits (Get base i) = false
+collects_or_exits Collect = false
+collects_or_exits KCollect = true
+collects_or_exits (Share s) = false
+collects_or_exits (Freeze s root) = false
+collects_or_exits (Attach r s) = false
+collects_or_exits Exit = true
+
+-- cells and book can do the operation, which touches the kernel's cell once both notes fit the journal, and neither opens a collection of
+-- the kernel nor ends its process
+pub record CanStepWithKernel (trace : Trace) (cell : HeapRecord) (kernel : HoldingsValue) (book : BookRecord) (op : Op) : Type 0 where
+  pub can : CanOperateWithKernel trace cell kernel book op
+  pub touches : Fits book.journal cell.note → Fits book.journal kernel.note → TouchesKernel trace cell book op
+  pub goes_on : IsFalse (collects_or_exits op)
+
+-- the cells and the book as they are now, which a step then changes
+abbrev pub as_they_are : Trace → HeapRecord → HoldingsValue → BookRecord → BeforeWithKernel
+as_they_are trace cell kernel book = record { own = record { trace = trace; cell = cell; book = book }; kernel = kernel }
+
+-- the cells and the book are as they were before, when both cells had met the journal, and can do the operation
+pub record HaveMetFor (before : BeforeWithKernel) (cell : HeapRecord) (kernel : HoldingsValue) (book : BookRecord) (op : Op) : Type 0 where
+  pub same : as_they_are before.own.trace cell kernel book ≡ before
+  pub have_met : HaveMetWithKernel (as_they_are before.own.trace cell kernel book)
+  pub in_range : IsTrue (in_range before.own.trace op)
+  pub room : HasRoomFor before.own.trace cell.bodies kernel 0 book op
+  pub touches : TouchesKernel before.own.trace cell book op
+  pub goes_on : IsFalse (collects_or_exits op)
