@@ -1,0 +1,120 @@
+//! A run whose heaps and book stand behind locks, and its end.
+ghost use Rattle.std.specs.Prelude.{length, vec_capacity, ◌≡◌};
+ghost use Rattle.k_run.specs.Ended.{IsOutcome, IsSlice};
+ghost use Rattle.k_run.specs.Gathering.{CanGather, CanGatherShared};
+ghost use Rattle.k_run.specs.Standing.{HeapsStand, ProcessesStand};
+
+use crate::ending::{complete_all, meet_all};
+use crate::locked::{LockedBook, LockedKernel, LockedProcess, LockedShared};
+use crate::outcome::Outcome;
+use crate::placing::{in_order, place_process, place_shared};
+use crate::process::Process;
+use crate::worlds::WorldName;
+use k_book::Book;
+use k_shared::SharedCell;
+use k_trace::Names;
+use std::marker::Model;
+use std::sync::Mutex;
+
+/// Places for the cells at the end, all free, and lists with room for them, so that the end takes no memory.
+#[derive(Drop)]
+pub(crate) struct EndRooms {
+    pub(crate) process_places: Vec<Option<Process>>,
+    pub(crate) shared_places: Vec<Option<SharedCell>>,
+    pub(crate) processes: Vec<Process>,
+    pub(crate) shared: Vec<SharedCell>,
+}
+
+/// A run named `W`: one lock for each process's heap, for the kernel's, for each shared heap and for the book.
+#[derive(Drop)]
+pub struct World<W: WorldName> {
+    pub(crate) processes: Vec<Mutex<LockedProcess<W>>>,
+    pub(crate) kernel: Mutex<LockedKernel<W>>,
+    pub(crate) shared: Vec<Mutex<LockedShared<W>>>,
+    pub(crate) book: Mutex<LockedBook<W>>,
+    pub(crate) names: Names,
+    pub(crate) rooms: EndRooms,
+}
+
+impl<W: WorldName> Model for World<W> {
+    ghost use Rattle.std.specs.Prelude.{ℕ};
+
+    ghost Value = { ℕ };
+
+    ghost use Rattle.std.specs.Prelude.{length, vec_capacity};
+    ghost use Rattle.k_run.specs.Gathering.{HaveRooms};
+
+    ghost view = { λ w. length w.processes.items };
+
+    ghost invariant = { λ w. HaveRooms W.world (length w.processes.items) (length w.shared.items) w.rooms.process_places.items w.rooms.shared_places.items w.rooms.processes.items w.rooms.shared.items (vec_capacity w.rooms.processes) (vec_capacity w.rooms.shared) };
+}
+
+/// Takes the processes from behind their locks, each to the place of its number.
+fn gather<W: WorldName>(
+    mut locks: Vec<Mutex<LockedProcess<W>>>,
+    mut places: Vec<Option<Process>>,
+    into: Vec<Process>,
+    book: &mut Book,
+) -> Vec<Process>
+    requires { CanGather W.world (length locks.items) places.items into.items (vec_capacity into) book.old }
+    ensures processes { ProcessesStand W.world result.items }
+    ensures book { book.new ≡ book.old }
+{
+    while let Some(lock) = locks.pop() {
+        place_process(&mut places, book, lock.into_inner().into_process());
+    }
+    in_order(places, into)
+}
+
+/// Takes the cells of shared heaps from behind their locks, each to the place of its number.
+fn gather_shared<W: WorldName>(
+    mut locks: Vec<Mutex<LockedShared<W>>>,
+    mut places: Vec<Option<SharedCell>>,
+    into: Vec<SharedCell>,
+    book: &mut Book,
+) -> Vec<SharedCell>
+    requires { CanGatherShared W.world (length locks.items) places.items into.items (vec_capacity into) book.old }
+    ensures shared { HeapsStand W.world result.items }
+    ensures book { book.new ≡ book.old }
+{
+    while let Some(lock) = locks.pop() {
+        place_shared(&mut places, book, lock.into_inner().into_shared());
+    }
+    in_order(places, into)
+}
+
+/// Ends the run, whatever threads have done of it: each cell is put in the place of its own number, what is left of each process is
+/// done, one process after the other, and each cell then shows the machine after the journal, which is legal and complete. It waits for
+/// nobody, and takes no memory.
+pub fn finish<W: WorldName>(world: World<W>) -> Outcome
+    requires { IsSlice W.world.trace }
+    ensures { IsOutcome W.world.trace result }
+{
+    let World {
+        processes,
+        kernel,
+        shared,
+        book,
+        names,
+        rooms,
+    } = world;
+    let EndRooms {
+        process_places,
+        shared_places,
+        processes: processes_into,
+        shared: shared_into,
+    } = rooms;
+    let mut book = book.into_inner().into_book();
+    let mut kernel = kernel.into_inner().into_kernel();
+    let mut processes = gather(processes, process_places, processes_into, &mut book);
+    let mut shared = gather_shared(shared, shared_places, shared_into, &mut book);
+    complete_all(&mut processes, &mut kernel, &mut shared, &mut book);
+    meet_all(&mut processes, &mut kernel, &mut shared, &mut book);
+    Outcome {
+        names,
+        processes,
+        kernel,
+        shared,
+        book,
+    }
+}
