@@ -167,7 +167,7 @@ module _ (trace : Trace) (c : HeapRecord) (b : BookRecord) (stands : BookStands 
     begins = record {
       event_is = refl;
       appended = record { possible = collect_possible; journal = refl; same_table = refl; book_is = refl; agrees = after.book_agrees };
-      heap = record { cell_is = refl; table = heap_stands.table; settled = heap_stands.settled; phase = refl; met = after.cells_met.0; agrees = after.cells_agree.0 };
+      heap_goes_on = record { cell_is = refl; table = heap_stands.table; settled = heap_stands.settled; in_phase = refl; met = after.cells_met.0; agrees = after.cells_agree.0 };
       done = one_more c.value.process _ (ap (λ (s : ShownPart). s.process) met.after.shows.part);
       gray = gray_right trace now collect heap b c.value w (sound_now before met) refl stands.agrees.shows met.after.shows grayed (ap (λ (p : CellPart). p.scan) collect_part);
     }

@@ -23,6 +23,7 @@ use Rattle.k_collect.specs.Collecting.{CanBeginHeap, CanBeginKernel, CanClose}
 use Rattle.k_collect.specs.Graying.{HasGrayed, is_root_by}
 use Rattle.k_collect.proofs.Begins.{begun_heap, done_fits, registers_there}
 use Rattle.k_collect.proofs.KernelBegins.{kernel_begins, kernel_closes, kernel_done_fits}
+use Rattle.k_types.specs.Agree.{CellValue}
 
 -- `collect`
 module _ (trace : Trace) (c : HeapRecord) (b : BookRecord) (can : CanBeginHeap trace c b) (d : HeapRecord) (k : BookRecord) (met : HeapHasMet trace c d b k) where
@@ -33,7 +34,7 @@ module _ (trace : Trace) (c : HeapRecord) (b : BookRecord) (can : CanBeginHeap t
     pub done_counts : done_in e.value.process < 2 ^ 32 - 1
     done_counts =
         subst (λ q. done_in q < 2 ^ 32 - 1)
-        (sym (ap (λ (v : Rattle.k_types.specs.Agree.CellValue). v.process) grayed.rest ∙ ap (λ (x : HeapRecord). x.value.process) met.cell_is)) (done_fits trace c b can met.told)
+        (sym (ap (λ (v : CellValue). v.process) grayed.rest ∙ ap (λ (x : HeapRecord). x.value.process) met.cell_is)) (done_fits trace c b can met.told)
 
     module _ (f : HeapRecord) (kept : e ≡ record d { value = e.value }) (counts : f ≡ record e { value = with_one_done e.value }) where
       counted_is : f ≡ record c { note = met_note b.journal c.note; value = with_one_done e.value }

@@ -51,10 +51,12 @@ use Rattle.k_collect.specs.Collecting.{CanEndHeap, CanEndKernel}
 use Rattle.k_collect.specs.Ended.{HasEndedHeap, HasEndedKernel, HaveWhatIsLeft, ended_state}
 use Rattle.k_collect.specs.Leaving.{HasItsEntries}
 use Rattle.k_collect.specs.Sweeping.{CanSweep, HasSweptHeap, HasSweptKernel, IsSwept, owners_now}
-use Rattle.k_collect.specs.Unsharing.{CanUnshare, HasUnshared, bytes_lost, shares_lost}
+use Rattle.k_collect.specs.Unsharing.{CanUnshare, HasUnshared, bytes_lost, has_way_by, shares_lost, ways_left}
 use Rattle.k_collect.proofs.Roots.{registers_all}
 use Rattle.k_collect.proofs.Sizes.{credit_is_charged, freed_few, freed_light, freed_own, unshared_light}
+use Rattle.k_collect.proofs.Unshared.{same_bytes_lost}
 use Rattle.k_collect.proofs.Ways.{way_kept}
+use Rattle.k_types.specs.declared.names.LimitId.{LimitId}
 
 absorbed_is : (phase : Phase) → is_absorbed phase ≡ true → phase ≡ Absorbed
 absorbed_is Unmade e = absurd (false≢true e)
@@ -210,30 +212,39 @@ module _ (trace : Trace) (c : HeapRecord) (b : BookRecord) (can : CanSweep trace
   limit_there = subst (λ (n : ℕ). limit_of trace p < n) (sym (ap length can.book_stands.of_trace.rows)) (can.book_stands.keeps.limits.limited p known)
 
   pub limit_told : (get_or b.procs p (record { 0 = 0 })).0 ≡ limit_of trace p
-  limit_told = ap (λ (procs : List Rattle.k_types.specs.declared.names.LimitId.LimitId). (get_or procs p (record { 0 = 0 })).0) can.book_stands.of_trace.procs
+  limit_told = ap (λ (procs : List LimitId). (get_or procs p (record { 0 = 0 })).0) can.book_stands.of_trace.procs
 
   pub credit_within : freed_bytes c.value + bytes_unshared trace (owners_now trace b) b.value c.value p ≤ get_or b.value.direct (limit_of trace p) 0
   credit_within = credit_is_charged trace here p c.value b.value can.book_stands.keeps (sound trace (User c.pid) c.note c.value b can) known lives can.book_stands.agrees.shows can.after.shows
       (freed_own trace b.journal.list can.book_stands.keeps can.book_stands.agrees.legal (User c.pid) c.value can.after.shows)
 
-  unshares : (w : CellValue) (entries : List Rattle.k_types.specs.Counted.Counted) → w.process ≡ c.value.process → ((n : Name) → name_among n w.exits ≡ name_among n (swept c.value).exits) →
-      CanUnshare stays w p (record b { value = record b.value { entries = entries } })
-  unshares w entries process exits = record {
-    process = subst (λ (n : ℕ). p < n) (sym procs_count) known;
+  -- the ways that are left by segments are those that the process keeps
+  pub ways_same : (w : CellValue) (k : BookRecord) → ChangesEntries b k → w.process ≡ c.value.process → ((n : Name) → name_among n w.exits ≡ name_among n (swept c.value).exits) →
+      (t : ℕ) → has_share k.value.shares p t ≡ true → ways_left w p k t ≡ stays t
+  ways_same w k changes process exits t there =
+      ap (λ (x : BookRecord). ways_left w p x t) changes
+      ∙ ap (λ n. has_way_by w b.value p (1 + n + t) t) procs_count
+      ∙ way_kept trace here t (not_absorbed t (sym (ap (λ (x : BookRecord). has_share x.value.shares p t) changes) ∙ there)) c.value w b.value p process exits
+
+  pub can_unshare : (w : CellValue) (k : BookRecord) → ChangesEntries b k → w.process ≡ c.value.process → ((n : Name) → name_among n w.exits ≡ name_among n (swept c.value).exits) → CanUnshare w p k
+  can_unshare w k changes process exits = record {
+    process = let count = ap (λ (x : BookRecord). length x.procs) changes in omega (arith, count, procs_count, known);
     registers = ap (λ q. length (registers_in q)) process ∙ registers_all trace here c.pid c.value (sound trace (User c.pid) c.note c.value b can) can.after.shows known;
     segments =
         let processes = can.book_stands.keeps.processes in
         let heaps = can.book_stands.keeps.shared in
-        omega (arith, processes, heaps, procs_count, phases_count);
-    known = λ t there. subst (λ (n : ℕ). t < n) (sym phases_count) ((sound trace (User c.pid) c.note c.value b can).shape.known.shared p t (sym (shares_are p t) ∙ there));
-    ways = λ t there.
-        ap (λ n. Rattle.k_collect.specs.Unsharing.has_way_by w b.value p (1 + n + t) t) procs_count
-        ∙ way_kept trace here t (not_absorbed t there) c.value w b.value p process exits;
-    bytes = omega (arith, lost_bytes, unshared_few);
+        let count = ap (λ (x : BookRecord). length x.procs) changes in
+        let phases = ap (λ (x : BookRecord). length x.value.phases) changes in
+        omega (arith, processes, heaps, procs_count, phases_count, count, phases);
+    known = λ t there.
+        let phases = ap (λ (x : BookRecord). length x.value.phases) changes in
+        let low = (sound trace (User c.pid) c.note c.value b can).shape.known.shared p t (sym (shares_are p t) ∙ sym (ap (λ (x : BookRecord). has_share x.value.shares p t) changes) ∙ there) in
+        omega (arith, phases, phases_count, low);
+    bytes =
+        let same = same_bytes_lost (ways_left w p k) stays p k (ways_same w k changes process exits) (numbers_below (length k.value.phases)) in
+        let now = ap (λ (x : BookRecord). bytes_lost stays x.value p (numbers_below (length x.value.phases))) changes in
+        omega (arith, same, now, lost_bytes, unshared_few);
   }
-
-  pub can_unshare : (w : CellValue) (k : BookRecord) → ChangesEntries b k → w.process ≡ c.value.process → ((n : Name) → name_among n w.exits ≡ name_among n (swept c.value).exits) → CanUnshare stays w p k
-  can_unshare w k changes process exits = subst (CanUnshare stays w p) (sym changes) (unshares w k.value.entries process exits)
 
   -- the book after what goes has gone
   module _ (k l m : BookRecord) (limit amount : ℕ) (left : ChangesEntries b k) (entries : HasLeft (dropped c.value) b.value k.value) (unshared : HasUnshared stays p k l)
@@ -286,11 +297,11 @@ module _ (trace : Trace) (c : HeapRecord) (b : BookRecord) (can : CanSweep trace
       shares = dropped_shares trace (owners_now trace b) b.value c.value p;
       event_is = refl;
       appended = record { possible = told.possible; journal = refl; same_table = refl; book_is = refl; agrees = after.book_agrees };
-      heap = record {
+      heap_goes_on = record {
         cell_is = refl;
         table = table;
         settled = ap (λ (x : CellValue). x.tail) swept_is.swept.rest ∙ settled;
-        phase = ap (λ (x : CellValue). x.collection) swept_is.swept.rest;
+        in_phase = ap (λ (x : CellValue). x.collection) swept_is.swept.rest;
         met = after.cells_met.0;
         agrees = after.cells_agree.0;
       };
@@ -330,10 +341,10 @@ module _ (trace : Trace) (c : HoldingsValue) (b : BookRecord) (can : CanSweep tr
       exits = dropped_exits c.value;
       event_is = refl;
       appended = record { possible = kernel_possible; journal = refl; same_table = refl; book_is = refl; agrees = kernel_after.book_agrees };
-      kernel = record {
+      kernel_goes_on = record {
         kernel_is = refl;
         table = table;
-        phase = ap (λ (x : CellValue). x.collection) swept_is.swept.rest;
+        in_phase = ap (λ (x : CellValue). x.collection) swept_is.swept.rest;
         met = kernel_after.cells_met.0;
         agrees = kernel_after.cells_agree.0;
       };
@@ -353,7 +364,7 @@ pub heap_can_be_swept : (trace : Trace) (c : HeapRecord) (b : BookRecord) → Ca
 heap_can_be_swept trace c b can told = record {
   book_stands = can.book_stands;
   after = record { met = told.shows.met; shows = told.shows.shows can.collects.settled };
-  marked = can.collects.phase;
+  marked = can.collects.in_phase;
   few = told.few;
   room = can.room told.fits;
 }
@@ -363,7 +374,7 @@ pub kernel_can_be_swept : (trace : Trace) (c : HoldingsValue) (b : BookRecord) �
 kernel_can_be_swept trace c b can told = record {
   book_stands = can.book_stands;
   after = record { met = told.shows.met; shows = told.shows.shows can.collects.agrees.tail };
-  marked = can.collects.phase;
+  marked = can.collects.in_phase;
   few = told.few;
   room = can.room told.fits;
 }
@@ -376,7 +387,14 @@ heap_since_met trace c w note b k e h = record {
   shares = h.shares;
   event_is = h.event_is;
   appended = h.appended;
-  heap = record { cell_is = h.heap.cell_is; table = h.heap.table; settled = h.heap.settled; phase = h.heap.phase; met = h.heap.met; agrees = h.heap.agrees };
+  heap_goes_on = record {
+    cell_is = h.heap_goes_on.cell_is;
+    table = h.heap_goes_on.table;
+    settled = h.heap_goes_on.settled;
+    in_phase = h.heap_goes_on.in_phase;
+    met = h.heap_goes_on.met;
+    agrees = h.heap_goes_on.agrees;
+  };
   left = h.left;
 }
 
@@ -387,7 +405,13 @@ kernel_since_met trace c w note b k e h = record {
   exits = h.exits;
   event_is = h.event_is;
   appended = h.appended;
-  kernel = record { kernel_is = h.kernel.kernel_is; table = h.kernel.table; phase = h.kernel.phase; met = h.kernel.met; agrees = h.kernel.agrees };
+  kernel_goes_on = record {
+    kernel_is = h.kernel_goes_on.kernel_is;
+    table = h.kernel_goes_on.table;
+    in_phase = h.kernel_goes_on.in_phase;
+    met = h.kernel_goes_on.met;
+    agrees = h.kernel_goes_on.agrees;
+  };
   left = h.left;
 }
 

@@ -187,8 +187,8 @@ module _ (trace : Trace) (c : HeapRecord) (k : HoldingsValue) (b : BookRecord) (
     begins = record {
       event_is = refl;
       appended = record { possible = kcollect_possible; journal = refl; same_table = refl; book_is = refl; agrees = both_after.book_agrees };
-      heap = record { cell_is = refl; table = can.heap_stands.table; settled = can.heap_stands.settled; phase = can.heap_stands.idle; met = both_after.cells_met.0; agrees = both_after.cells_agree.0 };
-      kernel = record { kernel_is = refl; table = can.kernel_stands.table; phase = refl; met = both_after.cells_met.1.0; agrees = both_after.cells_agree.1.0 };
+      heap_goes_on = record { cell_is = refl; table = can.heap_stands.table; settled = can.heap_stands.settled; in_phase = can.heap_stands.idle; met = both_after.cells_met.0; agrees = both_after.cells_agree.0 };
+      kernel_goes_on = record { kernel_is = refl; table = can.kernel_stands.table; in_phase = refl; met = both_after.cells_met.1.0; agrees = both_after.cells_agree.1.0 };
       done = one_more c.value.process _ (ap (λ (s : ShownPart). s.process) both_met.after.shows.part);
       gray = gray_right trace now kcollect Kernel b k.value w (sound_now before both_met) refl can.book_stands.agrees.shows kernel_shows grayed (ap (λ (p : CellPart). p.scan) kernel_part_then);
     }
@@ -266,7 +266,7 @@ module _ (trace : Trace) (k : HoldingsValue) (b : BookRecord) (can : CanClose tr
     closed = record {
       event_is = refl;
       appended = record { possible = closing_possible; journal = refl; same_table = refl; book_is = refl; agrees = closing_after.book_agrees };
-      kernel = record { kernel_is = refl; table = can.kernel_stands.table; phase = refl; met = closing_after.cells_met.0; agrees = closing_after.cells_agree.0 };
+      kernel_goes_on = record { kernel_is = refl; table = can.kernel_stands.table; in_phase = refl; met = closing_after.cells_met.0; agrees = closing_after.cells_agree.0 };
       gray = gray_right trace st Closing Kernel b k.value w last_sound refl can.book_stands.agrees.shows last_shows grayed (ap (λ (p : CellPart). p.scan) closing_part);
     }
 

@@ -5,7 +5,7 @@ use Rattle.k_types.specs.declared.names.Heap.TheVariants.{Kernel}
 use Rattle.k_types.specs.declared.names.Name.{Name}
 use Rattle.k_types.specs.Agree.{BookValue, CellValue}
 use Rattle.k_types.specs.Counted.{counted}
-use Rattle.k_types.specs.Names.{name_among, name_eq}
+use Rattle.k_types.specs.Names.{name_among, name_eq, heap_eq}
 use Rattle.k_types.specs.Sound.{AreDistinctExits}
 use Rattle.k_types.specs.State.{ExitItem, has_exit}
 use Rattle.k_types.specs.Totals.{total}
@@ -101,7 +101,7 @@ unfolding as_items
 items_distinct [] distinct = tt
 items_distinct (x ∷ names) distinct = (items_have names x ∙ distinct.0, items_distinct names distinct.1)
 
-items_are_all : (names : List Name) → total (λ (e : ExitItem). cond (Rattle.k_types.specs.Names.heap_eq e.heap Kernel) 1 0) (as_items names) ≡ length names
+items_are_all : (names : List Name) → total (λ (e : ExitItem). cond (heap_eq e.heap Kernel) 1 0) (as_items names) ≡ length names
 unfolding as_items
 items_are_all [] = refl
 items_are_all (x ∷ names) = let rest = items_are_all names in omega (arith, rest)

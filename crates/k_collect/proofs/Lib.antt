@@ -11,3 +11,4 @@ pub mod KernelBegins
 pub mod Ends
 pub mod Settles
 pub mod Called
+pub mod Sweeps

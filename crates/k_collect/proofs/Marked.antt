@@ -1,5 +1,5 @@
 -- A cell that agrees can be marked.
-use Rattle.std.proofs.Common.{◌≡◌, not, Bool, true, false, cond, sym, ap, ◌∙◌, Some, None, is_some, get_or, List}
+use Rattle.std.proofs.Common.{◌≡◌, not, Bool, true, false, cond, sym, ap, ◌∙◌, Some, None, is_some, get_or, List, refl, subst}
 use Rattle.std.proofs.lemmas.Bool.{and_parts, false≢true}
 use Rattle.k_types.specs.declared.names.CellPhase.TheVariants.{Marked}
 use Rattle.k_types.specs.declared.names.Name.{Name}
@@ -23,7 +23,7 @@ use Rattle.k_collect.specs.Marking.{CanMark, HasMarkedOn}
 
 not_owned : {A : Type 0} (b : Bool) (x : A) → not (is_some (cond b (Some x) None)) ≡ true → b ≡ false
 not_owned true x e = absurd (false≢true e)
-not_owned false x e = Rattle.std.proofs.Common.refl
+not_owned false x e = refl
 
 -- a reference out of the heap has its exit item
 pub shown_exits : (trace : Trace) (st : State) (cell : Cell) (v : CellValue) → IsSound trace st → Shows trace st cell v → HasItsExits v
@@ -46,6 +46,6 @@ can_be_marked trace cell note v can = shown_exits trace _ cell v (cell_sound tra
 pub marked_on : (trace : Trace) (cell : Cell) (note : NoteValue) (v w : CellValue) → CanMark trace cell note v → HasMarked v w → HasMarkedOn trace cell note v w
 marked_on trace cell note v w can marks = record {
   rest = marks.rest;
-  agrees = Rattle.std.proofs.Common.subst (λ (x : CellValue). Agrees trace cell note x) (sym marks.rest) (marked_agrees trace cell note v w.black w.black_exits can.keeps.limits can.agrees can.begun marks.reached);
+  agrees = subst (λ (x : CellValue). Agrees trace cell note x) (sym marks.rest) (marked_agrees trace cell note v w.black w.black_exits can.keeps.limits can.agrees can.begun marks.reached);
   phase = ap (λ (x : CellValue). x.collection) marks.rest;
 }

@@ -1,6 +1,6 @@
 -- The objects that are gray once all roots were walked.
 use Rattle.std.proofs.Common.{◌≡◌, ℕ, ◌<◌, ◌||◌, ◌&&◌, nat_lt, Bool, true, false, refl, sym, ap, ap₂, ◌∙◌, List, [], ◌∷◌, map, filter, length}
-use Rattle.std.proofs.lemmas.Bool.{and_parts}
+use Rattle.std.proofs.lemmas.Bool.{and_parts, false≢true}
 use Rattle.std.specs.List.{list_any}
 use Rattle.k_types.specs.declared.names.Heap.{Heap}
 use Rattle.k_types.specs.declared.names.Heap.TheVariants.{User}
@@ -39,7 +39,7 @@ roots_found true true false false true own = refl
 roots_found true false true p true own = refl
 roots_found true false false true true own = refl
 roots_found true false false false true own = refl
-roots_found true h e p false own = absurd (Rattle.std.proofs.lemmas.Bool.false≢true (own refl))
+roots_found true h e p false own = absurd (false≢true (own refl))
 roots_found false true e p o own = refl
 roots_found false false true p true own = refl
 roots_found false false true true false own = refl

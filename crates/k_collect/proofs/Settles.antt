@@ -8,9 +8,9 @@ use Rattle.k_types.specs.declared.names.Heap.{Heap}
 use Rattle.k_types.specs.declared.names.Heap.TheVariants.{Kernel, User}
 use Rattle.k_types.specs.declared.names.Pid.{Pid}
 use Rattle.k_types.specs.Agree.{CellValue}
-use Rattle.k_types.specs.Trace.{Trace}
-use Rattle.k_agree.specs.Meeting.{Fits}
-use Rattle.k_book.specs.Books.{BookRecord}
+use Rattle.k_types.specs.Trace.{Trace, process_count}
+use Rattle.k_agree.specs.Meeting.{Fits, HasMet}
+use Rattle.k_book.specs.Books.{BookRecord, pin_room_of}
 use Rattle.k_book.specs.Machine.{IsBookOf}
 use Rattle.k_cell.specs.Holdings.{HoldingsValue}
 use Rattle.k_heap.specs.Heaps.{HeapRecord}
@@ -23,6 +23,8 @@ use Rattle.k_collect.specs.Collecting.{CanEndHeap, CanEndKernel}
 use Rattle.k_collect.specs.Ended.{HasEndedHeap, HasEndedKernel}
 use Rattle.k_collect.specs.Marking.{CanMark, HasMarkedOn}
 use Rattle.k_collect.specs.Settling.{AreEnds, CanSettleHeap, CanSettleKernel, HasSettledHeap, HasSettledKernel, IsTheEnd, KeepsBook, KeepsCell, ends_to_come}
+use Rattle.k_types.specs.declared.event.Event.TheVariants.{Ended}
+use Rattle.k_agree.specs.Agreement.{Agrees}
 
 -- a collection is open in this phase
 IsOpen : CellPhase → Type 0
@@ -57,7 +59,7 @@ module _ (trace : Trace) (c : HeapRecord) (b : BookRecord) (can : CanSettleHeap 
       keeps = can.book_stands.keeps;
       of_trace = subst (IsBookOf trace) (sym p.book_is) (record { rows = can.book_stands.of_trace.rows; procs = can.book_stands.of_trace.procs; ceiling = can.book_stands.of_trace.ceiling; maxima = can.book_stands.of_trace.maxima });
       agrees = p.book_agrees;
-      pins = subst (λ (x : BookRecord). Rattle.k_book.specs.Books.pin_room_of (Rattle.k_types.specs.Trace.process_count trace) ≤ x.pin_room) (sym p.book_is) can.book_stands.pins;
+      pins = subst (λ (x : BookRecord). pin_room_of (process_count trace) ≤ x.pin_room) (sym p.book_is) can.book_stands.pins;
     }
 
     pub settled_idle : d.value.collection ≡ Idle → HasSettledHeap trace c d b k
@@ -72,11 +74,11 @@ module _ (trace : Trace) (c : HeapRecord) (b : BookRecord) (can : CanSettleHeap 
           book_is = p.book_is ∙ sym (ap (λ (x : BookRecord). record b { journal = k.journal; value = x.value }) p.book_is);
           book_kept = subst (λ phase. KeepsBook phase b k) (sym idle) p.book_is;
           cell_kept = subst (λ phase. KeepsCell phase c.value d.value) (sym idle) (ap (λ (x : HeapRecord). x.value) p.cell_is);
-          heap = record {
+          heap_goes_on = record {
             cell_is = p.cell_is ∙ sym (ap (λ (x : HeapRecord). record c { note = d.note; value = x.value }) p.cell_is);
             table = p.table;
             settled = ap (λ (x : HeapRecord). x.value.tail) p.cell_is;
-            phase = is;
+            in_phase = is;
             met = p.met;
             agrees = p.agrees;
           };
@@ -85,9 +87,9 @@ module _ (trace : Trace) (c : HeapRecord) (b : BookRecord) (can : CanSettleHeap 
 
     room_for_end : IsOpen d.value.collection → HasEventRoom k
     unfolding IsOpen
-    room_for_end open =
+    room_for_end is_open =
         let room = can.room p.fits in
-        let one = sym (ap ends_to_come same_phase) ∙ open.0 in
+        let one = sym (ap ends_to_come same_phase) ∙ is_open.0 in
         let list = ap length p.journal ∙ length-append b.journal.list c.value.tail in
         let events = ap (λ (x : BookRecord). x.event_room) p.book_is in
         omega (arith, room, one, list, events)
@@ -95,7 +97,7 @@ module _ (trace : Trace) (c : HeapRecord) (b : BookRecord) (can : CanSettleHeap 
     pub can_end_marked : d.value.collection ≡ Marked → CanEndHeap trace d k
     can_end_marked marked = record {
       book_stands = still_stands;
-      collects = record { agrees = p.agrees; table = p.table; settled = ap (λ (x : HeapRecord). x.value.tail) p.cell_is; phase = marked };
+      collects = record { agrees = p.agrees; table = p.table; settled = ap (λ (x : HeapRecord). x.value.tail) p.cell_is; in_phase = marked };
       room = λ fits. room_for_end (subst IsOpen (sym marked) marked_is_open);
     }
 
@@ -111,17 +113,17 @@ module _ (trace : Trace) (c : HeapRecord) (b : BookRecord) (can : CanSettleHeap 
               agrees = marked.agrees;
               table = p.table;
               settled = ap (λ (x : CellValue). x.tail) marked.rest ∙ ap (λ (x : HeapRecord). x.value.tail) p.cell_is;
-              phase = marked.phase;
+              in_phase = marked.phase;
             };
             room = λ fits. room_for_end (subst IsOpen (sym begun) begun_is_open);
           })
 
-    module _ (w x : HeapRecord) (l : BookRecord) (e : Event) (rest : w ≡ record d { value = w.value }) (h : HasEndedHeap trace w x k l e) (open : IsOpen d.value.collection) where
+    module _ (w x : HeapRecord) (l : BookRecord) (e : Event) (rest : w ≡ record d { value = w.value }) (h : HasEndedHeap trace w x k l e) (is_open : IsOpen d.value.collection) where
       same_pid : w.pid ≡ c.pid
       same_pid = ap (λ (y : HeapRecord). y.pid) rest ∙ ap (λ (y : HeapRecord). y.pid) p.cell_is
 
       open_then : IsOpen c.value.collection
-      open_then = subst IsOpen same_phase open
+      open_then = subst IsOpen same_phase is_open
 
       settled_ended : HasSettledHeap trace c x b l
       unfolding IsOpen
@@ -135,23 +137,23 @@ module _ (trace : Trace) (c : HeapRecord) (b : BookRecord) (can : CanSettleHeap 
           shares = h.shares;
           is =
               ap (λ (f : Event). f ∷ []) h.event_is
-              ∙ ap (λ (pid : Pid). Rattle.k_types.specs.declared.event.Event.TheVariants.Ended (User pid) h.objects h.bytes h.exits h.shares ∷ []) same_pid;
+              ∙ ap (λ (pid : Pid). Ended (User pid) h.objects h.bytes h.exits h.shares ∷ []) same_pid;
         });
         journal = h.appended.journal ∙ ap (λ (list : List Event). list ++ e ∷ []) p.journal;
         same_table = h.appended.same_table ∙ p.same_table;
         book_is = h.appended.book_is ∙ ap (λ (y : BookRecord). record y { journal = l.journal; value = l.value }) p.book_is;
         book_kept = open_then.2 b l;
         cell_kept = open_then.3 c.value x.value;
-        heap = record {
+        heap_goes_on = record {
           cell_is =
-              h.heap.cell_is
+              h.heap_goes_on.cell_is
               ∙ ap (λ (y : HeapRecord). record y { note = x.note; value = x.value }) rest
               ∙ ap (λ (y : HeapRecord). record y { note = x.note; value = x.value }) p.cell_is;
-          table = h.heap.table;
-          settled = h.heap.settled;
-          phase = h.heap.phase;
-          met = h.heap.met;
-          agrees = h.heap.agrees;
+          table = h.heap_goes_on.table;
+          settled = h.heap_goes_on.settled;
+          in_phase = h.heap_goes_on.in_phase;
+          met = h.heap_goes_on.met;
+          agrees = h.heap_goes_on.agrees;
         };
         agrees = h.appended.agrees;
       }
@@ -166,8 +168,8 @@ module _ (trace : Trace) (c : HoldingsValue) (b : BookRecord) (can : CanSettleKe
   kernel_phase : d.value.collection ≡ c.value.collection
   kernel_phase = ap (λ (x : HoldingsValue). x.value.collection) p.kernel_is
 
-  kernel_agrees : Rattle.k_agree.specs.Agreement.Agrees trace Kernel d.note d.value
-  kernel_agrees = subst (λ (x : HoldingsValue). Rattle.k_agree.specs.Agreement.Agrees trace Kernel x.note x.value) (sym p.kernel_is) p.told.shows.agrees
+  kernel_agrees : Agrees trace Kernel d.note d.value
+  kernel_agrees = subst (λ (x : HoldingsValue). Agrees trace Kernel x.note x.value) (sym p.kernel_is) p.told.shows.agrees
 
   kernel_table_of : d.note.table ≡ k.journal.table
   kernel_table_of = ap (λ (x : HoldingsValue). x.note.table) p.kernel_is ∙ can.table ∙ sym (ap (λ (x : BookRecord). x.journal.table) p.book_is)
@@ -188,12 +190,12 @@ module _ (trace : Trace) (c : HoldingsValue) (b : BookRecord) (can : CanSettleKe
         book_kept = subst (λ phase. KeepsBook phase b k) (sym idle) (p.book_is ∙ sym (ap (λ (x : BookRecord). record b { journal = x.journal }) p.book_is));
         cell_kept = subst (λ phase. KeepsCell phase c.value d.value) (sym idle)
             (ap (λ (x : HoldingsValue). x.value) p.kernel_is ∙ ap (λ (tail : List Event). record c.value { tail = tail }) can.agrees.tail);
-        kernel = record {
+        kernel_goes_on = record {
           kernel_is = p.kernel_is ∙ sym (ap (λ (x : HoldingsValue). record c { note = x.note; value = x.value }) p.kernel_is);
           table = kernel_table_of;
-          phase = is;
-          met = subst (λ (x : BookRecord). Rattle.k_agree.specs.Meeting.HasMet trace x.journal Kernel d.note) (sym p.book_is)
-              (subst (λ (x : HoldingsValue). Rattle.k_agree.specs.Meeting.HasMet trace b.journal Kernel x.note) (sym p.kernel_is) p.told.shows.met);
+          in_phase = is;
+          met = subst (λ (x : BookRecord). HasMet trace x.journal Kernel d.note) (sym p.book_is)
+              (subst (λ (x : HoldingsValue). HasMet trace b.journal Kernel x.note) (sym p.kernel_is) p.told.shows.met);
           agrees = kernel_agrees;
         };
         agrees = kernel_stands_still.agrees;
@@ -201,9 +203,9 @@ module _ (trace : Trace) (c : HoldingsValue) (b : BookRecord) (can : CanSettleKe
 
   kernel_room_for_end : IsOpen d.value.collection → HasEventRoom k
   unfolding IsOpen
-  kernel_room_for_end open =
+  kernel_room_for_end is_open =
       let room = can.room p.told.fits in
-      let one = sym (ap ends_to_come kernel_phase) ∙ open.0 in
+      let one = sym (ap ends_to_come kernel_phase) ∙ is_open.0 in
       let list = ap (λ (x : BookRecord). length x.journal.list) p.book_is in
       let events = ap (λ (x : BookRecord). x.event_room) p.book_is in
       omega (arith, room, one, list, events)
@@ -211,7 +213,7 @@ module _ (trace : Trace) (c : HoldingsValue) (b : BookRecord) (can : CanSettleKe
   pub kernel_can_end_marked : d.value.collection ≡ Marked → CanEndKernel trace d k
   kernel_can_end_marked marked = record {
     book_stands = kernel_stands_still;
-    collects = record { agrees = kernel_agrees; table = kernel_table_of; phase = marked };
+    collects = record { agrees = kernel_agrees; table = kernel_table_of; in_phase = marked };
     room = λ fits. kernel_room_for_end (subst IsOpen (sym marked) marked_is_open);
   }
 
@@ -222,13 +224,13 @@ module _ (trace : Trace) (c : HoldingsValue) (b : BookRecord) (can : CanSettleKe
   kernel_can_end_begun w rest marked begun =
       subst (λ (x : HoldingsValue). CanEndKernel trace x k) (sym rest) (record {
         book_stands = kernel_stands_still;
-        collects = record { agrees = marked.agrees; table = kernel_table_of; phase = marked.phase };
+        collects = record { agrees = marked.agrees; table = kernel_table_of; in_phase = marked.phase };
         room = λ fits. kernel_room_for_end (subst IsOpen (sym begun) begun_is_open);
       })
 
-  module _ (w x : HoldingsValue) (l : BookRecord) (e : Event) (rest : w ≡ record d { value = w.value }) (h : HasEndedKernel trace w x k l e) (open : IsOpen d.value.collection) where
+  module _ (w x : HoldingsValue) (l : BookRecord) (e : Event) (rest : w ≡ record d { value = w.value }) (h : HasEndedKernel trace w x k l e) (is_open : IsOpen d.value.collection) where
     kernel_open_then : IsOpen c.value.collection
-    kernel_open_then = subst IsOpen kernel_phase open
+    kernel_open_then = subst IsOpen kernel_phase is_open
 
     kernel_settled_ended : HasSettledKernel trace c x b l
     unfolding IsOpen
@@ -241,15 +243,15 @@ module _ (trace : Trace) (c : HoldingsValue) (b : BookRecord) (can : CanSettleKe
       book_is = h.appended.book_is ∙ ap (λ (y : BookRecord). record y { journal = l.journal; value = l.value }) p.book_is;
       book_kept = kernel_open_then.2 b l;
       cell_kept = kernel_open_then.3 c.value x.value;
-      kernel = record {
+      kernel_goes_on = record {
         kernel_is =
-            h.kernel.kernel_is
+            h.kernel_goes_on.kernel_is
             ∙ ap (λ (y : HoldingsValue). record y { note = x.note; value = x.value }) rest
             ∙ ap (λ (y : HoldingsValue). record y { note = x.note; value = x.value }) p.kernel_is;
-        table = h.kernel.table;
-        phase = h.kernel.phase;
-        met = h.kernel.met;
-        agrees = h.kernel.agrees;
+        table = h.kernel_goes_on.table;
+        in_phase = h.kernel_goes_on.in_phase;
+        met = h.kernel_goes_on.met;
+        agrees = h.kernel_goes_on.agrees;
       };
       agrees = h.appended.agrees;
     }

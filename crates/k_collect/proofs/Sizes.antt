@@ -1,5 +1,5 @@
 -- The numbers of the end of a collection fit, and what it credits is charged.
-use Rattle.std.proofs.Common.{◌≡◌, ◌+◌, ◌-◌, ◌*◌, ◌<◌, ◌≤◌, ◌^◌, ◌&&◌, not, Bool, true, false, cond, ℕ, refl, sym, ap, List, [], ◌∷◌, length, filter, map, arith, get_or, IsFalse}
+use Rattle.std.proofs.Common.{◌≡◌, ◌+◌, ◌-◌, ◌*◌, ◌<◌, ◌≤◌, ◌^◌, ◌&&◌, not, Bool, true, false, cond, ℕ, refl, sym, ap, List, [], ◌∷◌, length, filter, map, arith, get_or, IsFalse, suc, zero}
 use Rattle.k_types.specs.declared.names.Heap.{Heap}
 use Rattle.k_types.specs.Agree.{BookValue, CellValue}
 use Rattle.k_types.specs.Bounds.{most_fields}
@@ -40,8 +40,8 @@ sum_low f (x ∷ xs) low = let one = low x in let rest = sum_low f xs low in ome
 
 read_low : {A : Type 0} (f : A → ℕ) (xs : List A) (i most : ℕ) → ((x : A) → f x ≤ most) → get_or (map f xs) i 0 ≤ most
 read_low f [] i most low = omega arith
-read_low f (x ∷ xs) Rattle.std.proofs.Common.zero most low = low x
-read_low f (x ∷ xs) (Rattle.std.proofs.Common.suc i) most low = read_low f xs i most low
+read_low f (x ∷ xs) zero most low = low x
+read_low f (x ∷ xs) (suc i) most low = read_low f xs i most low
 
 module _ (trace : Trace) (history : List Event) (keeps : KeepsRules trace) (legal : IsLegalHistory trace history) where
   abbrev now : State

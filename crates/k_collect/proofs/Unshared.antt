@@ -10,11 +10,11 @@ use Rattle.k_types.specs.State.{has_share}
 use Rattle.k_types.specs.Totals.{total}
 use Rattle.k_base.proofs.Charges.{or_none}
 use Rattle.k_base.proofs.Lists.{numbers_length, numbers_push}
-use Rattle.k_base.proofs.Sums.{ones, total_at_most, total_push}
+use Rattle.k_base.proofs.Sums.{ones, sum_same, total_at_most, total_push}
 use Rattle.k_base.proofs.Tests.{same_test}
 use Rattle.k_book.specs.Books.{BookRecord}
 use Rattle.k_shares.specs.Sharers.{LosesShare}
-use Rattle.k_collect.specs.Unsharing.{CanUnshare, HasUnshared, bytes_lost, has_way_by, shares_lost}
+use Rattle.k_collect.specs.Unsharing.{CanUnshare, HasUnshared, bytes_lost, shares_lost, ways_left}
 
 -- the first elements with one more pass the test where they or that one do
 pub any_more : {A : Type 0} (p : A → Bool) (xs : List A) (i : ℕ) (d : A) → i < length xs → list_any p (take (i + 1) xs) ≡ (list_any p (take i xs) || p (get_or xs i d))
@@ -213,7 +213,7 @@ module _ (stays : ℕ → Bool) (p : ℕ) (old now : BookRecord) (s shares bytes
           and_false_not false b = refl
 
 -- once every heap of the book has had its turn
-pub unsharing_ends : (stays : ℕ → Bool) (v : CellValue) (p : ℕ) (old now : BookRecord) (shares bytes : ℕ) → CanUnshare stays v p old →
+pub unsharing_ends : (stays : ℕ → Bool) (v : CellValue) (p : ℕ) (old now : BookRecord) (shares bytes : ℕ) → CanUnshare v p old →
     IsUnsharing stays p old now (length old.value.phases) shares bytes → HasUnshared stays p old now
 unsharing_ends stays v p old now shares bytes can is = record {
   rest = is.rest;
@@ -228,51 +228,73 @@ unsharing_ends stays v p old now shares bytes can is = record {
     go q t false b none e = refl
 
 -- the bytes so far, with one heap more, fit
-pub bytes_go_on : (stays : ℕ → Bool) (v : CellValue) (p : ℕ) (old : BookRecord) (s : ℕ) → CanUnshare stays v p old → s < length old.value.phases → has_share old.value.shares p s ≡ true → stays s ≡ false →
-    bytes_lost stays old.value p (numbers_below s) + get_or old.value.shared_bytes s 0 < 2 ^ 64
-bytes_go_on stays v p old s can low there gone =
+bytes_go_on : (stays : ℕ → Bool) (p : ℕ) (old : BookRecord) (s : ℕ) → bytes_lost stays old.value p (numbers_below (length old.value.phases)) < 2 ^ 64 → s < length old.value.phases →
+    has_share old.value.shares p s ≡ true → stays s ≡ false → bytes_lost stays old.value p (numbers_below s) + get_or old.value.shared_bytes s 0 < 2 ^ 64
+bytes_go_on stays p old s most low there gone =
     let more = total_more (λ t. cond (has_share old.value.shares p t && not (stays t)) (get_or old.value.shared_bytes t 0) 0) s in
     let here : cond (has_share old.value.shares p s && not (stays s)) (get_or old.value.shared_bytes s 0) 0 ≡ get_or old.value.shared_bytes s 0 = ap₂ (λ a b. cond (a && not b) (get_or old.value.shared_bytes s 0) 0) there gone in
     let less = first_total (λ t. cond (has_share old.value.shares p t && not (stays t)) (get_or old.value.shared_bytes t 0) 0) (s + 1) (length old.value.phases) (omega (arith, low)) in
-    let most = can.bytes in
     omega (arith, more, here, less, most)
 
--- whether the share of the next heap goes
-pub loses_is : (stays : ℕ → Bool) (v : CellValue) (p : ℕ) (old now : BookRecord) (s shares bytes : ℕ) → CanUnshare stays v p old → IsUnsharing stays p old now s shares bytes →
-    (has_share now.value.shares p s && not (has_way_by v now.value p (1 + length now.procs + s) s)) ≡ (has_share old.value.shares p s && not (stays s))
-loses_is stays v p old now s shares bytes can is =
-    ap₂ (λ a b. a && not b) (share_as_before stays p old now s shares bytes is)
-    (ap (λ (k : BookRecord). has_way_by v k.value p (1 + length k.procs + s) s) is.rest)
-    ∙ go (has_share old.value.shares p s) refl
-  where
-    go : (a : Bool) → has_share old.value.shares p s ≡ a → (a && not (has_way_by v old.value p (1 + length old.procs + s) s)) ≡ (a && not (stays s))
-    go true there = ap not (can.ways s there)
-    go false none = refl
-
 -- what it means that the next share goes, or stays
-module _ (stays : ℕ → Bool) (v : CellValue) (p : ℕ) (old now : BookRecord) (s shares bytes : ℕ) (can : CanUnshare stays v p old) (is : IsUnsharing stays p old now s shares bytes) where
-  pub lost_means : (has_share now.value.shares p s && not (has_way_by v now.value p (1 + length now.procs + s) s)) ≡ true → (has_share old.value.shares p s ≡ true) × (stays s ≡ false)
+module _ (v : CellValue) (p : ℕ) (old now : BookRecord) (s shares bytes : ℕ) (can : CanUnshare v p old) (is : IsUnsharing (ways_left v p old) p old now s shares bytes) where
+  loses_is : (has_share now.value.shares p s && not (ways_left v p now s)) ≡ (has_share old.value.shares p s && not (ways_left v p old s))
+  loses_is = ap₂ (λ a b. a && not b) (share_as_before (ways_left v p old) p old now s shares bytes is) (ap (λ (k : BookRecord). ways_left v p k s) is.rest)
+
+  pub lost_means : (has_share now.value.shares p s && not (ways_left v p now s)) ≡ true → (has_share old.value.shares p s ≡ true) × (ways_left v p old s ≡ false)
   lost_means lost =
-      let both = and_parts (has_share old.value.shares p s) (not (stays s)) (sym (loses_is stays v p old now s shares bytes can is) ∙ lost) in
-      (both.0, not_true (stays s) both.1)
+      let both = and_parts (has_share old.value.shares p s) (not (ways_left v p old s)) (sym loses_is ∙ lost) in
+      (both.0, not_true (ways_left v p old s) both.1)
     where
       not_true : (b : Bool) → not b ≡ true → b ≡ false
       not_true true e = absurd (false≢true e)
       not_true false e = refl
 
-  pub kept_means : (has_share now.value.shares p s && not (has_way_by v now.value p (1 + length now.procs + s) s)) ≡ false → (has_share old.value.shares p s && not (stays s)) ≡ false
-  kept_means kept = sym (loses_is stays v p old now s shares bytes can is) ∙ kept
+  pub kept_means : (has_share now.value.shares p s && not (ways_left v p now s)) ≡ false → (has_share old.value.shares p s && not (ways_left v p old s)) ≡ false
+  kept_means kept = sym loses_is ∙ kept
 
-  pub bytes_so_far : s < length old.value.phases → (has_share old.value.shares p s ≡ true) × (stays s ≡ false) → bytes + get_or now.value.shared_bytes s 0 < 2 ^ 64
+  pub bytes_so_far : s < length old.value.phases → (has_share old.value.shares p s ≡ true) × (ways_left v p old s ≡ false) → bytes + get_or now.value.shared_bytes s 0 < 2 ^ 64
   bytes_so_far low means =
-      let fits = bytes_go_on stays v p old s can low means.0 means.1 in
+      let fits = bytes_go_on (ways_left v p old) p old s can.bytes low means.0 means.1 in
       let sum = is.sum in
       let same = ap (λ (b : BookRecord). get_or b.value.shared_bytes s 0) is.rest in
       omega (arith, fits, sum, same)
 
   pub shares_so_far : s < length old.value.phases → shares + 1 < 2 ^ 32
   shares_so_far low =
-      let few = few_lost stays old.value p s in
+      let few = few_lost (ways_left v p old) old.value p s in
       let count = is.count in
       let numbers = can.segments in
       omega (arith, few, count, numbers, low)
+
+-- tests that agree on the heaps that the process shares lose the same shares
+module _ (x y : ℕ → Bool) (p : ℕ) (b : BookRecord) (same : (t : ℕ) → has_share b.value.shares p t ≡ true → x t ≡ y t) where
+  same_lost : (t : ℕ) → (has_share b.value.shares p t && not (x t)) ≡ (has_share b.value.shares p t && not (y t))
+  same_lost t = go (has_share b.value.shares p t) refl
+    where
+      go : (a : Bool) → has_share b.value.shares p t ≡ a → (a && not (x t)) ≡ (a && not (y t))
+      go true there = ap not (same t there)
+      go false none = refl
+
+  counted_by : (a c : Bool) → ◌≡◌ {A = ℕ} (cond a (cond c 0 1) 0) (cond (a && not c) 1 0)
+  counted_by true true = refl
+  counted_by true false = refl
+  counted_by false c = refl
+
+  pub same_bytes_lost : (heaps : List ℕ) → bytes_lost x b.value p heaps ≡ bytes_lost y b.value p heaps
+  same_bytes_lost = sum_same
+      (λ t. cond (has_share b.value.shares p t && not (x t)) (get_or b.value.shared_bytes t 0) 0) (λ t. cond (has_share b.value.shares p t && not (y t)) (get_or b.value.shared_bytes t 0) 0)
+      (λ t. ap (λ a. cond a (get_or b.value.shared_bytes t 0) 0) (same_lost t))
+
+  pub same_shares_lost : (heaps : List ℕ) → shares_lost x b.value p heaps ≡ shares_lost y b.value p heaps
+  same_shares_lost = sum_same
+      (λ t. cond (has_share b.value.shares p t) (cond (x t) 0 1) 0) (λ t. cond (has_share b.value.shares p t) (cond (y t) 0 1) 0)
+      (λ t. counted_by (has_share b.value.shares p t) (x t) ∙ ap (λ a. cond a 1 0) (same_lost t) ∙ sym (counted_by (has_share b.value.shares p t) (y t)))
+
+  pub same_unshared : (k : BookRecord) → HasUnshared x p b k → HasUnshared y p b k
+  same_unshared k unshared = record { rest = unshared.rest; shares = λ q t. unshared.shares q t ∙ go q t (has_share b.value.shares q t) (q == p) refl refl }
+    where
+      go : (q t : ℕ) (a c : Bool) → has_share b.value.shares q t ≡ a → (q == p) ≡ c → (a && (not c || x t)) ≡ (a && (not c || y t))
+      go q t true true there mine = same t (ap (λ k. has_share b.value.shares k t) (sym (eqb-true q p mine)) ∙ there)
+      go q t true false there other = refl
+      go q t false c none e = refl

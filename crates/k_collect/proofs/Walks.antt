@@ -20,7 +20,7 @@ passed_before (item ∷ items) None = item.object ∷ passed_before items None
 passed_before (item ∷ items) (Some t) = cond (name_eq item.object t) [] (item.object ∷ passed_before items (Some t))
 
 -- the walk is at one of the items, or at its end
-pub IsOnWalk : List Counted → Option Name → Type 0
+abbrev pub IsOnWalk : List Counted → Option Name → Type 0
 IsOnWalk items at = (t : Name) → at ≡ Some t → name_among t (objects items) ≡ true
 
 pub none_before : (items : List Counted) → passed_before items (first_object items) ≡ []
@@ -53,11 +53,9 @@ after_among (item ∷ items) t u e = go (λ is. after_among items t u is) (name_
     go rest false is = or_right _ _ (rest is)
 
 pub first_on_walk : (items : List Counted) → IsOnWalk items (first_object items)
-unfolding IsOnWalk
 first_on_walk items u is = first_among items u is
 
 pub next_on_walk : (items : List Counted) (t : Name) → IsOnWalk items (object_after items t)
-unfolding IsOnWalk
 next_on_walk items t u is = after_among items t u is
 
 apart_from : (items : List Counted) (n u : Name) → name_among n (objects items) ≡ false → name_among u (objects items) ≡ true → name_eq n u ≡ false

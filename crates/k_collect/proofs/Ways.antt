@@ -1,5 +1,5 @@
 -- A way into a shared heap, by the heap's segment.
-use Rattle.std.proofs.Common.{◌≡◌, ◌+◌, ◌-◌, ◌<◌, ◌≤◌, ◌==◌, ◌||◌, ◌&&◌, not, nat_le, Bool, true, false, cond, ℕ, refl, sym, ap, ap₂, ◌∙◌, subst, List, [], ◌∷◌, filter, Option, Some, None, IsFalse, IsTrue, arith, eqb-true, eq-eqb}
+use Rattle.std.proofs.Common.{◌≡◌, ◌+◌, ◌-◌, ◌<◌, ◌≤◌, ◌==◌, ◌||◌, ◌&&◌, not, nat_le, Bool, true, false, cond, ℕ, refl, sym, ap, ap₂, ◌∙◌, subst, List, [], ◌∷◌, filter, Option, Some, None, IsFalse, IsTrue, arith, eqb-true, eq-eqb, inl, inr, leb-false}
 use Rattle.std.specs.List.{list_any}
 use Rattle.std.proofs.lemmas.Bool.{false≢true, or_cases, or_left, or_right}
 use Rattle.k_types.specs.declared.names.Heap.{Heap}
@@ -40,22 +40,22 @@ shared_segment procs ended phases seg t e = go (seg == 0) (nat_le seg procs) ref
     go false true some low is = absurd (user_not (among (seg - 1) ended) (seg - 1) is)
     go false false some high is =
         let number = shared_is (is_absorbed (phase_of phases (seg - 1 - procs))) (seg - 1 - procs) is in
-        let above = Rattle.std.proofs.Common.leb-false seg procs high in
+        let above = leb-false seg procs high in
         omega (arith, number, above)
 
 any_at_name : (g : Name → Bool) (xs : List Name) (n : Name) → name_among n xs ≡ true → g n ≡ true → list_any g xs ≡ true
 any_at_name g [] n t u = absurd (false≢true t)
 any_at_name g (x ∷ xs) n t u = elim (or_cases (name_eq x n) (name_among n xs) t) [
-  | Rattle.std.proofs.Common.inl here ↦ or_left (g x) (list_any g xs) (ap g (name_eq-true x n here) ∙ u)
-  | Rattle.std.proofs.Common.inr there ↦ or_right (g x) (list_any g xs) (any_at_name g xs n there u)
+  | inl here ↦ or_left (g x) (list_any g xs) (ap g (name_eq-true x n here) ∙ u)
+  | inr there ↦ or_right (g x) (list_any g xs) (any_at_name g xs n there u)
 ]
 
 -- names of which some passes the test have one that does
 some_at_name : (g : Name → Bool) (xs : List Name) → list_any g xs ≡ true → (n : Name) × (name_among n xs ≡ true) × (g n ≡ true)
 some_at_name g [] t = absurd (false≢true t)
 some_at_name g (x ∷ xs) t = elim (or_cases (g x) (list_any g xs) t) [
-  | Rattle.std.proofs.Common.inl here ↦ (x, or_left (name_eq x x) (name_among x xs) (name_eq_refl x), here)
-  | Rattle.std.proofs.Common.inr there ↦ let rest = some_at_name g xs there in (rest.0, or_right (name_eq x rest.0) (name_among rest.0 xs) rest.1, rest.2)
+  | inl here ↦ (x, or_left (name_eq x x) (name_among x xs) (name_eq_refl x), here)
+  | inr there ↦ let rest = some_at_name g xs there in (rest.0, or_right (name_eq x rest.0) (name_among rest.0 xs) rest.1, rest.2)
 ]
 
 -- lists of the same names pass a test alike

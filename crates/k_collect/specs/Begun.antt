@@ -35,7 +35,7 @@ pub record HeapGoesOn (trace : Trace) (old_cell cell : HeapRecord) (book : BookR
   pub cell_is : cell ≡ record old_cell { note = cell.note; value = cell.value }
   pub table : cell.note.table ≡ book.journal.table
   pub settled : cell.value.tail ≡ []
-  pub phase : cell.value.collection ≡ phase
+  pub in_phase : cell.value.collection ≡ phase
   pub met : HasMet trace book.journal (User cell.pid) cell.note
   pub agrees : Agrees trace (User cell.pid) cell.note cell.value
 
@@ -43,7 +43,7 @@ pub record HeapGoesOn (trace : Trace) (old_cell cell : HeapRecord) (book : BookR
 pub record KernelGoesOn (trace : Trace) (old_kernel kernel : HoldingsValue) (book : BookRecord) (phase : CellPhase) : Type 0 where
   pub kernel_is : kernel ≡ record old_kernel { note = kernel.note; value = kernel.value }
   pub table : kernel.note.table ≡ book.journal.table
-  pub phase : kernel.value.collection ≡ phase
+  pub in_phase : kernel.value.collection ≡ phase
   pub met : HasMet trace book.journal Kernel kernel.note
   pub agrees : Agrees trace Kernel kernel.note kernel.value
 
@@ -55,7 +55,7 @@ IsGrayAtTheRoots trace book heap value = (n : Name) → name_among n value.gray 
 pub record HasBegunHeap (trace : Trace) (old_cell cell : HeapRecord) (old_book book : BookRecord) (event : Event) : Type 0 where
   pub event_is : event ≡ Done old_cell.pid Collect DoneReply
   pub appended : HasAppended trace old_book book event
-  pub heap : HeapGoesOn trace old_cell cell book Begun
+  pub heap_goes_on : HeapGoesOn trace old_cell cell book Begun
   pub done : done_in cell.value.process ≡ done_in old_cell.value.process + 1
   pub gray : IsGrayAtTheRoots trace old_book (User old_cell.pid) cell.value
 
@@ -63,8 +63,8 @@ pub record HasBegunHeap (trace : Trace) (old_cell cell : HeapRecord) (old_book b
 pub record HasBegunKernel (trace : Trace) (old_cell cell : HeapRecord) (old_kernel kernel : HoldingsValue) (old_book book : BookRecord) (event : Event) : Type 0 where
   pub event_is : event ≡ Done old_cell.pid KCollect DoneReply
   pub appended : HasAppended trace old_book book event
-  pub heap : HeapGoesOn trace old_cell cell book Idle
-  pub kernel : KernelGoesOn trace old_kernel kernel book Begun
+  pub heap_goes_on : HeapGoesOn trace old_cell cell book Idle
+  pub kernel_goes_on : KernelGoesOn trace old_kernel kernel book Begun
   pub done : done_in cell.value.process ≡ done_in old_cell.value.process + 1
   pub gray : IsGrayAtTheRoots trace old_book Kernel kernel.value
 
@@ -72,5 +72,5 @@ pub record HasBegunKernel (trace : Trace) (old_cell cell : HeapRecord) (old_kern
 pub record HasClosed (trace : Trace) (old_kernel kernel : HoldingsValue) (old_book book : BookRecord) (event : Event) : Type 0 where
   pub event_is : event ≡ Closing
   pub appended : HasAppended trace old_book book event
-  pub kernel : KernelGoesOn trace old_kernel kernel book Begun
+  pub kernel_goes_on : KernelGoesOn trace old_kernel kernel book Begun
   pub gray : IsGrayAtTheRoots trace old_book Kernel kernel.value

@@ -19,13 +19,13 @@ pub record HeapCollects (trace : Trace) (cell : HeapRecord) (book : BookRecord) 
   pub agrees : Agrees trace (User cell.pid) cell.note cell.value
   pub table : cell.note.table ≡ book.journal.table
   pub settled : cell.value.tail ≡ []
-  pub phase : cell.value.collection ≡ phase
+  pub in_phase : cell.value.collection ≡ phase
 
 -- the kernel's cell agrees and is of the book's table, and its collection is in this phase
 pub record KernelCollects (trace : Trace) (kernel : HoldingsValue) (book : BookRecord) (phase : CellPhase) : Type 0 where
   pub agrees : Agrees trace Kernel kernel.note kernel.value
   pub table : kernel.note.table ≡ book.journal.table
-  pub phase : kernel.value.collection ≡ phase
+  pub in_phase : kernel.value.collection ≡ phase
 
 -- cell and book stand, and once the note fits the journal there is room for the event
 pub record CanBeginHeap (trace : Trace) (cell : HeapRecord) (book : BookRecord) : Type 0 where

@@ -36,7 +36,7 @@ pub record HasEndedHeap (trace : Trace) (old_cell cell : HeapRecord) (old_book b
   pub shares : ℕ
   pub event_is : event ≡ Ended (User old_cell.pid) objects bytes exits shares
   pub appended : HasAppended trace old_book book event
-  pub heap : HeapGoesOn trace old_cell cell book Idle
+  pub heap_goes_on : HeapGoesOn trace old_cell cell book Idle
   pub left : HaveWhatIsLeft trace (User old_cell.pid) (ended_state trace (User old_cell.pid) old_book) cell.value book.value
 
 -- the same for the kernel's heap, whose collections drop no share
@@ -46,5 +46,5 @@ pub record HasEndedKernel (trace : Trace) (old_kernel kernel : HoldingsValue) (o
   pub exits : ℕ
   pub event_is : event ≡ Ended Kernel objects bytes exits 0
   pub appended : HasAppended trace old_book book event
-  pub kernel : KernelGoesOn trace old_kernel kernel book Idle
+  pub kernel_goes_on : KernelGoesOn trace old_kernel kernel book Idle
   pub left : HaveWhatIsLeft trace Kernel (ended_state trace Kernel old_book) kernel.value book.value

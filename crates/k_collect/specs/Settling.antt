@@ -73,7 +73,7 @@ pub record HasSettledHeap (trace : Trace) (old_cell cell : HeapRecord) (old_book
   pub book_is : book ≡ record old_book { journal = book.journal; value = book.value }
   pub book_kept : KeepsBook old_cell.value.collection old_book book
   pub cell_kept : KeepsCell old_cell.value.collection old_cell.value cell.value
-  pub heap : HeapGoesOn trace old_cell cell book Idle
+  pub heap_goes_on : HeapGoesOn trace old_cell cell book Idle
   pub agrees : BookAgrees trace book.journal book.value
 
 -- the end of the open collection of the kernel's heap is in the journal; no collection is open
@@ -86,5 +86,5 @@ pub record HasSettledKernel (trace : Trace) (old_kernel kernel : HoldingsValue) 
   pub book_is : book ≡ record old_book { journal = book.journal; value = book.value }
   pub book_kept : KeepsBook old_kernel.value.collection old_book book
   pub cell_kept : KeepsCell old_kernel.value.collection old_kernel.value kernel.value
-  pub kernel : KernelGoesOn trace old_kernel kernel book Idle
+  pub kernel_goes_on : KernelGoesOn trace old_kernel kernel book Idle
   pub agrees : BookAgrees trace book.journal book.value

@@ -33,15 +33,18 @@ abbrev pub bytes_lost : (ℕ → Bool) → BookValue → ℕ → List ℕ → �
 bytes_lost stays book p heaps =
     total (λ t. if has_share book.shares p t && not (stays t) then slice_index_or book.shared_bytes t 0 else 0) heaps
 
+-- whether the process has a way left into each shared heap, whose segment comes behind those of the kernel and the processes
+abbrev pub ways_left : CellValue → ℕ → BookRecord → ℕ → Bool
+ways_left v p book t = has_way_by v book.value p (1 + length book.procs + t) t
+
 -- the process is one of the book's and has all its registers; the book's segments have numbers of 32 bits; its shares are of heaps of the
--- book; the test tells of each heap that it shares whether it has a way into it; and the bytes of the heaps whose shares go fit 64 bits
-pub record CanUnshare (stays : ℕ → Bool) (value : CellValue) (p : ℕ) (book : BookRecord) : Type 0 where
+-- book; and the bytes of the heaps whose shares go fit 64 bits
+pub record CanUnshare (value : CellValue) (p : ℕ) (book : BookRecord) : Type 0 where
   pub process : p < length book.procs
   pub registers : length (registers_in value.process) ≡ register_count
   pub segments : 1 + length book.procs + length book.value.phases < 2 ^ 32
   pub known : (t : ℕ) → IsTrue (has_share book.value.shares p t) → t < length book.value.phases
-  pub ways : (t : ℕ) → IsTrue (has_share book.value.shares p t) → has_way_by value book.value p (1 + length book.procs + t) t ≡ stays t
-  pub bytes : bytes_lost stays book.value p (numbers_below (length book.value.phases)) < 2 ^ 64
+  pub bytes : bytes_lost (ways_left value p book) book.value p (numbers_below (length book.value.phases)) < 2 ^ 64
 
 -- the process has lost the shares that the test does not keep, and nothing else of the book has changed
 pub record HasUnshared (stays : ℕ → Bool) (p : ℕ) (old new : BookRecord) : Type 0 where

@@ -1,12 +1,12 @@
 //! The shares that the end of a collection drops.
-ghost use Rattle.std.specs.Prelude.{◌≡◌, ◌+◌, ◌<◌, ◌^◌, ◌&&◌, not, ℕ, Bool, length};
+ghost use Rattle.std.specs.Prelude.{◌≡◌, ◌+◌, ◌<◌, ◌^◌, ◌&&◌, not, length};
 ghost use Rattle.std.specs.List.{list_any};
 ghost use Rattle.k_types.specs.Bounds.{register_count};
 ghost use Rattle.k_types.specs.Numbers.{numbers_below};
 ghost use Rattle.k_types.specs.Replies.{is_populating};
 ghost use Rattle.k_types.specs.State.{has_share};
 ghost use Rattle.k_changes.specs.BookChanges.{registers_in};
-ghost use Rattle.k_collect.specs.Unsharing.{CanUnshare, HasUnshared, bytes_lost, has_way_by, lies_in, shares_lost};
+ghost use Rattle.k_collect.specs.Unsharing.{CanUnshare, HasUnshared, bytes_lost, lies_in, shares_lost, ways_left};
 
 use k_book::Book;
 use k_heap::HeapCell;
@@ -50,7 +50,7 @@ fn has_way(cell: &HeapCell, book: &Book, shared: SharedId) -> bool
     requires registers { length (registers_in cell.now.value.process) ≡ register_count }
     requires segments { 1 + length book.now.procs + length book.now.value.phases < 2 ^ 32 }
     requires heap { shared.0 < length book.now.value.phases }
-    ensures { result ≡ has_way_by cell.now.value book.now.value cell.now.pid.0 (1 + length book.now.procs + shared.0) shared.0 }
+    ensures { result ≡ ways_left cell.now.value cell.now.pid.0 book.now shared.0 }
 {
     let seg = Seg(1 + book.procs() + shared.0);
     if holds_into(cell, seg) || cell.leads_into(seg) {
@@ -65,7 +65,7 @@ fn loses_share(cell: &HeapCell, book: &Book, shared: SharedId) -> bool
     requires registers { length (registers_in cell.now.value.process) ≡ register_count }
     requires segments { 1 + length book.now.procs + length book.now.value.phases < 2 ^ 32 }
     requires heap { shared.0 < length book.now.value.phases }
-    ensures { result ≡ (has_share book.now.value.shares cell.now.pid.0 shared.0 && not (has_way_by cell.now.value book.now.value cell.now.pid.0 (1 + length book.now.procs + shared.0) shared.0)) }
+    ensures { result ≡ (has_share book.now.value.shares cell.now.pid.0 shared.0 && not (ways_left cell.now.value cell.now.pid.0 book.now shared.0)) }
 {
     book.shares(cell.pid(), shared) && !has_way(cell, book, shared)
 }
@@ -73,11 +73,10 @@ fn loses_share(cell: &HeapCell, book: &Book, shared: SharedId) -> bool
 /// Drops the shares of the process into whose heaps it has no way left. The cost is in proportion to the number of shared heaps, and
 /// for each that the process shares to the registers and the exit items that are left.
 pub(crate) fn drop_shares(cell: &HeapCell, book: &mut Book) -> Unshared
-    ghost stays: { ℕ → Bool }
-    requires { CanUnshare stays cell.now.value cell.now.pid.0 book.old }
-    ensures book { HasUnshared stays cell.now.pid.0 book.old book.new }
-    ensures shares { result.shares ≡ shares_lost stays book.old.value cell.now.pid.0 (numbers_below (length book.old.value.phases)) }
-    ensures bytes { result.bytes ≡ bytes_lost stays book.old.value cell.now.pid.0 (numbers_below (length book.old.value.phases)) }
+    requires { CanUnshare cell.now.value cell.now.pid.0 book.old }
+    ensures book { HasUnshared (ways_left cell.now.value cell.now.pid.0 book.old) cell.now.pid.0 book.old book.new }
+    ensures shares { result.shares ≡ shares_lost (ways_left cell.now.value cell.now.pid.0 book.old) book.old.value cell.now.pid.0 (numbers_below (length book.old.value.phases)) }
+    ensures bytes { result.bytes ≡ bytes_lost (ways_left cell.now.value cell.now.pid.0 book.old) book.old.value cell.now.pid.0 (numbers_below (length book.old.value.phases)) }
 {
     let mut unshared = Unshared {
         shares: 0,

@@ -1,18 +1,22 @@
 -- Conditions and answers over a meeting.
-use Rattle.std.proofs.Common.{◌≡◌, ◌<◌, ◌^◌, sym, subst}
+use Rattle.std.proofs.Common.{◌≡◌, ◌<◌, ◌^◌, ℕ, List, sym, subst}
 use Rattle.k_types.specs.declared.event.Event.{Event}
+use Rattle.k_types.specs.declared.names.TypeId.{TypeId}
 use Rattle.k_types.specs.declared.op.Op.{Op}
+use Rattle.k_types.specs.declared.op.Op.TheVariants.{New, KNew, SNew, Store, Load, Move, Clear, Dir, Put, Get, Collect, KCollect, Share, Freeze, Attach, Exit}
 use Rattle.k_types.specs.Agree.{CellValue}
 use Rattle.k_types.specs.Cells.{Cell}
 use Rattle.k_types.specs.Trace.{Trace}
 use Rattle.k_tie.specs.Values.{NoteValue}
 use Rattle.k_agree.specs.Meeting.{Fits}
 use Rattle.k_agree.proofs.Meetings.{meeting}
+use Rattle.k_space.specs.Objects.{BodyValue}
 use Rattle.k_book.specs.Books.{BookRecord}
 use Rattle.k_cell.specs.Holdings.{HoldingsValue}
 use Rattle.k_heap.specs.Heaps.{HeapRecord}
 use Rattle.k_shared.specs.SharedHeaps.{SharedRecord}
 use Rattle.k_commit.specs.Met.{CanMeet, FitsTheBook, HaveMet, HaveMetWithKernel, HaveMetWithShared, HeapHasMet, KernelHasMet, SharedHasMet}
+use Rattle.k_commit.specs.Rooms.{HasRoomFor, HasRoomForNew, HasTableRoom}
 use Rattle.k_commit.specs.Standing.{BookStands, HeapStands, KernelStands, SharedStands}
 use Rattle.k_commit.specs.Stepped.{HasStepped, HasSteppedWithKernel, HasSteppedWithShared}
 
@@ -68,6 +72,38 @@ module _ (trace : Trace) (c cell : HeapRecord) (b book : BookRecord) (heap_met :
         shared = record { agrees = met.told.shows.agrees; table = of_table s.note stands.table; segment = stands.segment; idle = stands.idle };
         after = record { met = met.told.shows.met; shows = met.told.shows.shows stands.agrees.tail };
       }))
+
+-- room does not depend on the note
+module _ (trace : Trace) (bodies : List BodyValue) (heap : HoldingsValue) (note : NoteValue) (seg : ℕ) (b : BookRecord) where
+  abbrev noted : HoldingsValue
+  noted = record heap { note = note }
+
+  new_noted : (ty : TypeId) → HasRoomForNew trace ty bodies heap seg → HasRoomForNew trace ty bodies noted seg
+  new_noted ty room = record {
+    body = room.body;
+    serial = λ given there. let left = room.serial given there in record { given = left.given; room = left.room; there = left.there; can_give = left.can_give; left = left.left };
+  }
+
+  tables_noted : (op : Op) → HasTableRoom trace bodies heap seg b op → HasTableRoom trace bodies noted seg b op
+  tables_noted (New r ty) room = new_noted ty room
+  tables_noted (KNew r ty) room = new_noted ty room
+  tables_noted (SNew r s ty) room = new_noted ty room
+  tables_noted (Store base i value) room = record { exits = room.exits; entries = room.entries }
+  tables_noted (Load r base i) room = room
+  tables_noted (Move r from) room = room
+  tables_noted (Clear r) room = room
+  tables_noted (Dir r) room = room
+  tables_noted (Put base i number) room = room
+  tables_noted (Get base i) room = room
+  tables_noted Collect room = room
+  tables_noted KCollect room = room
+  tables_noted (Share s) room = room
+  tables_noted (Freeze s root) room = room
+  tables_noted (Attach r s) room = room
+  tables_noted Exit room = room
+
+  pub room_noted : (op : Op) → HasRoomFor trace bodies heap seg b op → HasRoomFor trace bodies noted seg b op
+  room_noted op room = record { events = room.events; tables = tables_noted op room.tables }
 
 -- what was stepped from a cell with another note was stepped from it
 from_note : (trace : Trace) (op : Op) (c w : HeapRecord) (note : NoteValue) (b l : BookRecord) (event : Event) →

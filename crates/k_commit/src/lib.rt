@@ -4,7 +4,8 @@
 //! [`meet_kernel`], [`meet_shared`]), changes cells and book, and commits: [`commit_heap`], [`commit_with_kernel`] or
 //! [`commit_with_shared`] counts the operation, appends its event, and lets the cells touch and meet the journal again, so that
 //! cells and book agree. An event that is no such operation is appended by a call of its own. [`set_register`] moves a pin with
-//! its register, and [`charge_process`] charges a process. No call takes memory.
+//! its register, and [`charge_process`] charges a process. [`publish`] appends what a process did inside its heap. No call takes
+//! memory.
 //!
 //! What a process did inside its heap alone is appended by [`publish`].
 //!

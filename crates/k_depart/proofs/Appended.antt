@@ -1,15 +1,13 @@
 -- An absorption, and the end of a process, once the event is appended.
-use Rattle.std.proofs.Common.{◌≡◌, ◌<◌, ◌≤◌, ◌+◌, ℕ, refl, sym, ap, ◌∙◌, subst, List, [], ◌∷◌, ◌++◌, length, get_or, set, None}
+use Rattle.std.proofs.Common.{◌≡◌, ◌<◌, ◌≤◌, refl, sym, ap, ◌∙◌, subst, List, [], ◌∷◌, length, get_or, set, None}
 use Rattle.k_types.specs.declared.event.Event.{Event}
-use Rattle.k_types.specs.declared.event.Event.TheVariants.{Absorbed, Done}
+use Rattle.k_types.specs.declared.event.Event.TheVariants.{Absorbed}
 use Rattle.k_types.specs.declared.event.Reply.TheVariants.{Done as DoneReply}
 use Rattle.k_types.specs.declared.names.Heap.TheVariants.{Kernel, Shared, User}
-use Rattle.k_types.specs.Cells.{Cell, cells_touched, other_cells}
-use Rattle.k_types.specs.Effects.{after_end_of, step}
+use Rattle.k_types.specs.Cells.{cells_touched, other_cells}
 use Rattle.k_types.specs.State.{State}
 use Rattle.k_types.specs.Steps.{state_after}
 use Rattle.k_types.specs.Trace.{Trace, segment_count}
-use Rattle.k_types.specs.Updates.{count_done}
 use Rattle.k_tie.specs.Values.{NoteValue}
 use Rattle.k_frame.proofs.Histories.{state_next}
 use Rattle.k_laws.specs.Termination.{CreditsTheCharge}

@@ -1,6 +1,5 @@
 -- Shares that are dropped one by one, and the charge that is credited.
-use Rattle.std.proofs.Common.{◌≡◌, ℕ, zero, suc, ◌+◌, ◌-◌, ◌<◌, ◌≤◌, ◌==◌, ◌&&◌, not, nat_lt, Bool, true, false, cond, refl, sym, ap, ap₂, ◌∙◌, List, [], ◌∷◌, ◌++◌, length, get_or, set, arith, eq-eqb, eqb-true, lt-ltb, add-one}
-use Rattle.std.proofs.lemmas.Bool.{cases_eq, false≢true}
+use Rattle.std.proofs.Common.{◌≡◌, ℕ, zero, suc, ◌+◌, ◌-◌, ◌<◌, ◌≤◌, ◌==◌, ◌&&◌, not, nat_lt, Bool, true, false, cond, refl, sym, ap, ap₂, ◌∙◌, get_or, arith, add-one}
 use Rattle.std.proofs.lemmas.Bool.Decides.{nat_tests}
 use Rattle.k_types.specs.Numbers.{numbers_below}
 use Rattle.k_types.specs.State.{has_share}
@@ -10,7 +9,7 @@ use Rattle.k_base.proofs.Sums.{total_push}
 use Rattle.k_book.specs.Books.{BookRecord}
 use Rattle.k_book.specs.Calls.{ChangesShares}
 use Rattle.k_shares.specs.Sharers.{LosesShare}
-use Rattle.k_depart.specs.Charges.{HasCredited, LosesShares, bytes_if_shared, bytes_shared, limit_in}
+use Rattle.k_depart.specs.Charges.{bytes_if_shared, bytes_shared}
 
 -- the shares of the process in the first heaps are dropped, and their bytes are added up
 pub record IsDropping (p : ℕ) (before b : BookRecord) (s bytes : ℕ) : Type 0 where

@@ -1,12 +1,10 @@
 -- A segment that is given to the kernel whole.
-use Rattle.std.proofs.Common.{◌≡◌, ◌≢◌, ℕ, ◌+◌, ◌<◌, ◌≤◌, ◌^◌, refl, sym, ap, ap₂, ◌∙◌, List, [], ◌∷◌, get_or, set, get_or-set_same, get_or-set_other, length, Option, Some, None, is_some, arith, true, inl, inr, IsTrue}
+use Rattle.std.proofs.Common.{◌≡◌, ℕ, ◌+◌, ◌<◌, ◌^◌, refl, sym, ap, ap₂, ◌∙◌, [], get_or, set, get_or-set_same, get_or-set_other, length, Option, Some, None, arith, inl, inr}
 use Rattle.std.proofs.lemmas.Bool.{cases_eq}
 use Rattle.k_types.specs.Owners.{object_bytes}
-use Rattle.k_types.specs.State.{Object}
 use Rattle.k_types.specs.Totals.{total}
 use Rattle.k_base.proofs.Lists.{some_inside}
 use Rattle.k_space.specs.Segments.{SegmentValue, made, segment_bytes, segment_objects}
-use Rattle.k_areas.specs.Shown.{area_objects}
 use Rattle.k_areas.proofs.Joined.{alone_area, joined_area, none_area}
 use Rattle.k_cell.specs.Holdings.{HasGivenSegment, HoldingsValue, with_segment_added}
 use Rattle.k_changes.specs.CellChanges.{either_of, with_objects}

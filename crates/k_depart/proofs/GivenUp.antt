@@ -1,21 +1,20 @@
 -- The cells and the book after the changes at the end of a process show the state after it.
-use Rattle.std.proofs.Common.{◌≡◌, ◌≢◌, ℕ, ◌+◌, ◌-◌, ◌<◌, ◌≤◌, ◌==◌, ◌&&◌, ◌||◌, not, Bool, true, false, cond, refl, sym, ap, ap₂, ◌∙◌, subst, List, [], ◌∷◌, ◌++◌, filter, length, get_or, set, arith, Option, Some, None, option_map, inl, inr}
+use Rattle.std.proofs.Common.{◌≡◌, ℕ, ◌+◌, ◌-◌, ◌==◌, ◌&&◌, ◌||◌, not, Bool, true, false, cond, refl, sym, ap, ap₂, ◌∙◌, subst, List, [], length, get_or, set, arith, Option, Some, None, option_map}
 use Rattle.std.proofs.Math.Path.{fun_ext}
-use Rattle.std.proofs.lemmas.Bool.{cases_Bool, false≢true}
+use Rattle.std.proofs.lemmas.Bool.{false≢true}
 use Rattle.k_types.specs.declared.event.Reply.TheVariants.{Done as DoneReply}
-use Rattle.k_types.specs.declared.names.CellPhase.TheVariants.{Idle}
 use Rattle.k_types.specs.declared.names.Heap.{Heap}
 use Rattle.k_types.specs.declared.names.Heap.TheVariants.{Kernel, Shared, User}
 use Rattle.k_types.specs.declared.names.Name.{Name}
-use Rattle.k_types.specs.Agree.{BookValue, CellValue, book_shown_by, shown_by}
+use Rattle.k_types.specs.Agree.{BookValue, CellValue, shown_by}
 use Rattle.k_types.specs.Cells.{ProcessPart, ShownPart, part, pins_of}
-use Rattle.k_types.specs.Counted.{Counted, counted}
+use Rattle.k_types.specs.Counted.{counted}
 use Rattle.k_types.specs.Names.{among, heap_eq, name_among}
 use Rattle.k_types.specs.Owners.{object_bytes, owner_of, user}
 use Rattle.k_types.specs.Reach.{is_shared_heap}
 use Rattle.k_types.specs.State.{Sharing, has_share}
 use Rattle.k_types.specs.Totals.{total}
-use Rattle.k_types.specs.Trace.{Trace, limit_of, segment_of}
+use Rattle.k_types.specs.Trace.{Trace, limit_of}
 use Rattle.k_base.proofs.NameTests.{heap_eq_sym}
 use Rattle.k_agree.specs.Agreement.{BookShows, Shows}
 use Rattle.k_agree.specs.Ending.{HasLeft}
@@ -39,10 +38,10 @@ use Rattle.k_depart.specs.Exiting.{HasGivenUp, HaveMetToExit, exit_of}
 use Rattle.k_depart.specs.Exits.{EntriesFollow, HasCut, HasNoExits, HasPassed, into_segment, is_passed}
 use Rattle.k_depart.specs.Registers.{HasLetGo}
 use Rattle.k_depart.specs.Segments.{HasGiven}
-use Rattle.k_depart.proofs.Leaver.{booked, charge_is, kernel_shows, known, limit_is, may, now, numbered, passed_is, possible, shows, sound}
-use Rattle.k_depart.proofs.Leaving.{and_none, entries_change}
+use Rattle.k_depart.proofs.Leaver.{booked, charge_is, kernel_shows, limit_is, may, now, numbered, passed_is, possible, shows, sound}
+use Rattle.k_depart.proofs.Leaving.{entries_change}
 use Rattle.k_depart.proofs.Once.{each_once, once_among, once_distinct}
-use Rattle.k_depart.proofs.Told.{book_shows_as, led_by_segment, none_shown, shows_as}
+use Rattle.k_depart.proofs.Told.{led_by_segment, none_shown, shows_as}
 
 -- the kernel's bit once the item was passed
 passed_bit : (K S C P : Bool) → (P ≡ true → S ≡ false) → one_if ((K && not S) || (C && P)) ≡ one_if (K && not S) + one_if (C && (P && not K))

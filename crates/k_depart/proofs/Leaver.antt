@@ -1,31 +1,25 @@
 -- A process that ends, as its cell, the kernel's and the book show it before.
-use Rattle.std.proofs.Common.{◌≡◌, ◌≢◌, ℕ, zero, suc, ◌+◌, ◌-◌, ◌*◌, ◌<◌, ◌≤◌, ◌^◌, ◌==◌, ◌&&◌, ◌||◌, not, Bool, true, false, cond, refl, sym, ap, ◌∙◌, subst, List, [], ◌∷◌, length, filter, get_or, arith, eq-eqb, eqb-true, ne_eqb, Option, Some, None, is_some, IsTrue, IsFalse}
-use Rattle.std.specs.List.{list_all}
-use Rattle.std.proofs.lemmas.Bool.{and_from, and_parts, false≢true, false_from_ne_true}
+use Rattle.std.proofs.Common.{◌≡◌, ℕ, zero, suc, ◌+◌, ◌<◌, ◌≤◌, ◌^◌, ◌==◌, ◌&&◌, not, true, false, refl, sym, ap, ◌∙◌, List, [], ◌∷◌, length, get_or, arith, eq-eqb, ne_eqb, Option, IsTrue, IsFalse}
+use Rattle.std.proofs.lemmas.Bool.{and_from, and_parts, false≢true}
 use Rattle.k_types.specs.declared.event.Reply.TheVariants.{Done as DoneReply}
 use Rattle.k_types.specs.declared.names.Heap.{Heap}
 use Rattle.k_types.specs.declared.names.Heap.TheVariants.{Kernel, Shared, User}
 use Rattle.k_types.specs.declared.names.LimitId.{LimitId}
 use Rattle.k_types.specs.declared.names.Name.{Name}
-use Rattle.k_types.specs.declared.names.Phase.{Phase}
-use Rattle.k_types.specs.declared.op.Op.TheVariants.{Exit}
 use Rattle.k_types.specs.declared.setup.LimitRow.{LimitRow}
-use Rattle.k_types.specs.Agree.{BookValue, CellValue}
-use Rattle.k_types.specs.Cells.{BookPart, ProcessPart, ShownPart, book_part, cells_touched, other_cells, part, pins_of}
-use Rattle.k_types.specs.Counted.{counted}
-use Rattle.k_types.specs.Limits.{direct_by, limits_in, max_of, use_of, use_within, with_maxima}
+use Rattle.k_types.specs.Cells.{BookPart, ProcessPart, ShownPart, book_part, cells_touched, other_cells, part}
+use Rattle.k_types.specs.Limits.{direct_by, limits_in, max_of, use_within, with_maxima}
 use Rattle.k_types.specs.Names.{among, heap_eq, name_among}
-use Rattle.k_types.specs.Numbers.{numbers_below}
-use Rattle.k_types.specs.Owners.{charge_of, object_bytes, owner_of, user}
+use Rattle.k_types.specs.Owners.{charge_of, object_bytes, owner_of}
 use Rattle.k_types.specs.Reach.{is_shared_heap}
 use Rattle.k_types.specs.Replies.{answer, faults, first_fault, reply_to}
 use Rattle.k_types.specs.Sound.{IsSound}
-use Rattle.k_types.specs.State.{State, has_exit, has_share, is_scanned}
+use Rattle.k_types.specs.State.{State, has_share, is_scanned}
 use Rattle.k_types.specs.Steps.{IsPossible, in_range, state_after}
 use Rattle.k_types.specs.Totals.{total}
 use Rattle.k_types.specs.Trace.{Trace, limit_of, process_count, segment_count}
 use Rattle.k_base.proofs.Lists.{get_mapped}
-use Rattle.k_base.proofs.NameTests.{heap_eq_refl, heap_eq_sym, heap_eq-true}
+use Rattle.k_base.proofs.NameTests.{heap_eq_sym}
 use Rattle.k_laws.specs.Changes.{MayExit}
 use Rattle.k_laws.proofs.SoundSteps.{legal_sound}
 use Rattle.k_agree.specs.Agreement.{BookShows, Shows}

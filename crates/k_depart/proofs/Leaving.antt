@@ -1,8 +1,8 @@
 -- Exit items that are left one by one, and those that the kernel takes on.
-use Rattle.std.proofs.Common.{◌≡◌, ℕ, ◌+◌, ◌<◌, ◌≤◌, ◌==◌, ◌&&◌, ◌||◌, not, Bool, true, false, cond, refl, sym, ap, ◌∙◌, List, [], ◌∷◌, filter, length, arith, IsFalse, eqb-true, eq-eqb, inl, inr}
+use Rattle.std.proofs.Common.{◌≡◌, ℕ, ◌+◌, ◌<◌, ◌≤◌, ◌==◌, ◌&&◌, ◌||◌, not, Bool, true, false, cond, refl, sym, ap, ◌∙◌, List, [], ◌∷◌, length, arith, IsFalse, inl, inr}
 use Rattle.std.specs.List.{list_any}
 use Rattle.std.proofs.Math.Bool.{and-true}
-use Rattle.std.proofs.lemmas.Bool.{and_parts, cases_Bool, false≢true, false_from_ne_true, or_left}
+use Rattle.std.proofs.lemmas.Bool.{and_parts, cases_Bool, false≢true, false_from_ne_true}
 use Rattle.k_types.specs.declared.names.Heap.{Heap}
 use Rattle.k_types.specs.declared.names.Name.{Name}
 use Rattle.k_types.specs.Agree.{CellValue}
@@ -11,13 +11,12 @@ use Rattle.k_types.specs.Names.{name_among, name_eq}
 use Rattle.k_base.proofs.Lists.{any_weaker}
 use Rattle.k_base.proofs.NameTests.{name_eq-true}
 use Rattle.k_bounds.specs.Counts.{one_if}
-use Rattle.k_entry.specs.Entries.{HasLess}
 use Rattle.k_cell.specs.Changes.{HasDroppedExit}
 use Rattle.k_agree.specs.Ending.{HasLeft}
 use Rattle.k_agree.proofs.Swept.{among_kept}
-use Rattle.k_book.specs.Books.{BookRecord, book_entries}
+use Rattle.k_book.specs.Books.{BookRecord}
 use Rattle.k_book.specs.Calls.{ChangesEntries}
-use Rattle.k_depart.specs.Exits.{EntriesFollow, HasCut, HasNoExits, HasPassed, into_segment, is_passed}
+use Rattle.k_depart.specs.Exits.{EntriesFollow, HasCut, into_segment, is_passed}
 
 -- some exit items of the cell are left on the book, and the rest is still there
 pub record IsLeaving (old now : CellValue) (before b : BookRecord) : Type 0 where

@@ -1,6 +1,5 @@
 -- Lists of names in which none stands twice.
 use Rattle.std.proofs.Common.{◌≡◌, ◌||◌, Bool, true, false, cond, refl, sym, ap, ◌∙◌, List, [], ◌∷◌}
-use Rattle.std.proofs.lemmas.Bool.{cases_Bool, false≢true}
 use Rattle.k_types.specs.declared.names.Name.{Name}
 use Rattle.k_types.specs.Names.{name_among, name_eq}
 use Rattle.k_base.specs.Distinct.{AreDistinctNames}

@@ -1,6 +1,6 @@
 -- A shared heap that nobody shares, as its cell, the kernel's and the book show it before it is absorbed.
-use Rattle.std.proofs.Common.{◌≡◌, ◌≢◌, ℕ, ◌+◌, ◌*◌, ◌<◌, ◌≤◌, ◌^◌, ◌==◌, ◌&&◌, not, Bool, true, false, refl, sym, ap, ◌∙◌, subst, List, [], length, get_or, arith, eq-eqb, ne_eqb, Option, Some, None, is_some, IsTrue, IsFalse}
-use Rattle.std.proofs.lemmas.Bool.{and_from, and_parts, false≢true, not-true}
+use Rattle.std.proofs.Common.{◌≡◌, ℕ, ◌+◌, ◌<◌, ◌^◌, ◌==◌, ◌&&◌, not, true, false, refl, sym, ap, ◌∙◌, subst, List, length, arith, eq-eqb, ne_eqb, is_some}
+use Rattle.std.proofs.lemmas.Bool.{and_parts, false≢true}
 use Rattle.k_types.specs.declared.event.Event.TheVariants.{Absorbed}
 use Rattle.k_types.specs.declared.names.Heap.{Heap}
 use Rattle.k_types.specs.declared.names.Heap.TheVariants.{Kernel, Shared, User}
@@ -8,13 +8,13 @@ use Rattle.k_types.specs.declared.names.Name.{Name}
 use Rattle.k_types.specs.declared.names.Phase.{Phase}
 use Rattle.k_types.specs.declared.names.Phase.TheVariants.{Unmade, Populating, Frozen, Absorbed as AbsorbedPhase}
 use Rattle.k_types.specs.Cells.{BookPart, book_part}
-use Rattle.k_types.specs.Names.{heap_eq, name_among}
-use Rattle.k_types.specs.Owners.{is_absorbed, object_bytes, owner_of, phase_of, shared}
+use Rattle.k_types.specs.Names.{heap_eq}
+use Rattle.k_types.specs.Owners.{is_absorbed, object_bytes, owner_of, phase_of}
 use Rattle.k_types.specs.Sound.{IsSound}
 use Rattle.k_types.specs.State.{State, has_share}
 use Rattle.k_types.specs.Steps.{IsPossible, has_sharer, is_live, is_orphan, state_after}
 use Rattle.k_types.specs.Totals.{total}
-use Rattle.k_types.specs.Trace.{Trace, process_count, segment_count}
+use Rattle.k_types.specs.Trace.{Trace, segment_count}
 use Rattle.k_laws.proofs.SoundSteps.{legal_sound}
 use Rattle.k_agree.specs.Agreement.{BookShows, Shows}
 use Rattle.k_agree.specs.Ending.{HasLeft}

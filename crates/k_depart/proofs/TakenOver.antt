@@ -1,26 +1,23 @@
 -- The cells and the book after the changes of an absorption show the state after it.
-use Rattle.std.proofs.Common.{◌≡◌, ◌≢◌, ℕ, ◌+◌, ◌==◌, ◌&&◌, ◌||◌, not, Bool, true, false, refl, sym, ap, ap₂, ◌∙◌, subst, List, [], ◌∷◌, ◌++◌, get_or, set, Option, Some, None, inl, inr}
+use Rattle.std.proofs.Common.{◌≡◌, ℕ, ◌+◌, ◌==◌, ◌&&◌, ◌||◌, not, true, false, refl, sym, ap, ap₂, ◌∙◌, subst, List, [], get_or, set, Option, Some, None, inl, inr}
 use Rattle.std.proofs.Math.Path.{fun_ext}
 use Rattle.std.proofs.lemmas.Bool.{cases_Bool, false≢true}
 use Rattle.k_types.specs.declared.event.Event.TheVariants.{Absorbed}
-use Rattle.k_types.specs.declared.names.CellPhase.TheVariants.{Idle}
 use Rattle.k_types.specs.declared.names.Heap.{Heap}
 use Rattle.k_types.specs.declared.names.Heap.TheVariants.{Kernel, Shared, User}
 use Rattle.k_types.specs.declared.names.Name.{Name}
 use Rattle.k_types.specs.declared.names.Phase.TheVariants.{Absorbed as AbsorbedPhase}
 use Rattle.k_types.specs.Agree.{BookValue, CellValue, book_shown_by}
 use Rattle.k_types.specs.Barrier.{legal_store}
-use Rattle.k_types.specs.Cells.{BookPart}
-use Rattle.k_types.specs.Counted.{Counted, counted}
+use Rattle.k_types.specs.Counted.{counted}
 use Rattle.k_types.specs.Names.{heap_eq, kind_of, name_among}
 use Rattle.k_types.specs.Owners.{owner_of, shared}
 use Rattle.k_types.specs.Reach.{is_shared_heap}
-use Rattle.k_types.specs.State.{State}
-use Rattle.k_types.specs.Trace.{Trace, segment_of}
+use Rattle.k_types.specs.Trace.{Trace}
 use Rattle.k_agree.specs.Agreement.{BookShows, Shows}
 use Rattle.k_agree.specs.Ending.{HasLeft}
 use Rattle.k_agree.specs.GivingAway.{HasTakenIn, absorbed_cell}
-use Rattle.k_agree.specs.GivingOnTheBook.{HasAbsorbed, leading_into}
+use Rattle.k_agree.specs.GivingOnTheBook.{HasAbsorbed}
 use Rattle.k_agree.proofs.GivenInJournal.{absorbed_cell_shows, absorbed_kernel_shows}
 use Rattle.k_agree.proofs.GivenOnTheBook.{absorption_in_journal}
 use Rattle.k_bounds.specs.Counts.{one_if}
@@ -32,9 +29,9 @@ use Rattle.k_shared.specs.SharedHeaps.{SharedRecord, holdings_of, with_phase}
 use Rattle.k_depart.specs.Absorbing.{HasTakenOver, HaveMetToAbsorb}
 use Rattle.k_depart.specs.Ending.{MarksAbsorbed, state_with}
 use Rattle.k_depart.specs.Exits.{HasCut, HasNoExits, into_segment}
-use Rattle.k_depart.specs.Segments.{CanGive, HasGiven}
+use Rattle.k_depart.specs.Segments.{HasGiven}
 use Rattle.k_depart.proofs.Leaving.{and_none, entries_change, or_none}
-use Rattle.k_depart.proofs.Orphaned.{booked, can_give, kernel_shows, known, now, numbered, possible, shows, sound}
+use Rattle.k_depart.proofs.Orphaned.{kernel_shows, now, numbered, possible, shows, sound}
 use Rattle.k_depart.proofs.Told.{book_shows_as, exits_shown, led_by_segment, none_shown, shows_as}
 
 -- the heap is the same one throughout

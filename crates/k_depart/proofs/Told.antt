@@ -1,29 +1,23 @@
 -- What cells and book that show a state tell of the heap that becomes the kernel's.
-use Rattle.std.proofs.Common.{◌≡◌, ◌≢◌, ℕ, ◌+◌, ◌-◌, ◌*◌, ◌<◌, ◌≤◌, ◌^◌, ◌==◌, ◌&&◌, Bool, true, false, cond, refl, sym, ap, ap₂, ◌∙◌, subst, List, [], ◌∷◌, ◌++◌, filter, length, map, get_or, arith, nat_le, eqb-true, eq-eqb, ne_eqb, false-eqb, leb-false, Option, Some, None, is_some, IsTrue, IsFalse, inl, inr}
+use Rattle.std.proofs.Common.{◌≡◌, ℕ, ◌+◌, ◌-◌, ◌<◌, ◌≤◌, ◌==◌, ◌&&◌, Bool, true, false, cond, refl, sym, ap, ◌∙◌, subst, List, [], length, get_or, arith, nat_le, eqb-true, eq-eqb, false-eqb, leb-false, Option, Some, None, is_some, IsFalse}
 use Rattle.std.proofs.Math.Path.{fun_ext}
-use Rattle.std.proofs.lemmas.Bool.{cases_Bool, cond-true, cond-false, false≢true}
 use Rattle.std.proofs.lemmas.List.{length-map}
-use Rattle.k_types.specs.declared.event.Event.{Event}
 use Rattle.k_types.specs.declared.names.CellPhase.TheVariants.{Idle}
 use Rattle.k_types.specs.declared.names.Heap.{Heap}
 use Rattle.k_types.specs.declared.names.Heap.TheVariants.{Kernel, Shared, User}
 use Rattle.k_types.specs.declared.names.Name.{Name}
 use Rattle.k_types.specs.declared.names.Phase.{Phase}
 use Rattle.k_types.specs.Agree.{AreMarks, BookValue, CellValue, book_shown_by, shown_by}
-use Rattle.k_types.specs.Bounds.{most_fields}
-use Rattle.k_types.specs.Cells.{BookPart, Cell, CellPart, ShownPart, book_part, part}
+use Rattle.k_types.specs.Cells.{Cell, ShownPart, part}
 use Rattle.k_types.specs.Names.{among, heap_eq, name_among}
 use Rattle.k_types.specs.Numbers.{numbers_below}
 use Rattle.k_types.specs.Owners.{is_absorbed, object_bytes, objects_of, owner_of, owner_of_segment, phase_of, shared, user}
-use Rattle.k_types.specs.Sound.{IsSound}
 use Rattle.k_types.specs.State.{Object, Sharing, State, has_exit, has_share, scan_of}
-use Rattle.k_types.specs.Steps.{IsLegalHistory, has_sharer, state_after}
+use Rattle.k_types.specs.Steps.{has_sharer}
 use Rattle.k_types.specs.Totals.{total}
-use Rattle.k_types.specs.Trace.{Trace, process_count, segment_count, segment_of}
-use Rattle.k_types.specs.TraceRules.{KeepsRules}
-use Rattle.k_types.specs.Types.{object_size}
+use Rattle.k_types.specs.Trace.{Trace, process_count, segment_count}
 use Rattle.k_base.proofs.Lists.{numbers_length}
-use Rattle.k_base.proofs.NameTests.{heap_eq-same, heap_eq-true, heap_eq_refl}
+use Rattle.k_base.proofs.NameTests.{heap_eq-same, heap_eq-true}
 use Rattle.k_base.proofs.Sums.{sum-filter, total_at_most}
 use Rattle.k_base.proofs.Tests.{same_test}
 use Rattle.k_frame.proofs.OwnerOf.{owner_shared}
@@ -33,7 +27,6 @@ use Rattle.k_locality.proofs.SamePossible.{sharer_from}
 use Rattle.k_agree.specs.Agreement.{BookShows, Shows}
 use Rattle.k_agree.specs.GivingOnTheBook.{leading_into}
 use Rattle.k_agree.proofs.Swept.{among_kept}
-use Rattle.k_entry.specs.Entries.{home_of}
 use Rattle.k_depart.specs.Exits.{into_segment}
 
 -- a cell without an open collection shows what its value shows, however the value has it

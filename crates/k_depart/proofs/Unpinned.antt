@@ -1,8 +1,6 @@
 -- Registers whose pins are let go one by one.
-use Rattle.std.proofs.Common.{◌≡◌, ◌≢◌, ℕ, zero, suc, ◌+◌, ◌<◌, ◌≤◌, ◌==◌, Bool, true, false, cond, refl, sym, ap, ◌∙◌, List, [], ◌∷◌, length, take, take_all, get_or, Option, None, Some, arith, ne_eqb, eq-eqb, false-eqb, add-one, inl, inr}
-use Rattle.std.proofs.lemmas.Bool.{cases_eq}
+use Rattle.std.proofs.Common.{◌≡◌, ℕ, zero, suc, ◌+◌, ◌≤◌, ◌==◌, Bool, true, false, cond, refl, sym, ap, ◌∙◌, List, [], ◌∷◌, take, get_or, Option, None, Some, arith, ne_eqb, add-one}
 use Rattle.k_types.specs.declared.names.Name.{Name}
-use Rattle.k_types.specs.Agree.{BookValue}
 use Rattle.k_types.specs.Cells.{ProcessPart, pins_of}
 use Rattle.k_types.specs.Counted.{counted}
 use Rattle.k_types.specs.Names.{leads_to}

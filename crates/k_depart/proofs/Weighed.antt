@@ -1,5 +1,5 @@
 -- The bytes of all objects, by the events of the history.
-use Rattle.std.proofs.Common.{◌≡◌, ◌+◌, ◌*◌, ◌≤◌, ℕ, List, length, arith}
+use Rattle.std.proofs.Common.{◌+◌, ◌*◌, ◌≤◌, List, length, arith}
 use Rattle.k_types.specs.declared.event.Event.{Event}
 use Rattle.k_types.specs.Owners.{object_bytes}
 use Rattle.k_types.specs.Steps.{IsLegalHistory, state_after}

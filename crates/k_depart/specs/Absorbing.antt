@@ -57,9 +57,9 @@ pub record HasTakenOver (trace : Trace) (old_shared shared : SharedRecord) (old_
   pub kernel_shows : Shows trace (state_with trace old_book (Absorbed old_shared.id)) Kernel kernel.value
   pub book_shows : BookShows trace (state_with trace old_book (Absorbed old_shared.id)) book.value
 
--- the event is the absorption, possible after the journal, which the notes fitted, and its newest. The heap is absorbed, and its segment the kernel's: the
--- cells are the same ones, where the room for serials has gone with the segment. Both are idle and have met the journal; cells and
--- book agree
+-- the event is the absorption, possible after the journal, which the notes fitted, and its newest. The heap is absorbed, and its
+-- segment the kernel's: the cells are the same ones, where the room for serials has gone with the segment. Both are idle and have met
+-- the journal; cells and book agree
 pub record HasAbsorbedHeap (trace : Trace) (old_shared shared : SharedRecord) (old_kernel kernel : HoldingsValue) (old_book book : BookRecord) (event : Event) : Type 0 where
   pub event_is : event ≡ Absorbed old_shared.id
   pub possible : IsPossible trace (state_after trace old_book.journal.list) event

@@ -41,10 +41,5 @@ pub(crate) fn dir(cell: &mut HeapCell, book: &mut Book, reg: Reg) -> Event
         serial: Serial(1),
     };
     set_register(cell, book, reg, Some(directory.link()));
-    commit_heap(
-        cell,
-        book,
-        Op::Dir { reg },
-        Reply::Loaded(Some(directory)),
-    )
+    commit_heap(cell, book, Op::Dir { reg }, Reply::Loaded(Some(directory)))
 }

@@ -1,5 +1,5 @@
 -- What the kernel's cell and the book remember of a stored reference, by cases.
-use Rattle.std.proofs.Common.{◌≡◌, ℕ, Bool, true, false, not, refl, sym, ap, ◌∙◌, Some, None, IsTrue, IsFalse}
+use Rattle.std.proofs.Common.{◌≡◌, ℕ, refl, sym, ap, ◌∙◌, Some, None, IsTrue, IsFalse}
 use Rattle.k_types.specs.declared.names.Heap.{Heap}
 use Rattle.k_types.specs.declared.names.Heap.TheVariants.{Kernel}
 use Rattle.k_types.specs.declared.names.Name.{Name}
@@ -16,10 +16,6 @@ use Rattle.k_moves.specs.Shown.{idle_part}
 use Rattle.k_moves.proofs.Changed.{exit_shown}
 use Rattle.k_moves.proofs.Stored.{an_exit, entered, entered_already, inside, no_exit}
 use Rattle.k_pair.specs.Remembered.{HasRemembered}
-
-pub flipped : (t : Bool) → not t ≡ true → t ≡ false
-flipped true e = sym e
-flipped false e = refl
 
 module _ (own : ℕ → Heap) (k : HoldingsValue) (b : BookRecord) where
   pub null_remembered : HasRemembered own k k b b None

@@ -1,5 +1,5 @@
 -- The faults of an access to an object of the kernel are those of the field.
-use Rattle.std.proofs.Common.{◌≡◌, ℕ, Bool, true, false, not, refl, sym, ap, ap₂, ◌∙◌, nat_le, [], ◌∷◌, Option, Some, None}
+use Rattle.std.proofs.Common.{◌≡◌, ℕ, Bool, true, not, refl, sym, ap, ap₂, ◌∙◌, nat_le, [], ◌∷◌, Option, Some, None}
 use Rattle.k_types.specs.declared.event.Fault.{Fault}
 use Rattle.k_types.specs.declared.event.Fault.TheVariants.{NoField, Segv, WrongKind}
 use Rattle.k_types.specs.declared.names.Heap.{Heap}
@@ -50,7 +50,7 @@ module _ (trace : Trace) (b : BookPart) (k : CellPart) (p i : ℕ) (x : Name) wh
       (kernel_passes (owner_in trace b) value)
       ∙ no_more (fault_where (nat_le (field_count_in k x) i) NoField) (fault_where (not (is_ref (field_in k x i))) WrongKind)
 
--- what is told of a field by another spelling of its object's number of fields and of its content
+-- the faults of a field by equal numbers of fields and equal contents
 pub told_by : (count fields : ℕ) (stored content : Content) (i : ℕ) (is_other_kind : Content → Bool) (said : Option Fault) → count ≡ fields → stored ≡ content →
     first_fault (field_faults count i (is_other_kind stored)) ≡ said → first_fault (field_faults fields i (is_other_kind content)) ≡ said
 told_by count fields stored content i is_other_kind said same_count same_content is =

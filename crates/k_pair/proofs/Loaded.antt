@@ -1,5 +1,5 @@
 -- A load from an object of the kernel.
-use Rattle.std.proofs.Common.{◌≡◌, ◌<◌, ℕ, refl, sym, ap, subst, ◌∙◌, not, Option, Some, None}
+use Rattle.std.proofs.Common.{◌≡◌, ℕ, refl, sym, ap, subst, ◌∙◌, not, Option, Some, None}
 use Rattle.k_types.specs.declared.event.Fault.{Fault}
 use Rattle.k_types.specs.declared.event.Reply.TheVariants.{Loaded, Refused}
 use Rattle.k_types.specs.declared.names.Heap.{Heap}
@@ -11,7 +11,7 @@ use Rattle.k_types.specs.declared.op.Op.TheVariants.{Load}
 use Rattle.k_types.specs.Agree.{BookValue, book_shown_by}
 use Rattle.k_types.specs.Cells.{BookPart}
 use Rattle.k_types.specs.Replies.{first_fault, is_ref, reference}
-use Rattle.k_types.specs.State.{Content, Refers}
+use Rattle.k_types.specs.State.{Refers}
 use Rattle.k_types.specs.Steps.{state_after}
 use Rattle.k_types.specs.Trace.{Trace}
 use Rattle.k_changes.specs.BookChanges.{owner_in, with_pin_moved}

@@ -1,10 +1,8 @@
 -- A new object of the kernel.
-use Rattle.std.proofs.Common.{◌≡◌, ◌<◌, ◌+◌, ◌≤◌, Bool, ℕ, refl, sym, ap, ap₂, subst, ◌∙◌, List, [], ◌∷◌, drop, get_or, length, map, nat_lt, Option, Some, None, IsTrue, IsFalse, true, false, arith}
+use Rattle.std.proofs.Common.{◌≡◌, ◌<◌, ◌+◌, Bool, ℕ, refl, sym, ap, ap₂, subst, ◌∙◌, List, [], ◌∷◌, drop, get_or, length, nat_lt, Option, Some, None, IsTrue, IsFalse, arith}
 use Rattle.std.proofs.lemmas.List.{length-map}
-use Rattle.k_types.specs.declared.event.Event.TheVariants.{Done as DoneEvent}
 use Rattle.k_types.specs.declared.event.Fault.TheVariants.{KernelFull}
 use Rattle.k_types.specs.declared.event.Reply.TheVariants.{Made, Refused}
-use Rattle.k_types.specs.declared.names.Field.{Field}
 use Rattle.k_types.specs.declared.names.Heap.{Heap}
 use Rattle.k_types.specs.declared.names.Heap.TheVariants.{Kernel, User}
 use Rattle.k_types.specs.declared.names.Name.{Name}
@@ -20,15 +18,16 @@ use Rattle.k_types.specs.Replies.{fault_where, first_fault, refused_or}
 use Rattle.k_types.specs.State.{fresh}
 use Rattle.k_types.specs.Steps.{state_after}
 use Rattle.k_types.specs.Totals.{total}
-use Rattle.k_types.specs.Trace.{Trace, kinds_of, segment_count, segment_of, size_of_type}
+use Rattle.k_types.specs.Trace.{Trace, kinds_of, size_of_type}
 use Rattle.k_types.specs.Types.{object_size}
 use Rattle.k_space.specs.Objects.{BodyValue, new_body}
 use Rattle.k_changes.specs.BookChanges.{bytes_in, owner_in, with_pin_moved}
 use Rattle.k_changes.specs.CellChanges.{next_name_in, with_created}
+use Rattle.k_base.proofs.Lists.{some_inside}
 use Rattle.k_frame.specs.PartUpdates.{held_in, with_done, with_register}
 use Rattle.k_squares.specs.Answers.{answer_in, faults_in, reply_in}
 use Rattle.k_squares.specs.BookAfter.{book_after, book_operated}
-use Rattle.k_squares.specs.CellAfter.{cell_after, cells_operated, register_in}
+use Rattle.k_squares.specs.CellAfter.{cell_after, cells_operated}
 use Rattle.k_squares.specs.Touches.{other_cells_in}
 use Rattle.k_moves.specs.Moves.{GivesBoth}
 use Rattle.k_moves.specs.Shown.{idle_part, two_parts}
@@ -69,11 +68,6 @@ module _ (trace : Trace) (b : BookPart) (v k : CellPart) (pid : Pid) (r : Reg) (
   unfolding other_cells_in faults_in first_fault fault_where
   knew_full full =
       refused_beside trace b v k pid Kernel refl (KNew r ty) KernelFull refl (ap (λ t. first_fault (fault_where t KernelFull ∷ [])) full)
-
--- a segment that has given serials is there
-inside : {A : Type 0} (xs : List (Option A)) (a : A) → get_or xs 0 None ≡ Some a → 0 < length xs
-inside [] a e = absurd (cc e)
-inside (x ∷ xs) a e = omega arith
 
 module _ (before : BeforeWithKernel) (c : HeapRecord) (k : HoldingsValue) (b : BookRecord) (r : Reg) (ty : TypeId) (met : HaveMetFor before c k b (KNew r ty)) where
   abbrev trace : Trace
@@ -150,7 +144,7 @@ module _ (before : BeforeWithKernel) (c : HeapRecord) (k : HoldingsValue) (b : B
       kernel_shown : idle_part kernel_value ≡ with_created 0 ty (kinds_of trace ty) (idle_part k.value)
       kernel_shown =
           ap (λ (one : BodyValue). idle_part (with_body 0 one k.value)) first_is
-          ∙ new_shown k.value 0 ty (kinds_of trace ty) (inside k.value.made (get_or (state_after trace b.journal.list).made 0 0) given_here)
+          ∙ new_shown k.value 0 ty (kinds_of trace ty) (some_inside k.value.made 0 (get_or (state_after trace b.journal.list).made 0 0) given_here)
 
       book_shown : book_shown_by book_value ≡ with_pin_moved own c.pid.0 (held_in c.value.process r.0) (Some (next_in 0 k.value)) (book_shown_by b.value)
       book_shown = ap (λ (e : BookRecord). book_shown_by e.value) (sym set.book_is) ∙ set.moved

@@ -1,54 +1,16 @@
 -- What an operation finds once both cells have met the journal.
-use Rattle.std.proofs.Common.{◌≡◌, ℕ, refl, sym, subst, ◌∙◌, List}
+use Rattle.std.proofs.Common.{◌≡◌, refl, sym, subst, ◌∙◌}
 use Rattle.k_types.specs.declared.names.Heap.TheVariants.{Kernel, User}
 use Rattle.k_types.specs.declared.op.Op.{Op}
-use Rattle.k_types.specs.declared.op.Op.TheVariants.{New, KNew, SNew, Store, Load, Move, Clear, Dir, Put, Get, Collect, KCollect, Share, Freeze, Attach, Exit}
-use Rattle.k_types.specs.declared.names.TypeId.{TypeId}
 use Rattle.k_types.specs.Trace.{Trace}
-use Rattle.k_space.specs.Objects.{BodyValue}
-use Rattle.k_tie.specs.Values.{NoteValue}
 use Rattle.k_agree.specs.Meeting.{Fits, met_note}
 use Rattle.k_book.specs.Books.{BookRecord}
 use Rattle.k_cell.specs.Holdings.{HoldingsValue}
 use Rattle.k_heap.specs.Heaps.{HeapRecord}
 use Rattle.k_commit.specs.Met.{CanMeet, HeapHasMet, KernelHasMet}
-use Rattle.k_commit.specs.Rooms.{HasRoomFor, HasRoomForNew, HasTableRoom}
-use Rattle.k_commit.proofs.Meetings.{kernel_has_met}
+use Rattle.k_commit.specs.Rooms.{HasRoomFor}
+use Rattle.k_commit.proofs.Meetings.{kernel_has_met, room_noted}
 use Rattle.k_pair.specs.Operating.{CanStepWithKernel, HaveMetFor, TouchesKernel, as_they_are}
-
--- room does not depend on the note
-module _ (trace : Trace) (bodies : List BodyValue) (k : HoldingsValue) (note : NoteValue) (seg : ℕ) (b : BookRecord) where
-  abbrev noted : HoldingsValue
-  noted = record k { note = note }
-
-  new_noted : (ty : TypeId) → HasRoomForNew trace ty bodies k seg → HasRoomForNew trace ty bodies noted seg
-  new_noted ty room = record {
-    body = room.body;
-    serial = λ given there.
-        let left = room.serial given there in
-        record { given = left.given; room = left.room; there = left.there; can_give = left.can_give; left = left.left };
-  }
-
-  tables_noted : (op : Op) → HasTableRoom trace bodies k seg b op → HasTableRoom trace bodies noted seg b op
-  tables_noted (New r ty) room = new_noted ty room
-  tables_noted (KNew r ty) room = new_noted ty room
-  tables_noted (SNew r s ty) room = new_noted ty room
-  tables_noted (Store base i value) room = record { exits = room.exits; entries = room.entries }
-  tables_noted (Load r base i) room = room
-  tables_noted (Move r from) room = room
-  tables_noted (Clear r) room = room
-  tables_noted (Dir r) room = room
-  tables_noted (Put base i number) room = room
-  tables_noted (Get base i) room = room
-  tables_noted Collect room = room
-  tables_noted KCollect room = room
-  tables_noted (Share s) room = room
-  tables_noted (Freeze s root) room = room
-  tables_noted (Attach r s) room = room
-  tables_noted Exit room = room
-
-  room_noted : (op : Op) → HasRoomFor trace bodies k seg b op → HasRoomFor trace bodies noted seg b op
-  room_noted op room = record { events = room.events; tables = tables_noted op room.tables }
 
 module _ (trace : Trace) (c : HeapRecord) (k : HoldingsValue) (b : BookRecord) (op : Op) (can : CanStepWithKernel trace c k b op) where
   pub heap_can_meet : CanMeet trace (User c.pid) c.note c.value b

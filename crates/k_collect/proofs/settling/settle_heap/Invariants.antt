@@ -8,6 +8,3 @@ ghost-mark_heap g a = g.trace
 
 abbrev pub ghost-end_heap : goal.ghost-end_heap
 ghost-end_heap g a = g.trace
-
-abbrev pub ghost-end_heap-2 : goal.ghost-end_heap-2
-ghost-end_heap-2 g a = g.trace

@@ -8,6 +8,3 @@ ghost-mark_kernel g a = g.trace
 
 abbrev pub ghost-end_kernel : goal.ghost-end_kernel
 ghost-end_kernel g a = g.trace
-
-abbrev pub ghost-end_kernel-2 : goal.ghost-end_kernel-2
-ghost-end_kernel-2 g a = g.trace

@@ -1,4 +1,4 @@
-use Rattle.std.proofs.Common.{◌<◌, ◌∙◌, ℕ, [], length, ap, sym, subst}
+use Rattle.std.proofs.Common.{◌<◌, ℕ, [], length, sym, subst}
 use Rattle.k_types.specs.declared.names.Seg.{Seg}
 use Rattle.k_agree.specs.Ending.{HasLeft}
 use Rattle.k_book.specs.Books.{BookRecord}

@@ -1,4 +1,4 @@
-use Rattle.std.proofs.Common.{◌<◌, ◌+◌, ◌^◌, length, arith}
+use Rattle.std.proofs.Common.{◌<◌, ◌^◌, length, arith}
 use Rattle.k_depart.proofs.Dropped.{dropping_goes_on, sum_fits}
 use Rattle.k_depart.proofs.charges.drop_shares.Goals as goal
 

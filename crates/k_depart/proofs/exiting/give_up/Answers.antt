@@ -1,4 +1,4 @@
-use Rattle.std.proofs.Common.{◌≡◌, ◌<◌, ◌≤◌, ◌+◌, ◌-◌, ◌^◌, ◌∙◌, ℕ, [], length, ap, sym, subst, get_or, arith, IsFalse, IsTrue, Option}
+use Rattle.std.proofs.Common.{◌<◌, ◌≤◌, ◌+◌, ◌-◌, ◌^◌, ◌∙◌, ℕ, [], length, ap, sym, subst, get_or, arith, IsFalse, IsTrue, Option}
 use Rattle.k_types.specs.declared.names.Name.{Name}
 use Rattle.k_types.specs.declared.names.Pid.{Pid}
 use Rattle.k_types.specs.Agree.{CellValue}
@@ -11,7 +11,6 @@ use Rattle.k_types.specs.Totals.{total}
 use Rattle.k_agree.specs.Ending.{HasLeft}
 use Rattle.k_book.specs.Books.{BookRecord}
 use Rattle.k_cell.specs.Holdings.{HoldingsValue}
-use Rattle.k_changes.specs.BookChanges.{registers_in}
 use Rattle.k_commit.proofs.Fitting.{done_small}
 use Rattle.k_frame.specs.PartUpdates.{done_in}
 use Rattle.k_heap.specs.Heaps.{HeapRecord, holdings_of, own_segment}

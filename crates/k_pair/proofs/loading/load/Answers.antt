@@ -1,6 +1,5 @@
-use Rattle.std.proofs.Common.{not, option_map, subst, sym, ◌∙◌, Option}
+use Rattle.std.proofs.Common.{not, subst, sym, ◌∙◌, Option}
 use Rattle.k_types.specs.declared.names.Name.{Name}
-use Rattle.k_types.specs.Names.{name_of}
 use Rattle.k_types.specs.Replies.{is_ref}
 use Rattle.k_space.specs.Objects.{content_of}
 use Rattle.k_cell.specs.Looks.{field_among, field_count_among}

@@ -1,0 +1,5 @@
+pub mod Due
+pub mod Away
+pub mod Across
+pub mod Crossing
+pub mod Allocated

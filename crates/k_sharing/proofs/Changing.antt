@@ -1,0 +1,85 @@
+-- Cells and book that are changed as an operation with a shared heap's cell asks can be committed.
+use Rattle.std.proofs.Common.{◌≡◌, refl, ap, subst, List, [], Some, IsFalse}
+use Rattle.k_types.specs.declared.event.Fault.{Fault}
+use Rattle.k_types.specs.declared.event.Reply.{Reply}
+use Rattle.k_types.specs.declared.event.Reply.TheVariants.{Refused}
+use Rattle.k_types.specs.declared.names.CellPhase.TheVariants.{Idle}
+use Rattle.k_types.specs.declared.names.Heap.TheVariants.{Shared, User}
+use Rattle.k_types.specs.declared.names.SharedId.{SharedId}
+use Rattle.k_types.specs.declared.op.Op.{Op}
+use Rattle.k_types.specs.Agree.{BookValue, CellValue, book_shown_by}
+use Rattle.k_types.specs.Cells.{BookPart}
+use Rattle.k_types.specs.Replies.{first_fault}
+use Rattle.k_types.specs.Steps.{waits_for_orphans}
+use Rattle.k_types.specs.Trace.{Trace}
+use Rattle.k_space.specs.Objects.{BodyValue}
+use Rattle.k_frame.specs.PartUpdates.{with_done}
+use Rattle.k_squares.specs.Answers.{faults_in}
+use Rattle.k_moves.specs.Moves.{GivesBoth, KeepsOwners}
+use Rattle.k_moves.specs.Shown.{idle_part, two_parts}
+use Rattle.k_moves.proofs.Beside.{refused_beside}
+use Rattle.k_book.specs.Books.{BookRecord}
+use Rattle.k_heap.specs.Heaps.{HeapRecord}
+use Rattle.k_shared.specs.SharedHeaps.{SharedRecord}
+use Rattle.k_commit.specs.Changed.{HasChangedWithShared, bodies_after}
+use Rattle.k_commit.specs.Met.{BeforeWithShared}
+use Rattle.k_sharing.specs.Operating.{HaveMetFor}
+
+module _ (before : BeforeWithShared) (c : HeapRecord) (s : SharedRecord) (b : BookRecord) (op : Op) (met : HaveMetFor before c s b op) where
+  abbrev trace : Trace
+  trace = before.own.trace
+
+  pub commits : (said : Reply) (w : CellValue) (bodies : List BodyValue) (x : CellValue) (v : BookValue) →
+      IsFalse (waits_for_orphans op) → bodies ≡ bodies_after op c.bodies →
+      w.tail ≡ [] → w.collection ≡ Idle → x.tail ≡ [] → x.collection ≡ Idle → KeepsOwners trace b.value v →
+      GivesBoth trace c.pid op said (Shared s.id) (idle_part c.value) (with_done (idle_part w)) (idle_part s.value) (idle_part x) (book_shown_by b.value) (book_shown_by v) →
+      HasChangedWithShared before (record c { value = w; bodies = bodies }) (record s { value = x }) (record b { value = v }) op said
+  commits said w bodies x v waits taken settled idle shared_settled shared_idle owners gives =
+      subst (λ (bf : BeforeWithShared). HasChangedWithShared bf (record c { value = w; bodies = bodies }) (record s { value = x }) (record b { value = v }) op said) met.same
+      (record {
+        have_met = met.have_met;
+        may = record { in_range = met.in_range; waits = waits; room = met.room.events };
+        values = record {
+          cell_is = ap (λ (left : List BodyValue). record c { value = w; bodies = left }) taken;
+          book_is = refl;
+          settled = settled;
+          idle = idle;
+          owners = owners;
+        };
+        shared_is = refl;
+        shared_settled = shared_settled;
+        shared_idle = shared_idle;
+        gives = gives;
+      })
+
+  pub settled : c.value.tail ≡ []
+  settled = met.have_met.own.heap.settled
+
+  pub idle : c.value.collection ≡ Idle
+  idle = met.have_met.own.heap.idle
+
+  pub shared_settled : s.value.tail ≡ []
+  shared_settled = met.have_met.shared.agrees.tail
+
+  pub shared_idle : s.value.collection ≡ Idle
+  shared_idle = met.have_met.shared.idle
+
+  -- a refused operation, of which nothing is left but its count and the body that it took
+  pub refused_given : (fault : Fault) (bodies : List BodyValue) → IsFalse (waits_for_orphans op) → bodies ≡ bodies_after op c.bodies →
+      GivesBoth trace c.pid op (Refused fault) (Shared s.id) (idle_part c.value) (with_done (idle_part c.value)) (idle_part s.value) (idle_part s.value) (book_shown_by b.value) (book_shown_by b.value) →
+      HasChangedWithShared before (record c { bodies = bodies }) s b op (Refused fault)
+  refused_given fault bodies waits taken gives =
+      commits (Refused fault) c.value bodies s.value b.value waits taken settled idle shared_settled shared_idle (record { homes = refl; owners = refl }) gives
+
+  pub refused : (fault : Fault) (bodies : List BodyValue) → IsFalse (waits_for_orphans op) → bodies ≡ bodies_after op c.bodies →
+      first_fault (faults_in trace (book_shown_by b.value) (two_parts (User c.pid) (idle_part c.value) (idle_part s.value)) c.pid.0 op) ≡ Some fault →
+      HasChangedWithShared before (record c { bodies = bodies }) s b op (Refused fault)
+  refused fault bodies waits taken is =
+      refused_given fault bodies waits taken (refused_beside trace (book_shown_by b.value) (idle_part c.value) (idle_part s.value) c.pid (Shared s.id) refl op fault met.touches is)
+
+-- what is given with the cell of a shared heap is given with that of the same one
+pub with_same : (trace : Trace) (c : HeapRecord) (s : SharedRecord) (b : BookRecord) (op : Op) (said : Reply) (w x : CellValue) (k : BookPart) (id : SharedId) → id ≡ s.id →
+    GivesBoth trace c.pid op said (Shared id) (idle_part c.value) (with_done (idle_part w)) (idle_part s.value) (idle_part x) (book_shown_by b.value) k →
+    GivesBoth trace c.pid op said (Shared s.id) (idle_part c.value) (with_done (idle_part w)) (idle_part s.value) (idle_part x) (book_shown_by b.value) k
+with_same trace c s b op said w x k id same gives =
+    subst (λ (t : SharedId). GivesBoth trace c.pid op said (Shared t) (idle_part c.value) (with_done (idle_part w)) (idle_part s.value) (idle_part x) (book_shown_by b.value) k) same gives

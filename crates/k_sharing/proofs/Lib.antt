@@ -1,0 +1,14 @@
+pub mod Given
+pub mod Changing
+pub mod Touching
+pub mod Facts
+pub mod Faulted
+pub mod Meeting
+pub mod Made
+pub mod Frozen
+pub mod Joined
+pub mod Placed
+pub mod Exits
+pub mod Stored
+pub mod Loaded
+pub mod Put

@@ -1,0 +1,36 @@
+use Rattle.std.proofs.Common.{◌∙◌, not, subst, sym, None, Option, Some}
+use Rattle.k_types.specs.declared.names.Name.{Name}
+use Rattle.k_types.specs.Replies.{is_ref}
+use Rattle.k_cell.specs.Looks.{field_among, field_count_among}
+use Rattle.k_commit.specs.Changed.{HasSetRegister}
+use Rattle.k_pair.proofs.Faulted.{told_by}
+use Rattle.k_pair.proofs.Touching.{load_below}
+use Rattle.k_sharing.proofs.Loaded.{load_refused, load_sets, loaded}
+use Rattle.k_sharing.proofs.Touching.{load_holds}
+use Rattle.k_sharing.proofs.loading.load.Goals as goal
+use Rattle.k_space.specs.Objects.{content_of}
+
+pub object_in-at-requires-clause-register : goal.object_in-at-requires-clause-register
+object_in-at-requires-clause-register g c = (load_below g.before.own.trace c.args.reg c.args.base c.args.field c.requires.in_range).1
+
+pub object_in-at-requires-clause-there : goal.object_in-at-requires-clause-there
+object_in-at-requires-clause-there g c = (load_holds g.before.own.trace c.args.cell.now c.args.book.now c.args.shared.now.id c.args.base c.args.reg c.args.field c.requires.touches).there
+
+pub set_register-requires : goal.set_register-requires
+set_register-requires g c =
+    rw (c.linked.ensures)
+    (load_sets g.before c.args.cell.now c.args.shared.now c.args.book.now c.args.reg c.args.base c.args.field c.requires c.object_in-at.result c.object_in-at.ensures c.in-Ok.value (sym c.field.ensures ∙ c.in-Ok.ensures.value))
+
+pub commit_with_shared-requires : goal.commit_with_shared-requires
+commit_with_shared-requires g c =
+    loaded g.before c.args.cell.now c.args.shared.now c.args.book.now c.args.reg c.args.base c.args.field c.requires c.object_in-at.result c.object_in-at.ensures c.in-Ok.value (sym c.field.ensures ∙ c.in-Ok.ensures.value)
+    (told_by c.field_count.result (field_count_among c.args.shared.now.value.objects c.object_in-at.result) (content_of c.field.result) (field_among c.args.shared.now.value.objects c.object_in-at.result c.args.field)
+    c.args.field (λ t. not (is_ref t)) None c.field_count.ensures c.field.ensures c.in-Ok.ensures.fine)
+    c.set_register.new.cell c.set_register.new.book
+    (subst (λ (v : Option Name). HasSetRegister g.before.own c.args.cell.now c.set_register.new.cell c.args.book.now c.set_register.new.book c.args.reg.0 v) c.linked.ensures c.set_register.ensures)
+
+pub commit_with_shared-requires-in-Err : goal.commit_with_shared-requires-in-Err
+commit_with_shared-requires-in-Err g c =
+    load_refused g.before c.args.cell.now c.args.shared.now c.args.book.now c.args.reg c.args.base c.args.field c.requires c.object_in-at.result c.object_in-at.ensures c.in-Err.fault
+    (told_by c.field_count.result (field_count_among c.args.shared.now.value.objects c.object_in-at.result) (content_of c.field.result) (field_among c.args.shared.now.value.objects c.object_in-at.result c.args.field)
+    c.args.field (λ t. not (is_ref t)) (Some c.in-Err.fault) c.field_count.ensures c.field.ensures c.in-Err.ensures.fault)

@@ -1,0 +1,4 @@
+pub mod Operating
+pub mod Remembered
+pub mod Faults
+pub mod Attached

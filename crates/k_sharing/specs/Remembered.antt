@@ -1,0 +1,34 @@
+-- What the shared heap's cell and the book remember of a reference that is stored into an object of the heap.
+use Rattle.std.specs.Prelude.{◌≡◌, ◌<◌, ◌-◌, ◌^◌, ℕ, Option, Some, length}
+use Rattle.k_types.specs.declared.names.Heap.{Heap}
+use Rattle.k_types.specs.declared.names.Heap.TheVariants.{Shared}
+use Rattle.k_types.specs.declared.names.Name.{Name}
+use Rattle.k_types.specs.Agree.{book_shown_by}
+use Rattle.k_types.specs.Counted.{counted}
+use Rattle.k_book.specs.Books.{BookRecord}
+use Rattle.k_entry.specs.Entries.{home_of}
+use Rattle.k_moves.specs.Shown.{idle_part, part_alone}
+use Rattle.k_shared.specs.SharedHeaps.{SharedRecord, holdings_of}
+use Rattle.k_squares.specs.BookAfter.{book_stored}
+use Rattle.k_squares.specs.CellAfter.{with_exit_for}
+use Rattle.k_commit.specs.Rooms.{HasExitRoom}
+
+-- what the reference is to lies in a segment of which the book tells the owner
+pub record TellsOwner (own : ℕ → Heap) (book : BookRecord) (value : Option Name) : Type 0 where
+  pub homes : (n : Name) → value ≡ Some n → n.seg.0 < length book.value.homes
+  pub owners : (n : Name) → value ≡ Some n → home_of book.value.homes n.seg.0 ≡ own n.seg.0
+
+-- the owner is told, there is room for an exit item and for an entry item, and counts of entries fit
+pub record CanRemember (own : ℕ → Heap) (shared : SharedRecord) (book : BookRecord) (value : Option Name) : Type 0 where
+  pub told : TellsOwner own book value
+  pub room : HasExitRoom (holdings_of shared) book
+  pub counts : (n : Name) → counted book.value.entries n < 2 ^ 32 - 1
+
+-- the shared heap's cell has the exit item to an object of another heap, which is entered on the book where the item is new, and nothing
+-- else has changed
+pub record HasRemembered (own : ℕ → Heap) (old_shared shared : SharedRecord) (old_book book : BookRecord) (value : Option Name) : Type 0 where
+  pub shared_is : shared ≡ record old_shared { value = record old_shared.value { exits = shared.value.exits } }
+  pub book_is : book ≡ record old_book { value = record old_book.value { entries = book.value.entries } }
+  pub exits : (x : Name) → own x.seg.0 ≡ Shared old_shared.id → idle_part shared.value ≡ with_exit_for own x value (idle_part old_shared.value)
+  pub entries : (x : Name) → own x.seg.0 ≡ Shared old_shared.id →
+      book_shown_by book.value ≡ book_stored own (Some x) value (part_alone (idle_part old_shared.value)) (book_shown_by old_book.value)

@@ -1,0 +1,59 @@
+//! A frozen heap that a process comes to share.
+ghost use Rattle.std.specs.Prelude.{IfErr, IfOk};
+ghost use Rattle.k_commit.specs.Met.{BeforeWithShared};
+ghost use Rattle.k_commit.specs.Stepped.{HasSteppedWithShared};
+ghost use Rattle.k_sharing.specs.Attached.{CanAttach, CannotAttach, HasAttached};
+ghost use Rattle.k_sharing.specs.Operating.{HaveMetFor};
+ghost use Rattle.k_types.specs.Trace.{Trace};
+ghost use Rattle.k_types.specs.declared.op.Op.TheVariants.{Attach};
+
+use crate::phases::frozen_root;
+use k_book::Book;
+use k_commit::{charge_process, commit_with_shared, set_register};
+use k_heap::HeapCell;
+use k_shared::SharedCell;
+use k_types::{Event, Fault, LimitId, Op, Pid, Reg, Reply, SharedId};
+
+/// The process shares the heap from now on, and is charged all its bytes, unless it does so already.
+fn join(book: &mut Book, pid: Pid, id: SharedId) -> Result<(), LimitId>
+    ghost trace: { Trace }
+    requires { CanAttach trace book.old pid.0 id.0 }
+    ensures attached { IfOk result (λ _. HasAttached trace book.old book.new pid.0 id.0) }
+    ensures full { IfErr result (λ limit. CannotAttach trace book.old book.new pid.0 id.0 limit) }
+{
+    if book.shares(pid, id) {
+        return Ok(());
+    }
+    charge_process(book, pid, book.bytes_of(id))?;
+    book.add_share(pid, id);
+    Ok(())
+}
+
+/// The operation `attach`.
+pub(crate) fn attach(
+    cell: &mut HeapCell,
+    shared: &mut SharedCell,
+    book: &mut Book,
+    reg: Reg,
+    id: SharedId,
+) -> Event
+    ghost before: { BeforeWithShared }
+    requires { HaveMetFor before cell.old shared.old book.old (Attach reg id) }
+    ensures { HasSteppedWithShared before.own.trace (Attach reg id) before.own.cell cell.new before.shared shared.new before.own.book book.new result }
+{
+    let op = Op::Attach { reg, shared: id };
+    let Some(root) = frozen_root(book.phase_of(id)) else {
+        let said = Reply::Refused(Fault::NotFrozen(id));
+        return commit_with_shared(cell, shared, book, op, said);
+    };
+    match join(book, cell.pid(), id) {
+        Ok(()) => {
+            set_register(cell, book, reg, Some(root.link()));
+            commit_with_shared(cell, shared, book, op, Reply::Loaded(Some(root)))
+        }
+        Err(limit) => {
+            let said = Reply::Refused(Fault::LimitFull(limit));
+            commit_with_shared(cell, shared, book, op, said)
+        }
+    }
+}
