@@ -4,5 +4,6 @@ pub mod Published
 pub mod StepsKept
 pub mod NextKept
 pub mod EndKept
+pub mod Gathered
 pub mod Over
 pub mod Places

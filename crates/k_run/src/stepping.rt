@@ -12,8 +12,10 @@ use k_commit::publish;
 use k_heap::HeapCell;
 use k_kernel::KernelCell;
 use k_local::local;
+use k_own::step_own;
 use k_pair::step_kernel;
 use k_shared::SharedCell;
+use k_sharing::step_shared;
 use k_types::{Heap, Op};
 
 /// Does the operation inside the process's own heap, if it needs that heap alone, and says whether it did.
@@ -70,6 +72,7 @@ pub(crate) fn do_alone(process: &mut Process, book: &mut Book, op: &Op)
 {
     know_exits(&process.cell);
     know_entries(book);
+    step_own(&mut process.cell, book, op);
 }
 
 /// Does an operation that touches the kernel's cell too.
@@ -101,6 +104,7 @@ pub(crate) fn do_with_shared(
 {
     know_shared_exits(shared);
     know_entries(book);
+    step_shared(&mut process.cell, shared, book, op);
 }
 
 /// Does the process's next operation, with whatever it touches.
