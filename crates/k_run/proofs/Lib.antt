@@ -2,6 +2,7 @@ pub mod Homes
 pub mod Kept
 pub mod Published
 pub mod StepsKept
+pub mod Since
 pub mod NextKept
 pub mod EndKept
 pub mod Gathered

@@ -1,26 +1,26 @@
 -- The next operation of a process, with whatever it touches.
-use Rattle.std.proofs.Common.{◌≡◌, refl, sym, ap, ap₂, ◌∙◌, subst, List, [], ◌∷◌, set, Bool, true, false, drop, Some, slice_get, IsFalse, IsTrue}
+use Rattle.std.proofs.Common.{◌≡◌, refl, sym, ap, ◌∙◌, subst, List, [], ◌∷◌, set, Bool, true, false, Some, slice_get}
 use Rattle.k_types.specs.declared.names.Heap.TheVariants.{Kernel, Shared}
 use Rattle.k_types.specs.declared.names.SharedId.{SharedId}
 use Rattle.k_types.specs.declared.op.Op.{Op}
 use Rattle.k_types.specs.Agree.{book_shown_by}
 use Rattle.k_types.specs.Cells.{Cell}
-use Rattle.k_types.specs.Trace.{Trace}
 use Rattle.k_squares.specs.Locals.{is_local_in}
 use Rattle.k_squares.specs.Touches.{other_cells_in}
 use Rattle.k_moves.specs.Shown.{idle_part}
 use Rattle.k_book.specs.Books.{BookRecord}
 use Rattle.k_cell.specs.Holdings.{HoldingsValue}
-use Rattle.k_heap.specs.Heaps.{HeapRecord, has_ended_in}
+use Rattle.k_heap.specs.Heaps.{HeapRecord}
 use Rattle.k_shared.specs.SharedHeaps.{SharedRecord}
-use Rattle.k_locked.specs.Keeping.{SharedKeeps, operations_left}
-use Rattle.k_locked.proofs.CanDo.{next_in_range}
+use Rattle.k_locked.specs.Keeping.{operations_left}
 use Rattle.k_run.specs.declared.process.Process.{Process}
 use Rattle.k_run.specs.Reaches.{CanReach}
-use Rattle.k_run.specs.Standing.{ComesNext, HasDone, ProcessStands, RestStands}
+use Rattle.k_run.specs.Running.{IsReady}
+use Rattle.k_run.specs.Standing.{ComesNext, HasDone}
 use Rattle.k_run.specs.Steps.{CanDoInside, CanDoNext, CanDoWithKernel, CanDoWithShared, HasDoneAlone, HasDoneInside, HasDoneNext, HasDoneWithKernel, HasDoneWithShared, HasPublishedAll, IsDueWith, PairStands}
 use Rattle.k_run.specs.Worlds.{WorldValue}
 use Rattle.k_run.proofs.Kept.{shared_set}
+use Rattle.k_run.proofs.Since.{can_reach, due, left_since, next_since, pid_since, ready_since}
 
 module _ (world : WorldValue) (p : Process) (kernel : HoldingsValue) (shared : List SharedRecord) (book : BookRecord) (op : Op) (can : CanDoNext world p kernel shared book op) where
   pub can_inside : CanDoInside world p op
@@ -33,37 +33,27 @@ module _ (world : WorldValue) (p : Process) (kernel : HoldingsValue) (shared : L
     pub pair_outside : PairStands world q book
     pair_outside = record { process = s.process; book = can.rest.book }
 
+    next_outside : ComesNext world.trace q.cell op
+    next_outside = subst (λ (c : HeapRecord). ComesNext world.trace c op) (sym (s.none not_done)) can.next
+
+    outside : is_local_in (idle_part q.cell.value) q.cell.pid.0 op ≡ false
+    outside = ap (λ (c : HeapRecord). is_local_in (idle_part c.value) c.pid.0 op) (s.none not_done) ∙ s.outside not_done
+
     module _ (r : Process) (b : BookRecord) (t : HasPublishedAll world q r b) where
-      same_left : operations_left world.trace r.cell ≡ operations_left world.trace p.cell
-      same_left = ap (operations_left world.trace) t.cell_is ∙ ap (operations_left world.trace) (s.none not_done)
+      ready : IsReady world.trace r.cell op
+      ready = ready_since world q r b op t next_outside outside can.goes_on
 
-      same_pid : r.cell.pid ≡ p.cell.pid
-      same_pid = ap (λ (c : HeapRecord). c.pid) t.cell_is ∙ ap (λ (c : HeapRecord). c.pid) (s.none not_done)
-
-      same_ended : has_ended_in r.cell.value.process ≡ has_ended_in p.cell.value.process
-      same_ended = ap (λ (c : HeapRecord). has_ended_in c.value.process) t.cell_is ∙ ap (λ (c : HeapRecord). has_ended_in c.value.process) (s.none not_done)
-
-      pub next_then : ComesNext world.trace r.cell op
-      next_then = record { rest = can.next.rest; left = same_left ∙ can.next.left; lives = same_ended ∙ can.next.lives }
-
-      outside_then : is_local_in (idle_part r.cell.value) r.cell.pid.0 op ≡ false
-      outside_then =
-          ap (λ (c : HeapRecord). is_local_in (idle_part c.value) c.pid.0 op) t.cell_is
-          ∙ ap (λ (c : HeapRecord). is_local_in (idle_part c.value) c.pid.0 op) (s.none not_done)
-          ∙ s.outside not_done
-
-      pub can_reach : CanReach world.trace r.cell b op
-      can_reach = record {
-        agrees = t.pair.process.cell.agrees;
-        book_stands = t.pair.book.stands;
-        in_range = next_in_range world.trace world.table r.cell t.pair.process.cell op next_then.rest next_then.left;
-      }
+      pub can_reach_then : CanReach world.trace r.cell b op
+      can_reach_then = can_reach world r b op t.pair ready.next
 
       pub due_then : (cells : List Cell) → other_cells_in world.trace (book_shown_by b.value) (idle_part r.cell.value) r.cell.pid.0 op ≡ cells → IsDueWith world r b op cells
-      due_then cells touches = record { pair = t.pair; settled = t.settled; next = next_then; outside = outside_then; touches = touches; goes_on = can.goes_on }
+      due_then cells touches = due world r b op cells t.pair ready touches
 
       done_since : (e : Process) → HasDone world.trace op r.cell e.cell → HasDone world.trace op p.cell e.cell
-      done_since e d = record { pid = d.pid ∙ same_pid; left = sym same_left ∙ d.left }
+      done_since e d = record {
+        pid = d.pid ∙ pid_since world q r b op t next_outside ∙ ap (λ (c : HeapRecord). c.pid) (s.none not_done);
+        left = sym (left_since world q r b op t next_outside ∙ ap (operations_left world.trace) (s.none not_done)) ∙ d.left;
+      }
 
       pub next_alone : (e : Process) (l : BookRecord) → HasDoneAlone world op r e l → HasDoneNext world op p e kernel shared l
       next_alone e l a = record {
