@@ -12,6 +12,9 @@ pub end_heap-requires : goal.end_heap-requires
 end_heap-requires g c =
     can_end_begun g.trace c.args.cell.now c.args.book.now c.requires c.publish.new.cell c.publish.new.book c.publish.ensures c.mark_heap.new.cell c.mark_heap.ensures.rest c.mark_heap.ensures.marked (sym c.in-Begun.ensures)
 
+pub end_heap-requires-in-Marked : goal.end_heap-requires-in-Marked
+end_heap-requires-in-Marked g c = can_end_marked g.trace c.args.cell.now c.args.book.now c.requires c.publish.new.cell c.publish.new.book c.publish.ensures (sym c.in-Marked.ensures)
+
 pub returns-in-Idle : goal.returns-in-Idle
 returns-in-Idle g c = settled_idle g.trace c.args.cell.now c.args.book.now c.requires c.publish.new.cell c.publish.new.book c.publish.ensures (sym c.in-Idle.ensures)
 
@@ -21,4 +24,6 @@ returns-in-Begun g c =
     c.mark_heap.ensures.rest c.end_heap.ensures (sym c.in-Begun.ensures)
 
 pub returns-in-Marked : goal.returns-in-Marked
-returns-in-Marked g c = ?
+returns-in-Marked g c =
+    settled_marked g.trace c.args.cell.now c.args.book.now c.requires c.publish.new.cell c.publish.new.book c.publish.ensures c.end_heap-in-Marked.new.cell c.end_heap-in-Marked.new.book c.end_heap-in-Marked.result
+    c.end_heap-in-Marked.ensures (sym c.in-Marked.ensures)

@@ -13,6 +13,9 @@ end_kernel-requires g c =
     kernel_can_end_begun g.trace c.args.kernel.now c.args.book.now c.requires c.meet_kernel.new.kernel c.meet_kernel.new.book c.meet_kernel.ensures c.mark_kernel.new.kernel c.mark_kernel.ensures.rest c.mark_kernel.ensures.marked
     (sym c.in-Begun.ensures)
 
+pub end_kernel-requires-in-Marked : goal.end_kernel-requires-in-Marked
+end_kernel-requires-in-Marked g c = kernel_can_end_marked g.trace c.args.kernel.now c.args.book.now c.requires c.meet_kernel.new.kernel c.meet_kernel.new.book c.meet_kernel.ensures (sym c.in-Marked.ensures)
+
 pub returns-in-Idle : goal.returns-in-Idle
 returns-in-Idle g c = kernel_settled_idle g.trace c.args.kernel.now c.args.book.now c.requires c.meet_kernel.new.kernel c.meet_kernel.new.book c.meet_kernel.ensures (sym c.in-Idle.ensures)
 
@@ -22,4 +25,6 @@ returns-in-Begun g c =
     c.end_kernel.result c.mark_kernel.ensures.rest c.end_kernel.ensures (sym c.in-Begun.ensures)
 
 pub returns-in-Marked : goal.returns-in-Marked
-returns-in-Marked g c = ?
+returns-in-Marked g c =
+    kernel_settled_marked g.trace c.args.kernel.now c.args.book.now c.requires c.meet_kernel.new.kernel c.meet_kernel.new.book c.meet_kernel.ensures c.end_kernel-in-Marked.new.kernel c.end_kernel-in-Marked.new.book
+    c.end_kernel-in-Marked.result c.end_kernel-in-Marked.ensures (sym c.in-Marked.ensures)
