@@ -6,16 +6,18 @@ use Rattle.k_types.specs.declared.op.Op.{Op}
 use Rattle.k_types.specs.Trace.{operations_of}
 use Rattle.k_frame.specs.PartUpdates.{done_in}
 use Rattle.k_agree.specs.Meeting.{met_note}
+use Rattle.k_agree.specs.Settled.{all_ended_in, no_orphan_in}
+use Rattle.k_types.specs.Complete.{EndsWithClosing}
 use Rattle.k_book.specs.Books.{BookRecord}
 use Rattle.k_cell.specs.Holdings.{HoldingsValue}
 use Rattle.k_heap.specs.Heaps.{HeapRecord, has_ended_in}
 use Rattle.k_shared.specs.SharedHeaps.{SharedRecord}
 use Rattle.k_commit.specs.Met.{HeapHasMet, KernelHasMet, SharedHasMet}
-use Rattle.k_locked.specs.Keeping.{BookKeeps, operations_left}
+use Rattle.k_locked.specs.Keeping.{operations_left}
 use Rattle.k_locked.proofs.CanDo.{passes_at}
 use Rattle.k_run.specs.declared.process.Process.{Process}
-use Rattle.k_run.specs.Ended.{AllMet, AllStand, AllThrough, CanComplete, HasCompleted, IsNextOf, IsSlice}
-use Rattle.k_run.specs.Meetings.{HeapsAndBook, HeapsMet, ProcessesMet, ProcessesThrough}
+use Rattle.k_run.specs.Ended.{AllEnded, AllMet, AllStand, CanComplete, HasCompleted, IsNextOf, IsSlice}
+use Rattle.k_run.specs.Meetings.{BookEnds, HeapsAndBook, HeapsMet, ProcessesMet, ProcessesThrough}
 use Rattle.k_run.specs.Standing.{ComesNext, HasDone, HeapsStand, IsThroughWith, ProcessStands, ProcessesStand, RestStands}
 use Rattle.k_run.specs.Steps.{CanDoNext, HasDoneNext, HasPublishedAll, PairStands, is_put_off}
 use Rattle.k_run.specs.Worlds.{WorldValue}
@@ -72,7 +74,7 @@ module _ (world : WorldValue) (ps : List Process) (b l : BookRecord) (t : Proces
   one_met = record {
     processes = process_set world ps n p (record p { cell = w }) t.processes at
         (record {
-          cell = met_heap world.trace world.table b l t.book p.cell w (t.processes.each n p at).cell s;
+          cell = met_heap world.trace world.table b l t.book.stands t.book.table p.cell w (t.processes.each n p at).cell s;
           operations = (t.processes.each n p at).operations ∙ ap (λ (c : HeapRecord). operations_of world.trace c.pid.0) (sym s.cell_is);
         })
         (ap (λ (c : HeapRecord). c.pid) s.cell_is);
@@ -80,7 +82,7 @@ module _ (world : WorldValue) (ps : List Process) (b l : BookRecord) (t : Proces
       | inl here ↦ subst (λ (x : Process). IsThroughWith world.trace x.cell) here.1 (met_through world p.cell w b l (t.through n p at) s)
       | inr there ↦ t.through k q there
     ];
-    book = subst (λ x. BookKeeps world.trace world.table x) (sym s.book_is) t.book;
+    book = subst (BookEnds world) (sym s.book_is) t.book;
   }
 
   pub met_list : w.note.list ≡ l.journal.list
@@ -89,30 +91,26 @@ module _ (world : WorldValue) (ps : List Process) (b l : BookRecord) (t : Proces
 module _ (world : WorldValue) (ss : List SharedRecord) (b l : BookRecord) (t : HeapsAndBook world ss b) (n : ℕ) (h : SharedRecord) (at : slice_get ss n ≡ Some h) (w : SharedRecord) (s : SharedHasMet world.trace h w b l) where
   pub one_heap_met : HeapsAndBook world (set ss n w) l
   one_heap_met = record {
-    heaps = shared_set world ss n h w t.heaps at (met_shared world.trace world.table b l t.book h w (t.heaps.each n h at) s) (ap (λ (c : SharedRecord). c.id) s.shared_is);
-    book = subst (λ x. BookKeeps world.trace world.table x) (sym s.book_is) t.book;
+    heaps = shared_set world ss n h w t.heaps at (met_shared world.trace world.table b l t.book.stands t.book.table h w (t.heaps.each n h at) s) (ap (λ (c : SharedRecord). c.id) s.shared_is);
+    book = subst (BookEnds world) (sym s.book_is) t.book;
   }
 
   pub heap_met_list : w.note.list ≡ l.journal.list
   heap_met_list = ap (λ (c : SharedRecord). c.note.list) s.shared_is ∙ ap (λ (x : BookRecord). x.journal.list) (sym s.book_is)
 
 -- all cells have met the journal
-pub all_met : (world : WorldValue) (ps qs : List Process) (k x : HoldingsValue) (ss ts : List SharedRecord) (b c d e : BookRecord) → AllThrough world ps k ss b → ProcessesMet world qs b c → KernelHasMet world.trace k x c d →
+pub all_met : (world : WorldValue) (ps qs : List Process) (k x : HoldingsValue) (ss ts : List SharedRecord) (b c d e : BookRecord) → AllEnded world ps k ss b → ProcessesMet world qs b c → KernelHasMet world.trace k x c d →
     HeapsMet world ts d e → AllMet world qs x ts e
 all_met world ps qs k x ss ts b c d e all p kernel heaps =
     let same : e ≡ c = heaps.book_is ∙ kernel.book_is in
+    let first : e ≡ b = same ∙ p.book_is in
     record {
-      through = record {
-        stand = record {
-          processes = p.through.processes;
-          rest = record {
-            kernel = met_kernel world.trace world.table c d p.through.book k x all.stand.rest.kernel kernel;
-            shared = heaps.stand.heaps;
-            book = heaps.stand.book;
-          };
-          slice = all.stand.slice;
-        };
-        through = p.through.through;
+      ended = record {
+        processes = record { processes = p.through.processes; through = p.through.through; book = heaps.stand.book };
+        kernel = met_kernel world.trace world.table c d p.through.book.stands p.through.book.table k x all.kernel kernel;
+        shared = heaps.stand.heaps;
+        orphans = λ ended. subst (λ (y : BookRecord). IsTrue (no_orphan_in world.trace y.value)) (sym first) (all.orphans (subst (λ (y : BookRecord). IsTrue (all_ended_in world.trace y.value)) first ended));
+        closed = λ ended. subst (λ (y : BookRecord). EndsWithClosing y.journal.list) (sym first) (all.closed (subst (λ (y : BookRecord). IsTrue (all_ended_in world.trace y.value)) first ended));
       };
       processes_met = λ j q found. p.met j q found ∙ ap (λ (y : BookRecord). y.journal.list) (sym same);
       kernel_met = ap (λ (y : HoldingsValue). y.note.list) kernel.kernel_is ∙ ap (λ (y : BookRecord). y.journal.list) (sym same);

@@ -13,28 +13,30 @@ use Rattle.k_cell.specs.Holdings.{HoldingsValue}
 use Rattle.k_heap.specs.Heaps.{HeapRecord, has_ended_in}
 use Rattle.k_shared.specs.SharedHeaps.{SharedRecord}
 use Rattle.k_commit.specs.Met.{CanMeet, HeapHasMet, KernelHasMet, SharedHasMet}
-use Rattle.k_locked.specs.Keeping.{BookKeeps, HeapKeeps, KernelKeeps, SharedKeeps, operations_left}
-use Rattle.k_locked.proofs.Steps.{other_keeps, own_tail_follows}
+use Rattle.k_commit.specs.Standing.{BookStands}
+use Rattle.k_locked.specs.Keeping.{HeapKeeps, KernelKeeps, SharedKeeps, operations_left}
+use Rattle.k_agree.proofs.WithinRooms.{met_follows}
+use Rattle.k_locked.proofs.Steps.{other_keeps}
 use Rattle.k_run.specs.declared.process.Process.{Process}
 use Rattle.k_run.specs.Standing.{HeapsStand, IsThroughWith, ProcessStands, ProcessesStand}
 use Rattle.k_run.specs.Worlds.{WorldValue}
 use Rattle.std.proofs.lemmas.Bool.{cases_eq}
 use Rattle.k_run.proofs.Places.{get_set_cases}
 
-module _ (trace : Trace) (tie : TableId) (b l : BookRecord) (k : BookKeeps trace tie b) where
+module _ (trace : Trace) (tie : TableId) (b l : BookRecord) (k : BookStands trace b) (tied : b.journal.table ≡ tie) where
   pub heap_can_meet : (c : HeapRecord) → HeapKeeps trace tie c → CanMeet trace (User c.pid) c.note c.value b
-  heap_can_meet c h = record { agrees = h.agrees; book_agrees = k.stands.agrees; table = h.table ∙ sym k.table }
+  heap_can_meet c h = record { agrees = h.agrees; book_agrees = k.agrees; table = h.table ∙ sym tied }
 
   pub kernel_can_meet : (c : HoldingsValue) → KernelKeeps trace tie c → CanMeet trace Kernel c.note c.value b
-  kernel_can_meet c h = record { agrees = h.agrees; book_agrees = k.stands.agrees; table = h.table ∙ sym k.table }
+  kernel_can_meet c h = record { agrees = h.agrees; book_agrees = k.agrees; table = h.table ∙ sym tied }
 
   pub shared_can_meet : (c : SharedRecord) → SharedKeeps trace tie c → CanMeet trace (Shared c.id) c.note c.value b
-  shared_can_meet c h = record { agrees = h.agrees; book_agrees = k.stands.agrees; table = h.table ∙ sym k.table }
+  shared_can_meet c h = record { agrees = h.agrees; book_agrees = k.agrees; table = h.table ∙ sym tied }
 
   pub met_heap : (c w : HeapRecord) → HeapKeeps trace tie c → HeapHasMet trace c w b l → HeapKeeps trace tie w
   met_heap c w h s =
       subst (HeapKeeps trace tie) (sym s.cell_is)
-      (other_keeps trace tie c (record c { note = met_note b.journal c.note }) h refl s.told.shows.agrees h.table refl (own_tail_follows trace tie c b h k s.told.fits) refl (λ lives. lives))
+      (other_keeps trace tie c (record c { note = met_note b.journal c.note }) h refl s.told.shows.agrees h.table refl (met_follows trace b.journal b.value c.pid.0 c.note c.value h.agrees k.agrees h.follows s.told.fits) refl (λ lives. lives))
 
   pub met_kernel : (c w : HoldingsValue) → KernelKeeps trace tie c → KernelHasMet trace c w b l → KernelKeeps trace tie w
   met_kernel c w h s = subst (KernelKeeps trace tie) (sym s.kernel_is) (record {

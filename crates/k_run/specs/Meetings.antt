@@ -2,16 +2,23 @@
 use Rattle.std.specs.Prelude.{◌≡◌, ℕ, List, Some, slice_get}
 use Rattle.k_book.specs.Books.{BookRecord}
 use Rattle.k_shared.specs.SharedHeaps.{SharedRecord}
-use Rattle.k_locked.specs.Keeping.{BookKeeps}
+use Rattle.k_agree.specs.Rooms.{AreFirst}
+use Rattle.k_commit.specs.Standing.{BookStands}
 use Rattle.k_run.specs.declared.process.Process.{Process}
 use Rattle.k_run.specs.Standing.{HeapsStand, IsThroughWith, ProcessesStand}
 use Rattle.k_run.specs.Worlds.{WorldValue}
+
+-- the book stands and is of the table, and its journal has of each process the first operations of the trace
+pub record BookEnds (world : WorldValue) (b : BookRecord) : Type 0 where
+  pub stands : BookStands world.trace b
+  pub table : b.journal.table ≡ world.table
+  pub first : AreFirst world.trace b.journal.list
 
 -- all processes stand and are through, and the book stands
 pub record ProcessesThrough (world : WorldValue) (ps : List Process) (b : BookRecord) : Type 0 where
   pub processes : ProcessesStand world ps
   pub through : (k : ℕ) (p : Process) → slice_get ps k ≡ Some p → IsThroughWith world.trace p.cell
-  pub book : BookKeeps world.trace world.table b
+  pub book : BookEnds world b
 
 -- they still do, the book is as it was, and each process's cell knows the whole journal
 pub record ProcessesMet (world : WorldValue) (ps : List Process) (old_b b : BookRecord) : Type 0 where
@@ -22,7 +29,7 @@ pub record ProcessesMet (world : WorldValue) (ps : List Process) (old_b b : Book
 -- all shared heaps and the book stand
 pub record HeapsAndBook (world : WorldValue) (ss : List SharedRecord) (b : BookRecord) : Type 0 where
   pub heaps : HeapsStand world ss
-  pub book : BookKeeps world.trace world.table b
+  pub book : BookEnds world b
 
 -- they still do, the book is as it was, and each shared heap's cell knows the whole journal
 pub record HeapsMet (world : WorldValue) (ss : List SharedRecord) (old_b b : BookRecord) : Type 0 where

@@ -1,5 +1,5 @@
 //! What is left of a run, done on the caller's thread.
-ghost use Rattle.k_run.specs.Ended.{AllMet, AllStand, AllThrough, CanComplete, HasCompleted};
+ghost use Rattle.k_run.specs.Ended.{AllEnded, AllMet, AllStand, AllThrough, CanComplete, HasCompleted};
 ghost use Rattle.k_run.specs.Meetings.{HeapsAndBook, HeapsMet, ProcessesMet, ProcessesThrough};
 ghost use Rattle.k_run.specs.Worlds.{WorldValue};
 
@@ -73,7 +73,7 @@ pub(crate) fn meet_all(
     book: &mut Book,
 )
     ghost world: { WorldValue }
-    requires { AllThrough world processes.old.items kernel.old shared.old.items book.old }
+    requires { AllEnded world processes.old.items kernel.old shared.old.items book.old }
     ensures { AllMet world processes.new.items kernel.new shared.new.items book.new }
 {
     meet_processes(processes, book);

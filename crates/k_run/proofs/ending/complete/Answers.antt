@@ -20,4 +20,6 @@ pub publish_all-requires : goal.publish_all-requires
 publish_all-requires g c = record { process = c.loop-op.invariant.process; book = c.loop-op.invariant.rest.book }
 
 pub returns : goal.returns
-returns g c = ?
+returns g c =
+    completed g.world' c.args.process.now c.loop-op.process c.publish_all.new.process c.loop-op.kernel c.loop-op.shared.items c.loop-op.book c.publish_all.new.book c.loop-op.invariant.process c.loop-op.invariant.rest c.loop-op.invariant.pid
+    c.in_default.ensures c.publish_all.ensures

@@ -9,6 +9,6 @@ ghost-complete g a = g.world'
 
 abbrev pub invariant-loop-process : goal.invariant-loop-process
 invariant-loop-process g l = record {
-  stand : AllStand g.world' l.processes.items l.kernel l.shared.items l.book;
-  through : (k : ℕ) (p : Process) → k < l.process-index → slice_get l.processes.items k ≡ Some p → IsThroughWith g.world'.trace p.cell;
+  stand : AllStand g.world' l.process-items l.kernel l.shared.items l.book;
+  through : (k : ℕ) (p : Process) → k < l.process-index → slice_get l.process-items k ≡ Some p → IsThroughWith g.world'.trace p.cell;
 }

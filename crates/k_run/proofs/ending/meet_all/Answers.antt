@@ -1,15 +1,15 @@
+use Rattle.std.proofs.Common.{sym, subst}
+use Rattle.k_run.specs.Meetings.{BookEnds}
 use Rattle.k_run.proofs.EndKept.{all_met}
 use Rattle.k_run.proofs.Kept.{kernel_can_meet}
 use Rattle.k_run.proofs.ending.meet_all.Goals as goal
 
-pub meet_processes-requires : goal.meet_processes-requires
-meet_processes-requires g c = record { processes = c.requires.stand.processes; through = c.requires.through; book = c.requires.stand.rest.book }
-
 pub meet_kernel-requires : goal.meet_kernel-requires
-meet_kernel-requires g c = kernel_can_meet g.world'.trace g.world'.table c.meet_processes.new.book c.meet_processes.new.book c.meet_processes.ensures.through.book c.args.kernel.now c.requires.stand.rest.kernel
+meet_kernel-requires g c =
+    kernel_can_meet g.world'.trace g.world'.table c.meet_processes.new.book c.meet_processes.new.book c.meet_processes.ensures.through.book.stands c.meet_processes.ensures.through.book.table c.args.kernel.now c.requires.kernel
 
 pub meet_heaps-requires : goal.meet_heaps-requires
-meet_heaps-requires g c = ?
+meet_heaps-requires g c = record { heaps = c.requires.shared; book = subst (BookEnds g.world') (sym c.meet_kernel.ensures.book_is) c.meet_processes.ensures.through.book }
 
 pub returns : goal.returns
 returns g c =

@@ -8,7 +8,7 @@ ghost-meet_shared g a = g.world'.trace
 
 abbrev pub invariant-loop-heap : goal.invariant-loop-heap
 invariant-loop-heap g l = record {
-  stand : HeapsAndBook g.world' l.shared.items l.book;
-  met : (k : ℕ) (s : SharedRecord) → k < l.heap-index → slice_get l.shared.items k ≡ Some s → s.note.list ≡ l.book.journal.list;
+  stand : HeapsAndBook g.world' l.heap-items l.book;
+  met : (k : ℕ) (s : SharedRecord) → k < l.heap-index → slice_get l.heap-items k ≡ Some s → s.note.list ≡ l.book.journal.list;
   book_is : l.book ≡ l.fn.book;
 }

@@ -8,7 +8,7 @@ ghost-meet_heap g a = g.world'.trace
 
 abbrev pub invariant-loop-process : goal.invariant-loop-process
 invariant-loop-process g l = record {
-  through : ProcessesThrough g.world' l.processes.items l.book;
-  met : (k : ℕ) (p : Process) → k < l.process-index → slice_get l.processes.items k ≡ Some p → p.cell.note.list ≡ l.book.journal.list;
+  through : ProcessesThrough g.world' l.process-items l.book;
+  met : (k : ℕ) (p : Process) → k < l.process-index → slice_get l.process-items k ≡ Some p → p.cell.note.list ≡ l.book.journal.list;
   book_is : l.book ≡ l.fn.book;
 }
