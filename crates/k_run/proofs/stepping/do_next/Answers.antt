@@ -1,4 +1,4 @@
-use Rattle.std.proofs.Common.{◌≡◌, ◌<◌, refl, sym, subst, length, Some, slice_get}
+use Rattle.std.proofs.Common.{◌<◌, ◌∙◌, refl, sym, subst}
 use Rattle.k_shared.specs.SharedHeaps.{SharedRecord}
 use Rattle.k_moves.specs.Shown.{idle_part}
 use Rattle.k_run.proofs.HeapsReached.{heap_reached}
@@ -14,7 +14,7 @@ reach-requires g c = can_reach_then g.world' c.args.process.now c.args.kernel.no
 
 pub index_mut-heap-requires : goal.index_mut-heap-requires
 index_mut-heap-requires g c =
-    subst (λ n. c.in-Shared.id.0 < n) (sym c.requires.rest.shared.count)
+    subst (λ n. c.in-Shared.id.0 < n) (sym (c.args.shared.now.ok.0 ∙ c.requires.rest.shared.count))
     (heap_reached g.world'.trace c.publish_all.new.book c.publish_all.ensures.pair.book.stands c.publish_all.new.process.cell.pid.0 c.in-Shared.id (idle_part c.publish_all.new.process.cell.value) c.args.op.now
     (can_reach_then g.world' c.args.process.now c.args.kernel.now c.args.shared.now.items c.args.book.now c.args.op.now c.requires c.do_inside.new.process c.do_inside.result c.if-do_inside.false c.do_inside.ensures c.publish_all.new.process c.publish_all.new.book c.publish_all.ensures).in_range c.in-Shared.ensures)
 
