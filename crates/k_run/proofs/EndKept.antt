@@ -1,11 +1,9 @@
 -- What is left of processes, done one after the other.
-use Rattle.std.proofs.Common.{◌≡◌, ◌<◌, ◌+◌, ◌∷◌, ℕ, refl, sym, ap, ◌∙◌, subst, List, [], length, set, not, Bool, true, false, Some, None, slice_get, IsFalse, IsTrue, inl, inr, arith}
-use Rattle.std.specs.List.{list_all}
+use Rattle.std.proofs.Common.{◌≡◌, ◌<◌, ℕ, refl, sym, ap, ◌∙◌, subst, List, length, set, not, Bool, true, false, Some, None, slice_get, IsTrue, inl, inr, arith}
 use Rattle.std.proofs.lemmas.Bool.{false≢true}
 use Rattle.k_types.specs.declared.op.Op.{Op}
 use Rattle.k_types.specs.Trace.{operations_of}
 use Rattle.k_frame.specs.PartUpdates.{done_in}
-use Rattle.k_agree.specs.Meeting.{met_note}
 use Rattle.k_agree.specs.Settled.{all_ended_in, no_orphan_in}
 use Rattle.k_types.specs.Complete.{EndsWithClosing}
 use Rattle.k_book.specs.Books.{BookRecord}
@@ -18,11 +16,11 @@ use Rattle.k_locked.proofs.CanDo.{passes_at}
 use Rattle.k_run.specs.declared.process.Process.{Process}
 use Rattle.k_run.specs.Ended.{AllEnded, AllMet, AllStand, CanComplete, HasCompleted, IsNextOf, IsSlice}
 use Rattle.k_run.specs.Meetings.{BookEnds, HeapsAndBook, HeapsMet, ProcessesMet, ProcessesThrough}
-use Rattle.k_run.specs.Standing.{ComesNext, HasDone, HeapsStand, IsThroughWith, ProcessStands, ProcessesStand, RestStands}
-use Rattle.k_run.specs.Steps.{CanDoNext, HasDoneNext, HasPublishedAll, PairStands, is_put_off}
+use Rattle.k_run.specs.Standing.{ComesNext, HasDone, IsThroughWith, ProcessStands, RestStands}
+use Rattle.k_run.specs.Steps.{CanDoNext, HasPublishedAll, is_put_off}
 use Rattle.k_run.specs.Worlds.{WorldValue}
 use Rattle.k_run.proofs.Places.{get_set_cases}
-use Rattle.k_run.proofs.Kept.{met_heap, met_kernel, met_shared, process_set, set_below, shared_set}
+use Rattle.k_run.proofs.Kept.{met_heap, met_kernel, met_shared, process_set, shared_set}
 
 -- the next operation of a slice's process is not put off
 goes_on : (b : Bool) → not b ≡ true → b ≡ false

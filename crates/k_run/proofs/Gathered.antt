@@ -1,5 +1,5 @@
 -- Cells that are gathered in the places of their numbers.
-use Rattle.std.proofs.Common.{◌≡◌, ◌⊎◌, ◌+◌, ℕ, refl, sym, ap, ◌∙◌, subst, inl, inr, List, [], length, set, map, Option, Some, None, replicate, slice_get, length-set, arith}
+use Rattle.std.proofs.Common.{◌≡◌, ◌⊎◌, ◌+◌, ℕ, refl, sym, ap, ◌∙◌, subst, inl, inr, List, length, set, map, Option, Some, None, replicate, slice_get, length-set, arith}
 use Rattle.std.proofs.lemmas.List.{length-map, length-replicate}
 use Rattle.k_types.specs.Trace.{process_count}
 use Rattle.k_shared.specs.SharedHeaps.{SharedRecord}

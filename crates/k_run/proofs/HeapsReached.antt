@@ -1,5 +1,5 @@
 -- A shared heap that an operation reaches is one of the trace's.
-use Rattle.std.proofs.Common.{◌≡◌, ◌<◌, ◌&&◌, nat_lt, ℕ, refl, sym, ap, ◌∙◌, subst, List, [], ◌∷◌, Bool, true, false, cond, Option, Some, None, arith}
+use Rattle.std.proofs.Common.{◌≡◌, ◌<◌, nat_lt, ℕ, refl, sym, ap, ◌∙◌, subst, [], ◌∷◌, Bool, true, false, cond, Option, Some, None, arith}
 use Rattle.std.proofs.lemmas.Bool.{and_parts}
 use Rattle.std.proofs.lemmas.Bool.Decides.{nat_tests}
 use Rattle.k_types.specs.declared.names.Heap.{Heap}
@@ -9,9 +9,9 @@ use Rattle.k_types.specs.declared.names.SharedId.{SharedId}
 use Rattle.k_types.specs.declared.op.Op.{Op}
 use Rattle.k_types.specs.declared.op.Op.TheVariants.{New, KNew, SNew, Store, Load, Move, Clear, Dir, Put, Get, Collect, KCollect, Share, Freeze, Attach, Exit}
 use Rattle.k_types.specs.Agree.{book_shown_by}
-use Rattle.k_types.specs.Cells.{BookPart, Cell, CellPart, book_part}
+use Rattle.k_types.specs.Cells.{BookPart, CellPart, book_part}
 use Rattle.k_types.specs.State.{has_share}
-use Rattle.k_types.specs.Steps.{in_range, state_after}
+use Rattle.k_types.specs.Steps.{in_range}
 use Rattle.k_types.specs.Trace.{Trace}
 use Rattle.k_squares.specs.Touches.{access_cell_in, base_cell_in, other_cells_in}
 use Rattle.k_agree.proofs.AtTheEnd.{book_sound}

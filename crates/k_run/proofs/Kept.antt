@@ -1,24 +1,21 @@
 -- Meeting the journal keeps what the locks ask, and lists whose elements keep it.
-use Rattle.std.proofs.Common.{◌≡◌, ◌≢◌, ◌<◌, ◌+◌, ℕ, zero, suc, ◌++◌, refl, sym, ap, ap₂, ◌∙◌, subst, List, [], ◌∷◌, length, set, append-nil, Some, slice_get, IsFalse, inl, inr, arith, length-set, get_or}
+use Rattle.std.proofs.Common.{◌≡◌, ◌<◌, ◌+◌, ℕ, zero, suc, refl, sym, ap, ◌∙◌, subst, List, [], ◌∷◌, set, Some, slice_get, inl, inr, arith, length-set}
 use Rattle.atomic_table.specs.Seated.{TableId}
 use Rattle.k_types.specs.declared.names.Heap.TheVariants.{Kernel, Shared, User}
 use Rattle.k_types.specs.declared.names.Pid.{Pid}
-use Rattle.k_types.specs.Agree.{CellValue}
-use Rattle.k_types.specs.Trace.{Trace, operations_of, process_count}
-use Rattle.k_tie.specs.Values.{NoteValue}
-use Rattle.k_agree.specs.Agreement.{Agrees}
+use Rattle.k_types.specs.Trace.{Trace}
 use Rattle.k_agree.specs.Meeting.{met_note}
 use Rattle.k_book.specs.Books.{BookRecord}
 use Rattle.k_cell.specs.Holdings.{HoldingsValue}
-use Rattle.k_heap.specs.Heaps.{HeapRecord, has_ended_in}
+use Rattle.k_heap.specs.Heaps.{HeapRecord}
 use Rattle.k_shared.specs.SharedHeaps.{SharedRecord}
 use Rattle.k_commit.specs.Met.{CanMeet, HeapHasMet, KernelHasMet, SharedHasMet}
 use Rattle.k_commit.specs.Standing.{BookStands}
-use Rattle.k_locked.specs.Keeping.{HeapKeeps, KernelKeeps, SharedKeeps, operations_left}
+use Rattle.k_locked.specs.Keeping.{HeapKeeps, KernelKeeps, SharedKeeps}
 use Rattle.k_agree.proofs.WithinRooms.{met_follows}
 use Rattle.k_locked.proofs.Steps.{other_keeps}
 use Rattle.k_run.specs.declared.process.Process.{Process}
-use Rattle.k_run.specs.Standing.{HeapsStand, IsThroughWith, ProcessStands, ProcessesStand}
+use Rattle.k_run.specs.Standing.{HeapsStand, ProcessStands, ProcessesStand}
 use Rattle.k_run.specs.Worlds.{WorldValue}
 use Rattle.std.proofs.lemmas.Bool.{cases_eq}
 use Rattle.k_run.proofs.Places.{get_set_cases}

@@ -1,5 +1,5 @@
 -- The list that a loop over all elements leaves, and places that are read.
-use Rattle.std.proofs.Common.{◌≡◌, ◌<◌, ◌++◌, ℕ, refl, sym, ap, ◌∙◌, subst, List, length, take, drop, get_or, append-nil, Option, Some, slice_get, arith}
+use Rattle.std.proofs.Common.{◌≡◌, ◌<◌, ◌++◌, ℕ, sym, ap, ◌∙◌, List, length, take, drop, get_or, append-nil, Some, slice_get, arith}
 use Rattle.std.proofs.lemmas.List.{drop_all, take_all}
 use Rattle.std.proofs.lemmas.Option.{slice_get_read}
 

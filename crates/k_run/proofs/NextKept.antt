@@ -1,5 +1,5 @@
 -- The next operation of a process, with whatever it touches.
-use Rattle.std.proofs.Common.{◌≡◌, refl, sym, ap, ◌∙◌, subst, List, [], ◌∷◌, set, Bool, true, false, Some, slice_get}
+use Rattle.std.proofs.Common.{◌≡◌, sym, ap, ◌∙◌, subst, List, [], ◌∷◌, set, Bool, true, false, Some, slice_get}
 use Rattle.k_types.specs.declared.names.Heap.TheVariants.{Kernel, Shared}
 use Rattle.k_types.specs.declared.names.SharedId.{SharedId}
 use Rattle.k_types.specs.declared.op.Op.{Op}
@@ -20,7 +20,7 @@ use Rattle.k_run.specs.Standing.{ComesNext, HasDone}
 use Rattle.k_run.specs.Steps.{CanDoInside, CanDoNext, CanDoWithKernel, CanDoWithShared, HasDoneAlone, HasDoneInside, HasDoneNext, HasDoneWithKernel, HasDoneWithShared, HasPublishedAll, IsDueWith, PairStands}
 use Rattle.k_run.specs.Worlds.{WorldValue}
 use Rattle.k_run.proofs.Kept.{shared_set}
-use Rattle.k_run.proofs.Since.{can_reach, due, left_since, next_since, pid_since, ready_since}
+use Rattle.k_run.proofs.Since.{can_reach, due, left_since, pid_since, ready_since}
 
 module _ (world : WorldValue) (p : Process) (kernel : HoldingsValue) (shared : List SharedRecord) (book : BookRecord) (op : Op) (can : CanDoNext world p kernel shared book op) where
   pub can_inside : CanDoInside world p op

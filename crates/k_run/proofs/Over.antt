@@ -1,37 +1,25 @@
 -- A run whose cells have all met the journal, with every process through, is over.
-use Rattle.std.proofs.Common.{◌≡◌, ℕ, zero, suc, ◌<◌, ◌≤◌, refl, sym, ap, ap₂, ◌∙◌, subst, List, [], ◌∷◌, ◌++◌, append-nil, length, drop, map, arith, Bool, true, false, not, Option, Some, None, slice_get, IsFalse, IsTrue}
-use Rattle.std.specs.List.{list_all}
-use Rattle.std.proofs.lemmas.Bool.{and_from, and_parts, false≢true}
-use Rattle.k_types.specs.declared.event.Event.{Event}
+use Rattle.std.proofs.Common.{◌≡◌, ℕ, zero, suc, ◌<◌, ◌≤◌, refl, sym, ap, ap₂, ◌∙◌, subst, List, [], ◌∷◌, ◌++◌, append-nil, length, drop, map, arith, Option, Some, None, slice_get, IsFalse}
 use Rattle.k_types.specs.declared.names.Heap.TheVariants.{Kernel, Shared, User}
 use Rattle.k_types.specs.declared.names.Pid.{Pid}
 use Rattle.k_types.specs.declared.names.SharedId.{SharedId}
-use Rattle.k_types.specs.declared.op.Op.{Op}
-use Rattle.k_types.specs.declared.op.Op.TheVariants.{New, KNew, SNew, Store, Load, Move, Clear, Dir, Put, Get, Collect, KCollect, Share, Freeze, Attach, Exit}
 use Rattle.k_types.specs.Agree.{CellValue}
-use Rattle.k_types.specs.Cells.{BookPart, Cell, ProcessPart, book_part}
-use Rattle.k_types.specs.Complete.{IsComplete}
-use Rattle.k_types.specs.Names.{among}
-use Rattle.k_types.specs.Numbers.{numbers_below}
+use Rattle.k_types.specs.Cells.{Cell, ProcessPart}
 use Rattle.k_types.specs.State.{State}
 use Rattle.k_types.specs.Steps.{state_after}
 use Rattle.k_types.specs.Trace.{IsHeap, Trace, operations_of, process_count}
-use Rattle.k_types.specs.TraceRules.{is_exit}
 use Rattle.k_frame.specs.PartUpdates.{done_in}
-use Rattle.k_tie.specs.Values.{JournalValue, NoteValue}
+use Rattle.k_tie.specs.Values.{NoteValue}
 use Rattle.k_agree.specs.Agreement.{Agrees, Shows}
-use Rattle.k_agree.specs.Settled.{IsOver, IsSettled, IsThrough, all_ended_in}
+use Rattle.k_agree.specs.Settled.{IsOver, IsSettled, IsThrough}
 use Rattle.k_agree.proofs.AtTheEnd.{is_complete}
 use Rattle.k_book.specs.Books.{BookRecord}
 use Rattle.k_cell.specs.Holdings.{HoldingsValue}
-use Rattle.k_heap.specs.Heaps.{HeapRecord, has_ended_in}
+use Rattle.k_heap.specs.Heaps.{has_ended_in}
 use Rattle.k_shared.specs.SharedHeaps.{SharedRecord}
 use Rattle.k_locked.proofs.CanDo.{done_at_most}
-use Rattle.k_locked.proofs.NeverEnds.{nobody_ends}
 use Rattle.k_run.specs.declared.process.Process.{Process}
-use Rattle.k_run.specs.Ended.{AllMet, IsOutcome, IsSlice, OutcomeValue}
-use Rattle.k_run.specs.Standing.{ProcessStands}
-use Rattle.k_run.specs.Steps.{is_put_off}
+use Rattle.k_run.specs.Ended.{AllMet, IsOutcome}
 use Rattle.k_run.specs.Worlds.{WorldValue}
 
 -- each place of a list has its element

@@ -1,7 +1,7 @@
 -- Places that fill up.
 use Rattle.std.proofs.Common.{◌≡◌, ◌≢◌, ℕ, zero, suc, ◌+◌, ◌<◌, ◌≤◌, List, [], ◌∷◌, ◌++◌, length, map, set, Some, None, Option, slice_get, slice_index_or, replicate, reverse, append_assoc, refl, sym, ap, ◌∙◌, subst, arith, inl, inr, ◌⊎◌}
 use Rattle.std.proofs.lemmas.List.{reverse-append}
-use Rattle.k_run.specs.Places.{AreFilled, filled, one_if_some}
+use Rattle.k_run.specs.Places.{filled, one_if_some}
 
 -- a place that was free is taken
 pub filled_set : {A : Type 0} (xs : List (Option A)) (k : ℕ) (x : Option A) (v : A) → slice_get xs k ≡ Some None → filled (set (set xs k x) k (Some v)) ≡ filled xs + 1

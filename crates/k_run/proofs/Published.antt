@@ -1,5 +1,5 @@
 -- Publishing keeps what the locks ask.
-use Rattle.std.proofs.Common.{◌≡◌, ◌+◌, ◌≤◌, ◌++◌, refl, sym, ap, ap₂, ◌∙◌, subst, List, [], ◌∷◌, append-nil, length, IsFalse}
+use Rattle.std.proofs.Common.{◌≡◌, ◌≤◌, ◌++◌, sym, ap, ap₂, ◌∙◌, subst, [], append-nil}
 use Rattle.atomic_table.specs.Seated.{TableId}
 use Rattle.k_types.specs.declared.names.Pid.{Pid}
 use Rattle.k_types.specs.Agree.{CellValue}
@@ -14,7 +14,6 @@ use Rattle.k_commit.specs.Published.{CanPublish, HasPublished}
 use Rattle.k_locked.specs.Keeping.{BookKeeps, HeapKeeps}
 use Rattle.k_locked.proofs.Steps.{other_keeps, own_tail_follows, tail_fits, tail_follows}
 use Rattle.k_run.specs.declared.process.Process.{Process}
-use Rattle.k_run.specs.Standing.{ProcessStands}
 use Rattle.k_run.specs.Steps.{HasPublishedAll, PairStands}
 use Rattle.k_run.specs.Worlds.{WorldValue}
 

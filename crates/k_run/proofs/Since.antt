@@ -1,5 +1,5 @@
 -- What is known of a process's next operation stays known once its events are published.
-use Rattle.std.proofs.Common.{◌≡◌, sym, ap, ◌∙◌, List, false, IsFalse}
+use Rattle.std.proofs.Common.{◌≡◌, ap, ◌∙◌, List, false}
 use Rattle.k_types.specs.declared.op.Op.{Op}
 use Rattle.k_types.specs.Agree.{book_shown_by}
 use Rattle.k_types.specs.Cells.{Cell}
@@ -12,7 +12,7 @@ use Rattle.k_locked.specs.Keeping.{operations_left}
 use Rattle.k_locked.proofs.CanDo.{next_in_range}
 use Rattle.k_run.specs.declared.process.Process.{Process}
 use Rattle.k_run.specs.Reaches.{CanReach}
-use Rattle.k_run.specs.Running.{IsOutside, IsReady}
+use Rattle.k_run.specs.Running.{IsReady}
 use Rattle.k_run.specs.Standing.{ComesNext}
 use Rattle.k_run.specs.Steps.{HasPublishedAll, IsDueWith, PairStands, is_put_off}
 use Rattle.k_run.specs.Worlds.{WorldValue}

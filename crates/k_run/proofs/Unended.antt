@@ -1,5 +1,5 @@
 -- Where no operation is put off, no process ends, and nothing is to be closed.
-use Rattle.std.proofs.Common.{◌≡◌, ℕ, zero, suc, ◌<◌, sym, ap, ◌∙◌, List, [], ◌∷◌, arith, Bool, true, false, not, refl, IsTrue}
+use Rattle.std.proofs.Common.{◌≡◌, ℕ, zero, suc, ◌<◌, sym, ap, ◌∙◌, List, [], ◌∷◌, arith, Bool, true, not, refl, IsTrue}
 use Rattle.std.specs.List.{list_all}
 use Rattle.std.proofs.lemmas.Bool.{and_from, and_parts, false≢true}
 use Rattle.k_types.specs.declared.op.Op.{Op}

@@ -1,5 +1,5 @@
 -- Places that fill up.
-use Rattle.std.specs.Prelude.{◌≡◌, ℕ, ◌+◌, ◌<◌, List, [], ◌∷◌, Option, Some, None, length, slice_get}
+use Rattle.std.specs.Prelude.{◌≡◌, ℕ, ◌+◌, List, [], ◌∷◌, Option, Some, None, length, slice_get}
 use Rattle.k_types.specs.Trace.{process_count}
 use Rattle.k_book.specs.Books.{BookRecord}
 use Rattle.k_shared.specs.SharedHeaps.{SharedRecord}

@@ -5,7 +5,6 @@ use Rattle.k_types.specs.declared.op.Op.{Op}
 use Rattle.k_types.specs.Cells.{Cell}
 use Rattle.k_types.specs.Steps.{in_range}
 use Rattle.k_types.specs.Trace.{Trace}
-use Rattle.k_types.specs.TraceRules.{AreLimits}
 use Rattle.k_agree.specs.Agreement.{Agrees}
 use Rattle.k_book.specs.Books.{BookRecord}
 use Rattle.k_heap.specs.Heaps.{HeapRecord}

@@ -1,5 +1,5 @@
 -- Processes, kernel, shared heaps and book of one run, as they stand between steps.
-use Rattle.std.specs.Prelude.{◌≡◌, ℕ, ◌≤◌, IsFalse, List, Some, [], ◌∷◌, length, slice_get}
+use Rattle.std.specs.Prelude.{◌≡◌, ℕ, IsFalse, List, Some, [], ◌∷◌, length, slice_get}
 use Rattle.k_types.specs.declared.op.Op.{Op}
 use Rattle.k_types.specs.Trace.{Trace, operations_of, process_count}
 use Rattle.k_book.specs.Books.{BookRecord}

@@ -1,6 +1,6 @@
-use Rattle.std.proofs.Common.{length, map, reverse, Some, ◌≡◌, ◌++◌, ◌∷◌, [], ap, sym, ◌∙◌, subst}
+use Rattle.std.proofs.Common.{length, map, reverse, Some, ◌≡◌, ◌++◌, ap, ◌∙◌, subst}
 use Rattle.k_run.specs.Places.{filled}
-use Rattle.k_run.proofs.Places.{last_filled, one_more}
+use Rattle.k_run.proofs.Places.{last_filled}
 use Rattle.k_run.proofs.placing.in_order.Goals as goal
 
 pub unreachable-requires : goal.unreachable-requires

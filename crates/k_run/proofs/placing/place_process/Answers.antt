@@ -1,4 +1,4 @@
-use Rattle.std.proofs.Common.{◌≡◌, ◌<◌, sym, ap, ◌∙◌, subst, List, set, Option, Some, None, slice_get}
+use Rattle.std.proofs.Common.{sym, ap, ◌∙◌, subst, set, Option, Some, None}
 use Rattle.k_types.specs.declared.names.Pid.{Pid}
 use Rattle.k_tie.specs.Values.{NoteValue}
 use Rattle.k_run.specs.declared.process.Process.{Process}

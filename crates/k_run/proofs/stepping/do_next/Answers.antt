@@ -1,5 +1,4 @@
 use Rattle.std.proofs.Common.{◌<◌, ◌∙◌, refl, sym, subst}
-use Rattle.k_shared.specs.SharedHeaps.{SharedRecord}
 use Rattle.k_moves.specs.Shown.{idle_part}
 use Rattle.k_run.proofs.HeapsReached.{heap_reached}
 use Rattle.k_run.proofs.Looped.{found_at}

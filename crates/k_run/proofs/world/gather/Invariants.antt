@@ -1,4 +1,4 @@
-use Rattle.std.proofs.Common.{◌≡◌, ◌+◌, length, vec_capacity, []}
+use Rattle.std.proofs.Common.{◌≡◌, ◌+◌, length}
 use Rattle.k_types.specs.Trace.{process_count}
 use Rattle.k_run.specs.Places.{ArePlaces, filled}
 use Rattle.k_run.proofs.world.gather.Given as goal

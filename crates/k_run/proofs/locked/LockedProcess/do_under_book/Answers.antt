@@ -1,4 +1,4 @@
-use Rattle.std.proofs.Common.{◌≡◌, sym, subst}
+use Rattle.std.proofs.Common.{sym, subst}
 use Rattle.k_heap.specs.Heaps.{HeapRecord}
 use Rattle.k_run.specs.declared.reaching.Reached.{Reached}
 use Rattle.k_run.specs.Running.{IsOutside, IsReadyFor}
