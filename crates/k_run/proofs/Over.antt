@@ -117,8 +117,7 @@ module _ (world : WorldValue) (processes : List Process) (kernel : HoldingsValue
     complete = is_complete trace book.journal book.value m.ended.processes.book.stands.keeps.limits over;
     processes = λ p known.
         let at = process_at p known in
-        let stands = m.ended.processes.processes.each p at.0 at.1 in
-        (
+        let stands = m.ended.processes.processes.each p at.0 at.1 in (
           at.0.cell,
           get_mapped (λ (q : Process). q.cell) processes p at.0 at.1,
           m.ended.processes.processes.placed p at.0 at.1,

@@ -36,7 +36,10 @@ pub fn run<W: WorldName + Send + Sync, G: Gate, R: Threads + Wait + Sync>(
     run_in(rt, &hall);
 }
 
-fn run_in<W: WorldName + Send + Sync, G: Gate, R: Threads + Wait + Sync>(rt: &R, hall: &Hall<W, G>) {
+fn run_in<W: WorldName + Send + Sync, G: Gate, R: Threads + Wait + Sync>(
+    rt: &R,
+    hall: &Hall<W, G>,
+) {
     thread::scope(thread::scope_env(), rt, |scope| {
         for lock in hall.processes {
             if scope.spawn(move || work(rt, hall, lock)).is_err() {
@@ -47,11 +50,7 @@ fn run_in<W: WorldName + Send + Sync, G: Gate, R: Threads + Wait + Sync>(rt: &R,
 }
 
 /// Does the operations of the process behind the lock, one hold of the lock for each.
-fn work<W: WorldName, G: Gate>(
-    rt: &impl Wait,
-    hall: &Hall<W, G>,
-    lock: &Mutex<LockedProcess<W>>,
-) {
+fn work<W: WorldName, G: Gate>(rt: &impl Wait, hall: &Hall<W, G>, lock: &Mutex<LockedProcess<W>>) {
     for _ in rt.forever() {
         if !turn(rt, hall, lock) {
             return;
