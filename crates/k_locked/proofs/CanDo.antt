@@ -6,26 +6,22 @@ use Rattle.std.proofs.lemmas.List.{length-append}
 use Rattle.atomic_table.specs.Seated.{TableId}
 use Rattle.k_types.specs.declared.names.Heap.{Heap}
 use Rattle.k_types.specs.declared.names.Heap.TheVariants.{Kernel, Shared, User}
-use Rattle.k_types.specs.declared.names.Name.{Name}
 use Rattle.k_types.specs.declared.names.Pid.{Pid}
-use Rattle.k_types.specs.declared.names.TypeId.{TypeId}
 use Rattle.k_types.specs.declared.op.Op.{Op}
 use Rattle.k_types.specs.declared.op.Op.TheVariants.{New, KNew, SNew, Store, Load, Move, Clear, Dir, Put, Get, Collect, KCollect, Share, Freeze, Attach, Exit}
 use Rattle.k_types.specs.Agree.{CellValue}
-use Rattle.k_types.specs.Cells.{BookPart, Cell, CellPart, ShownPart, book_part, entries, made_of, part, process_of}
-use Rattle.k_types.specs.Names.{among, heap_eq, name_among}
-use Rattle.k_types.specs.Owners.{is_absorbed, owner_of, phase_of, shared, user}
+use Rattle.k_types.specs.Cells.{BookPart, Cell, ShownPart, book_part, entries, part, process_of}
+use Rattle.k_types.specs.Names.{among, heap_eq}
+use Rattle.k_types.specs.Owners.{owner_of}
 use Rattle.k_types.specs.Sound.{IsSound}
-use Rattle.k_types.specs.State.{ExitItem, State, has_exit}
+use Rattle.k_types.specs.State.{ExitItem, State}
 use Rattle.k_types.specs.Steps.{done_by, in_range, state_after}
-use Rattle.k_types.specs.Totals.{total}
-use Rattle.k_types.specs.Trace.{Trace, operations_of, process_count, segment_of}
-use Rattle.k_types.specs.TraceRules.{KeepsRules}
+use Rattle.k_types.specs.Trace.{Trace, operations_of, process_count}
 use Rattle.k_types.specs.Counted.{counted}
 use Rattle.k_base.specs.Distinct.{AreDistinctNames}
 use Rattle.k_base.proofs.NameTests.{heap_eq_refl, heap_eq-true}
 use Rattle.k_base.proofs.Sums.{ones, sum_same}
-use Rattle.k_bounds.specs.Counts.{allocates_in, exit_count, is_allocation, is_store, stores_in}
+use Rattle.k_bounds.specs.Counts.{allocates_in, exit_count, is_allocation, is_store}
 use Rattle.k_bounds.proofs.ByProcess.{first_of}
 use Rattle.k_bounds.proofs.Distinct.{entries_few, targets_sum}
 use Rattle.k_bounds.proofs.Dones.{done_count}
@@ -34,22 +30,22 @@ use Rattle.k_frame.proofs.OwnerOf.{owner_kernel, owner_stands, owner_user}
 use Rattle.k_tie.specs.Values.{NoteValue}
 use Rattle.k_agree.specs.Agreement.{Agrees, Shows}
 use Rattle.k_agree.specs.Meeting.{Fits, ShowsTheJournal}
-use Rattle.k_agree.specs.Rooms.{IsNext, event_room, exit_room, serial_room}
+use Rattle.k_agree.specs.Rooms.{IsNext, exit_room, serial_room}
 use Rattle.k_agree.proofs.AtTheEnd.{book_sound}
 use Rattle.k_agree.proofs.Meetings.{meeting}
 use Rattle.k_agree.proofs.WithinRooms.{next_by_done}
 use Rattle.k_entry.specs.Entries.{AreEntries, objects}
 use Rattle.k_entry.proofs.WholeWalks.{all_distinct, few_items}
-use Rattle.k_space.specs.Objects.{BodyValue, new_body}
+use Rattle.k_space.specs.Objects.{BodyValue}
 use Rattle.k_bodies.specs.Bodies.{bodies_of}
 use Rattle.k_book.specs.Books.{BookRecord, book_entries}
 use Rattle.k_cell.specs.Holdings.{HasSerialLeft, HoldingsValue}
 use Rattle.k_heap.specs.Heaps.{HeapRecord, has_ended_in, holdings_of as heap_holdings, own_segment}
 use Rattle.k_shared.specs.SharedHeaps.{SharedRecord, holdings_of as shared_holdings}
-use Rattle.k_commit.specs.Rooms.{CanOperate, CanOperateWithKernel, CanOperateWithShared, HasBody, HasExitRoom, HasRoomFor, HasRoomForNew, HasTableRoom}
-use Rattle.k_commit.specs.Standing.{HeapStands, KernelStands, SharedStands}
+use Rattle.k_commit.specs.Rooms.{CanOperate, CanOperateWithKernel, CanOperateWithShared, HasExitRoom, HasRoomFor, HasTableRoom}
+use Rattle.k_commit.specs.Standing.{HeapStands}
 use Rattle.k_locked.specs.Keeping.{BookKeeps, CanGive, HeapKeeps, KernelKeeps, SharedKeeps, is_absorbed_in, operations_left}
-use Rattle.k_locked.specs.Rooms.{HasRoomLeft, shared_exit_room}
+use Rattle.k_locked.specs.Rooms.{HasRoomLeft}
 use Rattle.k_locked.proofs.RoomLeft.{room_left, shared_room}
 
 -- what all elements pass, the first of the rest passes

@@ -1,21 +1,18 @@
 -- What the locks keep they keep over each step.
-use Rattle.std.proofs.Common.{◌≡◌, ℕ, zero, suc, ◌+◌, ◌<◌, ◌≤◌, true, false, cond, refl, sym, ap, ap₂, ◌∙◌, subst, List, [], ◌∷◌, ◌++◌, append-nil, append_assoc, length, drop, take, get_or, arith, map, eq-eqb, IsTrue, IsFalse, Some, None, inl, inr}
+use Rattle.std.proofs.Common.{◌≡◌, ℕ, zero, suc, ◌+◌, ◌≤◌, true, false, cond, refl, sym, ap, ap₂, ◌∙◌, subst, List, [], ◌∷◌, ◌++◌, append-nil, append_assoc, length, drop, arith, map, eq-eqb, IsFalse, Some, inl, inr}
 use Rattle.std.proofs.lemmas.Bool.{cases_Bool, false≢true}
 use Rattle.std.proofs.lemmas.List.{length-append}
 use Rattle.atomic_table.specs.Seated.{TableId}
 use Rattle.k_types.specs.declared.event.Event.{Event}
 use Rattle.k_types.specs.declared.event.Event.TheVariants.{Done}
-use Rattle.k_types.specs.declared.event.Reply.{Reply}
 use Rattle.k_types.specs.declared.names.Heap.TheVariants.{Kernel, Shared, User}
 use Rattle.k_types.specs.declared.op.Op.{Op}
 use Rattle.k_types.specs.declared.op.Op.TheVariants.{New, KNew, SNew, Store, Load, Move, Clear, Dir, Put, Get, Collect, KCollect, Share, Freeze, Attach, Exit}
-use Rattle.k_types.specs.Agree.{CellValue}
-use Rattle.k_types.specs.Cells.{BookPart, Cell, ShownPart, book_part, part}
-use Rattle.k_types.specs.Effects.{step}
+use Rattle.k_types.specs.Cells.{BookPart, ShownPart, book_part, part}
 use Rattle.k_types.specs.Following.{FollowsOwn, FollowsTrace}
 use Rattle.k_types.specs.Owners.{is_absorbed, owner_of, phase_of, shared}
 use Rattle.k_types.specs.State.{State}
-use Rattle.k_types.specs.Steps.{IsLegalHistory, IsPossible, done_by, state_after}
+use Rattle.k_types.specs.Steps.{done_by, state_after}
 use Rattle.k_types.specs.Trace.{Trace, operations_of, process_count, segment_count, segment_of}
 use Rattle.k_bounds.proofs.ByProcess.{follows_own}
 use Rattle.k_bounds.proofs.Dones.{done_count}
@@ -24,20 +21,14 @@ use Rattle.k_frame.proofs.Constant.{step_maxima}
 use Rattle.k_frame.proofs.Histories.{done_append, state_next}
 use Rattle.k_frame.proofs.OwnerOf.{owner_shared, segment_of_shared}
 use Rattle.k_kept.proofs.Owning.{stays_kernel}
-use Rattle.k_tie.specs.Values.{NoteValue}
-use Rattle.k_agree.specs.Agreement.{Agrees, BookAgrees, Shows}
-use Rattle.k_agree.specs.Meeting.{Fits, HasMet}
 use Rattle.k_agree.specs.Rooms.{IsNext, event_room, exit_room}
 use Rattle.k_agree.proofs.WithinRooms.{follows_after}
-use Rattle.k_space.specs.Objects.{BodyValue}
 use Rattle.k_bodies.specs.Bodies.{bodies_of}
 use Rattle.k_book.specs.Books.{BookRecord, pin_room_of}
-use Rattle.k_book.specs.Machine.{IsBookOf}
 use Rattle.k_cell.specs.Holdings.{HoldingsValue}
 use Rattle.k_heap.specs.Heaps.{HeapRecord, has_ended_in}
 use Rattle.k_shared.specs.SharedHeaps.{SharedRecord}
 use Rattle.k_commit.specs.Changed.{bodies_after}
-use Rattle.k_commit.specs.Standing.{BookStands}
 use Rattle.k_commit.specs.Stepped.{HasStepped, HasSteppedWithKernel, HasSteppedWithShared}
 use Rattle.k_locked.specs.Rooms.{shared_exit_room}
 use Rattle.k_locked.specs.Keeping.{BookKeeps, CanGive, HasHeapRooms, HeapKeeps, KernelKeeps, SharedKeeps, is_absorbed_in, operations_left}
@@ -87,9 +78,9 @@ module _ (trace : Trace) (table : TableId) (c w : HeapRecord) (b l : BookRecord)
       let after = done_of trace (User w.pid) w.note w.value s.agrees c.pid (ap (λ (x : HeapRecord). User x.pid) s.cell_is) in
       let count = done_count trace c.pid.0 (w.note.list ++ w.value.tail) s.agrees.legal in
       let list : w.note.list ++ w.value.tail ≡ b.journal.list ++ Done c.pid op s.said ∷ [] =
-          ap₂ (λ xs ys. xs ++ ys) s.met.list s.settled ∙ append-nil l.journal.list ∙ s.journal ∙ ap (λ e. b.journal.list ++ e ∷ []) s.event_is in
+      ap₂ (λ xs ys. xs ++ ys) s.met.list s.settled ∙ append-nil l.journal.list ∙ s.journal ∙ ap (λ e. b.journal.list ++ e ∷ []) s.event_is in
       let more : done_by c.pid.0 (w.note.list ++ w.value.tail) ≡ done_by c.pid.0 b.journal.list ++ op ∷ [] =
-          ap (done_by c.pid.0) list ∙ done_append c.pid.0 b.journal.list (Done c.pid op s.said ∷ []) ∙ ap (λ t. done_by c.pid.0 b.journal.list ++ cond t (op ∷ []) []) (eq-eqb c.pid.0 c.pid.0 refl) in
+      ap (done_by c.pid.0) list ∙ done_append c.pid.0 b.journal.list (Done c.pid op s.said ∷ []) ∙ ap (λ t. done_by c.pid.0 b.journal.list ++ cond t (op ∷ []) []) (eq-eqb c.pid.0 c.pid.0 refl) in
       let same = ap length more in
       let one = length-append (done_by c.pid.0 b.journal.list) (op ∷ []) in
       omega (arith, after, count, same, one, s.done)
@@ -98,8 +89,8 @@ module _ (trace : Trace) (table : TableId) (c w : HeapRecord) (b l : BookRecord)
   next =
       let front = k.follows.operations c.pid.0 h.agrees.there in
       let behind : front.0 ≡ op ∷ rest =
-          sym (dropped (done_by c.pid.0 b.journal.list) front.0) ∙ ap (drop (length (done_by c.pid.0 b.journal.list))) front.1
-          ∙ ap (λ n. drop n (operations_of trace c.pid.0)) done_before ∙ left in
+      sym (dropped (done_by c.pid.0 b.journal.list) front.0) ∙ ap (drop (length (done_by c.pid.0 b.journal.list))) front.1
+      ∙ ap (λ n. drop n (operations_of trace c.pid.0)) done_before ∙ left in
       (rest, sym front.1 ∙ ap (λ r. done_by c.pid.0 b.journal.list ++ r) behind)
 
   follows_now : FollowsTrace trace l.journal.list
@@ -180,7 +171,7 @@ module _ (trace : Trace) (table : TableId) (c w : HeapRecord) (k x : HoldingsVal
 absorbed_stays : (trace : Trace) (known rest : List Event) (t : ℕ) → is_absorbed (phase_of (state_after trace known).phases t) ≡ true → is_absorbed (phase_of (state_after trace (known ++ rest)).phases t) ≡ true
 absorbed_stays trace known rest t gone =
     let before : owner_of trace (state_after trace known) (1 + process_count trace + t) ≡ Kernel
-        = segment_of_shared (process_count trace) (state_after trace known).ended (state_after trace known).phases t ∙ ap (λ b. cond b Kernel (shared t)) gone in
+    = segment_of_shared (process_count trace) (state_after trace known).ended (state_after trace known).phases t ∙ ap (λ b. cond b Kernel (shared t)) gone in
     let after = stays_kernel trace known rest (1 + process_count trace + t) before in
     elim (cases_Bool (is_absorbed (phase_of (state_after trace (known ++ rest)).phases t))) [
       | inl still ↦ still
@@ -210,7 +201,7 @@ module _ (trace : Trace) (table : TableId) (c w : HeapRecord) (s x : SharedRecor
   stood : is_absorbed_in x.value.phase ≡ false → is_absorbed_in s.value.phase ≡ false
   stood now =
       let after : is_absorbed (phase_of (state_after trace l.journal.list).phases s.id.0) ≡ false =
-          ap (λ (i : Rattle.k_types.specs.declared.names.SharedId.SharedId). is_absorbed (phase_of (state_after trace l.journal.list).phases i.0)) (sym same_id) ∙ sym (ap is_absorbed_in phase_now) ∙ now in
+      ap (λ (i : Rattle.k_types.specs.declared.names.SharedId.SharedId). is_absorbed (phase_of (state_after trace l.journal.list).phases i.0)) (sym same_id) ∙ sym (ap is_absorbed_in phase_now) ∙ now in
       elim (cases_Bool (is_absorbed (phase_of (state_after trace s.note.list).phases s.id.0))) [
         | inl gone ↦ absurd (false≢true (sym after ∙ ap (λ list. is_absorbed (phase_of (state_after trace list).phases s.id.0)) (sym longer) ∙ absorbed_stays trace s.note.list (st.fits.prefix.0 ++ event ∷ []) s.id.0 gone))
         | inr stands ↦ ap is_absorbed_in phase_before ∙ stands

@@ -1,11 +1,10 @@
 -- An operation that a process does inside its own heap keeps its cell in agreement.
-use Rattle.std.proofs.Common.{◌≡◌, ◌||◌, ◌+◌, not, true, false, cond, refl, sym, ap, ap₂, ◌∙◌, subst, List, [], ◌∷◌, ◌++◌, append_assoc, Bool, Option, Some, None, is_some, is_none, ℕ, IsTrue, IsFalse}
+use Rattle.std.proofs.Common.{◌≡◌, ◌||◌, ◌+◌, not, true, false, refl, sym, ap, ◌∙◌, subst, List, [], ◌∷◌, ◌++◌, append_assoc, Bool, Option, Some, None, is_some, ℕ}
 use Rattle.std.specs.List.{list_all, list_any}
 use Rattle.std.proofs.lemmas.Bool.{and_from, false≢true, or_left, or_right}
 use Rattle.k_types.specs.declared.event.Event.{Event}
 use Rattle.k_types.specs.declared.event.Event.TheVariants.{Done, Ended, Absorbed, Closing}
 use Rattle.k_types.specs.declared.event.Reply.{Reply}
-use Rattle.k_types.specs.declared.names.CellPhase.{CellPhase}
 use Rattle.k_types.specs.declared.names.CellPhase.TheVariants.{Idle}
 use Rattle.k_types.specs.declared.names.Heap.{Heap}
 use Rattle.k_types.specs.declared.names.Heap.TheVariants.{User}
@@ -14,15 +13,15 @@ use Rattle.k_types.specs.declared.names.Pid.{Pid}
 use Rattle.k_types.specs.declared.op.Op.{Op}
 use Rattle.k_types.specs.declared.op.Op.TheVariants.{New, KNew, SNew, Store, Load, Move, Clear, Dir, Put, Get, Collect, KCollect, Share, Freeze, Attach, Exit}
 use Rattle.k_types.specs.Agree.{CellValue}
-use Rattle.k_types.specs.Cells.{BookPart, Cell, CellPart, ProcessPart, ShownPart, book_part, cells_touched, part, touches}
+use Rattle.k_types.specs.Cells.{Cell, CellPart, ShownPart, book_part, cells_touched, part, touches}
 use Rattle.k_types.specs.Effects.{step}
 use Rattle.k_types.specs.Local.{AreLocal, is_local}
 use Rattle.k_types.specs.Names.{among, heap_eq}
-use Rattle.k_types.specs.Owners.{owner_of, user}
+use Rattle.k_types.specs.Owners.{user}
 use Rattle.k_types.specs.Sound.{IsSound}
-use Rattle.k_types.specs.State.{State, is_scanned, opening, scan_of}
+use Rattle.k_types.specs.State.{State, is_scanned, opening}
 use Rattle.k_types.specs.Steps.{IsLegalHistory, IsPossible, in_range, no_orphan, run, state_after, waits_for_orphans}
-use Rattle.k_types.specs.Trace.{Trace, process_count}
+use Rattle.k_types.specs.Trace.{Trace}
 use Rattle.k_types.specs.TraceRules.{AreLimits}
 use Rattle.k_base.proofs.NameTests.{heap_eq_refl, heap_eq-true}
 use Rattle.k_frame.proofs.Histories.{legal_append, state_next}
@@ -32,11 +31,10 @@ use Rattle.k_changes.specs.BookChanges.{owner_in}
 use Rattle.k_changes.proofs.Laws.{the_book_tells_the_owners}
 use Rattle.k_agree.specs.Agreement.{Agrees, Shows}
 use Rattle.k_agree.proofs.AtTheEnd.{cell_sound}
-use Rattle.k_squares.specs.Answers.{reply_in}
-use Rattle.k_squares.specs.CellAfter.{cell_after, unless_refused}
+use Rattle.k_squares.specs.CellAfter.{unless_refused}
 use Rattle.k_squares.specs.Locals.{is_local_in}
 use Rattle.k_squares.proofs.Laws.{local_operations_are_told, replies_are_told, steps_show_in_the_parts-cells}
-use Rattle.k_moves.specs.Shown.{ShowsIdle, idle_part}
+use Rattle.k_moves.specs.Shown.{ShowsIdle}
 use Rattle.k_moves.proofs.Idle.{not_open, part_shown, shows_part}
 use Rattle.k_tie.specs.Values.{NoteValue}
 use Rattle.k_heap.specs.Heaps.{has_ended_in}
@@ -156,7 +154,7 @@ module _ (trace : Trace) (limits : AreLimits trace) (pid : Pid) (note : NoteValu
   idle_here : list_all (λ c. not (is_scanned st.scans c)) (cells_touched trace st event) ≡ true
   idle_here = all_of_cells (λ c. not (is_scanned st.scans c)) (cells_touched trace st event)
       (λ c t. let is = heap_eq-true (user pid.0) c (sym (alone c) ∙ t) in
-          ap (λ (d : Cell). not (is_scanned st.scans d)) (sym is) ∙ ap (λ (scan : Option (List Name)). not (is_some scan)) (not_open trace st (User pid) v shown_idle))
+      ap (λ (d : Cell). not (is_scanned st.scans d)) (sym is) ∙ ap (λ (scan : Option (List Name)). not (is_some scan)) (not_open trace st (User pid) v shown_idle))
 
   pub local_is_possible : IsPossible trace st event
   local_is_possible = record {

@@ -1,5 +1,5 @@
 -- Where no operation of the trace is an exit, no process ends.
-use Rattle.std.proofs.Common.{◌≡◌, ℕ, ◌<◌, not, Bool, true, false, cond, refl, sym, ap, ◌∙◌, subst, List, [], ◌∷◌, ◌++◌, append_assoc, eq-eqb, Option, Some, None}
+use Rattle.std.proofs.Common.{◌≡◌, ℕ, ◌<◌, not, Bool, true, false, cond, refl, sym, ap, ◌∙◌, List, [], ◌∷◌, ◌++◌, append_assoc, eq-eqb, Option, Some, None}
 use Rattle.std.specs.List.{list_all}
 use Rattle.std.proofs.lemmas.Bool.{and_parts, false≢true}
 use Rattle.k_types.specs.declared.event.Event.{Event}
@@ -9,10 +9,9 @@ use Rattle.k_types.specs.declared.event.Reply.{Reply}
 use Rattle.k_types.specs.declared.names.Pid.{Pid}
 use Rattle.k_types.specs.declared.op.Op.{Op}
 use Rattle.k_types.specs.declared.op.Op.TheVariants.{New, KNew, SNew, Store, Load, Move, Clear, Dir, Put, Get, Collect, KCollect, Share, Freeze, Attach, Exit}
-use Rattle.k_types.specs.Complete.{IsPrefixOf}
 use Rattle.k_types.specs.Effects.{after_absorbed, after_closing, after_ended, after_operation, effect, effect_unless, step}
 use Rattle.k_types.specs.Replies.{faults, first_fault}
-use Rattle.k_types.specs.State.{State, opening, register}
+use Rattle.k_types.specs.State.{State, register}
 use Rattle.k_types.specs.Steps.{IsLegalHistory, IsPossible, done_by, state_after}
 use Rattle.k_types.specs.Trace.{Trace, operations_of, process_count}
 use Rattle.k_types.specs.TraceRules.{is_exit}
@@ -59,8 +58,7 @@ module _ (trace : Trace) where
 
   earlier : (history : List Event) (event : Event) → AreFirst trace (history ++ event ∷ []) → AreFirst trace history
   earlier history event first p known =
-      let front = first p known in
-      (
+      let front = first p known in (
         done_by p (event ∷ []) ++ front.0,
         sym (append_assoc (done_by p history) (done_by p (event ∷ [])) front.0) ∙ ap (λ done. done ++ front.0) (sym (done_append p history (event ∷ []))) ∙ front.1,
       )
@@ -74,7 +72,7 @@ module _ (trace : Trace) where
     own_op history pid op said known first =
         let front = first pid.0 known in
         let done : done_by pid.0 (history ++ Done pid op said ∷ []) ≡ done_by pid.0 history ++ op ∷ [] =
-            done_append pid.0 history (Done pid op said ∷ []) ∙ ap (λ t. done_by pid.0 history ++ cond t (op ∷ []) []) (eq-eqb pid.0 pid.0 refl) in
+        done_append pid.0 history (Done pid op said ∷ []) ∙ ap (λ t. done_by pid.0 history ++ cond t (op ∷ []) []) (eq-eqb pid.0 pid.0 refl) in
         not_true (is_exit op)
         (passes_in (λ o. not (is_exit o)) (done_by pid.0 history) op front.0
         (ap (λ ds. list_all (λ o. not (is_exit o)) (ds ++ front.0)) (sym done) ∙ ap (list_all (λ o. not (is_exit o))) front.1 ∙ none pid.0))

@@ -1,5 +1,5 @@
 -- What was just made keeps what the locks ask.
-use Rattle.std.proofs.Common.{◌≡◌, ℕ, zero, suc, ◌+◌, ◌<◌, ◌≤◌, ◌==◌, cond, true, refl, sym, ap, ap₂, ◌∙◌, subst, List, [], ◌∷◌, ◌++◌, length, drop, map, get_or, arith, eq-eqb, Option, Some, None}
+use Rattle.std.proofs.Common.{◌≡◌, ℕ, ◌+◌, ◌<◌, ◌≤◌, ◌==◌, cond, refl, sym, ap, ◌∙◌, List, [], length, map, arith, eq-eqb, Some, None}
 use Rattle.atomic_table.specs.Seated.{TableId}
 use Rattle.k_types.specs.declared.names.Heap.TheVariants.{Kernel, Shared, User}
 use Rattle.k_types.specs.declared.names.Pid.{Pid}
@@ -7,7 +7,7 @@ use Rattle.k_types.specs.declared.names.SharedId.{SharedId}
 use Rattle.k_types.specs.declared.op.Op.{Op}
 use Rattle.k_types.specs.declared.setup.Setup.{Setup}
 use Rattle.k_types.specs.Numbers.{numbers_below}
-use Rattle.k_types.specs.Trace.{IsHeap, Trace, operations_of, process_count, segment_count, segment_of, trace_of}
+use Rattle.k_types.specs.Trace.{Trace, operations_of, process_count, segment_count, segment_of, trace_of}
 use Rattle.k_types.specs.TraceRules.{KeepsRules}
 use Rattle.k_bounds.specs.Counts.{stores_in}
 use Rattle.k_bounds.proofs.ByProcess.{follows_own}
@@ -16,10 +16,10 @@ use Rattle.k_agree.specs.Rooms.{event_room, exit_room, serial_room}
 use Rattle.k_agree.proofs.Openings.{at_number, opened_cell}
 use Rattle.k_space.specs.Objects.{BodyValue}
 use Rattle.k_bodies.specs.Bodies.{bodies_of}
-use Rattle.k_book.specs.Books.{BookRecord, opened, pin_room_of}
+use Rattle.k_book.specs.Books.{opened}
 use Rattle.k_book.proofs.Telling.{opened_agrees, opened_of}
 use Rattle.k_heap.specs.declared.heap.CellRooms.{CellRooms}
-use Rattle.k_heap.specs.Heaps.{HeapRecord, opened_heap, own_segment, segments_of}
+use Rattle.k_heap.specs.Heaps.{opened_heap, own_segment}
 use Rattle.k_kernel.specs.Kernels.{opened_kernel}
 use Rattle.k_shared.specs.SharedHeaps.{opened_shared}
 use Rattle.k_locked.specs.Keeping.{BookKeeps, CanGive, HeapKeeps, KernelKeeps, SharedKeeps}

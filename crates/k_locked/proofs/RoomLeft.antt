@@ -1,10 +1,9 @@
 -- An operation that comes next is one of the trace's that the history has not done.
-use Rattle.std.proofs.Common.{◌≡◌, ◌≢◌, ℕ, ◌+◌, ◌*◌, ◌<◌, ◌≤◌, ◌==◌, cond, Bool, true, false, refl, sym, ap, ◌∙◌, subst, List, [], ◌∷◌, ◌++◌, length, arith, get_or, eqb-true, eq-eqb, le_trans, inl, inr}
+use Rattle.std.proofs.Common.{◌≡◌, ℕ, ◌+◌, ◌<◌, ◌≤◌, ◌==◌, cond, Bool, true, false, refl, sym, ap, subst, List, [], ◌∷◌, ◌++◌, length, arith, get_or, eqb-true, inl, inr}
 use Rattle.std.proofs.lemmas.Bool.{false≢true, or_cases, or_left, or_right}
 use Rattle.std.specs.List.{list_any}
 use Rattle.k_types.specs.declared.event.Event.{Event}
 use Rattle.k_types.specs.declared.op.Op.{Op}
-use Rattle.k_types.specs.Complete.{IsPrefixOf}
 use Rattle.k_types.specs.Numbers.{numbers_below}
 use Rattle.k_types.specs.Owners.{shared, user}
 use Rattle.k_types.specs.Steps.{IsLegalHistory, done_by, state_after}
@@ -12,7 +11,7 @@ use Rattle.k_types.specs.Totals.{total}
 use Rattle.k_types.specs.Trace.{Trace, operations_of, process_count}
 use Rattle.k_types.specs.TraceRules.{AreLimits, KeepsRules}
 use Rattle.k_base.proofs.Sums.{less_below, ones, one_counts, passing_within, sum-filter, sum_both, sum_same, total_append}
-use Rattle.k_bounds.specs.Counts.{allocates_in, exit_count, is_share_of, is_store, MadeBy, one_if, stores_by, stores_in}
+use Rattle.k_bounds.specs.Counts.{allocates_in, exit_count, is_share_of, is_store, MadeBy, one_if, stores_in}
 use Rattle.k_bounds.proofs.AllExits.{exits_at_most_stores}
 use Rattle.k_bounds.proofs.ByProcess.{allocations_by_process, operations_by_process, prefix_less, stores_by_process}
 use Rattle.k_bounds.proofs.Dones.{length_at_most}

@@ -1,5 +1,5 @@
 -- What the locks keep they keep over a meeting, over the publishing of a tail, and over a local operation.
-use Rattle.std.proofs.Common.{◌≡◌, ℕ, zero, suc, ◌+◌, ◌-◌, ◌^◌, ◌<◌, ◌≤◌, ◌==◌, ◌&&◌, nat_lt, not, Bool, true, false, cond, refl, sym, ap, ap₂, ◌∙◌, subst, List, [], ◌∷◌, ◌++◌, append-nil, append_assoc, length, drop, get_or, arith, eq-eqb, count_by, IsTrue, IsFalse, Some, None}
+use Rattle.std.proofs.Common.{◌≡◌, ℕ, ◌+◌, ◌-◌, ◌^◌, ◌<◌, ◌≤◌, ◌==◌, nat_lt, not, Bool, true, false, cond, refl, sym, ap, ap₂, ◌∙◌, subst, List, [], ◌∷◌, ◌++◌, append_assoc, length, drop, arith, eq-eqb, IsTrue, IsFalse, Some}
 use Rattle.std.specs.List.{list_all}
 use Rattle.std.proofs.lemmas.Bool.{and_from, and_parts, false≢true}
 use Rattle.std.proofs.lemmas.Bool.Decides.{nat_tests}
@@ -18,27 +18,25 @@ use Rattle.k_types.specs.Complete.{IsPrefixOf}
 use Rattle.k_types.specs.Effects.{step}
 use Rattle.k_types.specs.Following.{FollowsOwn, FollowsTrace, is_closing}
 use Rattle.k_types.specs.Local.{AreLocal}
-use Rattle.k_types.specs.Owners.{user}
 use Rattle.k_types.specs.State.{State}
-use Rattle.k_types.specs.Steps.{IsLegalHistory, done_by, in_range, state_after}
+use Rattle.k_types.specs.Steps.{done_by, in_range, state_after}
 use Rattle.k_types.specs.Trace.{Trace, operations_of, process_count, segment_of}
 use Rattle.k_types.specs.TraceRules.{KeepsRules}
 use Rattle.k_base.proofs.Sums.{count_is_total}
 use Rattle.k_bounds.specs.Counts.{allocates_in, is_allocation}
 use Rattle.k_squares.specs.Touches.{other_cells_in}
-use Rattle.k_bounds.proofs.ByProcess.{first_of, follows_own}
+use Rattle.k_bounds.proofs.ByProcess.{follows_own}
 use Rattle.k_bounds.proofs.Counting.{count_low}
 use Rattle.k_bounds.proofs.Dones.{done_count}
 use Rattle.k_frame.specs.PartUpdates.{done_in}
 use Rattle.k_frame.proofs.Histories.{done_append}
 use Rattle.k_frame.proofs.Tails.{tail_length}
-use Rattle.k_agree.specs.Agreement.{Agrees, BookAgrees}
-use Rattle.k_agree.specs.Meeting.{Fits, HasMet}
-use Rattle.k_agree.specs.Rooms.{AreFirst, FitsTheRooms, IsNext, event_room, exit_room}
+use Rattle.k_agree.specs.Agreement.{Agrees}
+use Rattle.k_agree.specs.Meeting.{Fits}
+use Rattle.k_agree.specs.Rooms.{AreFirst, FitsTheRooms}
 use Rattle.k_agree.proofs.WithinRooms.{met_follows, tails_have_room}
 use Rattle.k_bodies.specs.Bodies.{bodies_of}
-use Rattle.k_book.specs.Books.{BookRecord, pin_room_of}
-use Rattle.k_book.specs.Machine.{IsBookOf}
+use Rattle.k_book.specs.Books.{BookRecord}
 use Rattle.k_heap.specs.Heaps.{HeapRecord, has_ended_in}
 use Rattle.k_local.specs.Locals.{HasRegisters, after_local, local_answer}
 use Rattle.k_locked.specs.Keeping.{BookKeeps, HasHeapRooms, HeapKeeps, operations_left}

@@ -1,11 +1,10 @@
 -- What the values behind the locks keep.
-use Rattle.std.specs.Prelude.{◌≡◌, ℕ, ◌≤◌, IsFalse, List, Option, Some, None, [], drop, length, slice_index_or}
+use Rattle.std.specs.Prelude.{◌≡◌, ℕ, ◌≤◌, IsFalse, List, Option, Some, None, drop, length, slice_index_or}
 use Rattle.atomic_table.specs.Seated.{TableId}
 use Rattle.k_types.specs.declared.names.CellPhase.TheVariants.{Idle}
 use Rattle.k_types.specs.declared.names.Heap.TheVariants.{Kernel, Shared, User}
 use Rattle.k_types.specs.declared.names.Phase.{Phase}
 use Rattle.k_types.specs.declared.op.Op.{Op}
-use Rattle.k_types.specs.Agree.{CellValue}
 use Rattle.k_types.specs.Following.{FollowsOwn, FollowsTrace}
 use Rattle.std.specs.Prelude.{Bool, false, ◌++◌}
 use Rattle.k_types.specs.Owners.{is_absorbed}

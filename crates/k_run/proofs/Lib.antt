@@ -1,4 +1,13 @@
-pub mod Reached
-pub mod Stepping
+pub mod Homes
+pub mod Kept
+pub mod Published
+pub mod StepsKept
+pub mod Since
+pub mod HeapsReached
+pub mod Looped
+pub mod NextKept
+pub mod EndKept
+pub mod Gathered
+pub mod Unended
 pub mod Over
 pub mod Places

@@ -1,37 +1,25 @@
 -- A run whose cells have all met the journal, with every process through, is over.
-use Rattle.std.proofs.Common.{◌≡◌, ℕ, zero, suc, ◌<◌, ◌≤◌, refl, sym, ap, ap₂, ◌∙◌, subst, List, [], ◌∷◌, ◌++◌, append-nil, length, drop, map, arith, Bool, true, false, not, Option, Some, None, slice_get, IsFalse, IsTrue}
-use Rattle.std.specs.List.{list_all}
-use Rattle.std.proofs.lemmas.Bool.{and_from, and_parts, false≢true}
-use Rattle.k_types.specs.declared.event.Event.{Event}
+use Rattle.std.proofs.Common.{◌≡◌, ℕ, zero, suc, ◌<◌, ◌≤◌, refl, sym, ap, ap₂, ◌∙◌, subst, List, [], ◌∷◌, ◌++◌, append-nil, length, drop, map, arith, Option, Some, None, slice_get, IsFalse}
 use Rattle.k_types.specs.declared.names.Heap.TheVariants.{Kernel, Shared, User}
 use Rattle.k_types.specs.declared.names.Pid.{Pid}
 use Rattle.k_types.specs.declared.names.SharedId.{SharedId}
-use Rattle.k_types.specs.declared.op.Op.{Op}
-use Rattle.k_types.specs.declared.op.Op.TheVariants.{New, KNew, SNew, Store, Load, Move, Clear, Dir, Put, Get, Collect, KCollect, Share, Freeze, Attach, Exit}
 use Rattle.k_types.specs.Agree.{CellValue}
-use Rattle.k_types.specs.Cells.{BookPart, Cell, ProcessPart, book_part}
-use Rattle.k_types.specs.Complete.{IsComplete}
-use Rattle.k_types.specs.Names.{among}
-use Rattle.k_types.specs.Numbers.{numbers_below}
+use Rattle.k_types.specs.Cells.{Cell, ProcessPart}
 use Rattle.k_types.specs.State.{State}
 use Rattle.k_types.specs.Steps.{state_after}
 use Rattle.k_types.specs.Trace.{IsHeap, Trace, operations_of, process_count}
-use Rattle.k_types.specs.TraceRules.{is_exit}
 use Rattle.k_frame.specs.PartUpdates.{done_in}
-use Rattle.k_tie.specs.Values.{JournalValue, NoteValue}
+use Rattle.k_tie.specs.Values.{NoteValue}
 use Rattle.k_agree.specs.Agreement.{Agrees, Shows}
-use Rattle.k_agree.specs.Settled.{IsOver, IsSettled, IsThrough, all_ended_in}
+use Rattle.k_agree.specs.Settled.{IsOver, IsSettled, IsThrough}
 use Rattle.k_agree.proofs.AtTheEnd.{is_complete}
 use Rattle.k_book.specs.Books.{BookRecord}
 use Rattle.k_cell.specs.Holdings.{HoldingsValue}
-use Rattle.k_heap.specs.Heaps.{HeapRecord, has_ended_in}
+use Rattle.k_heap.specs.Heaps.{has_ended_in}
 use Rattle.k_shared.specs.SharedHeaps.{SharedRecord}
 use Rattle.k_locked.proofs.CanDo.{done_at_most}
-use Rattle.k_locked.proofs.NeverEnds.{nobody_ends}
 use Rattle.k_run.specs.declared.process.Process.{Process}
-use Rattle.k_run.specs.Ended.{AllMet, IsOutcome, IsSlice, OutcomeValue}
-use Rattle.k_run.specs.Standing.{ProcessStands}
-use Rattle.k_run.specs.Steps.{is_put_off}
+use Rattle.k_run.specs.Ended.{AllMet, IsOutcome}
 use Rattle.k_run.specs.Worlds.{WorldValue}
 
 -- each place of a list has its element
@@ -56,33 +44,6 @@ through_by : (trace : Trace) (pid : Pid) (process : Option ProcessPart) → (IsF
 through_by trace pid None all most = tt
 through_by trace pid (Some q) all most = λ lives. let least = none_left q.done (operations_of trace pid.0) (all lives) in omega (arith, least, most)
 
--- an operation that is not put off is no exit
-no_exit : (op : Op) → not (is_put_off op) ≡ true → not (is_exit op) ≡ true
-no_exit (New r ty) t = refl
-no_exit (KNew r ty) t = refl
-no_exit (SNew r s ty) t = refl
-no_exit (Store base i value) t = refl
-no_exit (Load r base i) t = refl
-no_exit (Move r from) t = refl
-no_exit (Clear r) t = refl
-no_exit (Dir r) t = refl
-no_exit (Put base i number) t = refl
-no_exit (Get base i) t = refl
-no_exit Collect t = refl
-no_exit KCollect t = refl
-no_exit (Share s) t = refl
-no_exit (Freeze s root) t = refl
-no_exit (Attach r s) t = refl
-no_exit Exit t = absurd (false≢true t)
-
-no_exits : (ops : List Op) → list_all (λ op. not (is_put_off op)) ops ≡ true → list_all (λ op. not (is_exit op)) ops ≡ true
-no_exits [] all = refl
-no_exits (op ∷ ops) all = let p = and_parts (not (is_put_off op)) _ all in and_from _ _ (no_exit op p.0) (no_exits ops p.1)
-
-first_of_all : (f : ℕ → Bool) (n : ℕ) → 0 < n → list_all f (numbers_below n) ≡ true → f 0 ≡ true
-first_of_all f zero some all = absurd (omega arith)
-first_of_all f (suc n) some all = (and_parts (f 0) _ all).0
-
 module _ (world : WorldValue) (processes : List Process) (kernel : HoldingsValue) (shared : List SharedRecord) (book : BookRecord) (m : AllMet world processes kernel shared book) where
   abbrev trace : Trace
   trace = world.trace
@@ -91,16 +52,16 @@ module _ (world : WorldValue) (processes : List Process) (kernel : HoldingsValue
   last = state_after trace book.journal.list
 
   process_at : (p : ℕ) → p < process_count trace → (q : Process) × (slice_get processes p ≡ Some q)
-  process_at p known = get_there processes p (subst (λ n. p < n) (sym m.through.stand.processes.count) known)
+  process_at p known = get_there processes p (subst (λ n. p < n) (sym m.ended.processes.processes.count) known)
 
   shared_at : (s : ℕ) → s < trace.shared_heaps → (x : SharedRecord) × (slice_get shared s ≡ Some x)
-  shared_at s known = get_there shared s (subst (λ n. s < n) (sym m.through.stand.rest.shared.count) known)
+  shared_at s known = get_there shared s (subst (λ n. s < n) (sym m.ended.shared.count) known)
 
   settled_process : (p : Process) (pid : Pid) → slice_get processes pid.0 ≡ Some p → IsSettled trace book.journal (User pid)
   settled_process p pid at =
-      let stands = m.through.stand.processes.each pid.0 p at in
-      let through = m.through.through pid.0 p at in
-      let same : p.cell.pid ≡ pid = ap (λ n. record { 0 = n }) (m.through.stand.processes.placed pid.0 p at) in
+      let stands = m.ended.processes.processes.each pid.0 p at in
+      let through = m.ended.processes.through pid.0 p at in
+      let same : p.cell.pid ≡ pid = ap (λ n. record { 0 = n }) (m.ended.processes.processes.placed pid.0 p at) in
       record {
         note = p.cell.note;
         value = p.cell.value;
@@ -113,8 +74,8 @@ module _ (world : WorldValue) (processes : List Process) (kernel : HoldingsValue
 
   settled_shared : (x : SharedRecord) (id : SharedId) → slice_get shared id.0 ≡ Some x → IsSettled trace book.journal (Shared id)
   settled_shared x id at =
-      let stands = m.through.stand.rest.shared.each id.0 x at in
-      let same : x.id ≡ id = ap (λ n. record { 0 = n }) (m.through.stand.rest.shared.placed id.0 x at) in
+      let stands = m.ended.shared.each id.0 x at in
+      let same : x.id ≡ id = ap (λ n. record { 0 = n }) (m.ended.shared.placed id.0 x at) in
       record {
         note = x.note;
         value = x.value;
@@ -129,30 +90,22 @@ module _ (world : WorldValue) (processes : List Process) (kernel : HoldingsValue
   settled Kernel there = record {
     note = kernel.note;
     value = kernel.value;
-    agrees = m.through.stand.rest.kernel.agrees;
+    agrees = m.ended.kernel.agrees;
     list = m.kernel_met;
-    tail = m.through.stand.rest.kernel.agrees.tail;
-    idle = m.through.stand.rest.kernel.idle;
+    tail = m.ended.kernel.agrees.tail;
+    idle = m.ended.kernel.idle;
     through = tt;
   }
   settled (User pid) there = let p = process_at pid.0 there in settled_process p.0 pid p.1
   settled (Shared id) there = let x = shared_at id.0 there in settled_shared x.0 id x.1
 
-  nobody : IsTrue (all_ended_in trace book.value) → ⊥
-  unfolding book_part
-  nobody ended =
-      let k = m.through.stand.rest.book in
-      let none = nobody_ends trace (λ p. no_exits (operations_of trace p) (m.through.stand.slice p)) book.journal.list k.stands.agrees.legal k.follows.operations in
-      let shown : among 0 book.value.ended ≡ among 0 last.ended = ap (λ (b : BookPart). b.ended 0) k.stands.agrees.shows.part in
-      false≢true (sym (shown ∙ ap (among 0) none) ∙ first_of_all (λ p. among p book.value.ended) (process_count trace) k.stands.keeps.some_process ended)
-
   over : IsOver trace book.journal book.value
   over = record {
     cells = settled;
-    book_agrees = m.through.stand.rest.book.stands.agrees;
-    first = m.through.stand.rest.book.follows.operations;
-    orphans = λ ended. absurd (nobody ended);
-    closed = λ ended. absurd (nobody ended);
+    book_agrees = m.ended.processes.book.stands.agrees;
+    first = m.ended.processes.book.first;
+    orphans = m.ended.orphans;
+    closed = m.ended.closed;
   }
 
   shows_at_the_end : (c : Cell) (note : NoteValue) (value : CellValue) → Agrees trace c note value → note.list ≡ book.journal.list → value.tail ≡ [] → Shows trace last c value
@@ -160,21 +113,20 @@ module _ (world : WorldValue) (processes : List Process) (kernel : HoldingsValue
 
   pub outcome : IsOutcome trace (record { processes = map (λ (p : Process). p.cell) processes; kernel = kernel; shared = shared; book = book })
   outcome = record {
-    legal = m.through.stand.rest.book.stands.agrees.legal;
-    complete = is_complete trace book.journal book.value m.through.stand.rest.book.stands.keeps.limits over;
+    legal = m.ended.processes.book.stands.agrees.legal;
+    complete = is_complete trace book.journal book.value m.ended.processes.book.stands.keeps.limits over;
     processes = λ p known.
         let at = process_at p known in
-        let stands = m.through.stand.processes.each p at.0 at.1 in
-        (
+        let stands = m.ended.processes.processes.each p at.0 at.1 in (
           at.0.cell,
           get_mapped (λ (q : Process). q.cell) processes p at.0 at.1,
-          m.through.stand.processes.placed p at.0 at.1,
-          shows_at_the_end (User at.0.cell.pid) at.0.cell.note at.0.cell.value stands.cell.agrees (m.processes_met p at.0 at.1) (m.through.through p at.0 at.1).published,
+          m.ended.processes.processes.placed p at.0 at.1,
+          shows_at_the_end (User at.0.cell.pid) at.0.cell.note at.0.cell.value stands.cell.agrees (m.processes_met p at.0 at.1) (m.ended.processes.through p at.0 at.1).published,
         );
-    kernel = shows_at_the_end Kernel kernel.note kernel.value m.through.stand.rest.kernel.agrees m.kernel_met m.through.stand.rest.kernel.agrees.tail;
+    kernel = shows_at_the_end Kernel kernel.note kernel.value m.ended.kernel.agrees m.kernel_met m.ended.kernel.agrees.tail;
     shared = λ s known.
         let at = shared_at s known in
-        let stands = m.through.stand.rest.shared.each s at.0 at.1 in
-        (at.0, at.1, m.through.stand.rest.shared.placed s at.0 at.1, shows_at_the_end (Shared at.0.id) at.0.note at.0.value stands.agrees (m.shared_met s at.0 at.1) stands.agrees.tail);
-    book = m.through.stand.rest.book.stands.agrees.shows;
+        let stands = m.ended.shared.each s at.0 at.1 in
+        (at.0, at.1, m.ended.shared.placed s at.0 at.1, shows_at_the_end (Shared at.0.id) at.0.note at.0.value stands.agrees (m.shared_met s at.0 at.1) stands.agrees.tail);
+    book = m.ended.processes.book.stands.agrees.shows;
   }

@@ -1,6 +1,7 @@
 -- Places that fill up.
-use Rattle.std.proofs.Common.{◌≡◌, ◌≢◌, ℕ, zero, suc, ◌+◌, ◌<◌, ◌≤◌, List, [], ◌∷◌, ◌++◌, length, map, set, Some, None, Option, slice_get, slice_index_or, replicate, reverse, refl, sym, ap, ◌∙◌, subst, arith, inl, inr, ◌⊎◌}
-use Rattle.k_run.specs.Places.{AreFilled, filled, one_if_some}
+use Rattle.std.proofs.Common.{◌≡◌, ◌≢◌, ℕ, zero, suc, ◌+◌, ◌<◌, ◌≤◌, List, [], ◌∷◌, ◌++◌, length, map, set, Some, None, Option, slice_get, slice_index_or, replicate, reverse, append_assoc, refl, sym, ap, ◌∙◌, subst, arith, inl, inr, ◌⊎◌}
+use Rattle.std.proofs.lemmas.List.{reverse-append}
+use Rattle.k_run.specs.Places.{filled, one_if_some}
 
 -- a place that was free is taken
 pub filled_set : {A : Type 0} (xs : List (Option A)) (k : ℕ) (x : Option A) (v : A) → slice_get xs k ≡ Some None → filled (set (set xs k x) k (Some v)) ≡ filled xs + 1
@@ -21,9 +22,9 @@ filled_all (None ∷ xs) zero e inside = absurd (omega (arith, e, filled_low xs)
 filled_all (Some v ∷ xs) (suc k) e inside = filled_all xs k (omega (arith, e)) (omega (arith, inside))
 filled_all (None ∷ xs) (suc k) e inside = absurd (omega (arith, e, filled_low xs))
 
-pub filled_none : {A : Type 0} (n : ℕ) → filled (replicate n (None {A = A})) ≡ 0
-filled_none zero = refl
-filled_none (suc n) = filled_none n
+pub filled_none : (A : Type 0) (n : ℕ) → filled {A = A} (replicate n None) ≡ 0
+filled_none A zero = refl
+filled_none A (suc n) = omega (arith, filled_none A n)
 
 pub none_there : {A : Type 0} (n k : ℕ) (v : A) → slice_get (replicate n None) k ≡ Some (Some v) → ⊥
 none_there zero k v e = cc
@@ -63,3 +64,14 @@ get_mapped_some xs places k x is at = subst (λ ps. slice_get ps k ≡ Some (Som
     go [] k at = absurd (cc)
     go (y ∷ xs) zero at = ap Some at
     go (y ∷ xs) (suc k) at = go xs k at
+
+-- what stands last, where all places are taken
+pub last_filled : {A : Type 0} (xs : List (Option A)) (x : Option A) (ys : List (Option A)) → filled ((xs ++ x ∷ []) ++ ys) ≡ length ((xs ++ x ∷ []) ++ ys) → x ≡ None → ⊥
+last_filled [] (Some v) ys e none = cc
+last_filled [] None ys e none = omega (arith, e, filled_low ys)
+last_filled (Some v ∷ xs) x ys e none = last_filled xs x ys (omega (arith, e)) none
+last_filled (None ∷ xs) x ys e none = omega (arith, e, filled_low ((xs ++ x ∷ []) ++ ys))
+
+-- one more item stands before those that were taken already
+pub one_more : {A : Type 0} (all xs : List (Option A)) (v : A) (ys : List A) → all ≡ (xs ++ Some v ∷ []) ++ map Some (reverse ys) → all ≡ xs ++ map Some (reverse (ys ++ v ∷ []))
+one_more all xs v ys is = is ∙ append_assoc xs (Some v ∷ []) (map Some (reverse ys)) ∙ ap (λ zs. xs ++ map Some zs) (sym (reverse-append ys (v ∷ [])))

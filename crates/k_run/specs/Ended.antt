@@ -3,16 +3,18 @@ use Rattle.std.specs.Prelude.{◌≡◌, ℕ, ◌<◌, not, IsFalse, IsTrue, Lis
 use Rattle.std.specs.List.{list_all}
 use Rattle.k_types.specs.declared.op.Op.{Op}
 use Rattle.k_types.specs.declared.names.Heap.TheVariants.{Kernel, Shared, User}
-use Rattle.k_types.specs.Complete.{IsComplete}
+use Rattle.k_types.specs.Complete.{EndsWithClosing, IsComplete}
 use Rattle.k_types.specs.Steps.{IsLegalHistory, state_after}
 use Rattle.k_types.specs.Trace.{Trace, operations_of, process_count}
 use Rattle.k_agree.specs.Agreement.{BookShows, Shows}
+use Rattle.k_agree.specs.Settled.{all_ended_in, no_orphan_in}
 use Rattle.k_book.specs.Books.{BookRecord}
 use Rattle.k_cell.specs.Holdings.{HoldingsValue}
 use Rattle.k_heap.specs.Heaps.{HeapRecord, has_ended_in}
 use Rattle.k_shared.specs.SharedHeaps.{SharedRecord}
-use Rattle.k_locked.specs.Keeping.{BookKeeps, HeapKeeps, operations_left}
+use Rattle.k_locked.specs.Keeping.{KernelKeeps, operations_left}
 use Rattle.k_run.specs.declared.process.Process.{Process}
+use Rattle.k_run.specs.Meetings.{ProcessesThrough}
 use Rattle.k_run.specs.Standing.{ComesNext, HeapsStand, IsThroughWith, ProcessStands, ProcessesStand, RestStands}
 use Rattle.k_run.specs.Steps.{is_put_off}
 use Rattle.k_run.specs.Worlds.{WorldValue}
@@ -40,8 +42,8 @@ pub record HasCompleted (world : WorldValue) (old new : Process) (kernel : Holdi
   pub through : IsThroughWith world.trace new.cell
 
 -- all processes, the kernel, the shared heaps and the book stand, and no operation is put off
-pub record AllStand (world : WorldValue) (processes : List Process) (kernel : HoldingsValue) (shared : List SharedRecord) (book : BookRecord) : Type 0 where
-  pub processes : ProcessesStand world processes
+pub record AllStand (world : WorldValue) (ps : List Process) (kernel : HoldingsValue) (shared : List SharedRecord) (book : BookRecord) : Type 0 where
+  pub processes : ProcessesStand world ps
   pub rest : RestStands world kernel shared book
   pub slice : IsSlice world.trace
 
@@ -50,9 +52,18 @@ pub record AllThrough (world : WorldValue) (processes : List Process) (kernel : 
   pub stand : AllStand world processes kernel shared book
   pub through : (k : ℕ) (p : Process) → slice_get processes k ≡ Some p → IsThroughWith world.trace p.cell
 
+-- all processes are through and all cells stand; and where every process has ended, no shared heap is an orphan and the journal ends with
+-- the closing
+pub record AllEnded (world : WorldValue) (ps : List Process) (k : HoldingsValue) (ss : List SharedRecord) (b : BookRecord) : Type 0 where
+  pub processes : ProcessesThrough world ps b
+  pub kernel : KernelKeeps world.trace world.table k
+  pub shared : HeapsStand world ss
+  pub orphans : IsTrue (all_ended_in world.trace b.value) → IsTrue (no_orphan_in world.trace b.value)
+  pub closed : IsTrue (all_ended_in world.trace b.value) → EndsWithClosing b.journal.list
+
 -- and each cell knows the whole journal
 pub record AllMet (world : WorldValue) (processes : List Process) (kernel : HoldingsValue) (shared : List SharedRecord) (book : BookRecord) : Type 0 where
-  pub through : AllThrough world processes kernel shared book
+  pub ended : AllEnded world processes kernel shared book
   pub processes_met : (k : ℕ) (p : Process) → slice_get processes k ≡ Some p → p.cell.note.list ≡ book.journal.list
   pub kernel_met : kernel.note.list ≡ book.journal.list
   pub shared_met : (k : ℕ) (s : SharedRecord) → slice_get shared k ≡ Some s → s.note.list ≡ book.journal.list

@@ -7,29 +7,29 @@ use Rattle.k_run.specs.declared.process.Process.{Process}
 use Rattle.k_run.specs.Worlds.{WorldValue}
 
 -- there are as many locks as processes, as many free places, and an empty list with room for them
-pub record CanGather (world : WorldValue) (locks : ℕ) (places : List (Option Process)) (into : List Process) (room : ℕ) (book : BookRecord) : Type 0 where
-  pub locks : locks ≡ process_count world.trace
-  pub places : places ≡ replicate (process_count world.trace) None
+pub record CanGather (world : WorldValue) (count : ℕ) (free : List (Option Process)) (into : List Process) (capacity : ℕ) (book : BookRecord) : Type 0 where
+  pub locks : count ≡ process_count world.trace
+  pub places : free ≡ replicate (process_count world.trace) None
   pub empty : into ≡ []
-  pub room : process_count world.trace ≤ room
+  pub room : process_count world.trace ≤ capacity
   pub table : book.journal.table ≡ world.table
 
 -- the same for shared heaps
-pub record CanGatherShared (world : WorldValue) (locks : ℕ) (places : List (Option SharedRecord)) (into : List SharedRecord) (room : ℕ) (book : BookRecord) : Type 0 where
-  pub locks : locks ≡ world.trace.shared_heaps
-  pub places : places ≡ replicate world.trace.shared_heaps None
+pub record CanGatherShared (world : WorldValue) (count : ℕ) (free : List (Option SharedRecord)) (into : List SharedRecord) (capacity : ℕ) (book : BookRecord) : Type 0 where
+  pub locks : count ≡ world.trace.shared_heaps
+  pub places : free ≡ replicate world.trace.shared_heaps None
   pub empty : into ≡ []
-  pub room : world.trace.shared_heaps ≤ room
+  pub room : world.trace.shared_heaps ≤ capacity
   pub table : book.journal.table ≡ world.table
 
 -- a world has as many locks as its trace has processes and shared heaps, and rooms to end it
-pub record HaveRooms (world : WorldValue) (processes shared : ℕ) (process_places : List (Option Process)) (shared_places : List (Option SharedRecord))
-    (processes_into : List Process) (shared_into : List SharedRecord) (process_room shared_room : ℕ) : Type 0 where
-  pub processes : processes ≡ process_count world.trace
-  pub shared : shared ≡ world.trace.shared_heaps
-  pub process_places : process_places ≡ replicate (process_count world.trace) None
-  pub shared_places : shared_places ≡ replicate world.trace.shared_heaps None
-  pub processes_empty : processes_into ≡ []
-  pub shared_empty : shared_into ≡ []
-  pub process_room : process_count world.trace ≤ process_room
-  pub shared_room : world.trace.shared_heaps ≤ shared_room
+pub record HaveRooms (world : WorldValue) (process_locks shared_locks : ℕ) (free : List (Option Process)) (free_shared : List (Option SharedRecord))
+    (into : List Process) (into_shared : List SharedRecord) (capacity shared_capacity : ℕ) : Type 0 where
+  pub processes : process_locks ≡ process_count world.trace
+  pub shared : shared_locks ≡ world.trace.shared_heaps
+  pub process_places : free ≡ replicate (process_count world.trace) None
+  pub shared_places : free_shared ≡ replicate world.trace.shared_heaps None
+  pub processes_empty : into ≡ []
+  pub shared_empty : into_shared ≡ []
+  pub process_room : process_count world.trace ≤ capacity
+  pub shared_room : world.trace.shared_heaps ≤ shared_capacity

@@ -6,3 +6,4 @@ pub mod Ended
 pub mod Running
 pub mod Places
 pub mod Gathering
+pub mod Meetings

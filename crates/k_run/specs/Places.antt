@@ -1,5 +1,5 @@
 -- Places that fill up.
-use Rattle.std.specs.Prelude.{◌≡◌, ℕ, ◌+◌, ◌<◌, List, [], ◌∷◌, Option, Some, None, length, slice_get}
+use Rattle.std.specs.Prelude.{◌≡◌, ℕ, ◌+◌, List, [], ◌∷◌, Option, Some, None, length, slice_get}
 use Rattle.k_types.specs.Trace.{process_count}
 use Rattle.k_book.specs.Books.{BookRecord}
 use Rattle.k_shared.specs.SharedHeaps.{SharedRecord}
@@ -23,14 +23,14 @@ abbrev pub AreFilled : {A : Type 0} → List (Option A) → Type 0
 AreFilled xs = filled xs ≡ length xs
 
 -- there is a place for each process, and each process that has one stands in the place of its number
-pub record ArePlaces (world : WorldValue) (places : List (Option Process)) : Type 0 where
-  pub count : length places ≡ process_count world.trace
-  pub each : (k : ℕ) (p : Process) → slice_get places k ≡ Some (Some p) → ProcessStands world p
-  pub placed : (k : ℕ) (p : Process) → slice_get places k ≡ Some (Some p) → p.cell.pid.0 ≡ k
+pub record ArePlaces (world : WorldValue) (ps : List (Option Process)) : Type 0 where
+  pub count : length ps ≡ process_count world.trace
+  pub each : (k : ℕ) (p : Process) → slice_get ps k ≡ Some (Some p) → ProcessStands world p
+  pub placed : (k : ℕ) (p : Process) → slice_get ps k ≡ Some (Some p) → p.cell.pid.0 ≡ k
 
 -- the process can be placed
-pub record CanPlace (world : WorldValue) (places : List (Option Process)) (book : BookRecord) (p : Process) : Type 0 where
-  pub places : ArePlaces world places
+pub record CanPlace (world : WorldValue) (ps : List (Option Process)) (book : BookRecord) (p : Process) : Type 0 where
+  pub places : ArePlaces world ps
   pub process : ProcessStands world p
   pub table : book.journal.table ≡ world.table
 
@@ -41,14 +41,14 @@ pub record HasPlaced (world : WorldValue) (old new : List (Option Process)) (old
   pub book_is : book ≡ old_book
 
 -- there is a place for each shared heap, and each cell that has one stands in the place of its number
-pub record ArePlacesShared (world : WorldValue) (places : List (Option SharedRecord)) : Type 0 where
-  pub count : length places ≡ world.trace.shared_heaps
-  pub each : (k : ℕ) (s : SharedRecord) → slice_get places k ≡ Some (Some s) → SharedKeeps world.trace world.table s
-  pub placed : (k : ℕ) (s : SharedRecord) → slice_get places k ≡ Some (Some s) → s.id.0 ≡ k
+pub record ArePlacesShared (world : WorldValue) (ss : List (Option SharedRecord)) : Type 0 where
+  pub count : length ss ≡ world.trace.shared_heaps
+  pub each : (k : ℕ) (s : SharedRecord) → slice_get ss k ≡ Some (Some s) → SharedKeeps world.trace world.table s
+  pub placed : (k : ℕ) (s : SharedRecord) → slice_get ss k ≡ Some (Some s) → s.id.0 ≡ k
 
 -- the cell of the shared heap can be placed
-pub record CanPlaceShared (world : WorldValue) (places : List (Option SharedRecord)) (book : BookRecord) (s : SharedRecord) : Type 0 where
-  pub places : ArePlacesShared world places
+pub record CanPlaceShared (world : WorldValue) (ss : List (Option SharedRecord)) (book : BookRecord) (s : SharedRecord) : Type 0 where
+  pub places : ArePlacesShared world ss
   pub shared : SharedKeeps world.trace world.table s
   pub table : book.journal.table ≡ world.table
 

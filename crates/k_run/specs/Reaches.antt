@@ -5,16 +5,15 @@ use Rattle.k_types.specs.declared.op.Op.{Op}
 use Rattle.k_types.specs.Cells.{Cell}
 use Rattle.k_types.specs.Steps.{in_range}
 use Rattle.k_types.specs.Trace.{Trace}
-use Rattle.k_types.specs.TraceRules.{AreLimits}
 use Rattle.k_agree.specs.Agreement.{Agrees}
 use Rattle.k_book.specs.Books.{BookRecord}
 use Rattle.k_heap.specs.Heaps.{HeapRecord}
 use Rattle.k_commit.specs.Standing.{BookStands}
-use Rattle.k_run.specs.declared.reaching.Reach.{Reach}
-use Rattle.k_run.specs.declared.reaching.Reach.TheVariants.{Own, Kernel as KernelReached, Shared}
+use Rattle.k_run.specs.declared.reaching.Reached.{Reached}
+use Rattle.k_run.specs.declared.reaching.Reached.TheVariants.{Own, Kernel as KernelReached, Shared}
 
 -- the cells beside the process's own
-abbrev pub cells_reached : Reach → List Cell
+abbrev pub cells_reached : Reached → List Cell
 cells_reached Own = []
 cells_reached KernelReached = Kernel ∷ []
 cells_reached (Shared s) = SharedHeap s ∷ []

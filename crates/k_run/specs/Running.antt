@@ -5,8 +5,8 @@ use Rattle.k_types.specs.Trace.{Trace}
 use Rattle.k_heap.specs.Heaps.{HeapRecord}
 use Rattle.k_moves.specs.Shown.{idle_part}
 use Rattle.k_squares.specs.Locals.{is_local_in}
-use Rattle.k_run.specs.declared.reaching.Reach.{Reach}
-use Rattle.k_run.specs.declared.reaching.Reach.TheVariants.{Own, Kernel, Shared}
+use Rattle.k_run.specs.declared.reaching.Reached.{Reached}
+use Rattle.k_run.specs.declared.reaching.Reached.TheVariants.{Own, Kernel, Shared}
 use Rattle.k_run.specs.Standing.{ComesNext}
 use Rattle.k_run.specs.Steps.{is_put_off}
 
@@ -27,7 +27,7 @@ pub record IsReady (trace : Trace) (c : HeapRecord) (op : Op) : Type 0 where
   pub goes_on : IsFalse (is_put_off op)
 
 -- the operation was done where it reaches no other cell, and is ready else
-abbrev pub IsReadyFor : Reach → Trace → HeapRecord → Op → Type 0
+abbrev pub IsReadyFor : Reached → Trace → HeapRecord → Op → Type 0
 IsReadyFor Own trace c op = Unit {0}
 IsReadyFor Kernel trace c op = IsReady trace c op
 IsReadyFor (Shared id) trace c op = IsReady trace c op

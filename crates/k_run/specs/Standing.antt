@@ -1,5 +1,5 @@
 -- Processes, kernel, shared heaps and book of one run, as they stand between steps.
-use Rattle.std.specs.Prelude.{◌≡◌, ℕ, ◌≤◌, IsFalse, List, Some, [], ◌∷◌, length, slice_get}
+use Rattle.std.specs.Prelude.{◌≡◌, ℕ, IsFalse, List, Some, [], ◌∷◌, length, slice_get}
 use Rattle.k_types.specs.declared.op.Op.{Op}
 use Rattle.k_types.specs.Trace.{Trace, operations_of, process_count}
 use Rattle.k_book.specs.Books.{BookRecord}
@@ -16,10 +16,10 @@ pub record ProcessStands (world : WorldValue) (p : Process) : Type 0 where
   pub operations : p.ops.items ≡ operations_of world.trace p.cell.pid.0
 
 -- there is a process for each of the trace, in the place of its number
-pub record ProcessesStand (world : WorldValue) (processes : List Process) : Type 0 where
-  pub count : length processes ≡ process_count world.trace
-  pub each : (k : ℕ) (p : Process) → slice_get processes k ≡ Some p → ProcessStands world p
-  pub placed : (k : ℕ) (p : Process) → slice_get processes k ≡ Some p → p.cell.pid.0 ≡ k
+pub record ProcessesStand (world : WorldValue) (ps : List Process) : Type 0 where
+  pub count : length ps ≡ process_count world.trace
+  pub each : (k : ℕ) (p : Process) → slice_get ps k ≡ Some p → ProcessStands world p
+  pub placed : (k : ℕ) (p : Process) → slice_get ps k ≡ Some p → p.cell.pid.0 ≡ k
 
 -- there is a cell for each shared heap of the trace, in the place of its number
 pub record HeapsStand (world : WorldValue) (shared : List SharedRecord) : Type 0 where
@@ -28,10 +28,10 @@ pub record HeapsStand (world : WorldValue) (shared : List SharedRecord) : Type 0
   pub placed : (k : ℕ) (s : SharedRecord) → slice_get shared k ≡ Some s → s.id.0 ≡ k
 
 -- the kernel, all shared heaps and the book stand
-pub record RestStands (world : WorldValue) (kernel : HoldingsValue) (shared : List SharedRecord) (book : BookRecord) : Type 0 where
-  pub kernel : KernelKeeps world.trace world.table kernel
-  pub shared : HeapsStand world shared
-  pub book : BookKeeps world.trace world.table book
+pub record RestStands (world : WorldValue) (k : HoldingsValue) (heaps : List SharedRecord) (b : BookRecord) : Type 0 where
+  pub kernel : KernelKeeps world.trace world.table k
+  pub shared : HeapsStand world heaps
+  pub book : BookKeeps world.trace world.table b
 
 -- the process lives, and the operation comes next in the trace
 pub record ComesNext (trace : Trace) (c : HeapRecord) (op : Op) : Type 0 where

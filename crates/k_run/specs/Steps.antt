@@ -10,7 +10,6 @@ use Rattle.k_squares.specs.Touches.{other_cells_in}
 use Rattle.k_moves.specs.Shown.{idle_part}
 use Rattle.k_book.specs.Books.{BookRecord}
 use Rattle.k_cell.specs.Holdings.{HoldingsValue}
-use Rattle.k_heap.specs.Heaps.{HeapRecord}
 use Rattle.k_shared.specs.SharedHeaps.{SharedRecord}
 use Rattle.k_types.specs.Cells.{Cell}
 use Rattle.k_locked.specs.Keeping.{BookKeeps, KernelKeeps, SharedKeeps}
@@ -67,25 +66,25 @@ pub record HasDoneAlone (world : WorldValue) (op : Op) (old new : Process) (book
   pub done : HasDone world.trace op old.cell new.cell
 
 -- the operation touches the kernel's cell, which stands
-pub record CanDoWithKernel (world : WorldValue) (p : Process) (kernel : HoldingsValue) (b : BookRecord) (op : Op) : Type 0 where
+pub record CanDoWithKernel (world : WorldValue) (p : Process) (k : HoldingsValue) (b : BookRecord) (op : Op) : Type 0 where
   pub due : IsDueWith world p b op (Kernel ∷ [])
-  pub kernel : KernelKeeps world.trace world.table kernel
+  pub kernel : KernelKeeps world.trace world.table k
 
 -- the kernel stands still too
-pub record HasDoneWithKernel (world : WorldValue) (op : Op) (old new : Process) (kernel : HoldingsValue) (book : BookRecord) : Type 0 where
-  pub own : HasDoneAlone world op old new book
-  pub kernel : KernelKeeps world.trace world.table kernel
+pub record HasDoneWithKernel (world : WorldValue) (op : Op) (old new : Process) (k : HoldingsValue) (b : BookRecord) : Type 0 where
+  pub own : HasDoneAlone world op old new b
+  pub kernel : KernelKeeps world.trace world.table k
 
 -- the operation touches the shared heap's cell, which stands
-pub record CanDoWithShared (world : WorldValue) (p : Process) (shared : SharedRecord) (b : BookRecord) (op : Op) : Type 0 where
-  pub due : IsDueWith world p b op (Shared shared.id ∷ [])
-  pub shared : SharedKeeps world.trace world.table shared
+pub record CanDoWithShared (world : WorldValue) (p : Process) (s : SharedRecord) (b : BookRecord) (op : Op) : Type 0 where
+  pub due : IsDueWith world p b op (Shared s.id ∷ [])
+  pub shared : SharedKeeps world.trace world.table s
 
 -- the shared heap stands still too, and is the same one
-pub record HasDoneWithShared (world : WorldValue) (op : Op) (old new : Process) (old_shared shared : SharedRecord) (book : BookRecord) : Type 0 where
-  pub own : HasDoneAlone world op old new book
-  pub shared : SharedKeeps world.trace world.table shared
-  pub same : shared.id ≡ old_shared.id
+pub record HasDoneWithShared (world : WorldValue) (op : Op) (old new : Process) (old_s s : SharedRecord) (b : BookRecord) : Type 0 where
+  pub own : HasDoneAlone world op old new b
+  pub shared : SharedKeeps world.trace world.table s
+  pub same : s.id ≡ old_s.id
 
 -- all stands, and the operation comes next
 pub record CanDoNext (world : WorldValue) (p : Process) (kernel : HoldingsValue) (shared : List SharedRecord) (book : BookRecord) (op : Op) : Type 0 where

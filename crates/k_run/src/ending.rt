@@ -1,6 +1,6 @@
 //! What is left of a run, done on the caller's thread.
-ghost use Rattle.std.specs.Prelude.{◌≡◌};
-ghost use Rattle.k_run.specs.Ended.{AllMet, AllStand, AllThrough, CanComplete, HasCompleted};
+ghost use Rattle.k_run.specs.Ended.{AllEnded, AllMet, AllStand, AllThrough, CanComplete, HasCompleted};
+ghost use Rattle.k_run.specs.Meetings.{HeapsAndBook, HeapsMet, ProcessesMet, ProcessesThrough};
 ghost use Rattle.k_run.specs.Worlds.{WorldValue};
 
 use crate::process::{Process, next};
@@ -46,8 +46,8 @@ pub(crate) fn complete_all(
 /// Has each process's cell meet the journal.
 fn meet_processes(processes: &mut Vec<Process>, book: &mut Book)
     ghost world: { WorldValue }
-    requires { ProcessesAndBook world processes.old.items book.old }
-    ensures { ProcessesMet world processes.old.items processes.new.items book.old book.new }
+    requires { ProcessesThrough world processes.old.items book.old }
+    ensures { ProcessesMet world processes.new.items book.old book.new }
 {
     for process in processes.iter_mut() {
         meet_heap(&mut process.cell, book);
@@ -58,7 +58,7 @@ fn meet_processes(processes: &mut Vec<Process>, book: &mut Book)
 fn meet_heaps(shared: &mut Vec<SharedCell>, book: &mut Book)
     ghost world: { WorldValue }
     requires { HeapsAndBook world shared.old.items book.old }
-    ensures { HeapsMet world shared.old.items shared.new.items book.old book.new }
+    ensures { HeapsMet world shared.new.items book.old book.new }
 {
     for heap in shared.iter_mut() {
         meet_shared(heap, book);
@@ -73,7 +73,7 @@ pub(crate) fn meet_all(
     book: &mut Book,
 )
     ghost world: { WorldValue }
-    requires { AllThrough world processes.old.items kernel.old shared.old.items book.old }
+    requires { AllEnded world processes.old.items kernel.old shared.old.items book.old }
     ensures { AllMet world processes.new.items kernel.new shared.new.items book.new }
 {
     meet_processes(processes, book);

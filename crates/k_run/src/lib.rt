@@ -16,7 +16,7 @@ mod worlds;
 pub use locked::{LockedBook, LockedKernel, LockedProcess, LockedShared};
 pub use outcome::Outcome;
 pub use process::Process;
-pub use reaching::{Reach, reach};
+pub use reaching::{Reached, reach};
 pub use running::run;
 pub use world::{World, finish};
 pub use worlds::WorldName;

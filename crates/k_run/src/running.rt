@@ -1,6 +1,6 @@
 //! Processes on threads.
 use crate::locked::{LockedBook, LockedKernel, LockedProcess, LockedShared};
-use crate::reaching::Reach;
+use crate::reaching::Reached;
 use crate::turning::is_put_off;
 use crate::world::World;
 use crate::worlds::WorldName;
@@ -36,7 +36,10 @@ pub fn run<W: WorldName + Send + Sync, G: Gate, R: Threads + Wait + Sync>(
     run_in(rt, &hall);
 }
 
-fn run_in<W: WorldName + Send + Sync, G: Gate, R: Threads + Wait + Sync>(rt: &R, hall: &Hall<W, G>) {
+fn run_in<W: WorldName + Send + Sync, G: Gate, R: Threads + Wait + Sync>(
+    rt: &R,
+    hall: &Hall<W, G>,
+) {
     thread::scope(thread::scope_env(), rt, |scope| {
         for lock in hall.processes {
             if scope.spawn(move || work(rt, hall, lock)).is_err() {
@@ -47,11 +50,7 @@ fn run_in<W: WorldName + Send + Sync, G: Gate, R: Threads + Wait + Sync>(rt: &R,
 }
 
 /// Does the operations of the process behind the lock, one hold of the lock for each.
-fn work<W: WorldName, G: Gate>(
-    rt: &impl Wait,
-    hall: &Hall<W, G>,
-    lock: &Mutex<LockedProcess<W>>,
-) {
+fn work<W: WorldName, G: Gate>(rt: &impl Wait, hall: &Hall<W, G>, lock: &Mutex<LockedProcess<W>>) {
     for _ in rt.forever() {
         if !turn(rt, hall, lock) {
             return;
@@ -76,13 +75,13 @@ fn turn<W: WorldName, G: Gate>(
         return true;
     }
     match process.do_under_book(&mut hall.book.lock(rt), &op) {
-        Reach::Own => true,
-        Reach::Kernel => {
+        Reached::Own => true,
+        Reached::Kernel => {
             let mut kernel = hall.kernel.lock(rt);
             process.do_under_kernel(&mut kernel, &mut hall.book.lock(rt), &op);
             true
         }
-        Reach::Shared(id) => match hall.shared.get(id.0 as usize) {
+        Reached::Shared(id) => match hall.shared.get(id.0 as usize) {
             Some(lock) => {
                 let mut shared = lock.lock(rt);
                 process.do_under_shared(&mut shared, &mut hall.book.lock(rt), &op)

@@ -1,5 +1,4 @@
 //! One operation of a process, with the cells that it touches and the book.
-ghost use Rattle.std.specs.Prelude.{◌≡◌};
 ghost use Rattle.k_base.specs.Distinct.{AreDistinctNames};
 ghost use Rattle.k_book.specs.Books.{book_entries};
 ghost use Rattle.k_entry.specs.Entries.{AreEntries};
@@ -7,8 +6,9 @@ ghost use Rattle.k_run.specs.Steps.{CanDoAlone, CanDoInside, CanDoNext, CanDoWit
 ghost use Rattle.k_run.specs.Worlds.{WorldValue};
 
 use crate::process::Process;
-use crate::reaching::{Reach, reach};
+use crate::reaching::{Reached, reach};
 use k_book::Book;
+use k_commit::publish;
 use k_heap::HeapCell;
 use k_kernel::KernelCell;
 use k_local::local;
@@ -16,7 +16,6 @@ use k_own::step_own;
 use k_pair::step_kernel;
 use k_shared::SharedCell;
 use k_sharing::step_shared;
-use k_steps::publish;
 use k_types::{Heap, Op};
 
 /// Does the operation inside the process's own heap, if it needs that heap alone, and says whether it did.
@@ -125,9 +124,9 @@ pub(crate) fn do_next(
     }
     publish_all(process, book);
     match reach(&process.cell, book, op) {
-        Reach::Own => do_alone(process, book, op),
-        Reach::Kernel => do_with_kernel(process, kernel, book, op),
-        Reach::Shared(id) => {
+        Reached::Own => do_alone(process, book, op),
+        Reached::Kernel => do_with_kernel(process, kernel, book, op),
+        Reached::Shared(id) => {
             let heap = &mut shared[id.0 as usize];
             do_with_shared(process, heap, book, op);
         }

@@ -8,7 +8,7 @@ ghost use Rattle.k_types.specs.Trace.{process_count};
 
 use crate::locked::{LockedBook, LockedKernel, LockedProcess, LockedShared};
 use crate::process::next;
-use crate::reaching::{Reach, reach};
+use crate::reaching::{Reached, reach};
 use crate::stepping::{do_alone, do_inside, do_with_kernel, do_with_shared, publish_all};
 use crate::worlds::WorldName;
 use k_types::{Op, Pid};
@@ -56,7 +56,7 @@ impl<W: WorldName> LockedProcess<W> {
 
     /// Publishes what was done inside the heap, and does the operation if it touches the process's own cell alone. It answers what the
     /// operation reaches.
-    pub(crate) fn do_under_book(&mut self, book: &mut LockedBook<W>, op: &Op) -> Reach
+    pub(crate) fn do_under_book(&mut self, book: &mut LockedBook<W>, op: &Op) -> Reached
         requires outside { IsOutside W.world.trace self.old op.now }
         requires goes_on { IsFalse (is_put_off op.now) }
         ensures { IsReadyFor result W.world.trace self.new op.now }
@@ -64,9 +64,9 @@ impl<W: WorldName> LockedProcess<W> {
         publish_all(&mut self.process, &mut book.book);
         let reached = reach(&self.process.cell, &book.book, op);
         match reached {
-            Reach::Own => do_alone(&mut self.process, &mut book.book, op),
-            Reach::Kernel => {}
-            Reach::Shared(_) => {}
+            Reached::Own => do_alone(&mut self.process, &mut book.book, op),
+            Reached::Kernel => {}
+            Reached::Shared(_) => {}
         }
         reached
     }
@@ -81,11 +81,11 @@ impl<W: WorldName> LockedProcess<W> {
         requires { IsReady W.world.trace self.old op.now }
     {
         match reach(&self.process.cell, &book.book, op) {
-            Reach::Own => {}
-            Reach::Kernel => {
+            Reached::Own => {}
+            Reached::Kernel => {
                 do_with_kernel(&mut self.process, &mut kernel.kernel, &mut book.book, op);
             }
-            Reach::Shared(_) => {}
+            Reached::Shared(_) => {}
         }
     }
 
@@ -99,9 +99,9 @@ impl<W: WorldName> LockedProcess<W> {
         requires { IsReady W.world.trace self.old op.now }
     {
         match reach(&self.process.cell, &book.book, op) {
-            Reach::Own => true,
-            Reach::Kernel => true,
-            Reach::Shared(id) => {
+            Reached::Own => true,
+            Reached::Kernel => true,
+            Reached::Shared(id) => {
                 if shared.shared.id() != id {
                     return false;
                 }

@@ -1,10 +1,9 @@
 -- What is read to tell which cell an operation reaches.
-use Rattle.std.proofs.Common.{◌≡◌, ◌<◌, ◌+◌, ◌++◌, ◌&&◌, nat_lt, ℕ, refl, sym, ap, ◌∙◌, subst, map, List, [], ◌∷◌, get_or, length, Option, Some, None, true, arith, cond}
-use Rattle.std.proofs.lemmas.Bool.{and_parts}
+use Rattle.std.proofs.Common.{◌≡◌, ◌<◌, ◌++◌, nat_lt, ℕ, sym, ap, ◌∙◌, subst, length, Option, Some, true, arith}
 use Rattle.std.proofs.lemmas.Bool.Decides.{nat_tests}
 use Rattle.std.proofs.lemmas.List.{length-map}
 use Rattle.k_types.specs.declared.names.Heap.{Heap}
-use Rattle.k_types.specs.declared.names.Heap.TheVariants.{Kernel, Shared, User}
+use Rattle.k_types.specs.declared.names.Heap.TheVariants.{Shared, User}
 use Rattle.k_types.specs.declared.names.Name.{Name}
 use Rattle.k_types.specs.declared.names.SharedId.{SharedId}
 use Rattle.k_types.specs.Agree.{book_shown_by}
@@ -24,7 +23,6 @@ use Rattle.k_changes.proofs.Laws.{the_book_tells_the_owners}
 use Rattle.k_changes.proofs.ToldBy.{register_told}
 use Rattle.k_laws.proofs.SoundStore.{register_holds}
 use Rattle.k_squares.specs.Touches.{access_cell_in, base_cell_in}
-use Rattle.k_agree.specs.Agreement.{Agrees}
 use Rattle.k_agree.proofs.AtTheEnd.{cell_sound}
 use Rattle.k_agree.proofs.Openings.{home_at}
 use Rattle.k_entry.specs.Entries.{home_of}

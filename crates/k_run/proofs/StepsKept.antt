@@ -1,5 +1,5 @@
 -- What steps leave.
-use Rattle.std.proofs.Common.{◌≡◌, ◌++◌, refl, sym, ap, ap₂, ◌∙◌, subst, List, [], ◌∷◌, Bool, true, false, not, drop, Option, Some, None, is_some, IsFalse, IsTrue, IfNone, IfSome}
+use Rattle.std.proofs.Common.{◌≡◌, refl, sym, ap, ◌∙◌, subst, List, ◌∷◌, false, Option, Some, None, is_some, IsTrue, IfNone, IfSome}
 use Rattle.std.proofs.lemmas.Bool.{false≢true}
 use Rattle.k_types.specs.declared.event.Event.{Event}
 use Rattle.k_types.specs.declared.event.Reply.{Reply}
@@ -7,11 +7,9 @@ use Rattle.k_types.specs.declared.op.Op.{Op}
 use Rattle.k_types.specs.declared.op.Op.TheVariants.{New, KNew, SNew, Store, Load, Move, Clear, Dir, Put, Get, Collect, KCollect, Share, Freeze, Attach, Exit}
 use Rattle.k_types.specs.declared.names.Heap.TheVariants.{Kernel, Shared}
 use Rattle.k_base.specs.Distinct.{AreDistinctNames}
-use Rattle.k_types.specs.Cells.{Cell}
 use Rattle.k_squares.specs.Locals.{is_local_in}
 use Rattle.k_types.specs.Trace.{operations_of}
 use Rattle.k_moves.specs.Shown.{idle_part}
-use Rattle.k_agree.specs.Meeting.{Fits}
 use Rattle.k_book.specs.Books.{BookRecord, book_entries}
 use Rattle.k_entry.specs.Entries.{AreEntries}
 use Rattle.k_cell.specs.Holdings.{HoldingsValue}
@@ -23,13 +21,12 @@ use Rattle.k_own.specs.Own.{CanStepOwn, is_collect}
 use Rattle.k_pair.specs.Operating.{CanStepWithKernel, collects_or_exits}
 use Rattle.k_sharing.specs.Operating.{CanStepWithShared}
 use Rattle.k_bounds.specs.Counts.{allocates_in}
-use Rattle.k_locked.specs.Keeping.{BookKeeps, HeapKeeps, KernelKeeps, SharedKeeps, operations_left}
 use Rattle.k_locked.proofs.CanDo.{can_operate, can_operate_with_kernel, can_operate_with_shared}
-use Rattle.k_locked.proofs.Kept.{book_keeps, heap_keeps, kernel_keeps, left_now, own_pid, shared_keeps}
+use Rattle.k_locked.proofs.Kept.{book_keeps, heap_keeps, kernel_keeps, left_now, shared_keeps}
 use Rattle.k_locked.proofs.Steps.{alone_allocates, beside_allocates, local_keeps, local_left}
 use Rattle.k_run.specs.declared.process.Process.{Process}
 use Rattle.k_run.specs.Standing.{ComesNext, HasDone, ProcessStands}
-use Rattle.k_run.specs.Steps.{CanDoAlone, CanDoInside, CanDoWithKernel, CanDoWithShared, HasDoneAlone, HasDoneInside, HasDoneWithKernel, HasDoneWithShared, IsDueWith, PairStands, is_put_off}
+use Rattle.k_run.specs.Steps.{CanDoAlone, CanDoInside, CanDoWithKernel, CanDoWithShared, HasDoneAlone, HasDoneInside, HasDoneWithKernel, HasDoneWithShared, PairStands, is_put_off}
 use Rattle.k_run.specs.Worlds.{WorldValue}
 
 goes_on_own : (op : Op) → is_put_off op ≡ false → is_collect op ≡ false
@@ -127,11 +124,11 @@ module _ (world : WorldValue) (p : Process) (b l : BookRecord) (op : Op) (w : He
     kernel = kernel_keeps world.trace world.table p.cell w k x b l op event can.kernel can.due.pair.book s;
   }
 
-  pub done_with_shared : (k x : SharedRecord) → CanDoWithShared world p k b op → Fits b.journal k.note → HasSteppedWithShared world.trace op p.cell w k x b l event →
+  pub done_with_shared : (k x : SharedRecord) → CanDoWithShared world p k b op → HasSteppedWithShared world.trace op p.cell w k x b l event →
       HasDoneWithShared world op p (record p { cell = w }) k x l
-  done_with_shared k x can fits s = record {
+  done_with_shared k x can s = record {
     own = done_alone world p b l op w event can.due.pair can.due.next s.own;
-    shared = shared_keeps world.trace world.table p.cell w k x b l op event can.shared can.due.pair.book fits s;
+    shared = shared_keeps world.trace world.table p.cell w k x b l op event can.shared can.due.pair.book s;
     same = ap (λ (y : SharedRecord). y.id) s.shared_is;
   }
 

@@ -1,0 +1,10 @@
+use Rattle.k_run.proofs.locked.LockedProcess.do_under_book.Given as goal
+
+abbrev pub ghost-publish_all : goal.ghost-publish_all
+ghost-publish_all g a = g.W.WorldName.world
+
+abbrev pub ghost-reach : goal.ghost-reach
+ghost-reach g a = g.W.WorldName.world.trace
+
+abbrev pub ghost-do_alone : goal.ghost-do_alone
+ghost-do_alone g a = g.W.WorldName.world

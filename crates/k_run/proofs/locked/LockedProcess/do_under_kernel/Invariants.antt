@@ -1,0 +1,7 @@
+use Rattle.k_run.proofs.locked.LockedProcess.do_under_kernel.Given as goal
+
+abbrev pub ghost-reach : goal.ghost-reach
+ghost-reach g a = g.W.WorldName.world.trace
+
+abbrev pub ghost-do_with_kernel : goal.ghost-do_with_kernel
+ghost-do_with_kernel g a = g.W.WorldName.world

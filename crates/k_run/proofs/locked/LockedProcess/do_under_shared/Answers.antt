@@ -1,0 +1,10 @@
+use Rattle.std.proofs.Common.{sym, subst}
+use Rattle.k_heap.specs.Heaps.{HeapRecord}
+use Rattle.k_run.specs.Standing.{ComesNext}
+use Rattle.k_run.proofs.Since.{can_reach}
+use Rattle.k_run.proofs.locked.LockedProcess.do_under_shared.Goals as goal
+
+pub reach-requires : goal.reach-requires
+reach-requires g c =
+    can_reach g.W.WorldName.world c.self.inside.process c.book.inside.book c.args.op.now (record { process = c.self.invariant; book = c.book.invariant })
+    (subst (λ (x : HeapRecord). ComesNext g.W.WorldName.world.trace x c.args.op.now) (sym c.self.view_is) c.requires.next)
