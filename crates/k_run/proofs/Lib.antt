@@ -1,13 +1,2 @@
-pub mod Homes
-pub mod Kept
-pub mod Published
-pub mod StepsKept
-pub mod Since
-pub mod HeapsReached
-pub mod Looped
-pub mod NextKept
-pub mod EndKept
-pub mod Gathered
-pub mod Unended
-pub mod Over
 pub mod Places
+pub mod Gathered

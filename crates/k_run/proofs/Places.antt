@@ -31,31 +31,6 @@ none_there zero k v e = cc
 none_there (suc n) zero v e = cc
 none_there (suc n) (suc k) v e = none_there n k v e
 
-pub get_set_here : {A : Type 0} (xs : List A) (k : ℕ) (x : A) → k < length xs → slice_get (set xs k x) k ≡ Some x
-get_set_here [] k x inside = absurd (omega (arith, inside))
-get_set_here (y ∷ xs) zero x inside = refl
-get_set_here (y ∷ xs) (suc k) x inside = get_set_here xs k x (omega (arith, inside))
-
-pub get_set_else : {A : Type 0} (xs : List A) (k j : ℕ) (x : A) → j ≢ k → slice_get (set xs k x) j ≡ slice_get xs j
-get_set_else [] k j x n = refl
-get_set_else (y ∷ xs) zero zero x n = absurd (n refl)
-get_set_else (y ∷ xs) zero (suc j) x n = refl
-get_set_else (y ∷ xs) (suc k) zero x n = refl
-get_set_else (y ∷ xs) (suc k) (suc j) x n = get_set_else xs k j x (λ e. n (ap suc e))
-
--- what is found after a write was there, or is what was written
-pub get_set_cases : {A : Type 0} (xs : List A) (k j : ℕ) (x y : A) → slice_get (set xs k x) j ≡ Some y → ((j ≡ k) × (x ≡ y)) ⊎ (slice_get xs j ≡ Some y)
-get_set_cases [] k j x y e = inr e
-get_set_cases (z ∷ xs) zero zero x y e = inl (refl, cc)
-get_set_cases (z ∷ xs) zero (suc j) x y e = inr e
-get_set_cases (z ∷ xs) (suc k) zero x y e = inr e
-get_set_cases (z ∷ xs) (suc k) (suc j) x y e = elim (get_set_cases xs k j x y e) [ inl here ↦ inl (ap suc here.0, here.1) | inr there ↦ inr there ]
-
-pub get_at : {A : Type 0} (xs : List A) (k : ℕ) (x : A) → k < length xs → x ≡ slice_index_or xs k x → slice_get xs k ≡ Some x
-get_at [] k x inside e = absurd (omega (arith, inside))
-get_at (y ∷ xs) zero x inside e = ap Some (sym e)
-get_at (y ∷ xs) (suc k) x inside e = get_at xs k x (omega (arith, inside)) e
-
 -- what is found among elements that are all there
 pub get_mapped_some : {A : Type 0} (xs : List A) (places : List (Option A)) (k : ℕ) (x : A) → map Some xs ≡ places → slice_get xs k ≡ Some x → slice_get places k ≡ Some (Some x)
 get_mapped_some xs places k x is at = subst (λ ps. slice_get ps k ≡ Some (Some x)) is (go xs k at)

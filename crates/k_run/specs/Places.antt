@@ -4,9 +4,9 @@ use Rattle.k_types.specs.Trace.{process_count}
 use Rattle.k_book.specs.Books.{BookRecord}
 use Rattle.k_shared.specs.SharedHeaps.{SharedRecord}
 use Rattle.k_locked.specs.Keeping.{SharedKeeps}
-use Rattle.k_run.specs.declared.process.Process.{Process}
-use Rattle.k_run.specs.Standing.{ProcessStands}
-use Rattle.k_run.specs.Worlds.{WorldValue}
+use Rattle.k_process.specs.declared.process.Process.{Process}
+use Rattle.k_process.specs.Standing.{ProcessStands}
+use Rattle.k_process.specs.Worlds.{WorldValue}
 
 -- 1 where something is there
 abbrev pub one_if_some : {A : Type 0} → Option A → ℕ

@@ -1,33 +1,13 @@
 -- What is known of a process between two locks.
-use Rattle.std.specs.Prelude.{◌≡◌, Bool, IsFalse, []}
 use Rattle.k_types.specs.declared.op.Op.{Op}
 use Rattle.k_types.specs.Trace.{Trace}
 use Rattle.k_heap.specs.Heaps.{HeapRecord}
-use Rattle.k_moves.specs.Shown.{idle_part}
-use Rattle.k_squares.specs.Locals.{is_local_in}
-use Rattle.k_run.specs.declared.reaching.Reached.{Reached}
-use Rattle.k_run.specs.declared.reaching.Reached.TheVariants.{Own, Kernel, Shared}
-use Rattle.k_run.specs.Standing.{ComesNext}
-use Rattle.k_run.specs.Steps.{is_put_off}
-
--- the operation comes next, and is not local
-pub record IsOutside (trace : Trace) (c : HeapRecord) (op : Op) : Type 0 where
-  pub next : ComesNext trace c op
-  pub outside : IsFalse (is_local_in (idle_part c.value) c.pid.0 op)
-
--- so it is unless it was done
-abbrev pub IsOutsideUnless : Bool → Trace → HeapRecord → Op → Type 0
-IsOutsideUnless done trace c op = IsFalse done → IsOutside trace c op
-
--- the operation comes next, needs another cell, and nothing is unpublished
-pub record IsReady (trace : Trace) (c : HeapRecord) (op : Op) : Type 0 where
-  pub next : ComesNext trace c op
-  pub outside : IsFalse (is_local_in (idle_part c.value) c.pid.0 op)
-  pub settled : c.value.tail ≡ []
-  pub goes_on : IsFalse (is_put_off op)
+use Rattle.k_steps.specs.declared.reached.Reach.{Reach}
+use Rattle.k_steps.specs.declared.reached.Reach.TheVariants.{Own, Kernel, Shared}
+use Rattle.k_operate.specs.Readiness.{IsReady}
 
 -- the operation was done where it reaches no other cell, and is ready else
-abbrev pub IsReadyFor : Reached → Trace → HeapRecord → Op → Type 0
+abbrev pub IsReadyFor : Reach → Trace → HeapRecord → Op → Type 0
 IsReadyFor Own trace c op = Unit {0}
 IsReadyFor Kernel trace c op = IsReady trace c op
 IsReadyFor (Shared id) trace c op = IsReady trace c op

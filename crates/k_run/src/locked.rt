@@ -1,12 +1,12 @@
 //! The values behind the locks.
 ghost use Rattle.std.specs.Prelude.{◌≡◌};
 ghost use Rattle.k_locked.specs.Keeping.{BookKeeps, KernelKeeps, SharedKeeps};
-ghost use Rattle.k_run.specs.Standing.{ProcessStands};
+ghost use Rattle.k_process.specs.Standing.{ProcessStands};
 
-use crate::process::Process;
 use crate::worlds::WorldName;
 use k_book::Book;
 use k_kernel::KernelCell;
+use k_process::Process;
 use k_shared::SharedCell;
 use std::marker::{Model, PhantomData};
 
@@ -22,7 +22,7 @@ impl<W: WorldName> Model for LockedProcess<W> {
 
     ghost Value = { HeapRecord };
 
-    ghost use Rattle.k_run.specs.Standing.{ProcessStands};
+    ghost use Rattle.k_process.specs.Standing.{ProcessStands};
 
     ghost view = { λ l. l.process.cell };
 

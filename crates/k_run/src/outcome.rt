@@ -1,7 +1,7 @@
 //! What a run leaves.
-use crate::process::Process;
 use k_book::Book;
 use k_kernel::KernelCell;
+use k_process::Process;
 use k_shared::SharedCell;
 use k_trace::Names;
 use std::marker::Model;
@@ -18,12 +18,12 @@ pub struct Outcome {
 }
 
 impl Model for Outcome {
-    ghost use Rattle.k_run.specs.Ended.{OutcomeValue};
+    ghost use Rattle.k_complete.specs.Ended.{OutcomeValue};
 
     ghost Value = { OutcomeValue };
 
     ghost use Rattle.std.specs.Prelude.{map};
-    ghost use Rattle.k_run.specs.declared.process.Process.{Process};
+    ghost use Rattle.k_process.specs.declared.process.Process.{Process};
 
     ghost view = { λ o. record { processes = map (λ (p : Process). p.cell) o.processes.items; kernel = o.kernel; shared = o.shared.items; book = o.book } };
 }

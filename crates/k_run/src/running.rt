@@ -1,10 +1,10 @@
 //! Processes on threads.
 use crate::locked::{LockedBook, LockedKernel, LockedProcess, LockedShared};
-use crate::reaching::Reached;
 use crate::turning::is_put_off;
 use crate::world::World;
 use crate::worlds::WorldName;
 use k_io::Gate;
+use k_steps::Reach;
 use std::sync::{Mutex, Wait};
 use std::thread;
 use std::thread::Threads;
@@ -75,13 +75,13 @@ fn turn<W: WorldName, G: Gate>(
         return true;
     }
     match process.do_under_book(&mut hall.book.lock(rt), &op) {
-        Reached::Own => true,
-        Reached::Kernel => {
+        Reach::Own => true,
+        Reach::Kernel => {
             let mut kernel = hall.kernel.lock(rt);
             process.do_under_kernel(&mut kernel, &mut hall.book.lock(rt), &op);
             true
         }
-        Reached::Shared(id) => match hall.shared.get(id.0 as usize) {
+        Reach::Shared(id) => match hall.shared.get(id.0 as usize) {
             Some(lock) => {
                 let mut shared = lock.lock(rt);
                 process.do_under_shared(&mut shared, &mut hall.book.lock(rt), &op)

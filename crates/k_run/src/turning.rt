@@ -1,16 +1,17 @@
 //! The next operation of a process whose lock is held.
 ghost use Rattle.std.specs.Prelude.{IsFalse, ◌<◌, ◌≡◌};
-ghost use Rattle.k_run.specs.Ended.{IsNextOf};
-ghost use Rattle.k_run.specs.Running.{IsOutside, IsOutsideUnless, IsReady, IsReadyFor};
-ghost use Rattle.k_run.specs.Standing.{ComesNext};
-ghost use Rattle.k_run.specs.Steps.{is_put_off};
+ghost use Rattle.k_process.specs.Standing.{IsNextOf};
+ghost use Rattle.k_operate.specs.Readiness.{IsOutside, IsOutsideUnless, IsReady};
+ghost use Rattle.k_run.specs.Running.{IsReadyFor};
+ghost use Rattle.k_process.specs.Standing.{ComesNext};
+ghost use Rattle.k_operate.specs.Steps.{is_put_off};
 ghost use Rattle.k_types.specs.Trace.{process_count};
 
 use crate::locked::{LockedBook, LockedKernel, LockedProcess, LockedShared};
-use crate::process::next;
-use crate::reaching::{Reached, reach};
-use crate::stepping::{do_alone, do_inside, do_with_kernel, do_with_shared, publish_all};
 use crate::worlds::WorldName;
+use k_operate::{do_alone, do_inside, do_with_kernel, do_with_shared, publish_all};
+use k_process::next;
+use k_steps::{Reach, reach};
 use k_types::{Op, Pid};
 
 /// Whether the operation opens a collection, or ends its process.
@@ -56,7 +57,7 @@ impl<W: WorldName> LockedProcess<W> {
 
     /// Publishes what was done inside the heap, and does the operation if it touches the process's own cell alone. It answers what the
     /// operation reaches.
-    pub(crate) fn do_under_book(&mut self, book: &mut LockedBook<W>, op: &Op) -> Reached
+    pub(crate) fn do_under_book(&mut self, book: &mut LockedBook<W>, op: &Op) -> Reach
         requires outside { IsOutside W.world.trace self.old op.now }
         requires goes_on { IsFalse (is_put_off op.now) }
         ensures { IsReadyFor result W.world.trace self.new op.now }
@@ -64,9 +65,9 @@ impl<W: WorldName> LockedProcess<W> {
         publish_all(&mut self.process, &mut book.book);
         let reached = reach(&self.process.cell, &book.book, op);
         match reached {
-            Reached::Own => do_alone(&mut self.process, &mut book.book, op),
-            Reached::Kernel => {}
-            Reached::Shared(_) => {}
+            Reach::Own => do_alone(&mut self.process, &mut book.book, op),
+            Reach::Kernel => {}
+            Reach::Shared(_) => {}
         }
         reached
     }
@@ -81,11 +82,11 @@ impl<W: WorldName> LockedProcess<W> {
         requires { IsReady W.world.trace self.old op.now }
     {
         match reach(&self.process.cell, &book.book, op) {
-            Reached::Own => {}
-            Reached::Kernel => {
+            Reach::Own => {}
+            Reach::Kernel => {
                 do_with_kernel(&mut self.process, &mut kernel.kernel, &mut book.book, op);
             }
-            Reached::Shared(_) => {}
+            Reach::Shared(_) => {}
         }
     }
 
@@ -99,9 +100,9 @@ impl<W: WorldName> LockedProcess<W> {
         requires { IsReady W.world.trace self.old op.now }
     {
         match reach(&self.process.cell, &book.book, op) {
-            Reached::Own => true,
-            Reached::Kernel => true,
-            Reached::Shared(id) => {
+            Reach::Own => true,
+            Reach::Kernel => true,
+            Reach::Shared(id) => {
                 if shared.shared.id() != id {
                     return false;
                 }

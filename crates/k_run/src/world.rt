@@ -1,16 +1,16 @@
 //! A run whose heaps and book stand behind locks, and its end.
 ghost use Rattle.std.specs.Prelude.{length, vec_capacity, ◌≡◌};
-ghost use Rattle.k_run.specs.Ended.{IsOutcome, IsSlice};
+ghost use Rattle.k_complete.specs.Ended.{IsOutcome, IsSlice};
 ghost use Rattle.k_run.specs.Gathering.{CanGather, CanGatherShared};
-ghost use Rattle.k_run.specs.Standing.{HeapsStand, ProcessesStand};
+ghost use Rattle.k_process.specs.Standing.{HeapsStand, ProcessesStand};
 
-use crate::ending::{complete_all, meet_all};
 use crate::locked::{LockedBook, LockedKernel, LockedProcess, LockedShared};
 use crate::outcome::Outcome;
 use crate::placing::{in_order, place_process, place_shared};
-use crate::process::Process;
 use crate::worlds::WorldName;
 use k_book::Book;
+use k_complete::{complete_all, meet_all};
+use k_process::Process;
 use k_shared::SharedCell;
 use k_trace::Names;
 use std::marker::Model;

@@ -1,7 +1,7 @@
 use Rattle.std.proofs.Common.{sym, ◌∙◌, subst}
 use Rattle.k_locked.specs.Keeping.{BookKeeps}
-use Rattle.k_run.proofs.Over.{outcome}
-use Rattle.k_run.proofs.Unended.{nothing_to_close}
+use Rattle.k_complete.proofs.Over.{outcome}
+use Rattle.k_complete.proofs.Unended.{nothing_to_close}
 use Rattle.k_run.proofs.world.finish.Goals as goal
 
 pub complete_all-requires : goal.complete_all-requires

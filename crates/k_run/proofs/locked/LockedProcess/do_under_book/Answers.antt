@@ -1,8 +1,9 @@
-use Rattle.std.proofs.Common.{sym, subst}
+use Rattle.std.proofs.Common.{sym, subst, []}
 use Rattle.k_heap.specs.Heaps.{HeapRecord}
-use Rattle.k_run.specs.declared.reaching.Reached.{Reached}
-use Rattle.k_run.specs.Running.{IsOutside, IsReadyFor}
-use Rattle.k_run.proofs.Since.{can_reach, next_since, ready_since}
+use Rattle.k_steps.specs.declared.reached.Reach.{Reach}
+use Rattle.k_operate.specs.Readiness.{IsOutside}
+use Rattle.k_run.specs.Running.{IsReadyFor}
+use Rattle.k_operate.proofs.Since.{can_reach, due, next_since, ready_since}
 use Rattle.k_run.proofs.locked.LockedProcess.do_under_book.Goals as goal
 
 pub reach-reached-requires : goal.reach-reached-requires
@@ -14,11 +15,18 @@ reach-reached-requires g c =
 pub returns-in-Kernel : goal.returns-in-Kernel
 returns-in-Kernel g c =
     let before = subst (λ (x : HeapRecord). IsOutside g.W.WorldName.world.trace x c.args.op.now) (sym c.self.view_is) c.requires.outside in
-    subst (λ (r : Reached). IsReadyFor r g.W.WorldName.world.trace c.publish_all.new.process.cell c.args.op.now) (sym c.in-Kernel.is)
+    subst (λ (r : Reach). IsReadyFor r g.W.WorldName.world.trace c.publish_all.new.process.cell c.args.op.now) (sym c.in-Kernel.is)
     (ready_since g.W.WorldName.world c.self.inside.process c.publish_all.new.process c.publish_all.new.book c.args.op.now c.publish_all.ensures before.next before.outside c.requires.goes_on)
 
 pub returns-in-Shared : goal.returns-in-Shared
 returns-in-Shared g c =
     let before = subst (λ (x : HeapRecord). IsOutside g.W.WorldName.world.trace x c.args.op.now) (sym c.self.view_is) c.requires.outside in
-    subst (λ (r : Reached). IsReadyFor r g.W.WorldName.world.trace c.publish_all.new.process.cell c.args.op.now) (sym c.in-Shared.is)
+    subst (λ (r : Reach). IsReadyFor r g.W.WorldName.world.trace c.publish_all.new.process.cell c.args.op.now) (sym c.in-Shared.is)
     (ready_since g.W.WorldName.world c.self.inside.process c.publish_all.new.process c.publish_all.new.book c.args.op.now c.publish_all.ensures before.next before.outside c.requires.goes_on)
+
+pub do_alone-requires : goal.do_alone-requires
+do_alone-requires g c =
+    let before = subst (λ (x : HeapRecord). IsOutside g.W.WorldName.world.trace x c.args.op.now) (sym c.self.view_is) c.requires.outside in
+    due g.W.WorldName.world c.publish_all.new.process c.publish_all.new.book c.args.op.now [] c.publish_all.ensures.pair
+    (ready_since g.W.WorldName.world c.self.inside.process c.publish_all.new.process c.publish_all.new.book c.args.op.now c.publish_all.ensures before.next before.outside c.requires.goes_on)
+    (sym c.in-Own.ensures)

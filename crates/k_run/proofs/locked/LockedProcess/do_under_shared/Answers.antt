@@ -1,7 +1,7 @@
 use Rattle.std.proofs.Common.{sym, subst}
 use Rattle.k_heap.specs.Heaps.{HeapRecord}
-use Rattle.k_run.specs.Standing.{ComesNext}
-use Rattle.k_run.proofs.Since.{can_reach}
+use Rattle.k_process.specs.Standing.{ComesNext}
+use Rattle.k_operate.proofs.Since.{can_reach}
 use Rattle.k_run.proofs.locked.LockedProcess.do_under_shared.Goals as goal
 
 pub reach-requires : goal.reach-requires

@@ -1,0 +1,117 @@
+-- What is left of processes, done one after the other.
+use Rattle.std.proofs.Common.{◌≡◌, ◌<◌, ℕ, refl, sym, ap, ◌∙◌, subst, List, length, set, not, Bool, true, false, Some, None, slice_get, IsTrue, inl, inr, arith}
+use Rattle.std.proofs.lemmas.Bool.{false≢true}
+use Rattle.k_types.specs.declared.op.Op.{Op}
+use Rattle.k_types.specs.Trace.{operations_of}
+use Rattle.k_frame.specs.PartUpdates.{done_in}
+use Rattle.k_agree.specs.Settled.{all_ended_in, no_orphan_in}
+use Rattle.k_types.specs.Complete.{EndsWithClosing}
+use Rattle.k_book.specs.Books.{BookRecord}
+use Rattle.k_cell.specs.Holdings.{HoldingsValue}
+use Rattle.k_heap.specs.Heaps.{HeapRecord, has_ended_in}
+use Rattle.k_shared.specs.SharedHeaps.{SharedRecord}
+use Rattle.k_commit.specs.Met.{HeapHasMet, KernelHasMet, SharedHasMet}
+use Rattle.k_locked.specs.Keeping.{operations_left}
+use Rattle.k_locked.proofs.CanDo.{passes_at}
+use Rattle.k_process.specs.declared.process.Process.{Process}
+use Rattle.k_process.specs.Standing.{IsNextOf}
+use Rattle.k_complete.specs.Ended.{AllEnded, AllMet, AllStand, CanComplete, HasCompleted, IsSlice}
+use Rattle.k_complete.specs.Meetings.{BookEnds, HeapsAndBook, HeapsMet, ProcessesMet, ProcessesThrough}
+use Rattle.k_process.specs.Standing.{ComesNext, HasDone, IsThroughWith, ProcessStands, RestStands}
+use Rattle.k_operate.specs.Steps.{CanDoNext, HasPublishedAll, is_put_off}
+use Rattle.k_process.specs.Worlds.{WorldValue}
+use Rattle.k_process.proofs.Written.{get_set_cases}
+use Rattle.k_process.proofs.Kept.{met_heap, met_kernel, met_shared, process_set, shared_set}
+
+-- the next operation of a slice's process is not put off
+goes_on : (b : Bool) → not b ≡ true → b ≡ false
+goes_on true t = absurd (false≢true t)
+goes_on false t = refl
+
+module _ (world : WorldValue) (slice : IsSlice world.trace) where
+  pub can_next : (p : Process) (k : HoldingsValue) (s : List SharedRecord) (b : BookRecord) (op : Op) → ProcessStands world p → RestStands world k s b → ComesNext world.trace p.cell op → CanDoNext world p k s b op
+  can_next p k s b op stands rest next = record {
+    process = stands;
+    rest = rest;
+    next = next;
+    goes_on = goes_on (is_put_off op) (passes_at (λ o. not (is_put_off o)) (done_in p.cell.value.process) (operations_of world.trace p.cell.pid.0) op next.rest (slice p.cell.pid.0) next.left);
+  }
+
+-- fewer operations are left
+pub fewer_left : (world : WorldValue) (op : Op) (old new : HeapRecord) → HasDone world.trace op old new → length (operations_left world.trace new) < length (operations_left world.trace old)
+fewer_left world op old new d = let all = ap length d.left in omega (arith, all)
+
+-- a process of which nothing is left has published its last events
+pub completed : (world : WorldValue) (first p q : Process) (k : HoldingsValue) (s : List SharedRecord) (b l : BookRecord) → ProcessStands world p → RestStands world k s b → p.cell.pid ≡ first.cell.pid →
+    IsNextOf world.trace p.cell None → HasPublishedAll world p q l → HasCompleted world first q k s l
+completed world first p q k s b l stands rest same none t = record {
+  process = t.pair.process;
+  rest = record { kernel = rest.kernel; shared = rest.shared; book = t.pair.book };
+  pid = ap (λ (c : HeapRecord). c.pid) t.cell_is ∙ same;
+  through = record {
+    published = t.settled;
+    all = λ lives. ap (operations_left world.trace) t.cell_is ∙ none (sym (ap (λ (c : HeapRecord). has_ended_in c.value.process) t.cell_is) ∙ lives);
+  };
+}
+
+module _ (world : WorldValue) (ps : List Process) (k : HoldingsValue) (s : List SharedRecord) (b : BookRecord) where
+  pub all_begin : AllStand world ps k s b → (j : ℕ) (p : Process) → j < 0 → slice_get ps j ≡ Some p → IsThroughWith world.trace p.cell
+  all_begin a j p inside = absurd (omega (arith, inside))
+
+  pub can_complete : AllStand world ps k s b → (n : ℕ) (p : Process) → slice_get ps n ≡ Some p → CanComplete world p k s b
+  can_complete a n p at = record { process = a.processes.each n p at; rest = a.rest; slice = a.slice }
+
+  pub one_completed : AllStand world ps k s b → (n : ℕ) (p q : Process) → slice_get ps n ≡ Some p → (x : HoldingsValue) (t : List SharedRecord) (l : BookRecord) → HasCompleted world p q x t l → AllStand world (set ps n q) x t l
+  one_completed a n p q at x t l h = record { processes = process_set world ps n p q a.processes at h.process h.pid; rest = h.rest; slice = a.slice }
+
+-- a process whose cell has met the journal is through as before
+pub met_through : (world : WorldValue) (c w : HeapRecord) (b l : BookRecord) → IsThroughWith world.trace c → HeapHasMet world.trace c w b l → IsThroughWith world.trace w
+met_through world c w b l t s = subst (IsThroughWith world.trace) (sym s.cell_is) (record { published = t.published; all = t.all })
+
+module _ (world : WorldValue) (ps : List Process) (b l : BookRecord) (t : ProcessesThrough world ps b) (n : ℕ) (p : Process) (at : slice_get ps n ≡ Some p) (w : HeapRecord) (s : HeapHasMet world.trace p.cell w b l) where
+  pub one_met : ProcessesThrough world (set ps n (record p { cell = w })) l
+  one_met = record {
+    processes = process_set world ps n p (record p { cell = w }) t.processes at
+        (record {
+          cell = met_heap world.trace world.table b l t.book.stands t.book.table p.cell w (t.processes.each n p at).cell s;
+          operations = (t.processes.each n p at).operations ∙ ap (λ (c : HeapRecord). operations_of world.trace c.pid.0) (sym s.cell_is);
+        })
+        (ap (λ (c : HeapRecord). c.pid) s.cell_is);
+    through = λ k q found. elim (get_set_cases ps n k (record p { cell = w }) q found) [
+      | inl here ↦ subst (λ (x : Process). IsThroughWith world.trace x.cell) here.1 (met_through world p.cell w b l (t.through n p at) s)
+      | inr there ↦ t.through k q there
+    ];
+    book = subst (BookEnds world) (sym s.book_is) t.book;
+  }
+
+  pub met_list : w.note.list ≡ l.journal.list
+  met_list = ap (λ (c : HeapRecord). c.note.list) s.cell_is ∙ ap (λ (x : BookRecord). x.journal.list) (sym s.book_is)
+
+module _ (world : WorldValue) (ss : List SharedRecord) (b l : BookRecord) (t : HeapsAndBook world ss b) (n : ℕ) (h : SharedRecord) (at : slice_get ss n ≡ Some h) (w : SharedRecord) (s : SharedHasMet world.trace h w b l) where
+  pub one_heap_met : HeapsAndBook world (set ss n w) l
+  one_heap_met = record {
+    heaps = shared_set world ss n h w t.heaps at (met_shared world.trace world.table b l t.book.stands t.book.table h w (t.heaps.each n h at) s) (ap (λ (c : SharedRecord). c.id) s.shared_is);
+    book = subst (BookEnds world) (sym s.book_is) t.book;
+  }
+
+  pub heap_met_list : w.note.list ≡ l.journal.list
+  heap_met_list = ap (λ (c : SharedRecord). c.note.list) s.shared_is ∙ ap (λ (x : BookRecord). x.journal.list) (sym s.book_is)
+
+-- all cells have met the journal
+pub all_met : (world : WorldValue) (ps qs : List Process) (k x : HoldingsValue) (ss ts : List SharedRecord) (b c d e : BookRecord) → AllEnded world ps k ss b → ProcessesMet world qs b c → KernelHasMet world.trace k x c d →
+    HeapsMet world ts d e → AllMet world qs x ts e
+all_met world ps qs k x ss ts b c d e all p kernel heaps =
+    let same : e ≡ c = heaps.book_is ∙ kernel.book_is in
+    let first : e ≡ b = same ∙ p.book_is in
+    record {
+      ended = record {
+        processes = record { processes = p.through.processes; through = p.through.through; book = heaps.stand.book };
+        kernel = met_kernel world.trace world.table c d p.through.book.stands p.through.book.table k x all.kernel kernel;
+        shared = heaps.stand.heaps;
+        orphans = λ ended. subst (λ (y : BookRecord). IsTrue (no_orphan_in world.trace y.value)) (sym first) (all.orphans (subst (λ (y : BookRecord). IsTrue (all_ended_in world.trace y.value)) first ended));
+        closed = λ ended. subst (λ (y : BookRecord). EndsWithClosing y.journal.list) (sym first) (all.closed (subst (λ (y : BookRecord). IsTrue (all_ended_in world.trace y.value)) first ended));
+      };
+      processes_met = λ j q found. p.met j q found ∙ ap (λ (y : BookRecord). y.journal.list) (sym same);
+      kernel_met = ap (λ (y : HoldingsValue). y.note.list) kernel.kernel_is ∙ ap (λ (y : BookRecord). y.journal.list) (sym same);
+      shared_met = heaps.met;
+    }

@@ -1,0 +1,3 @@
+pub mod EndKept
+pub mod Unended
+pub mod Over

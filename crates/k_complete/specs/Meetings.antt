@@ -1,0 +1,38 @@
+-- Cells that all meet the journal at the end.
+use Rattle.std.specs.Prelude.{◌≡◌, ℕ, List, Some, slice_get}
+use Rattle.k_book.specs.Books.{BookRecord}
+use Rattle.k_shared.specs.SharedHeaps.{SharedRecord}
+use Rattle.k_agree.specs.Rooms.{AreFirst}
+use Rattle.k_commit.specs.Standing.{BookStands}
+use Rattle.k_process.specs.declared.process.Process.{Process}
+use Rattle.k_process.specs.Standing.{HeapsStand, IsThroughWith, ProcessesStand}
+use Rattle.k_process.specs.Worlds.{WorldValue}
+
+-- the book stands and is of the table, and its journal has of each process the first operations of the trace
+pub record BookEnds (world : WorldValue) (b : BookRecord) : Type 0 where
+  pub stands : BookStands world.trace b
+  pub table : b.journal.table ≡ world.table
+  pub first : AreFirst world.trace b.journal.list
+
+-- all processes stand and are through, and the book stands
+pub record ProcessesThrough (world : WorldValue) (ps : List Process) (b : BookRecord) : Type 0 where
+  pub processes : ProcessesStand world ps
+  pub through : (k : ℕ) (p : Process) → slice_get ps k ≡ Some p → IsThroughWith world.trace p.cell
+  pub book : BookEnds world b
+
+-- they still do, the book is as it was, and each process's cell knows the whole journal
+pub record ProcessesMet (world : WorldValue) (ps : List Process) (old_b b : BookRecord) : Type 0 where
+  pub through : ProcessesThrough world ps b
+  pub met : (k : ℕ) (p : Process) → slice_get ps k ≡ Some p → p.cell.note.list ≡ b.journal.list
+  pub book_is : b ≡ old_b
+
+-- all shared heaps and the book stand
+pub record HeapsAndBook (world : WorldValue) (ss : List SharedRecord) (b : BookRecord) : Type 0 where
+  pub heaps : HeapsStand world ss
+  pub book : BookEnds world b
+
+-- they still do, the book is as it was, and each shared heap's cell knows the whole journal
+pub record HeapsMet (world : WorldValue) (ss : List SharedRecord) (old_b b : BookRecord) : Type 0 where
+  pub stand : HeapsAndBook world ss b
+  pub met : (k : ℕ) (s : SharedRecord) → slice_get ss k ≡ Some s → s.note.list ≡ b.journal.list
+  pub book_is : b ≡ old_b

@@ -1,0 +1,82 @@
+//! What is left of a run, done on the caller's thread.
+ghost use Rattle.k_complete.specs.Ended.{AllEnded, AllMet, AllStand, AllThrough, CanComplete, HasCompleted};
+ghost use Rattle.k_complete.specs.Meetings.{HeapsAndBook, HeapsMet, ProcessesMet, ProcessesThrough};
+ghost use Rattle.k_process.specs.Worlds.{WorldValue};
+
+use k_book::Book;
+use k_commit::{meet_heap, meet_kernel, meet_shared};
+use k_kernel::KernelCell;
+use k_operate::{do_next, publish_all};
+use k_process::{Process, next};
+use k_shared::SharedCell;
+
+/// Does all operations of the process that are left, and publishes its events.
+fn complete(
+    process: &mut Process,
+    kernel: &mut KernelCell,
+    shared: &mut Vec<SharedCell>,
+    book: &mut Book,
+)
+    ghost world: { WorldValue }
+    requires { CanComplete world process.old kernel.old shared.old.items book.old }
+    ensures { HasCompleted world process.old process.new kernel.new shared.new.items book.new }
+{
+    while let Some(op) = next(process) {
+        do_next(process, kernel, shared, book, &op);
+    }
+    publish_all(process, book);
+}
+
+/// Does so for each process, in the order of their numbers.
+pub fn complete_all(
+    processes: &mut Vec<Process>,
+    kernel: &mut KernelCell,
+    shared: &mut Vec<SharedCell>,
+    book: &mut Book,
+)
+    ghost world: { WorldValue }
+    requires { AllStand world processes.old.items kernel.old shared.old.items book.old }
+    ensures { AllThrough world processes.new.items kernel.new shared.new.items book.new }
+{
+    for process in processes.iter_mut() {
+        complete(process, kernel, shared, book);
+    }
+}
+
+/// Has each process's cell meet the journal.
+fn meet_processes(processes: &mut Vec<Process>, book: &mut Book)
+    ghost world: { WorldValue }
+    requires { ProcessesThrough world processes.old.items book.old }
+    ensures { ProcessesMet world processes.new.items book.old book.new }
+{
+    for process in processes.iter_mut() {
+        meet_heap(&mut process.cell, book);
+    }
+}
+
+/// Has each shared heap's cell meet the journal.
+fn meet_heaps(shared: &mut Vec<SharedCell>, book: &mut Book)
+    ghost world: { WorldValue }
+    requires { HeapsAndBook world shared.old.items book.old }
+    ensures { HeapsMet world shared.new.items book.old book.new }
+{
+    for heap in shared.iter_mut() {
+        meet_shared(heap, book);
+    }
+}
+
+/// Has each cell meet the journal, so that all show the state after it.
+pub fn meet_all(
+    processes: &mut Vec<Process>,
+    kernel: &mut KernelCell,
+    shared: &mut Vec<SharedCell>,
+    book: &mut Book,
+)
+    ghost world: { WorldValue }
+    requires { AllEnded world processes.old.items kernel.old shared.old.items book.old }
+    ensures { AllMet world processes.new.items kernel.new shared.new.items book.new }
+{
+    meet_processes(processes, book);
+    meet_kernel(kernel, book);
+    meet_heaps(shared, book);
+}

@@ -1,0 +1,5 @@
+pub mod Published
+pub mod StepsKept
+pub mod Since
+pub mod HeapsReached
+pub mod NextKept

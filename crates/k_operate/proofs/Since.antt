@@ -1,0 +1,54 @@
+-- What is known of a process's next operation stays known once its events are published.
+use Rattle.std.proofs.Common.{◌≡◌, ap, ◌∙◌, List, false}
+use Rattle.k_types.specs.declared.op.Op.{Op}
+use Rattle.k_types.specs.Agree.{book_shown_by}
+use Rattle.k_types.specs.Cells.{Cell}
+use Rattle.k_squares.specs.Locals.{is_local_in}
+use Rattle.k_squares.specs.Touches.{other_cells_in}
+use Rattle.k_moves.specs.Shown.{idle_part}
+use Rattle.k_book.specs.Books.{BookRecord}
+use Rattle.k_heap.specs.Heaps.{HeapRecord, has_ended_in}
+use Rattle.k_locked.specs.Keeping.{operations_left}
+use Rattle.k_locked.proofs.CanDo.{next_in_range}
+use Rattle.k_process.specs.declared.process.Process.{Process}
+use Rattle.k_steps.specs.Reaching.{CanReach}
+use Rattle.k_operate.specs.Readiness.{IsReady}
+use Rattle.k_process.specs.Standing.{ComesNext}
+use Rattle.k_operate.specs.Steps.{HasPublishedAll, IsDueWith, PairStands, is_put_off}
+use Rattle.k_process.specs.Worlds.{WorldValue}
+
+-- the next operation of a process that stands names what the trace declares
+pub can_reach : (world : WorldValue) (p : Process) (b : BookRecord) (op : Op) → PairStands world p b → ComesNext world.trace p.cell op → CanReach world.trace p.cell b op
+can_reach world p b op pair next = record {
+  agrees = pair.process.cell.agrees;
+  book_stands = pair.book.stands;
+  in_range = next_in_range world.trace world.table p.cell pair.process.cell op next.rest next.left;
+}
+
+module _ (world : WorldValue) (q r : Process) (b : BookRecord) (op : Op) (t : HasPublishedAll world q r b) (next : ComesNext world.trace q.cell op) where
+  pub left_since : operations_left world.trace r.cell ≡ operations_left world.trace q.cell
+  left_since = ap (operations_left world.trace) t.cell_is
+
+  pub pid_since : r.cell.pid ≡ q.cell.pid
+  pid_since = ap (λ (c : HeapRecord). c.pid) t.cell_is
+
+  pub next_since : ComesNext world.trace r.cell op
+  next_since = record {
+    rest = next.rest;
+    left = left_since ∙ next.left;
+    lives = ap (λ (c : HeapRecord). has_ended_in c.value.process) t.cell_is ∙ next.lives;
+  }
+
+  module _ (outside : is_local_in (idle_part q.cell.value) q.cell.pid.0 op ≡ false) (goes_on : is_put_off op ≡ false) where
+    pub ready_since : IsReady world.trace r.cell op
+    ready_since = record {
+      next = next_since;
+      outside = ap (λ (c : HeapRecord). is_local_in (idle_part c.value) c.pid.0 op) t.cell_is ∙ outside;
+      settled = t.settled;
+      goes_on = goes_on;
+    }
+
+-- an operation that is ready is due with the cells that it touches
+pub due : (world : WorldValue) (p : Process) (b : BookRecord) (op : Op) (cells : List Cell) → PairStands world p b → IsReady world.trace p.cell op →
+    other_cells_in world.trace (book_shown_by b.value) (idle_part p.cell.value) p.cell.pid.0 op ≡ cells → IsDueWith world p b op cells
+due world p b op cells pair ready touches = record { pair = pair; settled = ready.settled; next = ready.next; outside = ready.outside; touches = touches; goes_on = ready.goes_on }

@@ -1,0 +1,6 @@
+//! One operation of a process, done with the cells that it touches and the book.
+#![tactic(auto)]
+
+mod stepping;
+
+pub use stepping::{do_alone, do_inside, do_next, do_with_kernel, do_with_shared, publish_all};

@@ -1,0 +1,3 @@
+pub mod Written
+pub mod Kept
+pub mod Looped

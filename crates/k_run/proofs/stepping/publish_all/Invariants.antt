@@ -1,4 +1,0 @@
-use Rattle.k_run.proofs.stepping.publish_all.Given as goal
-
-abbrev pub ghost-publish : goal.ghost-publish
-ghost-publish g a = g.world'.trace
