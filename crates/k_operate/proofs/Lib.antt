@@ -3,3 +3,5 @@ pub mod StepsKept
 pub mod Since
 pub mod HeapsReached
 pub mod NextKept
+pub mod AbsorbOrphans
+pub mod AbsorbKept
