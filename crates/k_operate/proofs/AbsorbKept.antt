@@ -12,7 +12,7 @@ use Rattle.k_types.specs.Numbers.{numbers_below}
 use Rattle.k_types.specs.Sound.{IsSound}
 use Rattle.k_types.specs.State.{State}
 use Rattle.k_types.specs.Steps.{IsPossible, is_orphan, state_after}
-use Rattle.k_types.specs.Trace.{segment_count, segment_of}
+use Rattle.k_types.specs.Trace.{Trace, segment_count, segment_of}
 use Rattle.k_frame.proofs.Histories.{state_next}
 use Rattle.k_agree.specs.Meeting.{Fits}
 use Rattle.k_agree.specs.Rooms.{event_room, exit_room}
@@ -27,6 +27,7 @@ use Rattle.k_shared.specs.SharedHeaps.{SharedRecord}
 use Rattle.k_shares.specs.Sharers.{is_orphan_by, lowest_orphan}
 use Rattle.k_collect.specs.Begun.{HasAppended}
 use Rattle.k_depart.specs.Absorbing.{CanAbsorb, HasAbsorbedHeap}
+use Rattle.k_commit.specs.Standing.{BookStands}
 use Rattle.k_locked.specs.Keeping.{BookKeeps, CanGive, KernelKeeps, SharedKeeps, is_absorbed_in}
 use Rattle.k_locked.specs.Rooms.{shared_exit_room}
 use Rattle.k_process.specs.Standing.{RestStands}
@@ -37,18 +38,21 @@ use Rattle.k_operate.proofs.AbsorbOrphans.{absorptions_next, found_below, found_
 use Rattle.k_operate.proofs.Appended.{book_keeps_on, gives_else, room_for}
 
 -- what a book that stands tells of orphans
-module _ (world : WorldValue) (b : BookRecord) (k : BookKeeps world.trace world.table b) where
+module _ (trace : Trace) (b : BookRecord) (stands : BookStands trace b) where
   abbrev at_last : State
-  at_last = state_after world.trace b.journal.list
+  at_last = state_after trace b.journal.list
 
-  pub sound_at_last : IsSound world.trace at_last
-  sound_at_last = book_sound world.trace b.journal b.value k.stands.keeps.limits k.stands.agrees
+  pub sound_at_last : IsSound trace at_last
+  sound_at_last = book_sound trace b.journal b.value stands.keeps.limits stands.agrees
 
-  pub first_told : (s : Option ℕ) → lowest_orphan b.value.phases b.value.shares ≡ s → find (is_orphan at_last) (numbers_below world.trace.shared_heaps) ≡ s
-  first_told s first = sym ((tells world.trace at_last b k.stands.agrees.shows).orphan sound_at_last.shape.sized.phases) ∙ first
+  pub first_is : lowest_orphan b.value.phases b.value.shares ≡ find (is_orphan at_last) (numbers_below trace.shared_heaps)
+  first_is = (tells trace at_last b stands.agrees.shows).orphan sound_at_last.shape.sized.phases
 
-  pub heap_known : (s : SharedId) → lowest_orphan b.value.phases b.value.shares ≡ Some s.0 → s.0 < world.trace.shared_heaps
-  heap_known s first = found_below (is_orphan at_last) s.0 0 world.trace.shared_heaps (first_told (Some s.0) first)
+  pub first_told : (s : Option ℕ) → lowest_orphan b.value.phases b.value.shares ≡ s → find (is_orphan at_last) (numbers_below trace.shared_heaps) ≡ s
+  first_told s first = sym first_is ∙ first
+
+  pub heap_known : (s : SharedId) → lowest_orphan b.value.phases b.value.shares ≡ Some s.0 → s.0 < trace.shared_heaps
+  heap_known s first = found_below (is_orphan at_last) s.0 0 trace.shared_heaps (first_told (Some s.0) first)
 
 module _ (world : WorldValue) (s : SharedRecord) (k : HoldingsValue) (b : BookRecord) (can : CanAbsorbOrphan world s k b) where
   abbrev now : State
@@ -59,7 +63,7 @@ module _ (world : WorldValue) (s : SharedRecord) (k : HoldingsValue) (b : BookRe
       let told = meeting world.trace b.journal b.value Kernel k.note k.value can.kernel.agrees can.book.stands.agrees fits in
       record {
         known = can.shared.agrees.there;
-        orphan = found_passes (is_orphan now) (numbers_below world.trace.shared_heaps) s.id.0 (first_told world b can.book (Some s.id.0) can.orphan);
+        orphan = found_passes (is_orphan now) (numbers_below world.trace.shared_heaps) s.id.0 (first_told world.trace b can.book.stands (Some s.id.0) can.orphan);
         idle = ap is_some (not_open world.trace now Kernel k.value (record { shows = told.shows can.kernel.agrees.tail; idle = can.kernel.idle }));
       }
 
@@ -127,12 +131,12 @@ module _ (world : WorldValue) (k : HoldingsValue) (ss : List SharedRecord) (b : 
   pub none_absorbed : lowest_orphan b.value.phases b.value.shares ≡ None → (events : List Event) → b.journal.list ++ absorptions world.trace (state_after world.trace b.journal.list) ≡ events → b.journal.list ≡ events
   none_absorbed none events is =
       sym (append-nil b.journal.list)
-      ∙ ap (λ es. b.journal.list ++ es) (sym (none_to_absorb world.trace (state_after world.trace b.journal.list) (first_told world b rest.book None none)))
+      ∙ ap (λ es. b.journal.list ++ es) (sym (none_to_absorb world.trace (state_after world.trace b.journal.list) (first_told world.trace b rest.book.stands None none)))
       ∙ is
 
   module _ (id : SharedId) (first : lowest_orphan b.value.phases b.value.shares ≡ Some id.0) where
     pub heap_there : id.0 < length ss
-    heap_there = subst (λ n. id.0 < n) (sym rest.shared.count) (heap_known world b rest.book id first)
+    heap_there = subst (λ n. id.0 < n) (sym rest.shared.count) (heap_known world.trace b rest.book.stands id first)
 
     module _ (heap : SharedRecord) (at : slice_get ss id.0 ≡ Some heap) where
       pub can_absorb_first : CanAbsorbOrphan world heap k b
@@ -154,10 +158,10 @@ module _ (world : WorldValue) (k : HoldingsValue) (ss : List SharedRecord) (b : 
         others_left : absorptions world.trace (state_after world.trace b.journal.list) ≡ Absorbed heap.id ∷ absorptions world.trace (state_after world.trace l.journal.list)
         others_left =
             absorptions_next world.trace (state_after world.trace b.journal.list) heap.id
-            (let sized = (sound_at_last world b rest.book).shape.sized.phases in
+            (let sized = (sound_at_last world.trace b rest.book.stands).shape.sized.phases in
             let known = (rest.shared.each id.0 heap at).agrees.there in
             omega (arith, sized, known))
-            (first_told world b rest.book (Some heap.id.0) can_absorb_first.orphan)
+            (first_told world.trace b rest.book.stands (Some heap.id.0) can_absorb_first.orphan)
             ∙ ap (λ (st : State). Absorbed heap.id ∷ absorptions world.trace st) (sym (ap (state_after world.trace) a.journal ∙ state_next world.trace b.journal.list (Absorbed heap.id)))
 
         pub absorbing_goes_on : (events : List Event) → b.journal.list ++ absorptions world.trace (state_after world.trace b.journal.list) ≡ events →

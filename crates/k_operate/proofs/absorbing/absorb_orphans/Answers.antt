@@ -12,12 +12,12 @@ pub absorb_orphan-requires : goal.absorb_orphan-requires
 absorb_orphan-requires g c =
     can_absorb_first g.world' c.loop-id.kernel c.loop-id.shared.items c.loop-id.book c.loop-id.invariant.rest c.in-Some.id (sym c.in-Some.ensures) c.index_mut-heap.result.now
     (found_at c.loop-id.shared.items g.world'.trace.shared_heaps c.in-Some.id.0 c.in-Some.id.0 c.index_mut-heap.result.now c.index_mut-heap.result.now c.loop-id.invariant.rest.shared.count
-    (heap_known g.world' c.loop-id.book c.loop-id.invariant.rest.book c.in-Some.id (sym c.in-Some.ensures)) refl c.index_mut-heap.ensures.value refl)
+    (heap_known g.world'.trace c.loop-id.book c.loop-id.invariant.rest.book.stands c.in-Some.id (sym c.in-Some.ensures)) refl c.index_mut-heap.ensures.value refl)
 
 pub loop-id-preserved : goal.loop-id-preserved
 loop-id-preserved g c =
     let at = found_at c.loop-id.shared.items g.world'.trace.shared_heaps c.in-Some.id.0 c.in-Some.id.0 c.index_mut-heap.result.now c.index_mut-heap.result.now c.loop-id.invariant.rest.shared.count
-    (heap_known g.world' c.loop-id.book c.loop-id.invariant.rest.book c.in-Some.id (sym c.in-Some.ensures)) refl c.index_mut-heap.ensures.value refl in
+    (heap_known g.world'.trace c.loop-id.book c.loop-id.invariant.rest.book.stands c.in-Some.id (sym c.in-Some.ensures)) refl c.index_mut-heap.ensures.value refl in
     record {
       rest = rest_absorbed g.world' c.loop-id.kernel c.loop-id.shared.items c.loop-id.book c.loop-id.invariant.rest c.in-Some.id (sym c.in-Some.ensures) c.index_mut-heap.result.now at
           c.absorb_orphan.new.shared c.absorb_orphan.new.kernel c.absorb_orphan.new.book c.absorb_orphan.ensures;
