@@ -3,3 +3,7 @@ pub mod StepsKept
 pub mod Since
 pub mod HeapsReached
 pub mod NextKept
+pub mod Appended
+pub mod Collected
+pub mod KernelCollected
+pub mod Exited
