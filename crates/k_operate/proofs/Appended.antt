@@ -1,16 +1,15 @@
 -- What one event more leaves of what the locks ask.
-use Rattle.std.proofs.Common.{◌≡◌, ◌<◌, ◌+◌, ◌≤◌, ℕ, ◌++◌, refl, sym, ap, ap₂, ◌∙◌, subst, List, [], ◌∷◌, append-nil, drop, length, map, cond, eq-eqb, arith, Bool, true, false, Option, Some, None, is_some, IsFalse, IsTrue}
-use Rattle.std.proofs.lemmas.List.{length-append}
+use Rattle.std.proofs.Common.{◌≡◌, ◌<◌, ◌+◌, ◌≤◌, ℕ, ◌++◌, refl, sym, ap, ap₂, ◌∙◌, subst, List, [], ◌∷◌, append-nil, drop, length, map, cond, eq-eqb, arith, ◌≢◌, true, false, Option, None, is_some, set}
+use Rattle.std.proofs.lemmas.List.{get_or-set_other, length-append}
 use Rattle.std.proofs.Math.Seq.{drop-append_seam}
 use Rattle.atomic_table.specs.Seated.{TableId}
 use Rattle.k_types.specs.declared.event.Event.{Event}
-use Rattle.k_types.specs.declared.event.Event.TheVariants.{Done, Ended, Absorbed, Closing}
+use Rattle.k_types.specs.declared.event.Event.TheVariants.{Done, Ended}
 use Rattle.k_types.specs.declared.event.Reply.{Reply}
 use Rattle.k_types.specs.declared.names.CellPhase.{CellPhase}
-use Rattle.k_types.specs.declared.names.CellPhase.TheVariants.{Idle, Begun, Marked}
+use Rattle.k_types.specs.declared.names.CellPhase.TheVariants.{Idle, Marked}
 use Rattle.k_types.specs.declared.names.Heap.{Heap}
-use Rattle.k_types.specs.declared.names.Heap.TheVariants.{Kernel, Shared, User}
-use Rattle.k_types.specs.declared.names.Name.{Name}
+use Rattle.k_types.specs.declared.names.Heap.TheVariants.{User}
 use Rattle.k_types.specs.declared.names.Pid.{Pid}
 use Rattle.k_types.specs.declared.op.Op.{Op}
 use Rattle.k_types.specs.Agree.{AreMarks, CellValue}
@@ -19,7 +18,6 @@ use Rattle.k_types.specs.Following.{FollowsOwn, FollowsTrace, is_closing}
 use Rattle.k_types.specs.State.{State, is_scanned, scan_of}
 use Rattle.k_types.specs.Steps.{IsPossible, done_by, state_after}
 use Rattle.k_types.specs.Trace.{Trace, operations_of, process_count}
-use Rattle.k_types.specs.TraceRules.{KeepsRules}
 use Rattle.k_bounds.proofs.ByProcess.{follows_own}
 use Rattle.k_bounds.proofs.Dones.{done_count}
 use Rattle.k_frame.specs.PartUpdates.{done_in}
@@ -28,46 +26,51 @@ use Rattle.k_frame.proofs.Histories.{done_append, state_next}
 use Rattle.k_tie.specs.Values.{NoteValue}
 use Rattle.k_agree.specs.Agreement.{Agrees}
 use Rattle.k_agree.specs.Meeting.{Fits}
-use Rattle.k_agree.specs.Rooms.{IsInTurn, IsNext, event_room, exit_room}
+use Rattle.k_agree.specs.Rooms.{AreFirst, IsInTurn, IsNext, event_room, exit_room}
 use Rattle.k_agree.proofs.Meetings.{meeting}
 use Rattle.k_agree.proofs.WithinRooms.{follows_after, room_after}
 use Rattle.k_bodies.specs.Bodies.{bodies_of}
 use Rattle.k_book.specs.Books.{BookRecord, pin_room_of}
 use Rattle.k_heap.specs.Heaps.{HeapRecord}
+use Rattle.k_commit.specs.Standing.{BookStands}
 use Rattle.k_collect.specs.Begun.{HasAppended}
-use Rattle.k_locked.specs.Keeping.{BookKeeps, HasHeapRooms, HeapKeeps, operations_left}
+use Rattle.k_locked.specs.Keeping.{BookKeeps, CanGive, HasHeapRooms, HeapKeeps, operations_left}
 use Rattle.k_locked.proofs.CanDo.{done_of}
 use Rattle.k_locked.proofs.Kept.{drop_more}
 use Rattle.k_types.specs.declared.setup.LimitRow.{LimitRow}
 
-module _ (trace : Trace) (tie : TableId) (b l : BookRecord) (event : Event) (k : BookKeeps trace tie b) (s : HasAppended trace b l event) where
+module _ (trace : Trace) (b l : BookRecord) (event : Event) (k : BookStands trace b) (s : HasAppended trace b l event) where
   maxima_now : l.value.maxima ≡ b.value.maxima
   unfolding book_part
   maxima_now =
       ap (λ (p : BookPart). p.maxima) s.agrees.shows.part
       ∙ ap (λ (st : State). st.maxima) (ap (state_after trace) s.journal ∙ state_next trace b.journal.list event)
       ∙ step_maxima trace (state_after trace b.journal.list) event
-      ∙ sym (ap (λ (p : BookPart). p.maxima) k.stands.agrees.shows.part)
+      ∙ sym (ap (λ (p : BookPart). p.maxima) k.agrees.shows.part)
 
-  -- the book keeps what its lock asks after an event in turn that is not the closing
-  pub book_keeps_on : IsInTurn trace b.journal.list event → is_closing event ≡ false → BookKeeps trace tie l
-  book_keeps_on turn goes_on = record {
-    stands = record {
-      keeps = k.stands.keeps;
-      of_trace = record {
-        rows = ap (λ (x : BookRecord). x.rows) s.book_is ∙ k.stands.of_trace.rows;
-        procs = ap (λ (x : BookRecord). x.procs) s.book_is ∙ k.stands.of_trace.procs;
-        ceiling = ap (λ (x : BookRecord). x.ceiling) s.book_is ∙ k.stands.of_trace.ceiling;
-        maxima = maxima_now ∙ k.stands.of_trace.maxima ∙ ap (λ (x : BookRecord). map (λ (row : LimitRow). row.max) x.rows) (sym s.book_is);
-      };
-      agrees = s.agrees;
-      pins = subst (λ n. pin_room_of (process_count trace) ≤ n) (sym (ap (λ (x : BookRecord). x.pin_room) s.book_is)) k.stands.pins;
+  -- the book stands after any event
+  pub stands_on : BookStands trace l
+  stands_on = record {
+    keeps = k.keeps;
+    of_trace = record {
+      rows = ap (λ (x : BookRecord). x.rows) s.book_is ∙ k.of_trace.rows;
+      procs = ap (λ (x : BookRecord). x.procs) s.book_is ∙ k.of_trace.procs;
+      ceiling = ap (λ (x : BookRecord). x.ceiling) s.book_is ∙ k.of_trace.ceiling;
+      maxima = maxima_now ∙ k.of_trace.maxima ∙ ap (λ (x : BookRecord). map (λ (row : LimitRow). row.max) x.rows) (sym s.book_is);
     };
-    table = s.same_table ∙ k.table;
-    follows = subst (FollowsTrace trace) (sym s.journal) (follows_after trace b.journal.list event k.follows turn goes_on);
-    events = subst (λ n. event_room trace ≤ n) (sym (ap (λ (x : BookRecord). x.event_room) s.book_is)) k.events;
-    entries = subst (λ n. exit_room trace ≤ n) (sym (ap (λ (x : BookRecord). x.entry_room) s.book_is)) k.entries;
+    agrees = s.agrees;
+    pins = subst (λ n. pin_room_of (process_count trace) ≤ n) (sym (ap (λ (x : BookRecord). x.pin_room) s.book_is)) k.pins;
   }
+
+-- the book keeps what its lock asks after an event in turn that is not the closing
+pub book_keeps_on : (trace : Trace) (tie : TableId) (b l : BookRecord) (event : Event) → BookKeeps trace tie b → HasAppended trace b l event → IsInTurn trace b.journal.list event → is_closing event ≡ false → BookKeeps trace tie l
+book_keeps_on trace tie b l event k s turn goes_on = record {
+  stands = stands_on trace b l event k.stands s;
+  table = s.same_table ∙ k.table;
+  follows = subst (FollowsTrace trace) (sym s.journal) (follows_after trace b.journal.list event k.follows turn goes_on);
+  events = subst (λ n. event_room trace ≤ n) (sym (ap (λ (x : BookRecord). x.event_room) s.book_is)) k.events;
+  entries = subst (λ n. exit_room trace ≤ n) (sym (ap (λ (x : BookRecord). x.entry_room) s.book_is)) k.entries;
+}
 
 module _ (trace : Trace) (tie : TableId) (c w : HeapRecord) (b l : BookRecord) (op : Op) (said : Reply) (rest : List Op) (h : HeapKeeps trace tie c) (k : BookKeeps trace tie b)
     (left : operations_left trace c ≡ op ∷ rest) (agrees : Agrees trace (User w.pid) w.note w.value) (same : w.pid ≡ c.pid) (list : w.note.list ≡ l.journal.list) (none : w.value.tail ≡ [])
@@ -112,26 +115,28 @@ heap_keeps_by trace tie w l k agrees table idle list none bodies rooms = record 
 }
 
 -- an event in turn has room, if it is possible
-pub room_for : (trace : Trace) (tie : TableId) (b : BookRecord) (event : Event) → BookKeeps trace tie b → IsPossible trace (state_after trace b.journal.list) event → IsInTurn trace b.journal.list event →
-    length b.journal.list < b.event_room
-room_for trace tie b event k possible turn =
-    let room = room_after trace b.journal.list event k.stands.keeps k.stands.agrees.legal k.follows.operations possible turn in
+pub room_for : (trace : Trace) (b : BookRecord) (event : Event) → BookStands trace b → AreFirst trace b.journal.list → event_room trace ≤ b.event_room → IsPossible trace (state_after trace b.journal.list) event →
+    IsInTurn trace b.journal.list event → length b.journal.list < b.event_room
+room_for trace b event k first enough possible turn =
+    let room = room_after trace b.journal.list event k.keeps k.agrees.legal first possible turn in
     let longer = length-append b.journal.list (event ∷ []) in
-    let enough = k.events in
     let most = room.rooms.events in
     omega (arith, longer, enough, most)
 
 -- so has the end of a collection that is open
-pub room_for_end : (trace : Trace) (tie : TableId) (b : BookRecord) (heap : Heap) → BookKeeps trace tie b → is_scanned (state_after trace b.journal.list).scans heap ≡ true → length b.journal.list < b.event_room
-room_for_end trace tie b heap k scans =
-    room_for trace tie b (Ended heap _ _ _ _) k (record { scanned = scans; objects_gone = refl; bytes_gone = refl; exits_gone = refl; shares_gone = refl }) tt
-
-marked_open : (scan : Option (List Name)) (v : CellValue) → AreMarks Marked scan v → is_some scan ≡ true
-marked_open scan v m = ap is_some m.1
+pub room_for_end : (trace : Trace) (b : BookRecord) (heap : Heap) → BookStands trace b → AreFirst trace b.journal.list → event_room trace ≤ b.event_room → is_scanned (state_after trace b.journal.list).scans heap ≡ true →
+    length b.journal.list < b.event_room
+room_for_end trace b heap k first enough scans =
+    room_for trace b (Ended heap _ _ _ _) k first enough (record { scanned = scans; objects_gone = refl; bytes_gone = refl; exits_gone = refl; shares_gone = refl }) tt
 
 -- the collection of a cell that is marked is open once its note fits the journal
-pub open_once_met : (trace : Trace) (tie : TableId) (b : BookRecord) (cell : Cell) (note : NoteValue) (v : CellValue) → BookKeeps trace tie b → Agrees trace cell note v → v.tail ≡ [] → v.collection ≡ Marked → Fits b.journal note →
+pub open_once_met : (trace : Trace) (b : BookRecord) (cell : Cell) (note : NoteValue) (v : CellValue) → BookStands trace b → Agrees trace cell note v → v.tail ≡ [] → v.collection ≡ Marked → Fits b.journal note →
     is_scanned (state_after trace b.journal.list).scans cell ≡ true
-open_once_met trace tie b cell note v k a none phase fits =
-    let shows = (meeting trace b.journal b.value cell note v a k.stands.agrees fits).shows none in
-    marked_open (scan_of (state_after trace b.journal.list).scans cell) v (subst (λ (p : CellPhase). AreMarks p (scan_of (state_after trace b.journal.list).scans cell) v) phase shows.marks)
+open_once_met trace b cell note v k a none phase fits =
+    let shows = (meeting trace b.journal b.value cell note v a k.agrees fits).shows none in
+    let marks = subst (λ (p : CellPhase). AreMarks p (scan_of (state_after trace b.journal.list).scans cell) v) phase shows.marks in
+    ap is_some marks.1
+
+-- what comes in another segment leaves the serials of the first
+pub gives_else : (trace : Trace) (rooms : List (Option ℕ)) (seg : ℕ) (room : Option ℕ) → seg ≢ 0 → CanGive trace rooms 0 → CanGive trace (set rooms seg room) 0
+gives_else trace rooms seg room other can = record { room = can.room; there = get_or-set_other rooms seg 0 room None (λ e. other (sym e)) ∙ can.there; enough = can.enough }

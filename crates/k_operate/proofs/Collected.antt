@@ -162,7 +162,7 @@ module _ (world : WorldValue) (p : Process) (b : BookRecord) (h : Collects world
   can_end = record {
     book_stands = k.stands;
     collects = record { agrees = h.agrees; table = h.table ∙ sym k.table; settled = h.settled; in_phase = h.in_phase };
-    room = λ fits. room_for_end world.trace world.table b (User p.cell.pid) k (open_once_met world.trace world.table b (User p.cell.pid) p.cell.note p.cell.value k h.agrees h.settled h.in_phase fits);
+    room = λ fits. room_for_end world.trace b (User p.cell.pid) k.stands k.follows.operations k.events (open_once_met world.trace b (User p.cell.pid) p.cell.note p.cell.value k.stands h.agrees h.settled h.in_phase fits);
   }
 
   module _ (known : p.cell.note.list ≡ b.journal.list) (c : HeapRecord) (l : BookRecord) (event : Event) (s : HasEndedHeap world.trace p.cell c b l event) where

@@ -1,7 +1,6 @@
 -- The end of a process keeps what the locks ask.
-use Rattle.std.proofs.Common.{◌≡◌, ◌≢◌, ◌+◌, ◌≤◌, ℕ, refl, sym, ap, ◌∙◌, subst, List, ◌∷◌, length, set, get_or, Option, None, arith}
+use Rattle.std.proofs.Common.{◌≡◌, ◌≢◌, ◌+◌, ◌≤◌, ℕ, refl, sym, ap, ◌∙◌, subst, List, ◌∷◌, length, arith}
 use Rattle.std.proofs.lemmas.Bool.{false≢true}
-use Rattle.std.proofs.lemmas.List.{get_or-set_other}
 use Rattle.k_types.specs.declared.event.Event.{Event}
 use Rattle.k_types.specs.declared.event.Event.TheVariants.{Done}
 use Rattle.k_types.specs.declared.event.Reply.TheVariants.{Done as DoneReply}
@@ -11,9 +10,9 @@ use Rattle.k_types.specs.declared.op.Op.{Op}
 use Rattle.k_types.specs.declared.op.Op.TheVariants.{Exit}
 use Rattle.k_types.specs.Names.{heap_eq}
 use Rattle.k_types.specs.Owners.{user}
-use Rattle.k_types.specs.State.{ExitItem, State}
+use Rattle.k_types.specs.State.{ExitItem}
 use Rattle.k_types.specs.Steps.{state_after}
-use Rattle.k_types.specs.Trace.{Trace, operations_of, segment_count}
+use Rattle.k_types.specs.Trace.{operations_of, segment_count}
 use Rattle.k_base.specs.Distinct.{AreDistinctNames}
 use Rattle.k_base.proofs.Sums.{ones, sum_both, total_at_most}
 use Rattle.k_bounds.specs.Counts.{exit_count, one_if, stores_in}
@@ -35,7 +34,7 @@ use Rattle.k_process.specs.declared.process.Process.{Process}
 use Rattle.k_process.specs.Worlds.{WorldValue}
 use Rattle.k_operate.specs.Collecting.{CanExitNow}
 use Rattle.k_operate.specs.Steps.{HasDoneWithKernel}
-use Rattle.k_operate.proofs.Appended.{book_keeps_on, heap_keeps_by, in_turn, left_by_done}
+use Rattle.k_operate.proofs.Appended.{book_keeps_on, gives_else, heap_keeps_by, in_turn, left_by_done}
 use Rattle.k_operate.proofs.Collected.{room_for_next}
 
 -- an exit item is of one heap
@@ -51,10 +50,6 @@ exits_together exits q =
     let most = total_at_most (λ (e : ExitItem). one_if (heap_eq e.heap (user q)) + one_if (heap_eq e.heap Kernel)) (λ (e : ExitItem). 1) (λ (e : ExitItem). one_heap e.heap q) exits in
     let all = ones exits in
     omega (arith, both, most, all)
-
--- what comes in another segment leaves the serials of the first
-gives_else : (trace : Trace) (rooms : List (Option ℕ)) (seg : ℕ) (room : Option ℕ) → seg ≢ 0 → CanGive trace rooms 0 → CanGive trace (set rooms seg room) 0
-gives_else trace rooms seg room other can = record { room = can.room; there = get_or-set_other rooms seg 0 room None (λ e. other (sym e)) ∙ can.there; enough = can.enough }
 
 -- the end of a process
 module _ (world : WorldValue) (p : Process) (k : HoldingsValue) (b : BookRecord) (n : CanExitNow world p k b) where

@@ -104,7 +104,7 @@ module _ (world : WorldValue) (k : HoldingsValue) (b : BookRecord) (n : CanEndKe
   can_end_kernel = record {
     book_stands = n.book.stands;
     collects = record { agrees = n.kernel.agrees; table = n.kernel.table ∙ sym n.book.table; in_phase = n.kernel.in_phase };
-    room = λ fits. room_for_end world.trace world.table b Kernel n.book (open_once_met world.trace world.table b Kernel k.note k.value n.book n.kernel.agrees n.kernel.agrees.tail n.kernel.in_phase fits);
+    room = λ fits. room_for_end world.trace b Kernel n.book.stands n.book.follows.operations n.book.events (open_once_met world.trace b Kernel k.note k.value n.book.stands n.kernel.agrees n.kernel.agrees.tail n.kernel.in_phase fits);
   }
 
   module _ (x : HoldingsValue) (l : BookRecord) (event : Event) (s : HasEndedKernel world.trace k x b l event) where
