@@ -74,7 +74,7 @@ module _ (world : WorldValue) (s : SharedRecord) (k : HoldingsValue) (b : BookRe
     kernel_stands = record { agrees = can.kernel.agrees; table = can.kernel.table ∙ sym can.book.table; idle = can.kernel.idle };
     orphan = found_passes (is_orphan_by b.value.phases b.value.shares) (numbers_below (length b.value.phases)) s.id.0 can.orphan;
     numbers = can.kernel.numbers;
-    room = λ fits kernel_fits. room_for world.trace world.table b (Absorbed s.id) can.book (possible kernel_fits) tt;
+    room = λ fits kernel_fits. room_for world.trace b (Absorbed s.id) can.book.stands can.book.follows.operations can.book.events (possible kernel_fits) tt;
   }
 
   module _ (t : SharedRecord) (x : HoldingsValue) (l : BookRecord) (event : Event) (a : HasAbsorbedHeap world.trace s t k x b l event) where
