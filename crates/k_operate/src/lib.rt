@@ -7,7 +7,7 @@ mod exiting;
 mod known;
 mod stepping;
 
-pub use absorbing::{absorb_orphan, absorb_orphans};
+pub use absorbing::{absorb_orphan, absorb_orphans, do_collect_kernel};
 pub use collecting::{
     begin_collection, begin_kernel_collection, do_collect, end_collection, end_kernel_collection,
     mark_collection, mark_kernel_collection,
