@@ -5,6 +5,7 @@ use Rattle.std.proofs.Math.Path.{fun_ext}
 use Rattle.std.proofs.lemmas.Bool.{false_from_ne_true, false≢true}
 use Rattle.k_types.specs.declared.event.Event.{Event}
 use Rattle.k_types.specs.declared.event.Event.TheVariants.{Done, Ended, Absorbed, Closing}
+use Rattle.k_types.specs.declared.names.Heap.{Heap}
 use Rattle.k_types.specs.declared.names.Heap.TheVariants.{Kernel}
 use Rattle.k_types.specs.Effects.{after_absorbed, after_closing, after_ended, share_stays, step}
 use Rattle.k_types.specs.FileOrder.{end_of}
@@ -66,9 +67,9 @@ module _ (trace : Trace) where
       ap (λ (test : ℕ → Bool). find test ns)
       (fun_ext (λ s. same_orphans closed (step trace closed (Ended Kernel objects bytes exits shares)) (end_leaves closed objects bytes exits shares) s ∙ same_orphans st closed (closing_leaves st) s))
 
-  -- the end of the kernel's collection that is possible is the one of the file's order
-  pub end_is : (st : State) (objects bytes exits shares : ℕ) → IsPossible trace st (Ended Kernel objects bytes exits shares) → Ended Kernel objects bytes exits shares ≡ end_of trace st Kernel
-  end_is st objects bytes exits shares may = λ i. Ended Kernel (may.objects_gone i) (may.bytes_gone i) (may.exits_gone i) (may.shares_gone i)
+  -- the end of a collection that is possible is the one of the file's order
+  pub end_is : (st : State) (heap : Heap) (objects bytes exits shares : ℕ) → IsPossible trace st (Ended heap objects bytes exits shares) → Ended heap objects bytes exits shares ≡ end_of trace st heap
+  end_is st heap objects bytes exits shares may = λ i. Ended heap (may.objects_gone i) (may.bytes_gone i) (may.exits_gone i) (may.shares_gone i)
 
   -- where no event is the closing, the last collection has not begun
   pub still_open : (history : List Event) → IsLegalHistory trace history → list_all (λ event. not (is_closing event)) history ≡ true → (state_after trace history).closed ≡ false
