@@ -1,3 +1,3 @@
-pub mod Steps
 pub mod Readiness
+pub mod Steps
 pub mod Collecting

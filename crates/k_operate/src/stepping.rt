@@ -1,7 +1,10 @@
 //! One operation of a process, with the cells that it touches and the book.
-ghost use Rattle.k_operate.specs.Steps.{CanDoAlone, CanDoInside, CanDoNext, CanDoWithKernel, CanDoWithShared, HasDoneAlone, HasDoneInside, HasDoneNext, HasDoneWithKernel, HasDoneWithShared, HasPublishedAll, PairStands};
+ghost use Rattle.k_operate.specs.Steps.{CanDoAlone, CanDoInside, CanDoNext, CanDoWithKernel, CanDoWithShared, CanStepNext, HasDoneAlone, HasDoneInside, HasDoneNext, HasDoneWithKernel, HasDoneWithShared, HasPublishedAll, PairStands};
 ghost use Rattle.k_process.specs.Worlds.{WorldValue};
 
+use crate::absorbing::do_collect_kernel;
+use crate::collecting::do_collect;
+use crate::exiting::do_exit;
 use crate::known::{know_entries, know_exits, know_kernel_exits, know_shared_exits};
 use k_book::Book;
 use k_kernel::KernelCell;
@@ -62,7 +65,30 @@ pub fn do_with_shared(process: &mut Process, shared: &mut SharedCell, book: &mut
     step_shared(&mut process.cell, shared, book, op);
 }
 
-/// Does the process's next operation, with whatever it touches.
+/// Does an operation that is ready and done by a step, with the cells that it reaches.
+fn do_by_step(
+    process: &mut Process,
+    kernel: &mut KernelCell,
+    shared: &mut Vec<SharedCell>,
+    book: &mut Book,
+    op: &Op,
+)
+    ghost world: { WorldValue }
+    requires { CanStepNext world process.old kernel.old shared.old.items book.old op.now }
+    ensures { HasDoneNext world op.now process.old process.new kernel.new shared.new.items book.new }
+{
+    match reach(&process.cell, book, op) {
+        Reach::Own => do_alone(process, book, op),
+        Reach::Kernel => do_with_kernel(process, kernel, book, op),
+        Reach::Shared(id) => {
+            let heap = &mut shared[id.0 as usize];
+            do_with_shared(process, heap, book, op);
+        }
+    }
+}
+
+/// Does the process's next operation, with whatever it touches: inside its own heap, by a step, or as a collection or the end of
+/// the process, from the beginning to the end.
 pub fn do_next(
     process: &mut Process,
     kernel: &mut KernelCell,
@@ -78,12 +104,10 @@ pub fn do_next(
         return;
     }
     publish_all(process, book);
-    match reach(&process.cell, book, op) {
-        Reach::Own => do_alone(process, book, op),
-        Reach::Kernel => do_with_kernel(process, kernel, book, op),
-        Reach::Shared(id) => {
-            let heap = &mut shared[id.0 as usize];
-            do_with_shared(process, heap, book, op);
-        }
+    match *op {
+        Op::Collect => do_collect(process, book),
+        Op::KCollect => do_collect_kernel(process, kernel, shared, book),
+        Op::Exit => do_exit(process, kernel, book),
+        _ => do_by_step(process, kernel, shared, book, op),
     }
 }
