@@ -1,6 +1,8 @@
 -- The next operation of a process, with whatever it touches.
-use Rattle.std.proofs.Common.{◌≡◌, sym, ap, ◌∙◌, subst, List, [], ◌∷◌, set, Bool, true, false, Some, slice_get}
+use Rattle.std.proofs.Common.{◌≡◌, ◌++◌, sym, ap, ◌∙◌, subst, List, [], ◌∷◌, set, Bool, true, false, Some, slice_get}
 use Rattle.k_types.specs.declared.names.Heap.TheVariants.{Kernel, Shared}
+use Rattle.k_types.specs.declared.event.Event.{Event}
+use Rattle.k_types.specs.declared.names.Pid.{Pid}
 use Rattle.k_types.specs.declared.names.SharedId.{SharedId}
 use Rattle.k_types.specs.declared.op.Op.{Op}
 use Rattle.k_types.specs.Agree.{book_shown_by}
@@ -21,6 +23,8 @@ use Rattle.k_steps.specs.Reaching.{CanReach}
 use Rattle.k_operate.specs.Collecting.{IsNextAndSettled}
 use Rattle.k_operate.specs.Readiness.{IsReady, begins_or_ends}
 use Rattle.k_operate.specs.Steps.{CanDoInside, CanDoNext, CanDoWithKernel, CanDoWithShared, CanStepNext, HasDoneAlone, HasDoneInside, HasDoneNext, HasDoneWithKernel, HasDoneWithShared, HasPublishedAll, IsDueWith, PairStands}
+use Rattle.k_operate.specs.Adding.{AddsOperation, known_to}
+use Rattle.k_operate.proofs.Added.{inside_adds, known_settled}
 use Rattle.k_operate.proofs.Since.{can_reach, due, left_since, next_and_settled, pid_since, ready_since}
 
 -- what is done with no shared heap leaves all others standing
@@ -73,6 +77,9 @@ module _ (world : WorldValue) (p : Process) (kernel : HoldingsValue) (shared : L
   pub can_inside : CanDoInside world p op
   can_inside = record { process = can.process; next = can.next }
 
+  pub next_inside_adds : (q : Process) (done : Bool) → done ≡ true → HasDoneInside world op p q done → AddsOperation world.trace p.cell.pid op (known_to p book) (known_to q book)
+  next_inside_adds q done t s = inside_adds world.trace op p q book (s.steps t) (s.events t)
+
   pub next_inside : (q : Process) (done : Bool) → done ≡ true → HasDoneInside world op p q done → HasDoneNext world op p q kernel shared book
   next_inside q done t s = record { process = s.process; rest = can.rest; done = s.some t }
 
@@ -86,7 +93,7 @@ module _ (world : WorldValue) (p : Process) (kernel : HoldingsValue) (shared : L
     outside : is_local_in (idle_part q.cell.value) q.cell.pid.0 op ≡ false
     outside = ap (λ (c : HeapRecord). is_local_in (idle_part c.value) c.pid.0 op) (s.none not_done) ∙ s.outside not_done
 
-    module _ (r : Process) (b : BookRecord) (t : HasPublishedAll world q r b) where
+    module _ (r : Process) (b : BookRecord) (t : HasPublishedAll world q r book b) where
       ready : IsReady world.trace r.cell op
       ready = ready_since world q r b op t next_outside outside
 
@@ -108,3 +115,9 @@ module _ (world : WorldValue) (p : Process) (kernel : HoldingsValue) (shared : L
           left = sym (left_since world q r b op t next_outside ∙ ap (operations_left world.trace) (s.none not_done)) ∙ a.done.left;
         };
       }
+
+      pub next_adds : (new : List Event) → AddsOperation world.trace r.cell.pid op (known_to r b) new → AddsOperation world.trace p.cell.pid op (known_to p book) new
+      next_adds new a =
+          let same : r.cell.pid ≡ p.cell.pid = pid_since world q r b op t next_outside ∙ ap (λ (c : HeapRecord). c.pid) (s.none not_done) in
+          let known : known_to r b ≡ known_to p book = known_settled r b t.settled ∙ t.journal ∙ ap (λ (c : HeapRecord). book.journal.list ++ c.value.tail) (s.none not_done) in
+          subst (λ old. AddsOperation world.trace p.cell.pid op old new) known (subst (λ (x : Pid). AddsOperation world.trace x op (known_to r b) new) same a)

@@ -27,7 +27,7 @@ can_reach world p b op pair next = record {
   in_range = next_in_range world.trace world.table p.cell pair.process.cell op next.rest next.left;
 }
 
-module _ (world : WorldValue) (q r : Process) (b : BookRecord) (op : Op) (t : HasPublishedAll world q r b) (next : ComesNext world.trace q.cell op) where
+module _ {a : BookRecord} (world : WorldValue) (q r : Process) (b : BookRecord) (op : Op) (t : HasPublishedAll world q r a b) (next : ComesNext world.trace q.cell op) where
   pub left_since : operations_left world.trace r.cell ≡ operations_left world.trace q.cell
   left_since = ap (operations_left world.trace) t.cell_is
 

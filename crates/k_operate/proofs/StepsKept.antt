@@ -29,6 +29,7 @@ use Rattle.k_process.specs.Standing.{ComesNext, HasDone, ProcessStands}
 use Rattle.k_operate.specs.Steps.{CanDoAlone, CanDoInside, CanDoWithKernel, CanDoWithShared, HasDoneAlone, HasDoneInside, HasDoneWithKernel, HasDoneWithShared, PairStands}
 use Rattle.k_operate.specs.Readiness.{begins_or_ends}
 use Rattle.k_process.specs.Worlds.{WorldValue}
+use Rattle.k_operate.proofs.Added.{local_steps}
 
 -- a step in the own cell alone begins no collection
 steps_own : (op : Op) → begins_or_ends op ≡ false → is_collect op ≡ false
@@ -76,6 +77,8 @@ module _ (world : WorldValue) (p : Process) (op : Op) (can : CanDoInside world p
     some = λ t. absurd (false≢true t);
     none = λ t. none;
     outside = λ t. sym told;
+    events = λ t. absurd (false≢true t);
+    steps = λ t. absurd (false≢true t);
   }
   done_inside w (Some said) answer told none some =
       let kept = local_keeps world.trace world.table p.cell can.process.cell op can.next.rest can.next.left can.next.lives said (sym answer) in
@@ -86,6 +89,8 @@ module _ (world : WorldValue) (p : Process) (op : Op) (can : CanDoInside world p
         some = λ t. subst (λ (x : HeapRecord). HasDone world.trace op p.cell x) (sym some) (record { pid = refl; left = can.next.left ∙ ap (λ (ops : List Op). op ∷ ops) (sym left) });
         none = λ t. absurd (false≢true (sym t));
         outside = λ t. absurd (false≢true (sym t));
+        events = λ t. record { said = said; new_is = ap (λ (x : HeapRecord). x.value.tail) some };
+        steps = λ t. local_steps p.cell.value p.cell.pid.0 op said (sym answer);
       }
 
 module _ (world : WorldValue) (p : Process) (b l : BookRecord) (op : Op) (w : HeapRecord) (event : Event) (pair : PairStands world p b) (next : ComesNext world.trace p.cell op) (s : HasStepped world.trace op p.cell w b l event) where

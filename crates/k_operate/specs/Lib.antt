@@ -1,3 +1,4 @@
+pub mod Adding
 pub mod Readiness
 pub mod Steps
 pub mod Collecting

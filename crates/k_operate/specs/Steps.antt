@@ -14,6 +14,7 @@ use Rattle.k_locked.specs.Keeping.{BookKeeps, KernelKeeps, SharedKeeps}
 use Rattle.k_process.specs.declared.process.Process.{Process}
 use Rattle.k_process.specs.Standing.{ComesNext, HasDone, ProcessStands, RestStands}
 use Rattle.k_process.specs.Worlds.{WorldValue}
+use Rattle.k_operate.specs.Adding.{AddsOne, known_to}
 use Rattle.k_operate.specs.Readiness.{IsReady, begins_or_ends}
 
 -- process and book stand
@@ -26,17 +27,20 @@ pub record CanDoInside (world : WorldValue) (p : Process) (op : Op) : Type 0 whe
   pub process : ProcessStands world p
   pub next : ComesNext world.trace p.cell op
 
--- the process stands still; the operation was done, or it was not local and nothing changed
+-- the process stands still; the operation was done by a step and its event is unpublished, or it was not local and nothing changed
 pub record HasDoneInside (world : WorldValue) (op : Op) (old new : Process) (done : Bool) : Type 0 where
   pub process : ProcessStands world new
   pub some : IsTrue done → HasDone world.trace op old.cell new.cell
   pub none : IsFalse done → new.cell ≡ old.cell
   pub outside : IsFalse done → IsFalse (is_local_in (idle_part old.cell.value) old.cell.pid.0 op)
+  pub events : IsTrue done → AddsOne old.cell.pid op old.cell.value.tail new.cell.value.tail
+  pub steps : IsTrue done → IsFalse (begins_or_ends op)
 
--- process and book stand still, nothing is unpublished, and else the cell shows what it showed
-pub record HasPublishedAll (world : WorldValue) (old new : Process) (book : BookRecord) : Type 0 where
+-- process and book stand still, what was unpublished is in the journal, and else the cell shows what it showed
+pub record HasPublishedAll (world : WorldValue) (old new : Process) (old_book book : BookRecord) : Type 0 where
   pub pair : PairStands world new book
   pub settled : new.cell.value.tail ≡ []
+  pub journal : book.journal.list ≡ known_to old old_book
   pub cell_is : new.cell ≡ record old.cell { note = new.cell.note; value = record old.cell.value { tail = [] } }
 
 -- process and book stand with nothing unpublished; the operation comes next, is not local, is done by a step, and touches these cells beside the own

@@ -29,17 +29,26 @@ do_with_shared-requires g c =
     (sym c.in-Shared.ensures)
 
 pub returns-in-Own : goal.returns-in-Own
-returns-in-Own g c =
-    next_alone g.world' c.args.op.now c.args.process.now c.do_alone.new.process c.args.kernel.now c.args.shared.now.items c.args.book.now c.do_alone.new.book c.requires.rest c.do_alone.ensures
+returns-in-Own g c = record {
+  done =
+      next_alone g.world' c.args.op.now c.args.process.now c.do_alone.new.process c.args.kernel.now c.args.shared.now.items c.args.book.now c.do_alone.new.book c.requires.rest c.do_alone.ensures.done;
+  events = c.do_alone.ensures.events;
+}
 
 pub returns-in-Kernel : goal.returns-in-Kernel
-returns-in-Kernel g c =
-    next_kernel g.world' c.args.op.now c.args.process.now c.do_with_kernel.new.process c.args.kernel.now c.do_with_kernel.new.kernel c.args.shared.now.items c.args.book.now c.do_with_kernel.new.book c.requires.rest c.do_with_kernel.ensures
+returns-in-Kernel g c = record {
+  done =
+      next_kernel g.world' c.args.op.now c.args.process.now c.do_with_kernel.new.process c.args.kernel.now c.do_with_kernel.new.kernel c.args.shared.now.items c.args.book.now c.do_with_kernel.new.book c.requires.rest c.do_with_kernel.ensures.done;
+  events = c.do_with_kernel.ensures.events;
+}
 
 pub returns-in-Shared : goal.returns-in-Shared
-returns-in-Shared g c =
-    next_shared g.world' c.args.process.now c.args.kernel.now c.args.shared.now.items c.args.book.now c.args.op.now c.requires c.in-Shared.id c.index_mut-heap.result.now
-    (found_at c.args.shared.now.items g.world'.trace.shared_heaps c.in-Shared.id.0 c.in-Shared.id.0 c.index_mut-heap.result.now c.index_mut-heap.result.now c.requires.rest.shared.count
-    (heap_reached g.world'.trace c.args.book.now c.requires.rest.book.stands c.args.process.now.cell.pid.0 c.in-Shared.id (idle_part c.args.process.now.cell.value) c.args.op.now
-    (can_reach_then g.world' c.args.process.now c.args.kernel.now c.args.shared.now.items c.args.book.now c.args.op.now c.requires).in_range (sym c.in-Shared.ensures)) refl c.index_mut-heap.ensures.value refl)
-    c.do_with_shared.new.process c.do_with_shared.new.shared c.do_with_shared.new.book c.do_with_shared.ensures
+returns-in-Shared g c = record {
+  done =
+      next_shared g.world' c.args.process.now c.args.kernel.now c.args.shared.now.items c.args.book.now c.args.op.now c.requires c.in-Shared.id c.index_mut-heap.result.now
+      (found_at c.args.shared.now.items g.world'.trace.shared_heaps c.in-Shared.id.0 c.in-Shared.id.0 c.index_mut-heap.result.now c.index_mut-heap.result.now c.requires.rest.shared.count
+      (heap_reached g.world'.trace c.args.book.now c.requires.rest.book.stands c.args.process.now.cell.pid.0 c.in-Shared.id (idle_part c.args.process.now.cell.value) c.args.op.now
+      (can_reach_then g.world' c.args.process.now c.args.kernel.now c.args.shared.now.items c.args.book.now c.args.op.now c.requires).in_range (sym c.in-Shared.ensures)) refl c.index_mut-heap.ensures.value refl)
+      c.do_with_shared.new.process c.do_with_shared.new.shared c.do_with_shared.new.book c.do_with_shared.ensures.done;
+  events = c.do_with_shared.ensures.events;
+}
