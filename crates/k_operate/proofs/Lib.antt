@@ -8,3 +8,5 @@ pub mod Appended
 pub mod Collected
 pub mod KernelCollected
 pub mod Exited
+pub mod AbsorbOrphans
+pub mod AbsorbKept

@@ -2,3 +2,4 @@ pub mod Adding
 pub mod Readiness
 pub mod Steps
 pub mod Collecting
+pub mod Absorbing
