@@ -52,7 +52,7 @@ module _ (trace : Trace) (b : BookRecord) (stands : BookStands trace b) where
   first_told s first = sym first_is ∙ first
 
   pub heap_known : (s : SharedId) → lowest_orphan b.value.phases b.value.shares ≡ Some s.0 → s.0 < trace.shared_heaps
-  heap_known s first = found_below (is_orphan at_last) s.0 0 trace.shared_heaps (first_told (Some s.0) first)
+  heap_known s first = let low = found_below (is_orphan at_last) s.0 0 trace.shared_heaps (first_told (Some s.0) first) in omega (arith, low)
 
 module _ (world : WorldValue) (s : SharedRecord) (k : HoldingsValue) (b : BookRecord) (can : CanAbsorbOrphan world s k b) where
   abbrev now : State
