@@ -1,0 +1,8 @@
+pub mod Rounds
+pub mod Declared
+pub mod Bounds
+pub mod Rules
+pub mod Charges
+pub mod Counting
+pub mod Lines
+pub mod Worked
