@@ -1,11 +1,11 @@
 -- How many operations there are, and what they all pass.
-use Rattle.std.proofs.Common.{◌≡◌, ◌∙◌, ℕ, zero, suc, ◌+◌, ◌*◌, ◌/◌, ◌%◌, ◌<◌, ◌≤◌, ◌^◌, ◌==◌, ◌&&◌, ◌||◌, nat_lt, Bool, true, false, cond, refl, sym, ap, ap₂, List, [], ◌∷◌, ◌++◌, length, map, get_or, replicate, arith, eqb-true, eq-eqb, ne_eqb, add-one, inl, inr}
+use Rattle.std.proofs.Common.{◌≡◌, ◌∙◌, ℕ, zero, suc, ◌+◌, ◌*◌, ◌<◌, ◌≤◌, ◌^◌, ◌==◌, ◌&&◌, ◌||◌, nat_lt, Bool, true, false, cond, refl, sym, ap, ap₂, List, [], ◌∷◌, ◌++◌, length, map, get_or, replicate, arith, eqb-true, eq-eqb, ne_eqb, add-one, inl, inr}
 use Rattle.std.specs.List.{flat_map, list_all, list_any}
 use Rattle.std.proofs.lemmas.Bool.{lt-ltb, cases_eq, false≢true}
 use Rattle.std.proofs.lemmas.List.{length-append, length-replicate}
 use Rattle.std.proofs.lemmas.List.Concat.{flat_map-cons}
 use Rattle.std.proofs.lemmas.List.Folds.{list_all-append, list_any-append}
-use Rattle.std.specs.Prelude.{count_by}
+use Rattle.std.specs.Prelude.{◌/◌, ◌%◌, count_by}
 use Rattle.k_types.specs.declared.op.Op.{Op}
 use Rattle.k_types.specs.declared.op.Op.TheVariants.{New, Store, Move, Clear, Dir, Put, Collect, Exit}
 use Rattle.k_types.specs.Numbers.{numbers_below, numbers_from}
@@ -61,15 +61,14 @@ tenths_more n = elim (cases_eq ((n + 1) % 10) 0) [
 rounds_length : (i n : ℕ) → length (flat_map (round i) (numbers_below n)) ≡ 4 * n + (n + 4) / 5 + 3 * (n / 10)
 rounds_length i zero = refl
 rounds_length i (suc n) =
-    let grown : length (flat_map (round i) (numbers_below (n + 1))) ≡ length (flat_map (round i) (numbers_below n)) + length (round i n)
-    = ap length (sym (pieces_more (round i) n)) ∙ length-append (flat_map (round i) (numbers_below n)) (round i n) in
+    let grown : length (flat_map (round i) (numbers_below (suc n))) ≡ length (flat_map (round i) (numbers_below n)) + length (round i n)
+    = ap (λ k. length (flat_map (round i) (numbers_below k))) (sym (add-one n)) ∙ ap length (sym (pieces_more (round i) n)) ∙ length-append (flat_map (round i) (numbers_below n)) (round i n) in
     let before = rounds_length i n in
     let one = round_length i n in
-    let five = fifths_more n in
-    let ten = tenths_more n in
-    let same : n + 1 + 4 ≡ n + 5 = omega arith in
-    let five_is = ap (λ k. k / 5) same in
-    rw (sym (add-one n)) (omega (arith, grown, before, one, five, five_is, ten))
+    let next : suc n + 4 ≡ n + 5 = omega arith in
+    let five = ap (λ k. k / 5) next ∙ fifths_more n in
+    let ten = ap (λ k. k / 10) (sym (add-one n)) ∙ tenths_more n in
+    omega (arith, grown, before, one, five, ten)
 
 ending_length : (b : Bool) → length (cond b (Exit ∷ []) []) ≤ 1
 ending_length true = omega arith
@@ -77,6 +76,7 @@ ending_length false = omega arith
 
 -- no process has more operations than that
 pub few_operations : (objects i : ℕ) → objects ≤ 5000 → length (operations_for objects i) ≤ 22502
+unfolding operations_for
 few_operations objects i few =
     let whole : length (operations_for objects i) ≡ suc (length (flat_map (round i) (numbers_below objects)) + length (ending i))
     = ap suc (length-append (flat_map (round i) (numbers_below objects)) (ending i)) in
@@ -142,6 +142,7 @@ ending_passes test false pass = refl
 
 -- the operations of a process pass a test that its rounds pass
 pub operations_pass : (test : Op → Bool) (objects i : ℕ) → test (Dir (r 15)) ≡ true → test Exit ≡ true → ((j : ℕ) → j < objects → list_all test (round i j) ≡ true) → list_all test (operations_for objects i) ≡ true
+unfolding operations_for
 operations_pass test objects i first last rounds =
     let all = pieces_pass test (round i) 0 objects (λ j low. rounds j (omega (arith, low))) in
     rw (first, list_all-append test (flat_map (round i) (numbers_below objects)) (ending i), all, ending_passes test (i % 2 == 0) last) refl
@@ -153,18 +154,19 @@ ranged_if true false objects operations order i j = refl
 ranged_if false true objects operations order i j = refl
 ranged_if false false objects operations order i j = refl
 
+dir_ranged : (objects : ℕ) (operations : List (List Op)) (order : List ℕ) → in_range (declared_for objects operations order).trace (Dir (r 15)) ≡ true
+unfolding in_range
+dir_ranged objects operations order = refl
+
+exit_ranged : (objects : ℕ) (operations : List (List Op)) (order : List ℕ) → in_range (declared_for objects operations order).trace Exit ≡ true
+unfolding in_range
+exit_ranged objects operations order = refl
+
 -- they name what the trace declares
 pub operations_ranged : (objects : ℕ) (operations : List (List Op)) (order : List ℕ) (i : ℕ) → list_all (in_range (declared_for objects operations order).trace) (operations_for objects i) ≡ true
 operations_ranged objects operations order i =
-    operations_pass (in_range (declared_for objects operations order).trace) objects i dir_ranged exit_ranged (λ j low. ranged_if (j % 5 == 0) ((j + 1) % 10 == 0) objects operations order i j)
-  where
-    dir_ranged : in_range (declared_for objects operations order).trace (Dir (r 15)) ≡ true
-    unfolding in_range
-    dir_ranged = refl
-
-    exit_ranged : in_range (declared_for objects operations order).trace Exit ≡ true
-    unfolding in_range
-    exit_ranged = refl
+    operations_pass (in_range (declared_for objects operations order).trace) objects i (dir_ranged objects operations order) (exit_ranged objects operations order)
+    (λ j low. ranged_if (j % 5 == 0) ((j + 1) % 10 == 0) objects operations order i j)
 
 spelled_if : (b c : Bool) (i j : ℕ) → nat_lt i 16 ≡ true → nat_lt j (2 ^ 64) ≡ true → list_all is_spelled (four j ++ (kept_if b i ++ collected_if c)) ≡ true
 spelled_if true true i j known small = rw (small, known) refl
@@ -188,8 +190,12 @@ no_exit_if false false i j = refl
 no_exit_in_rounds : (i first n : ℕ) → has_exit (flat_map (round i) (numbers_from first n)) ≡ false
 no_exit_in_rounds i first zero = refl
 no_exit_in_rounds i first (suc n) =
-    rw (flat_map-cons (round i) first (numbers_from (suc first) n), list_any-append is_exit (round i first) (flat_map (round i) (numbers_from (suc first) n)),
-    no_exit_if (first % 5 == 0) ((first + 1) % 10 == 0) i first, no_exit_in_rounds i (suc first) n) refl
+    rw (
+      flat_map-cons (round i) first (numbers_from (suc first) n),
+      list_any-append is_exit (round i first) (flat_map (round i) (numbers_from (suc first) n)),
+      no_exit_if (first % 5 == 0) ((first + 1) % 10 == 0) i first,
+      no_exit_in_rounds i (suc first) n,
+    ) refl
 
 none_ends : (ops : List Op) → has_exit ops ≡ false → EndsWithExit ops
 none_ends ops none first op rest parted exit =
@@ -205,4 +211,5 @@ ends_if false ops none = none_ends (ops ++ []) (rw (list_any-append is_exit ops 
 
 -- nothing follows an exit
 pub operations_end : (objects i : ℕ) → EndsWithExit (operations_for objects i)
+unfolding operations_for
 operations_end objects i = ends_if (i % 2 == 0) (Dir (r 15) ∷ flat_map (round i) (numbers_below objects)) (no_exit_in_rounds i 0 objects)

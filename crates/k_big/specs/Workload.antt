@@ -46,7 +46,7 @@ abbrev pub ending : ℕ → List Op
 ending process = if process % 2 == 0 then Exit ∷ [] else []
 
 -- the operations of a process that makes so many objects
-abbrev pub operations_for : ℕ → ℕ → List Op
+unfoldable pub operations_for : ℕ → ℕ → List Op
 operations_for objects process = Dir (r 15) ∷ flat_map (round process) (numbers_below objects) ++ ending process
 
 -- the process's number, once for each of its operations

@@ -19,3 +19,6 @@ pub use making::big_trace;
 pub use summing::summary;
 pub use words::{MOST_OBJECTS, objects_of};
 pub use worked::{smallest_summary_row, smallest_trace_row, words_are_read};
+
+#[cfg(test)]
+mod tests;

@@ -92,6 +92,7 @@ fn push_ending(ops: &mut Vec<Op>, process: u32) -> Result<(), NoMemory>
 }
 
 /// The operations of a process. There are fewer than five for each object, and two.
+#[tactic(auto, unfolding(crate::specs::Workload::operations_for))]
 fn operations_for(alloc: Global, objects: u32, process: u32) -> Result<Vec<Op>, NoMemory>
     requires { objects ≤ most_objects }
     ensures { IfOk result (λ ops. ops.items ≡ operations_for objects process) }
