@@ -97,7 +97,7 @@ short_pieces f most first (suc n) short =
     omega (arith, whole, rest, here)
 
 total_of_same : {A : Type 0} (f : A → ℕ) (n : ℕ) (x : A) → total f (replicate n x) ≡ n * f x
-total_of_same f zero x = refl
+total_of_same f zero x = omega arith
 total_of_same f (suc n) x = let rest = total_of_same f n x in omega (arith, rest)
 
 total_of_pieces : {A : Type 0} (f : A → ℕ) (g : ℕ → List A) (first n : ℕ) → total f (flat_map g (numbers_from first n)) ≡ total (λ i. total f (g i)) (numbers_from first n)
@@ -190,12 +190,9 @@ no_exit_if false false i j = refl
 no_exit_in_rounds : (i first n : ℕ) → has_exit (flat_map (round i) (numbers_from first n)) ≡ false
 no_exit_in_rounds i first zero = refl
 no_exit_in_rounds i first (suc n) =
-    rw (
-      flat_map-cons (round i) first (numbers_from (suc first) n),
-      list_any-append is_exit (round i first) (flat_map (round i) (numbers_from (suc first) n)),
-      no_exit_if (first % 5 == 0) ((first + 1) % 10 == 0) i first,
-      no_exit_in_rounds i (suc first) n,
-    ) refl
+    ap has_exit (flat_map-cons (round i) first (numbers_from (suc first) n))
+    ∙ list_any-append is_exit (round i first) (flat_map (round i) (numbers_from (suc first) n))
+    ∙ ap₂ (λ a b. a || b) (no_exit_if (first % 5 == 0) ((first + 1) % 10 == 0) i first) (no_exit_in_rounds i (suc first) n)
 
 none_ends : (ops : List Op) → has_exit ops ≡ false → EndsWithExit ops
 none_ends ops none first op rest parted exit =

@@ -3,6 +3,6 @@ pub mod Declared
 pub mod Bounds
 pub mod Rules
 pub mod Charges
-pub mod Counting
+pub mod Totals
 pub mod Lines
-pub mod Worked
+pub mod Computed

@@ -1,5 +1,5 @@
 -- The trace keeps the rules of traces.
-use Rattle.std.proofs.Common.{◌≡◌, ◌∙◌, ℕ, zero, suc, ◌+◌, ◌*◌, ◌<◌, ◌≤◌, ◌^◌, true, refl, sym, ap, subst, List, [], ◌∷◌, length, map, get_or, replicate, Some, None, arith}
+use Rattle.std.proofs.Common.{◌≡◌, ◌∙◌, ℕ, zero, suc, ◌+◌, ◌*◌, ◌<◌, ◌≤◌, ◌^◌, true, refl, sym, ap, subst, List, [], ◌∷◌, length, map, get_or, replicate, Option, Some, None, arith}
 use Rattle.std.specs.List.{flat_map}
 use Rattle.std.proofs.lemmas.List.{get_or-replicate, length-replicate}
 use Rattle.k_types.specs.declared.names.LimitId.{LimitId}
@@ -32,7 +32,7 @@ tree objects (suc k) parent inside e =
 rooted : (objects m : ℕ) → m < 9 → (row_of (rows objects) m).parent ≡ None → m ≡ 0
 rooted objects zero inside e = refl
 rooted objects (suc k) inside e =
-    let own : Some (record { 0 = 0 }) ≡ None {A = LimitId} = sym (ap (λ (row : LimitRow). row.parent) (share_at objects k (omega (arith, inside)))) ∙ e in
+    let own : ◌≡◌ {A = Option LimitId} (Some (record { 0 = 0 })) None = sym (ap (λ (row : LimitRow). row.parent) (share_at objects k (omega (arith, inside)))) ∙ e in
     absurd cc
 
 fits : (objects m : ℕ) → m < 9 → use_within (rows objects) (λ q. 0) 9 m ≤ max_of (rows objects) m

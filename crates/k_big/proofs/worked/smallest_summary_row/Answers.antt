@@ -1,4 +1,4 @@
-use Rattle.k_big.proofs.Worked.{smallest_summary_is}
+use Rattle.k_big.proofs.Computed.{smallest_summary_is}
 use Rattle.k_big.proofs.worked.smallest_summary_row.Goals as goal
 
 pub returns : goal.returns

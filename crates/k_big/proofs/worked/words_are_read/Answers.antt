@@ -1,4 +1,4 @@
-use Rattle.k_big.proofs.Worked.{words_are}
+use Rattle.k_big.proofs.Computed.{words_are}
 use Rattle.k_big.proofs.worked.words_are_read.Goals as goal
 
 pub returns : goal.returns
