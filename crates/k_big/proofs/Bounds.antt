@@ -1,8 +1,8 @@
 -- How many operations there are, and what they all pass.
-use Rattle.std.proofs.Common.{◌≡◌, ◌∙◌, ℕ, zero, suc, ◌+◌, ◌*◌, ◌<◌, ◌≤◌, ◌^◌, ◌==◌, ◌&&◌, ◌||◌, nat_lt, Bool, true, false, cond, refl, sym, ap, ap₂, List, [], ◌∷◌, ◌++◌, length, map, get_or, replicate, arith, eqb-true, eq-eqb, ne_eqb, add-one, inl, inr}
-use Rattle.std.specs.List.{flat_map, list_all, list_any}
+use Rattle.std.proofs.Common.{◌≡◌, ◌∙◌, ℕ, zero, suc, ◌+◌, ◌*◌, ◌<◌, ◌≤◌, ◌^◌, ◌==◌, ◌||◌, nat_lt, Bool, true, false, cond, refl, sym, ap, ap₂, List, [], ◌∷◌, ◌++◌, length, map, get_or, replicate, arith, eq-eqb, ne_eqb, add-one, inl, inr}
+use Rattle.std.specs.List.{flat_map, list_all}
 use Rattle.std.proofs.lemmas.Bool.{lt-ltb, cases_eq, false≢true}
-use Rattle.std.proofs.lemmas.List.{length-append, length-replicate}
+use Rattle.std.proofs.lemmas.List.{length-append}
 use Rattle.std.proofs.lemmas.List.Concat.{flat_map-cons}
 use Rattle.std.proofs.lemmas.List.Folds.{list_all-append, list_any-append}
 use Rattle.std.specs.Prelude.{◌/◌, ◌%◌, count_by}
@@ -15,7 +15,7 @@ use Rattle.k_types.specs.TraceRules.{EndsWithExit, is_exit, is_spelled}
 use Rattle.k_base.proofs.Sums.{bit, count_is_total, one_counts, sum_same, total_append}
 use Rattle.k_trace.specs.Grown.{has_exit}
 use Rattle.k_trace.proofs.OpLists.{ends_push}
-use Rattle.k_big.specs.Workload.{r, node, kept, collected, round, ending, operations_for, turns, declared_for}
+use Rattle.k_big.specs.Workload.{r, node, round, ending, operations_for, turns, declared_for}
 use Rattle.k_big.proofs.Rounds.{pieces_more, pieces_pass}
 
 -- ---- how many operations a process has

@@ -1,5 +1,5 @@
 -- What the trace declares, read from its text.
-use Rattle.std.proofs.Common.{◌≡◌, ◌∙◌, ℕ, ◌∷◌, ◌++◌, [], List, replicate, refl, sym, ap, Ok, codes}
+use Rattle.std.proofs.Common.{◌≡◌, ◌∙◌, ℕ, ◌∷◌, [], List, replicate, refl, ap, Ok, codes}
 use Rattle.std.specs.Fmt.{digits}
 use Rattle.k_types.specs.declared.op.Op.{Op}
 use Rattle.k_types.specs.declared.setup.LimitRow.{LimitRow}
@@ -11,8 +11,6 @@ use Rattle.k_trace.specs.Demands.{demands}
 use Rattle.k_trace.specs.Judgement.{judgement, judged_lines, judged_line, line_in, version_line, kernel_line, line_of_types, type_line, root_line, line_of_limits, limit_line, proc_line, line_of_procs, IsBad}
 use Rattle.k_trace.specs.Named.{NamedTrace}
 use Rattle.k_trace.specs.Rules.{IsTrace, Spells}
-use Rattle.k_trace.specs.Meaning.{meaning_of}
-use Rattle.k_trace.specs.declared.trace.Trace.{Trace}
 use Rattle.k_trace.proofs.Exact.{apart, one}
 use Rattle.k_trace.proofs.Sound.{sound}
 use Rattle.k_big.specs.Worked.{of_lines}

@@ -6,3 +6,4 @@ pub mod Charges
 pub mod Totals
 pub mod Lines
 pub mod Computed
+pub mod Filed

@@ -1,18 +1,17 @@
 -- The trace keeps the rules of traces.
-use Rattle.std.proofs.Common.{◌≡◌, ◌∙◌, ℕ, zero, suc, ◌+◌, ◌*◌, ◌<◌, ◌≤◌, ◌^◌, true, refl, sym, ap, subst, List, [], ◌∷◌, length, map, get_or, replicate, Option, Some, None, arith}
+use Rattle.std.proofs.Common.{◌≡◌, ◌∙◌, ℕ, zero, suc, ◌+◌, ◌<◌, ◌≤◌, ◌^◌, refl, sym, ap, subst, List, [], ◌∷◌, length, map, replicate, Option, Some, None, arith}
 use Rattle.std.specs.List.{flat_map}
 use Rattle.std.proofs.lemmas.List.{get_or-replicate, length-replicate}
 use Rattle.k_types.specs.declared.names.LimitId.{LimitId}
-use Rattle.k_types.specs.declared.op.Op.{Op}
 use Rattle.k_types.specs.declared.setup.LimitRow.{LimitRow}
 use Rattle.k_types.specs.Limits.{use_within, max_of}
 use Rattle.k_types.specs.Numbers.{numbers_below}
 use Rattle.k_types.specs.Trace.{no_row, row_of, operations_of}
-use Rattle.k_types.specs.TraceRules.{AreLimits, AreOperations, IsTree, KeepsRules, EndsWithExit}
+use Rattle.k_types.specs.TraceRules.{AreLimits, AreOperations, IsTree, EndsWithExit}
 use Rattle.k_trace.specs.Rules.{IsTrace}
-use Rattle.k_big.specs.Workload.{big_trace, declared_for, operations_for, processes, root, share, turns}
+use Rattle.k_big.specs.Workload.{big_trace, operations_for, processes, root, share, turns}
 use Rattle.k_big.proofs.Bounds.{few_operations, mapped_at, operations_end, operations_ranged, operations_spelled, short_pieces, turns_counted, turns_known}
-use Rattle.k_big.proofs.Declared.{bare, bare_is_trace}
+use Rattle.k_big.proofs.Declared.{bare_is_trace}
 
 -- the rows of the limits
 abbrev rows : ℕ → List LimitRow

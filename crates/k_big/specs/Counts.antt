@@ -1,9 +1,8 @@
 -- What an event adds to the counts of a journal.
-use Rattle.std.specs.Prelude.{ℕ, List}
+use Rattle.std.specs.Prelude.{ℕ}
 use Rattle.k_types.specs.declared.event.Event.{Event}
 use Rattle.k_types.specs.declared.event.Event.TheVariants.{Done, Ended}
 use Rattle.k_types.specs.declared.event.Reply.TheVariants.{Refused}
-use Rattle.k_types.specs.Totals.{total}
 
 -- one for an operation
 abbrev pub operations_in : Event → ℕ

@@ -6,10 +6,12 @@ use Rattle.k_types.specs.Limits.{use_of}
 use Rattle.k_types.specs.Numbers.{numbers_below}
 use Rattle.k_types.specs.Owners.{bytes_of, charge_of}
 use Rattle.k_types.specs.State.{State}
+use Rattle.k_types.specs.Steps.{state_after}
 use Rattle.k_types.specs.Totals.{total}
 use Rattle.k_types.specs.Trace.{Trace, process_count}
 use Rattle.k_words.specs.Words.{Text, text_of}
 use Rattle.k_big.specs.Counts.{operations_in, faults_in, freed_in}
+use Rattle.k_big.specs.Workload.{big_trace}
 
 -- what all processes together are charged
 abbrev pub charges_of : Trace → State → ℕ
@@ -37,6 +39,12 @@ summary_lines objects trace history st =
     ∷ count_words (codes "root") (use_of trace st 0)
     ∷ []
 
--- the text of the summary
-abbrev pub summary_text : ℕ → Trace → List Event → State → Text
-summary_text objects trace history st = text_of (summary_lines objects trace history st)
+-- the text of the summary of a history and a state
+abbrev pub summary_over : ℕ → Trace → List Event → State → Text
+summary_over objects trace history st = text_of (summary_lines objects trace history st)
+
+-- the text of the summary of a history of the trace where each process makes so many objects
+abbrev pub summary_text : ℕ → List Event → Text
+summary_text objects history =
+    let trace = (big_trace objects).trace in
+    summary_over objects trace history (state_after trace history)

@@ -2,7 +2,6 @@
 use Rattle.std.specs.Prelude.{◌≡◌, ℕ, List, [], ◌∷◌, ◌++◌, Some, None, codes}
 use Rattle.std.specs.List.{flat_map}
 use Rattle.k_types.specs.FileOrder.{file_order}
-use Rattle.k_types.specs.Steps.{state_after}
 use Rattle.k_words.specs.Words.{Text}
 use Rattle.k_big.specs.Words.{objects_of}
 use Rattle.k_big.specs.Summary.{summary_text}
@@ -59,10 +58,7 @@ smallest_text = of_lines (
 
 -- the summary of the history in the order of the file, where each process makes so many objects
 abbrev pub file_order_summary : ℕ → Text
-file_order_summary objects =
-    let trace = (big_trace objects).trace in
-    let history = file_order trace in
-    summary_text objects trace history (state_after trace history)
+file_order_summary objects = summary_text objects (file_order (big_trace objects).trace)
 
 -- the summary where each process makes one object
 abbrev pub smallest_summary : Text

@@ -7,7 +7,7 @@ ghost use Rattle.k_types.specs.Steps.{IsLegalHistory, state_after};
 ghost use Rattle.k_types.specs.Trace.{Trace};
 ghost use Rattle.k_types.specs.TraceRules.{KeepsRules};
 ghost use Rattle.k_trace.specs.Rules.{IsTrace};
-ghost use Rattle.k_big.specs.Summary.{HasSmallCharges, summary_text};
+ghost use Rattle.k_big.specs.Summary.{HasSmallCharges, summary_over};
 ghost use Rattle.k_big.specs.Workload.{big_trace, most_objects};
 
 /// The trace keeps all rules of traces, up to the most objects.
@@ -25,6 +25,6 @@ pub fn charges_are_small()
 /// same history and state.
 pub fn summaries_read_the_setup_alone()
     ensures { (objects : ℕ) (trace : Trace) (operations : List (List Op)) (order : List ℕ) (history : List Event) (st : State) →
-        summary_text objects (record trace { operations = operations; order = order }) history st
-        ≡ summary_text objects trace history st }
+        summary_over objects (record trace { operations = operations; order = order }) history st
+        ≡ summary_over objects trace history st }
 {}

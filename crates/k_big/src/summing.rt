@@ -2,7 +2,7 @@
 ghost use Rattle.std.specs.Prelude.{◌≡◌, ◌<◌, ◌≤◌, ◌+◌, ◌++◌, ◌∷◌, length};
 ghost use Rattle.std.specs.List.{join_with_byte};
 ghost use Rattle.k_io.specs.Writing.{Writes};
-ghost use Rattle.k_big.specs.Summary.{HasSmallCharges, charges_of, count_words, summary_text};
+ghost use Rattle.k_big.specs.Summary.{HasSmallCharges, charges_of, count_words, summary_over};
 
 use crate::counting::counts_of;
 use k_io::{Sink, WriteFailed};
@@ -45,7 +45,7 @@ fn push_next(text: &mut LineBuffer, word: &[u8], number: u64)
 pub fn summary<K: Sink, V: View>(out: &mut K, objects: u32, view: &V) -> Result<(), WriteFailed>
     requires limits { 0 < length (V.trace view.now).limits }
     requires charges { HasSmallCharges (V.trace view.now) (V.state view.now) }
-    ensures { Writes (K.Holds out.old) (K.Holds out.new) (K.faults out.old) (K.faults out.new) result (summary_text objects (V.trace view.now) (V.events view.now) (V.state view.now)) }
+    ensures { Writes (K.Holds out.old) (K.Holds out.new) (K.faults out.old) (K.faults out.new) result (summary_over objects (V.trace view.now) (V.events view.now) (V.state view.now)) }
 {
     let counts = counts_of(view);
     let mut text = LineBuffer::new();

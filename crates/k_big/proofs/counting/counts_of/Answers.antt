@@ -1,6 +1,4 @@
-use Rattle.std.proofs.Common.{◌∙◌, ap, arith}
-use Rattle.std.proofs.lemmas.List.{take_all}
-use Rattle.k_types.specs.Totals.{total}
+use Rattle.std.proofs.Common.{arith}
 use Rattle.k_big.specs.Counts.{faults_in, freed_in, operations_in}
 use Rattle.k_big.proofs.Totals.{total_so_far}
 use Rattle.k_big.proofs.counting.counts_of.Goals as goal

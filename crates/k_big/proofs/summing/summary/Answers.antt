@@ -1,9 +1,6 @@
-use Rattle.std.proofs.Common.{◌≡◌, ◌∙◌, ℕ, ap, ◌∷◌, ◌++◌, [], length, decimal, codes}
+use Rattle.std.proofs.Common.{◌∙◌, ℕ, ap, ◌∷◌, ◌++◌, decimal, codes}
 use Rattle.k_io.proofs.Writings.{writes_same}
-use Rattle.k_types.specs.Totals.{total}
 use Rattle.k_words.specs.Words.{Text}
-use Rattle.k_big.specs.Counts.{operations_in, faults_in, freed_in}
-use Rattle.k_big.specs.Summary.{charges_of, count_words}
 use Rattle.k_big.proofs.Lines.{line_first, line_more}
 use Rattle.k_big.proofs.summing.summary.Goals as goal
 
@@ -20,4 +17,4 @@ returns g c =
     let kernel = line_more _ c.push_next-5.new.text (codes "kernel") _ c.bytes.result _ c.bytes.ensures c.push_next-5.ensures.text freed in
     let live = line_more _ c.push_next-6.new.text (codes "live") _ c.charges_of.result _ c.charges_of.ensures c.push_next-6.ensures.text kernel in
     let root = line_more _ c.push_next-7.new.text (codes "root") _ c.use_of.result _ c.use_of.ensures c.push_next-7.ensures.text live in
-    writes_same _ _ _ _ _ _ _ root c.write_to.ensures.written
+    writes_same _ _ _ _ _ _ _ root.whole c.write_to.ensures.written
