@@ -1,0 +1,4 @@
+pub mod Stub
+pub mod Cells
+pub mod Ends
+pub mod Listed
