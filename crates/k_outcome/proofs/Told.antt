@@ -41,7 +41,7 @@ use Rattle.k_entry.specs.Entries.{home_of}
 use Rattle.k_text.specs.Shown.{exits_of, in_order, type_at}
 use Rattle.k_text.proofs.InOrder.{in_order_among, in_order_rises, rising_exits}
 use Rattle.k_solo.proofs.Arranged.{exits_length}
-use Rattle.k_outcome.specs.Stub.{OutcomeValue}
+use Rattle.k_complete.specs.Ended.{OutcomeValue}
 use Rattle.k_outcome.proofs.Lists.{at_place}
 use Rattle.k_outcome.specs.Cells.{IsThere, cell_at}
 use Rattle.k_outcome.specs.Ends.{EndValue, IsEnd, journal_of, last_state}

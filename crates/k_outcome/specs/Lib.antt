@@ -1,4 +1,3 @@
-pub mod Stub
 pub mod Cells
 pub mod Ends
 pub mod Listed

@@ -10,7 +10,7 @@ ghost use Rattle.k_space.specs.Objects.{content_of};
 ghost use Rattle.k_cell.specs.Looks.{field_among, field_count_among, type_among};
 ghost use Rattle.k_outcome.specs.Cells.{IsThere, cell_at};
 
-use crate::stub::Process;
+use k_process::Process;
 use k_book::Book;
 use k_heap::HeapCell;
 use k_kernel::KernelCell;
@@ -29,12 +29,12 @@ pub struct Cells {
 }
 
 impl Model for Cells {
-    ghost use Rattle.k_outcome.specs.Stub.{OutcomeValue};
+    ghost use Rattle.k_complete.specs.Ended.{OutcomeValue};
 
     ghost Value = { OutcomeValue };
 
     ghost use Rattle.std.specs.Prelude.{map};
-    ghost use Rattle.k_outcome.specs.declared.stub.Process.{Process};
+    ghost use Rattle.k_process.specs.declared.process.Process.{Process};
 
     ghost view = { λ c. record { processes = map (λ (p : Process). p.cell) c.processes.items; kernel = c.kernel; shared = c.shared.items; book = c.book } };
 }

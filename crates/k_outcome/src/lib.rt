@@ -12,7 +12,6 @@ mod laws;
 mod listing;
 mod outcome;
 mod rooms;
-pub mod stub;
 mod viewing;
 mod walking;
 
