@@ -78,14 +78,15 @@ module _ (e : EndValue) (end : IsEnd e) (p : ℕ) where
   pub weighs : (n bytes : ℕ) → IsTrue (has_share st.shares p n) → bytes ≡ bytes_of e.setup st (shared n) → bytes ≡ weight e p n
   weighs n bytes shares is = is ∙ ap (λ b. cond b (bytes_of e.setup st (shared n)) 0) (sym shares)
 
-  pub weighs_nothing : (n : ℕ) → IsFalse (has_share st.shares p n) → weight e p n ≡ 0
-  weighs_nothing n none = ap (λ b. cond b (bytes_of e.setup st (shared n)) 0) none
+  -- a shared heap that is not shared adds nothing
+  pub charged_on : (n : ℕ) → IsFalse (has_share st.shares p n) → charged_to e p n ≡ charged_to e p (n + 1)
+  charged_on n none = omega (arith, charged_more n, ap (λ b. cond b (bytes_of e.setup st (shared n)) 0) none)
 
 -- a process that has ended, and one that lives
-pub ended_by : (a b : Bool) → a ≡ not b → not a ≡ true → b ≡ true
+pub ended_by : (a b : Bool) → a ≡ not b → a ≡ false → b ≡ true
 ended_by a true e t = refl
-ended_by a false e t = absurd (false≢true (sym (ap not e) ∙ t))
+ended_by a false e t = absurd (false≢true (sym t ∙ e))
 
-pub living_by : (a b : Bool) → a ≡ not b → not a ≡ false → b ≡ false
+pub living_by : (a b : Bool) → a ≡ not b → a ≡ true → b ≡ false
 living_by a false e t = refl
-living_by a true e t = absurd (false≢true (sym t ∙ ap not e))
+living_by a true e t = absurd (false≢true (sym e ∙ t))

@@ -1,6 +1,7 @@
 pub mod Lists
 pub mod Places
 pub mod Setups
+pub mod Met
 pub mod Made
 pub mod Sorted
 pub mod Filled

@@ -10,10 +10,10 @@ ghost use Rattle.k_space.specs.Objects.{content_of};
 ghost use Rattle.k_cell.specs.Looks.{field_among, field_count_among, type_among};
 ghost use Rattle.k_outcome.specs.Cells.{IsThere, cell_at};
 
-use k_process::Process;
 use k_book::Book;
 use k_heap::HeapCell;
 use k_kernel::KernelCell;
+use k_process::Process;
 use k_shared::SharedCell;
 use k_space::Stored;
 use k_types::{Heap, Name, Pid, Reg, SharedId, TypeId};

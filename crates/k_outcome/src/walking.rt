@@ -63,6 +63,7 @@ impl Outcome {
         ensures some { IfSome result (IsNextIn (last_state self.now).objects seg.0 after) }
         ensures none { IfNone result (HasNoneAfter (last_state self.now).objects seg.0 after) }
     {
+        let cells = self.cells();
         let heap = self.owner_of(seg);
         let made = self.made_in(seg);
         let mut serial = after;
@@ -72,7 +73,7 @@ impl Outcome {
                 seg,
                 serial: Serial(serial),
             };
-            if self.cells().has(heap, name) {
+            if cells.has(heap, name) {
                 return Some(name);
             }
         }

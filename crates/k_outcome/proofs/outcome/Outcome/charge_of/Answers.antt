@@ -1,4 +1,4 @@
-use Rattle.std.proofs.Common.{◌≡◌, ◌+◌, ◌<◌, sym, ap, ap₂, ◌∙◌, subst, length, not, true, false, arith}
+use Rattle.std.proofs.Common.{◌≡◌, ◌+◌, ◌^◌, ◌<◌, sym, ap, ap₂, ◌∙◌, subst, length, not, true, false, arith}
 use Rattle.k_types.specs.declared.names.Heap.TheVariants.{User}
 use Rattle.k_types.specs.Names.{among}
 use Rattle.k_types.specs.Owners.{bytes_of, object_bytes, shared, user}
@@ -11,7 +11,7 @@ use Rattle.k_complete.specs.Ended.{OutcomeValue}
 use Rattle.k_outcome.specs.Cells.{cell_at}
 use Rattle.k_outcome.specs.Ends.{last_state}
 use Rattle.k_outcome.proofs.Told.{book_shown, book_tells, bytes_told, phases_long}
-use Rattle.k_outcome.proofs.Charged.{charged_all, charged_first, charged_fits, charged_more, charged_nothing, charged_to, ended_by, living_by, weighs, weighs_nothing, weight}
+use Rattle.k_outcome.proofs.Charged.{charged_all, charged_first, charged_fits, charged_more, charged_nothing, charged_on, charged_to, ended_by, living_by, weighs}
 use Rattle.k_outcome.proofs.outcome.Outcome.charge_of.Goals.{then-shares, else-shares}
 use Rattle.k_outcome.proofs.outcome.Outcome.charge_of.Goals as goal
 
@@ -51,10 +51,44 @@ bytes_of-sum-requires c =
     (subst (λ n. c.loop-id.id < n) (sym (phases_long e c.cells-cells.ensures.end)) (subst (λ n. c.loop-id.id < n) c.loop-id.invariant.all c.loop-id-test.true))
 
 pub overflow_add-sum : goal.overflow_add-sum
-overflow_add-sum c = ?
+overflow_add-sum c =
+    let e = c.args.self.now in
+    let book = book_shown e.cells c.cells-cells.result.now c.book-book.result.now c.cells-cells.ensures.cells c.book-book.ensures in
+    let tells = book_tells e c.cells-cells.ensures.end in
+    let lives : c.lives.result ≡ not (among c.args.pid.0 (last_state e).ended)
+    = c.lives.ensures ∙ ap (λ (b : BookRecord). not (among c.args.pid.0 b.value.ended)) book ∙ ap not (tells.ended c.args.pid.0) in
+    let low : c.loop-id.id < e.setup.shared_heaps = subst (λ n. c.loop-id.id < n) c.loop-id.invariant.all c.loop-id-test.true in
+    let shares : has_share (last_state e).shares c.args.pid.0 c.loop-id.id ≡ true
+    = sym (c.shares.ensures ∙ ap (λ (b : BookRecord). has_share b.value.shares c.args.pid.0 c.loop-id.id) book ∙ tells.shares c.args.pid.0 c.loop-id.id) ∙ c.if-shares.true in
+    let bytes : c.bytes_of-sum.result ≡ bytes_of e.setup (last_state e) (shared c.loop-id.id)
+    = c.bytes_of-sum.ensures ∙ ap (λ (b : BookRecord). slice_index b.value.shared_bytes c.loop-id.id) book ∙ tells.bytes c.loop-id.id low in
+    subst (λ n. n + c.bytes_of-sum.result < 2 ^ 64) (sym c.loop-id.invariant.charged)
+    (charged_fits e c.cells-cells.ensures.end c.args.pid.0 c.loop-id.id c.bytes_of-sum.result c.requires
+    (living_by c.lives.result (among c.args.pid.0 (last_state e).ended) lives c.if-not-lives.false) low
+    (weighs e c.cells-cells.ensures.end c.args.pid.0 c.loop-id.id c.bytes_of-sum.result shares bytes))
 
 pub loop-id-preserved : goal.loop-id-preserved
-loop-id-preserved c = ?
+loop-id-preserved c =
+    let e = c.args.self.now in
+    let book = book_shown e.cells c.cells-cells.result.now c.book-book.result.now c.cells-cells.ensures.cells c.book-book.ensures in
+    let tells = book_tells e c.cells-cells.ensures.end in
+    let low : c.loop-id.id < e.setup.shared_heaps = subst (λ n. c.loop-id.id < n) c.loop-id.invariant.all c.loop-id-test.true in
+    let shares : c.shares.result ≡ has_share (last_state e).shares c.args.pid.0 c.loop-id.id
+    = c.shares.ensures ∙ ap (λ (b : BookRecord). has_share b.value.shares c.args.pid.0 c.loop-id.id) book ∙ tells.shares c.args.pid.0 c.loop-id.id in
+    elim c.if-shares.branch [
+      | then-shares w ↦
+          let bytes : w.bytes_of-sum.result ≡ bytes_of e.setup (last_state e) (shared c.loop-id.id)
+          = w.bytes_of-sum.ensures ∙ ap (λ (b : BookRecord). slice_index b.value.shared_bytes c.loop-id.id) book ∙ tells.bytes c.loop-id.id low in
+          let weighed = weighs e c.cells-cells.ensures.end c.args.pid.0 c.loop-id.id w.bytes_of-sum.result (sym shares ∙ w.if-shares.true) bytes in
+          record {
+            all = c.loop-id.invariant.all;
+            charged = w.sum-is ∙ ap₂ (λ m n. m + n) c.loop-id.invariant.charged weighed ∙ sym (charged_more e c.cells-cells.ensures.end c.args.pid.0 c.loop-id.id);
+          }
+      | else-shares w ↦ record {
+        all = c.loop-id.invariant.all;
+        charged = w.sum-is ∙ c.loop-id.invariant.charged ∙ charged_on e c.cells-cells.ensures.end c.args.pid.0 c.loop-id.id (sym shares ∙ w.if-shares.false);
+      }
+    ]
 
 pub returns : goal.returns
 returns c =

@@ -13,23 +13,28 @@ pub returns-then-has-clause-some : goal.returns-then-has-clause-some
 returns-then-has-clause-some c =
     let e = c.args.self.now in
     let st = last_state e in
-    let s = sound e c.cells.ensures.end in
+    let s = sound e c.cells-cells.ensures.end in
     let name = name_at c.args.seg.0 (c.loop-serial.serial + 1) in
     next_found e.setup st.objects st.made s.names.ordered s.names.numbered s.shape.placed c.args.seg.0 c.args.after c.loop-serial.serial c.loop-serial.invariant.low c.loop-serial.invariant.none
-    (sym (c.has.ensures ∙ ap₂ (λ (o : OutcomeValue) (h : Heap). has (cell_at o h).objects name) c.cells.ensures.cells c.owner_of-heap.ensures.owner ∙ has_there e c.cells.ensures.end name c.requires) ∙ c.if-has.true)
+    (sym (c.has.ensures ∙ ap₂ (λ (o : OutcomeValue) (h : Heap). has (cell_at o h).objects name) c.cells-cells.ensures.cells c.owner_of-heap.ensures.owner ∙ has_there e c.cells-cells.ensures.end name c.requires) ∙ c.if-has.true)
 
 pub loop-serial-preserved : goal.loop-serial-preserved
 loop-serial-preserved c =
     let e = c.args.self.now in
     let st = last_state e in
-    let s = sound e c.cells.ensures.end in
+    let s = sound e c.cells-cells.ensures.end in
     let name = name_at c.args.seg.0 (c.loop-serial.serial + 1) in
     record {
       given = c.loop-serial.invariant.given;
       low = omega (arith, c.loop-serial.invariant.low);
       none = none_more e.setup st.objects st.made s.names.ordered s.names.numbered s.shape.placed c.args.seg.0 c.args.after c.loop-serial.serial c.loop-serial.invariant.none
-          (sym (c.has.ensures ∙ ap₂ (λ (o : OutcomeValue) (h : Heap). has (cell_at o h).objects name) c.cells.ensures.cells c.owner_of-heap.ensures.owner ∙ has_there e c.cells.ensures.end name c.requires) ∙ c.if-has.false);
+          (sym (c.has.ensures ∙ ap₂ (λ (o : OutcomeValue) (h : Heap). has (cell_at o h).objects name) c.cells-cells.ensures.cells c.owner_of-heap.ensures.owner ∙ has_there e c.cells-cells.ensures.end name c.requires) ∙ c.if-has.false);
     }
 
 pub returns-clause-none : goal.returns-clause-none
-returns-clause-none c = ?
+returns-clause-none c =
+    let e = c.args.self.now in
+    let st = last_state e in
+    let s = sound e c.cells-cells.ensures.end in
+    none_left e.setup st.objects st.made s.names.ordered s.names.numbered s.shape.placed c.args.seg.0 c.args.after c.loop-serial.serial c.loop-serial.invariant.none
+    (omega (arith, c.loop-serial.invariant.given, c.loop-serial-test.false))
