@@ -1,5 +1,5 @@
 -- All operations in the order of the file.
-use Rattle.std.proofs.Common.{◌≡◌, ℕ, zero, suc, ◌+◌, ◌<◌, ◌≤◌, nat_lt, Bool, true, refl, sym, ap, ap₂, ◌∙◌, subst, List, [], ◌∷◌, ◌++◌, append-nil, append_assoc, map, drop, set, get_or, length, arith, Some, slice_get, IsTrue, IsFalse, inl, inr, eq-refl}
+use Rattle.std.proofs.Common.{◌≡◌, ℕ, zero, suc, ◌+◌, ◌<◌, ◌≤◌, nat_lt, true, refl, sym, ap, ap₂, ◌∙◌, subst, List, [], ◌∷◌, ◌++◌, append-nil, append_assoc, map, drop, set, get_or, length, arith, Some, slice_get, IsTrue, inl, inr}
 use Rattle.std.specs.List.{list_all}
 use Rattle.std.proofs.lemmas.Bool.{and_parts}
 use Rattle.std.proofs.lemmas.Bool.Decides.{nat_tests}
@@ -8,7 +8,6 @@ use Rattle.k_types.specs.declared.names.Heap.TheVariants.{User}
 use Rattle.k_types.specs.declared.names.Pid.{Pid}
 use Rattle.k_types.specs.Complete.{EndsWithClosing, IsComplete}
 use Rattle.k_types.specs.FileOrder.{events_of, file_order, file_order_from, last_events, next_operation}
-use Rattle.k_types.specs.Names.{among}
 use Rattle.k_types.specs.State.{State, opening}
 use Rattle.k_types.specs.Steps.{done_by, run, state_after}
 use Rattle.k_types.specs.Trace.{Trace, operations_of, process_count}
@@ -24,7 +23,8 @@ use Rattle.k_book.specs.Books.{BookRecord}
 use Rattle.k_cell.specs.Holdings.{HoldingsValue}
 use Rattle.k_heap.specs.Heaps.{HeapRecord, has_ended_in}
 use Rattle.k_shared.specs.SharedHeaps.{SharedRecord}
-use Rattle.k_locked.specs.Keeping.{HeapKeeps, operations_left}
+use Rattle.k_locked.proofs.Kept.{drop_none}
+use Rattle.k_locked.specs.Keeping.{HeapKeeps}
 use Rattle.k_process.specs.declared.process.Process.{Process}
 use Rattle.k_process.specs.Standing.{IsThroughWith, ProcessesStand, RestStands}
 use Rattle.k_process.specs.Worlds.{WorldValue}
@@ -32,7 +32,7 @@ use Rattle.k_process.proofs.Kept.{process_set}
 use Rattle.k_process.proofs.Written.{get_set_cases}
 use Rattle.k_complete.specs.Closing.{HasClosedAll}
 use Rattle.k_complete.specs.Meetings.{CellsMet}
-use Rattle.k_complete.specs.Replaying.{ArePublished, CanDoLine, CanReplay, HasDoneLine, HasReplayed}
+use Rattle.k_complete.specs.Replaying.{ArePublished, CanDoLine, HasDoneLine, HasReplayed}
 use Rattle.k_complete.proofs.LineKept.{process_shown}
 
 -- what is left of the order, and the journal, are together the history of the file's order
@@ -77,11 +77,18 @@ place_known n (pid ∷ pids) (suc i) d all inside =
 
 pub places_left : (pids : List Pid) (i : ℕ) (d : Pid) → i < length pids → map (λ (pid : Pid). pid.0) (drop i pids) ≡ (get_or pids i d).0 ∷ map (λ (pid : Pid). pid.0) (drop (i + 1) pids)
 places_left [] i d inside = absurd (omega arith)
-places_left (pid ∷ pids) zero d inside = refl
-places_left (pid ∷ pids) (suc i) d inside = places_left pids i d (omega arith)
+places_left (pid ∷ pids) zero d inside = ap (λ qs. pid.0 ∷ map (λ (q : Pid). q.0) qs) (sym (drop_none pids))
+places_left (pid ∷ pids) (suc i) d inside =
+    let e : suc i + 1 ≡ suc (i + 1) = omega arith in
+    places_left pids i d (omega arith) ∙ ap (λ n. (get_or pids i d).0 ∷ map (λ (q : Pid). q.0) (drop n (pid ∷ pids))) (sym e)
 
 pub no_places_left : (pids : List Pid) (i : ℕ) → length pids ≤ i → map (λ (pid : Pid). pid.0) (drop i pids) ≡ []
 no_places_left pids i past = ap (map (λ (pid : Pid). pid.0)) (drop_all pids i past)
+
+-- the place that comes next is a process of the trace
+pub next_known : (trace : Trace) (order : List Pid) (i : ℕ) (d : Pid) → KeepsRules trace → map (λ (pid : Pid). pid.0) order ≡ trace.order → i < length order → (get_or order i d).0 < process_count trace
+next_known trace order i d rules is inside =
+    place_known (process_count trace) order i d (subst (λ (ps : List ℕ). list_all (λ p. nat_lt p (process_count trace)) ps ≡ true) (sym is) rules.operations.ordered) inside
 
 -- one line more
 module _ (world : WorldValue) (ps : List Process) (k : HoldingsValue) (ss : List SharedRecord) (b : BookRecord) (processes : ProcessesStand world ps) (rest : RestStands world k ss b) (published : ArePublished ps)
