@@ -1,7 +1,7 @@
 pub mod Lists
 pub mod Places
 pub mod Setups
-pub mod Met
+pub mod OverByMeeting
 pub mod Made
 pub mod Sorted
 pub mod Filled
