@@ -21,7 +21,7 @@ use Rattle.k_text.specs.Shown.{in_order}
 use Rattle.k_complete.specs.Ended.{OutcomeValue}
 use Rattle.k_solo.specs.Runs.{heap_at}
 use Rattle.k_outcome.specs.Cells.{IsThere, cell_at}
-use Rattle.k_outcome.specs.Ends.{EndValue, IsEnd, last_state}
+use Rattle.k_outcome.specs.Ends.{EndValue, EndsRun, IsEnd, last_state}
 
 -- the object that the reply says was made
 abbrev pub made_in_reply : Reply → Option Name
@@ -60,6 +60,11 @@ most_exits trace (Shared s) = shared_exit_room trace s.0
 pub record AreRoomsFor (trace : Trace) (rooms : List ℕ) : Type 0 where
   pub sized : length rooms ≡ segment_count trace
   pub each : (h : Heap) → IsHeap trace h → most_exits trace h ≤ slice_index_or rooms (segment_of trace h) 0
+
+-- the run of the trace is over, and there is room for the exit items of its heaps
+pub record CanEnd (trace : Trace) (setup : Trace) (o : OutcomeValue) (rooms : List ℕ) : Type 0 where
+  pub over : EndsRun trace setup o
+  pub room : AreRoomsFor trace rooms
 
 -- there is a row for each segment, and where no exit item of the heap that begins with it stands twice, room for their targets
 pub record HaveRoom (setup : Trace) (o : OutcomeValue) (rooms : List ℕ) : Type 0 where

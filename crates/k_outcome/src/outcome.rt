@@ -3,8 +3,8 @@ ghost use Rattle.std.specs.Prelude.{◌≡◌, ◌<◌, [], slice_index_or};
 ghost use Rattle.k_types.specs.Trace.{IsHeap, Trace, segment_count, trace_of};
 ghost use Rattle.k_text.specs.Shown.{in_order};
 ghost use Rattle.k_outcome.specs.Cells.{cell_at};
-ghost use Rattle.k_outcome.specs.Ends.{EndsRun, IsEnd, last_state};
-ghost use Rattle.k_outcome.specs.Listed.{AreRoomsFor};
+ghost use Rattle.k_outcome.specs.Ends.{IsEnd, last_state};
+ghost use Rattle.k_outcome.specs.Listed.{CanEnd};
 
 use crate::cells::Cells;
 use crate::listing::{count_made, list_all_targets, segment_of};
@@ -44,8 +44,7 @@ impl Model for Outcome {
 /// once, and sorts the exit items of each heap. It takes no memory.
 pub fn outcome_of(names: Names, setup: Setup, cells: Cells, rooms: ReportRooms) -> Outcome
     ghost trace: { Trace }
-    requires over { EndsRun trace (trace_of setup [] []) cells }
-    requires room { AreRoomsFor trace rooms }
+    requires { CanEnd trace (trace_of setup [] []) cells rooms }
     ensures { result ≡ record { names = names; setup = trace_of setup [] []; cells = cells } }
 {
     let ReportRooms {

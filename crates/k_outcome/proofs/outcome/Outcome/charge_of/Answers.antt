@@ -62,10 +62,11 @@ overflow_add-sum c =
     = sym (c.shares.ensures ∙ ap (λ (b : BookRecord). has_share b.value.shares c.args.pid.0 c.loop-id.id) book ∙ tells.shares c.args.pid.0 c.loop-id.id) ∙ c.if-shares.true in
     let bytes : c.bytes_of-sum.result ≡ bytes_of e.setup (last_state e) (shared c.loop-id.id)
     = c.bytes_of-sum.ensures ∙ ap (λ (b : BookRecord). slice_index b.value.shared_bytes c.loop-id.id) book ∙ tells.bytes c.loop-id.id low in
-    subst (λ n. n + c.bytes_of-sum.result < 2 ^ 64) (sym c.loop-id.invariant.charged)
-    (charged_fits e c.cells-cells.ensures.end c.args.pid.0 c.loop-id.id c.bytes_of-sum.result c.requires
+    let fits = charged_fits e c.cells-cells.ensures.end c.args.pid.0 c.loop-id.id c.bytes_of-sum.result c.requires
     (living_by c.lives.result (among c.args.pid.0 (last_state e).ended) lives c.if-not-lives.false) low
-    (weighs e c.cells-cells.ensures.end c.args.pid.0 c.loop-id.id c.bytes_of-sum.result shares bytes))
+    (weighs e c.cells-cells.ensures.end c.args.pid.0 c.loop-id.id c.bytes_of-sum.result shares bytes) in
+    let same : c.loop-id.sum ≡ charged_to e c.args.pid.0 c.loop-id.id = c.loop-id.invariant.charged in
+    omega (arith, same, fits)
 
 pub loop-id-preserved : goal.loop-id-preserved
 loop-id-preserved c =
