@@ -1,15 +1,15 @@
 -- What a process is charged, summed over the shared heaps one after the other.
-use Rattle.std.proofs.Common.{◌≡◌, ℕ, zero, suc, ◌+◌, ◌^◌, ◌<◌, ◌≤◌, cond, not, Bool, true, false, refl, sym, ap, ◌∙◌, List, ◌++◌, ◌∷◌, [], arith}
+use Rattle.std.proofs.Common.{◌≡◌, ℕ, zero, suc, ◌+◌, ◌^◌, ◌<◌, ◌≤◌, cond, not, Bool, true, false, refl, sym, ap, ◌∙◌, List, arith}
 use Rattle.std.specs.Prelude.{◌==◌, IsFalse, IsTrue, filter}
 use Rattle.std.proofs.lemmas.Bool.{false≢true}
 use Rattle.k_types.specs.declared.setup.LimitRow.{LimitRow}
-use Rattle.k_types.specs.Limits.{limits_in, max_of}
+use Rattle.k_types.specs.Limits.{max_of}
 use Rattle.k_types.specs.Names.{among}
 use Rattle.k_types.specs.Numbers.{numbers_below, numbers_from}
 use Rattle.k_types.specs.Owners.{bytes_of, charge_of, shared, user}
 use Rattle.k_types.specs.State.{Sharing, State, has_share}
 use Rattle.k_types.specs.Totals.{total}
-use Rattle.k_types.specs.Trace.{Trace, limit_of, process_count}
+use Rattle.k_types.specs.Trace.{limit_of, process_count}
 use Rattle.k_base.proofs.Lists.{numbers_push}
 use Rattle.k_base.proofs.Sums.{total_push}
 use Rattle.k_changes.proofs.SharedSums.{shares_sum}

@@ -19,10 +19,8 @@ use Rattle.k_laws.proofs.SoundSteps.{legal_sound}
 use Rattle.k_known.proofs.Counted.{all_ordered}
 use Rattle.k_known.proofs.Laws.{events_are_known}
 use Rattle.k_agree.specs.Agreement.{BookShows, Shows}
-use Rattle.k_agree.specs.Rooms.{AreFirst, event_room}
+use Rattle.k_agree.specs.Rooms.{AreFirst}
 use Rattle.k_agree.proofs.WithinRooms.{fits_rooms}
-use Rattle.k_book.specs.Books.{BookRecord}
-use Rattle.k_book.specs.Machine.{IsBookOf}
 use Rattle.k_heap.specs.Heaps.{HeapRecord}
 use Rattle.k_shared.specs.SharedHeaps.{SharedRecord}
 use Rattle.k_locked.proofs.CanDo.{exits_many}
@@ -34,7 +32,7 @@ use Rattle.k_state.specs.Machines.{setup_of}
 use Rattle.k_solo.specs.Runs.{heap_at}
 use Rattle.k_solo.proofs.Lines.{setup_rules}
 use Rattle.k_solo.proofs.Unread.{legal_unread, run_unread}
-use Rattle.k_complete.specs.Ended.{IsOutcome, OutcomeValue}
+use Rattle.k_complete.specs.Ended.{OutcomeValue}
 use Rattle.k_outcome.specs.Cells.{IsThere, cell_at, process_value, shared_value}
 use Rattle.k_outcome.specs.Ends.{EndsRun, IsEnd}
 use Rattle.k_outcome.specs.Listed.{AreRoomsFor, CanCount, HaveRoom, most_exits}

@@ -1,5 +1,5 @@
 -- Names that are sorted are in order.
-use Rattle.std.proofs.Common.{◌≡◌, ℕ, ◌+◌, ◌<◌, false, refl, sym, ap, ◌∙◌, List, [], ◌∷◌, get_or, is_lt, length, map, nat_cmp, IsFalse}
+use Rattle.std.proofs.Common.{◌≡◌, ℕ, ◌+◌, ◌<◌, false, refl, sym, ap, ◌∙◌, List, [], ◌∷◌, get_or, is_lt, length, map, nat_cmp}
 use Rattle.std.specs.List.Sorted.{IsPermutation}
 use Rattle.std.specs.Ordering.{ordering_then}
 use Rattle.k_types.specs.declared.names.Heap.TheVariants.{Kernel}

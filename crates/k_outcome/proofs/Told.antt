@@ -1,27 +1,24 @@
 -- What the cells and the book of a run that is over tell of the state after the journal.
-use Rattle.std.proofs.Common.{◌≡◌, ℕ, zero, suc, ◌+◌, ◌^◌, ◌<◌, ◌≤◌, cond, is_some, true, refl, sym, ap, ◌∙◌, subst, List, [], ◌∷◌, get_or, length, map, Option, Some, None, slice_get, arith}
+use Rattle.std.proofs.Common.{◌≡◌, ℕ, ◌^◌, ◌<◌, ◌≤◌, cond, is_some, refl, sym, ap, ◌∙◌, List, get_or, length, Option, Some, None, slice_get, arith}
 use Rattle.std.specs.Prelude.{IfSome, IsTrue, option_and_then}
 use Rattle.std.proofs.lemmas.List.{length-map}
 use Rattle.k_types.specs.declared.event.Event.{Event}
 use Rattle.k_types.specs.declared.names.Heap.{Heap}
-use Rattle.k_types.specs.declared.names.Heap.TheVariants.{Kernel, Shared, User}
+use Rattle.k_types.specs.declared.names.Heap.TheVariants.{User}
 use Rattle.k_types.specs.declared.names.Name.{Name}
 use Rattle.k_types.specs.declared.names.Phase.{Phase}
 use Rattle.k_types.specs.declared.names.Phase.TheVariants.{Absorbed, Frozen, Populating, Unmade}
 use Rattle.k_types.specs.declared.names.Pid.{Pid}
-use Rattle.k_types.specs.declared.names.Reg.{Reg}
-use Rattle.k_types.specs.declared.names.TypeId.{TypeId}
-use Rattle.k_types.specs.Agree.{CellValue}
-use Rattle.k_types.specs.Cells.{BookPart, ProcessPart, ShownPart, book_part, part}
+use Rattle.k_types.specs.Cells.{BookPart, ShownPart, book_part, part}
 use Rattle.k_types.specs.Known.{IsKnownEvent, IsKnownPhase}
-use Rattle.k_types.specs.Names.{among, heap_eq, name_among}
+use Rattle.k_types.specs.Names.{heap_eq}
 use Rattle.k_types.specs.Numbers.{numbers_below}
 use Rattle.k_types.specs.Owners.{bytes_by, bytes_of, object_bytes, objects_of, owner_of, phase_of}
 use Rattle.k_types.specs.Replies.{field_at, field_count}
 use Rattle.k_types.specs.Sound.{IsSound}
-use Rattle.k_types.specs.State.{Content, Holds, Object, State, fields_of, has, has_exit, object_at, register}
+use Rattle.k_types.specs.State.{Holds, Object, State, fields_of, has, object_at, register}
 use Rattle.k_types.specs.Totals.{total}
-use Rattle.k_types.specs.Trace.{IsHeap, Trace, process_count, segment_count}
+use Rattle.k_types.specs.Trace.{IsHeap, process_count, segment_count}
 use Rattle.k_base.proofs.Lists.{numbers_length}
 use Rattle.k_base.proofs.NameTests.{heap_eq_refl}
 use Rattle.k_base.proofs.Objects.{is_some-object_at, object_at-kept}
@@ -32,12 +29,10 @@ use Rattle.k_bounds.specs.Counts.{has_stored}
 use Rattle.k_bounds.proofs.AllExits.{exits_at_most_stores}
 use Rattle.k_bounds.proofs.Counting.{count_low}
 use Rattle.k_known.proofs.Laws.{events_are_known, objects_fit_their_types}
-use Rattle.k_agree.specs.Agreement.{Shows}
 use Rattle.k_book.specs.Books.{BookRecord}
 use Rattle.k_book.specs.Machine.{TellsTheLimits, TellsTheMachine}
 use Rattle.k_book.proofs.Telling.{tells, tells_limits}
 use Rattle.k_cell.specs.Looks.{field_among, field_count_among, type_among, type_of_some}
-use Rattle.k_entry.specs.Entries.{home_of}
 use Rattle.k_text.specs.Shown.{exits_of, in_order, type_at}
 use Rattle.k_text.proofs.InOrder.{in_order_among, in_order_rises, rising_exits}
 use Rattle.k_solo.proofs.Arranged.{exits_length}

@@ -1,5 +1,5 @@
-use Rattle.std.proofs.Common.{◌≤◌, [], arith}
-use Rattle.k_types.specs.Trace.{segment_count, trace_of}
+use Rattle.std.proofs.Common.{[], arith}
+use Rattle.k_types.specs.Trace.{trace_of}
 use Rattle.k_outcome.proofs.Filled.{filled_all}
 use Rattle.k_outcome.proofs.listing.list_all_targets.Goals as goal
 

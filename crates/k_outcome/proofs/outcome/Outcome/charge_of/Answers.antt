@@ -1,7 +1,7 @@
-use Rattle.std.proofs.Common.{◌≡◌, ◌+◌, ◌^◌, ◌<◌, sym, ap, ap₂, ◌∙◌, subst, length, not, true, false, arith}
+use Rattle.std.proofs.Common.{◌≡◌, ◌+◌, ◌<◌, sym, ap, ap₂, ◌∙◌, subst, length, not, true, arith}
 use Rattle.k_types.specs.declared.names.Heap.TheVariants.{User}
 use Rattle.k_types.specs.Names.{among}
-use Rattle.k_types.specs.Owners.{bytes_of, object_bytes, shared, user}
+use Rattle.k_types.specs.Owners.{bytes_of, object_bytes, shared}
 use Rattle.k_types.specs.State.{has_share}
 use Rattle.k_types.specs.Totals.{total}
 use Rattle.k_types.specs.Trace.{Trace}

@@ -1,4 +1,4 @@
-use Rattle.std.proofs.Common.{◌≡◌, ap₂, ◌∙◌}
+use Rattle.std.proofs.Common.{ap₂, ◌∙◌}
 use Rattle.k_types.specs.declared.names.Heap.{Heap}
 use Rattle.k_cell.specs.Looks.{field_among}
 use Rattle.k_complete.specs.Ended.{OutcomeValue}

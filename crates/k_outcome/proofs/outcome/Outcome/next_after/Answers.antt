@@ -1,4 +1,4 @@
-use Rattle.std.proofs.Common.{◌≡◌, ◌+◌, ◌≤◌, sym, ap, ◌∙◌, subst, arith}
+use Rattle.std.proofs.Common.{◌+◌, sym, ap, ◌∙◌, subst, arith}
 use Rattle.k_types.specs.declared.names.Name.{Name}
 use Rattle.k_types.specs.Trace.{Trace, segment_count}
 use Rattle.k_outcome.specs.Ends.{last_state}

@@ -1,4 +1,4 @@
-use Rattle.std.proofs.Common.{◌≡◌, ◌+◌, ◌≤◌, sym, ap₂, ◌∙◌, arith}
+use Rattle.std.proofs.Common.{◌+◌, sym, ap₂, ◌∙◌, arith}
 use Rattle.k_types.specs.declared.names.Heap.{Heap}
 use Rattle.k_types.specs.State.{has}
 use Rattle.k_complete.specs.Ended.{OutcomeValue}

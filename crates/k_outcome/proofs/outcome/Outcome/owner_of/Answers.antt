@@ -1,5 +1,4 @@
-use Rattle.std.proofs.Common.{◌≡◌, ◌<◌, sym, ap, ◌∙◌, subst, length}
-use Rattle.k_types.specs.Owners.{owner_of}
+use Rattle.std.proofs.Common.{◌<◌, sym, ap, ◌∙◌, subst, length}
 use Rattle.k_types.specs.Trace.{IsHeap}
 use Rattle.k_frame.proofs.OwnerOf.{owner_known}
 use Rattle.k_book.specs.Books.{BookRecord}

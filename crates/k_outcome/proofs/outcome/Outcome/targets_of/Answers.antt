@@ -1,8 +1,8 @@
-use Rattle.std.proofs.Common.{◌≡◌, ◌<◌, sym, ap, ◌∙◌, subst, List, [], get_or, length, map, Vec, Global}
+use Rattle.std.proofs.Common.{◌≡◌, ◌<◌, sym, ap, ◌∙◌, subst, [], length, Vec, Global}
 use Rattle.std.proofs.lemmas.List.{length-map}
 use Rattle.k_types.specs.declared.names.Heap.{Heap}
 use Rattle.k_types.specs.declared.names.Name.{Name}
-use Rattle.k_types.specs.Trace.{IsHeap, segment_count, segment_of, trace_of}
+use Rattle.k_types.specs.Trace.{IsHeap, segment_count, trace_of}
 use Rattle.k_text.specs.Shown.{in_order}
 use Rattle.k_solo.specs.Runs.{heap_at}
 use Rattle.k_solo.proofs.Arranged.{begins_with, row_at}

@@ -1,4 +1,4 @@
-use Rattle.std.proofs.Common.{◌≡◌, ap, ◌∙◌}
+use Rattle.std.proofs.Common.{ap, ◌∙◌}
 use Rattle.k_types.specs.Owners.{object_bytes}
 use Rattle.k_types.specs.Totals.{total}
 use Rattle.k_complete.specs.Ended.{OutcomeValue}

@@ -1,4 +1,4 @@
-use Rattle.std.proofs.Common.{◌≡◌, sym, ap, ◌∙◌, slice_get}
+use Rattle.std.proofs.Common.{sym, ap, ◌∙◌, slice_get}
 use Rattle.k_book.specs.Books.{BookRecord}
 use Rattle.k_outcome.proofs.Told.{book_shown, event_known}
 use Rattle.k_outcome.proofs.viewing.OutcomeView.event.Goals as goal

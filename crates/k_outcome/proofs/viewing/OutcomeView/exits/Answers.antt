@@ -1,4 +1,4 @@
-use Rattle.std.proofs.Common.{◌≡◌, ◌<◌, ap, ◌∙◌, List, length, arith}
+use Rattle.std.proofs.Common.{ap, ◌∙◌, List, length, arith}
 use Rattle.k_types.specs.declared.names.Name.{Name}
 use Rattle.k_outcome.proofs.Told.{exits_told, few_exits}
 use Rattle.k_outcome.proofs.viewing.OutcomeView.exits.Goals as goal

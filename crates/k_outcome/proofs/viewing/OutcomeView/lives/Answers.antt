@@ -1,4 +1,4 @@
-use Rattle.std.proofs.Common.{◌≡◌, ap, ◌∙◌, not}
+use Rattle.std.proofs.Common.{ap, ◌∙◌, not}
 use Rattle.k_types.specs.Names.{among}
 use Rattle.k_book.specs.Books.{BookRecord}
 use Rattle.k_outcome.proofs.Told.{book_shown, book_tells}

@@ -1,4 +1,4 @@
-use Rattle.std.proofs.Common.{◌≡◌, ap, ◌∙◌}
+use Rattle.std.proofs.Common.{ap, ◌∙◌}
 use Rattle.k_types.specs.Limits.{max_of}
 use Rattle.k_book.specs.Books.{BookRecord}
 use Rattle.k_outcome.proofs.Told.{book_shown, limits_told}

@@ -1,4 +1,4 @@
-use Rattle.std.proofs.Common.{◌≡◌, ◌<◌, sym, ap₂, ◌∙◌, subst, length, Option}
+use Rattle.std.proofs.Common.{◌<◌, sym, ap₂, ◌∙◌, subst, length, Option}
 use Rattle.std.specs.Prelude.{IfSome}
 use Rattle.k_types.specs.declared.names.Heap.{Heap}
 use Rattle.k_types.specs.declared.names.TypeId.{TypeId}

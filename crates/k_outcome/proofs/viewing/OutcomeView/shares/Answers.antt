@@ -1,4 +1,4 @@
-use Rattle.std.proofs.Common.{◌≡◌, ◌<◌, sym, ap, ◌∙◌, subst, length}
+use Rattle.std.proofs.Common.{◌<◌, sym, ap, ◌∙◌, subst, length}
 use Rattle.k_types.specs.State.{has_share}
 use Rattle.k_book.specs.Books.{BookRecord}
 use Rattle.k_outcome.proofs.Told.{book_shown, book_tells, phases_long}

@@ -1,4 +1,4 @@
-use Rattle.std.proofs.Common.{◌≡◌, ap, ◌∙◌}
+use Rattle.std.proofs.Common.{ap, ◌∙◌}
 use Rattle.k_limits.specs.Limits.{use_at}
 use Rattle.k_book.specs.Books.{BookRecord, book_limits}
 use Rattle.k_outcome.proofs.Told.{book_shown, limits_told}
