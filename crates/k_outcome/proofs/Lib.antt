@@ -1,0 +1,10 @@
+pub mod Lists
+pub mod Places
+pub mod Setups
+pub mod OverByMeeting
+pub mod Made
+pub mod Sorted
+pub mod Filled
+pub mod Told
+pub mod Charged
+pub mod Walked
