@@ -1,13 +1,62 @@
--- What is known of a process between two locks.
+-- What is known of a process between two locks, and what is done under them.
+use Rattle.std.specs.Prelude.{◌≡◌, ◌≢◌, Bool, IsFalse, IsTrue, [], ◌∷◌, ◌++◌, Option, None, Some}
+use Rattle.k_types.specs.declared.event.Event.TheVariants.{Absorbed}
+use Rattle.k_types.specs.declared.names.CellPhase.TheVariants.{Begun}
+use Rattle.k_types.specs.declared.names.SharedId.{SharedId}
 use Rattle.k_types.specs.declared.op.Op.{Op}
+use Rattle.k_types.specs.declared.op.Op.TheVariants.{KCollect}
+use Rattle.k_types.specs.Agree.{book_shown_by}
+use Rattle.k_types.specs.Cells.{Cell}
 use Rattle.k_types.specs.Trace.{Trace}
-use Rattle.k_heap.specs.Heaps.{HeapRecord}
+use Rattle.k_squares.specs.Touches.{other_cells_in}
+use Rattle.k_moves.specs.Shown.{idle_part}
+use Rattle.k_shares.specs.Sharers.{lowest_orphan}
+use Rattle.k_book.specs.Books.{BookRecord}
+use Rattle.k_heap.specs.Heaps.{HeapRecord, has_ended_in}
+use Rattle.k_cell.specs.Holdings.{HoldingsValue}
+use Rattle.k_locked.specs.Keeping.{KernelKeeps, operations_left}
 use Rattle.k_steps.specs.declared.reached.Reach.{Reach}
 use Rattle.k_steps.specs.declared.reached.Reach.TheVariants.{Own, Kernel, Shared}
-use Rattle.k_operate.specs.Readiness.{IsReady}
+use Rattle.k_operate.specs.Readiness.{IsOutside, IsReady}
+use Rattle.k_operate.specs.Collecting.{KernelCollects}
+use Rattle.k_process.specs.Standing.{HasDone}
+use Rattle.k_process.specs.Worlds.{WorldValue}
 
--- the operation was done where it reaches no other cell, and is ready else
-abbrev pub IsReadyFor : Reach → Trace → HeapRecord → Op → Type 0
-IsReadyFor Own trace c op = Unit {0}
-IsReadyFor Kernel trace c op = IsReady trace c op
-IsReadyFor (Shared id) trace c op = IsReady trace c op
+-- the process lives as before with the same operations left; some of its events may be published now
+pub record HasSameLeft (trace : Trace) (old new : HeapRecord) : Type 0 where
+  pub pid : new.pid ≡ old.pid
+  pub left : operations_left trace new ≡ operations_left trace old
+  pub ended : has_ended_in new.value.process ≡ has_ended_in old.value.process
+
+-- the process has done the operation where the answer is yes; where it is no, nothing changed and the operation is not local
+pub record HasDoneUnless (trace : Trace) (op : Op) (old new : HeapRecord) (answer : Bool) : Type 0 where
+  pub done : IsTrue answer → HasDone trace op old new
+  pub same : IsFalse answer → new ≡ old
+  pub outside : IsFalse answer → IsOutside trace new op
+
+-- the operation was done where it reaches no other cell; else it is ready, and so far its events may be published alone
+abbrev pub IsReadyFor : Reach → Trace → Op → HeapRecord → HeapRecord → Type 0
+IsReadyFor Own trace op old new = HasDone trace op old new
+IsReadyFor Kernel trace op old new = IsReady trace new op × HasSameLeft trace old new
+IsReadyFor (Shared id) trace op old new = IsReady trace new op × HasSameLeft trace old new
+
+-- the process has done the operation where the answer is yes; where it is no, the operation does not touch just that cell beside the own
+-- one, as cell and book told
+pub record HasDoneBeside (trace : Trace) (op : Op) (beside : Cell) (old new : HeapRecord) (book : BookRecord) (answer : Bool) : Type 0 where
+  pub done : IsTrue answer → HasDone trace op old new
+  pub elsewhere : IsFalse answer → other_cells_in trace (book_shown_by book.value) (idle_part old.value) old.pid.0 op ≢ beside ∷ []
+
+-- an orphan is in the way, the kernel's cell keeps what its lock asks and the process has the same operations left; else the process has
+-- done `kcollect`, and the kernel's heap is collected
+abbrev pub HasBegunUnless : Option SharedId → WorldValue → HeapRecord → HeapRecord → HoldingsValue → Type 0
+HasBegunUnless (Some orphan) world old new kernel = HasSameLeft world.trace old new × KernelKeeps world.trace world.table kernel
+HasBegunUnless None world old new kernel = HasDone world.trace KCollect old new × KernelCollects world Begun kernel
+
+-- an orphan was in the way, and the process has the same operations left; else it has done `kcollect`
+abbrev pub HasCollectedUnless : Option SharedId → Trace → HeapRecord → HeapRecord → Type 0
+HasCollectedUnless (Some orphan) trace old new = HasSameLeft trace old new
+HasCollectedUnless None trace old new = HasDone trace KCollect old new
+
+-- where the shared heap was the first orphan, its absorption is the newest event of the book's journal
+abbrev pub IsAbsorbedIfFirst : SharedId → BookRecord → BookRecord → Type 0
+IsAbsorbedIfFirst id old new = lowest_orphan old.value.phases old.value.shares ≡ Some id.0 → new.journal.list ≡ old.journal.list ++ Absorbed id ∷ []

@@ -1,0 +1,92 @@
+//! A run that is put behind its locks.
+ghost use Rattle.std.specs.Prelude.{◌≡◌, IfOk, length};
+ghost use Rattle.k_process.specs.Standing.{HeapsStand, ProcessesStand};
+ghost use Rattle.k_still.specs.Opening.{StillStands};
+
+use crate::locked::{LockedBook, LockedKernel, LockedProcess, LockedShared};
+use crate::rooms::end_rooms;
+use crate::running::MOST_WORKERS;
+use crate::world::{Locks, World};
+use crate::worlds::WorldName;
+use k_io::NoMemory;
+use k_process::Process;
+use k_shared::SharedCell;
+use k_still::Still;
+use k_turns::Turns;
+use std::alloc::Global;
+use std::sync::{Mutex, Wait};
+
+/// Each process behind a lock of its own.
+fn lock_processes<W: WorldName>(
+    alloc: Global,
+    mut processes: Vec<Process>,
+) -> Result<Vec<Mutex<LockedProcess<W>>>, NoMemory>
+    requires { ProcessesStand W.world processes.items }
+    ensures { IfOk result (λ locks. length locks.items ≡ length processes.items) }
+{
+    let mut locks = Vec::with_capacity(alloc, processes.len())?;
+    while let Some(process) = processes.pop() {
+        locks.push(Mutex::new(LockedProcess::of(process)))?;
+    }
+    locks.reverse();
+    Ok(locks)
+}
+
+/// Each cell of a shared heap behind a lock of its own.
+fn lock_shared<W: WorldName>(
+    alloc: Global,
+    mut shared: Vec<SharedCell>,
+) -> Result<Vec<Mutex<LockedShared<W>>>, NoMemory>
+    requires { HeapsStand W.world shared.items }
+    ensures { IfOk result (λ locks. length locks.items ≡ length shared.items) }
+{
+    let mut locks = Vec::with_capacity(alloc, shared.len())?;
+    while let Some(cell) = shared.pop() {
+        locks.push(Mutex::new(LockedShared::of(cell)))?;
+    }
+    locks.reverse();
+    Ok(locks)
+}
+
+/// Puts each process, the kernel, each shared heap and the book behind a lock of its own, as the run that `W` names, and queues the
+/// processes for as many workers as there are processes, at most four. It takes all memory with which the run goes on and is ended. It
+/// waits for the queue, which nobody else has.
+///
+/// # Errors
+///
+/// `NoMemory` where the locks, the queue or the places for the end find no room.
+pub fn open<W: WorldName, R: Wait>(
+    rt: &R,
+    alloc: Global,
+    still: Still,
+) -> Result<World<W>, NoMemory>
+    requires { StillStands W.world still }
+    ensures { IfOk result (λ world. (world.names ≡ still.names) × (world.setup ≡ still.setup)) }
+{
+    let Still {
+        processes,
+        kernel,
+        shared,
+        book,
+        names,
+        setup,
+        order: _,
+    } = still;
+    let count = processes.len() as u32;
+    let (turns, passes) = Turns::make(rt, alloc, count, count.min(MOST_WORKERS))?;
+    let rooms = end_rooms(alloc, processes.len(), shared.len())?;
+    let locks = Locks {
+        processes: lock_processes(alloc, processes)?,
+        kernel: Mutex::new(LockedKernel::of(kernel)),
+        shared: lock_shared(alloc, shared)?,
+        book: Mutex::new(LockedBook::of(book)),
+    };
+    Ok(World {
+        locks,
+        turns,
+        passes,
+        rooms,
+        names,
+        setup,
+    })
+}
