@@ -15,7 +15,8 @@ use Rattle.k_locked.specs.Keeping.{operations_left}
 use Rattle.k_locked.proofs.CanDo.{passes_at}
 use Rattle.k_process.specs.declared.process.Process.{Process}
 use Rattle.k_process.specs.Standing.{IsNextOf}
-use Rattle.k_complete.specs.Ended.{AllEnded, AllMet, AllStand, CanComplete, HasCompleted, IsSlice}
+use Rattle.k_complete.specs.Closing.{HasClosedAll}
+use Rattle.k_complete.specs.Ended.{AllEnded, AllMet, AllStand, AllThrough, CanComplete, HasCompleted, IsSlice}
 use Rattle.k_complete.specs.Meetings.{BookEnds, HeapsAndBook, HeapsMet, ProcessesMet, ProcessesThrough}
 use Rattle.k_process.specs.Standing.{ComesNext, HasDone, IsThroughWith, ProcessStands, RestStands}
 use Rattle.k_operate.specs.Steps.{CanDoNext, HasPublishedAll, is_put_off}
@@ -96,6 +97,16 @@ module _ (world : WorldValue) (ss : List SharedRecord) (b l : BookRecord) (t : H
 
   pub heap_met_list : w.note.list ≡ l.journal.list
   heap_met_list = ap (λ (c : SharedRecord). c.note.list) s.shared_is ∙ ap (λ (x : BookRecord). x.journal.list) (sym s.book_is)
+
+-- processes that are through, and what comes last is done
+pub all_closed : (world : WorldValue) (ps : List Process) (k x : HoldingsValue) (ss ts : List SharedRecord) (b l : BookRecord) → AllThrough world ps k ss b → HasClosedAll world x ts b l → AllEnded world ps x ts l
+all_closed world ps k x ss ts b l a c = record {
+  processes = record { processes = a.stand.processes; through = a.through; book = c.book };
+  kernel = c.kernel;
+  shared = c.shared;
+  orphans = c.orphans;
+  closed = c.closed;
+}
 
 -- all cells have met the journal
 pub all_met : (world : WorldValue) (ps qs : List Process) (k x : HoldingsValue) (ss ts : List SharedRecord) (b c d e : BookRecord) → AllEnded world ps k ss b → ProcessesMet world qs b c → KernelHasMet world.trace k x c d →

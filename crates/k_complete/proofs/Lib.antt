@@ -1,3 +1,4 @@
 pub mod EndKept
-pub mod Unended
+pub mod Closings
+pub mod ClosedKept
 pub mod Over

@@ -3,6 +3,7 @@ ghost use Rattle.k_complete.specs.Ended.{AllEnded, AllMet, AllStand, AllThrough,
 ghost use Rattle.k_complete.specs.Meetings.{HeapsAndBook, HeapsMet, ProcessesMet, ProcessesThrough};
 ghost use Rattle.k_process.specs.Worlds.{WorldValue};
 
+use crate::closing::close_all;
 use k_book::Book;
 use k_commit::{meet_heap, meet_kernel, meet_shared};
 use k_kernel::KernelCell;
@@ -79,4 +80,21 @@ pub fn meet_all(
     meet_processes(processes, book);
     meet_kernel(kernel, book);
     meet_heaps(shared, book);
+}
+
+/// Ends the run: does all operations that are left, one process after the other, then what comes last where every process has ended,
+/// and has each cell meet the journal.
+pub fn end_all(
+    processes: &mut Vec<Process>,
+    kernel: &mut KernelCell,
+    shared: &mut Vec<SharedCell>,
+    book: &mut Book,
+)
+    ghost world: { WorldValue }
+    requires { AllStand world processes.old.items kernel.old shared.old.items book.old }
+    ensures { AllMet world processes.new.items kernel.new shared.new.items book.new }
+{
+    complete_all(processes, kernel, shared, book);
+    close_all(kernel, shared, book);
+    meet_all(processes, kernel, shared, book);
 }

@@ -1,2 +1,4 @@
 pub mod Steps
 pub mod Readiness
+pub mod Collecting
+pub mod Absorbing

@@ -1,18 +1,15 @@
 //! One operation of a process, with the cells that it touches and the book.
-ghost use Rattle.k_base.specs.Distinct.{AreDistinctNames};
-ghost use Rattle.k_book.specs.Books.{book_entries};
-ghost use Rattle.k_entry.specs.Entries.{AreEntries};
 ghost use Rattle.k_operate.specs.Steps.{CanDoAlone, CanDoInside, CanDoNext, CanDoWithKernel, CanDoWithShared, HasDoneAlone, HasDoneInside, HasDoneNext, HasDoneWithKernel, HasDoneWithShared, HasPublishedAll, PairStands};
 ghost use Rattle.k_process.specs.Worlds.{WorldValue};
 
+use crate::known::{know_entries, know_exits, know_kernel_exits, know_shared_exits};
 use k_book::Book;
-use k_heap::HeapCell;
 use k_kernel::KernelCell;
 use k_local::local;
 use k_process::Process;
 use k_shared::SharedCell;
 use k_steps::{Reach, publish, reach, step_kernel, step_own, step_shared};
-use k_types::{Heap, Op};
+use k_types::Op;
 
 /// Does the operation inside the process's own heap, if it needs that heap alone, and says whether it did.
 pub fn do_inside(process: &mut Process, op: &Op) -> bool
@@ -30,34 +27,6 @@ pub fn publish_all(process: &mut Process, book: &mut Book)
     ensures { HasPublishedAll world process.old process.new book.new }
 {
     publish(&mut process.cell, book);
-}
-
-/// Tells that no exit item of the process stands twice.
-fn know_exits(cell: &HeapCell)
-    ensures { AreDistinctNames cell.now.value.exits }
-{
-    cell.exit_count();
-}
-
-/// Tells the same of the kernel's exit items.
-fn know_kernel_exits(kernel: &KernelCell)
-    ensures { AreDistinctNames kernel.now.value.exits }
-{
-    kernel.exit_count();
-}
-
-/// Tells the same of a shared heap's exit items.
-fn know_shared_exits(shared: &SharedCell)
-    ensures { AreDistinctNames shared.now.value.exits }
-{
-    shared.exit_count();
-}
-
-/// Tells that no entry item of the book stands twice, and that each counts.
-fn know_entries(book: &Book)
-    ensures { AreEntries (book_entries book.now) }
-{
-    book.first_entry(Heap::Kernel);
 }
 
 /// Does an operation that touches the process's own cell alone.
