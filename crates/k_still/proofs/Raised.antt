@@ -17,6 +17,7 @@ use Rattle.k_types.specs.Totals.{total}
 use Rattle.k_types.specs.Trace.{Trace, operations_of, process_count, segment_count}
 use Rattle.k_types.specs.TraceRules.{KeepsRules}
 use Rattle.k_base.proofs.Lists.{numbers_push}
+use Rattle.k_base.proofs.Numbered.{drop_all}
 use Rattle.k_base.proofs.Sums.{total_push, total_at_most}
 use Rattle.k_bounds.specs.Counts.{allocates_in, is_share_of, is_store, one_if, stores_in}
 use Rattle.k_bounds.proofs.Counting.{count_low, one_if_low}
@@ -240,6 +241,10 @@ module _ (most n : ℕ) (ops : List Op) (first : List ℕ) (i : ℕ) (op : Op) (
     all = ap (λ left. raised most n left rooms) (sym (drop_read ops i op inside read)) ∙ before.all;
     can = can_raise_rest most n op (drop (i + 1) ops) rooms can_raise_left;
   })
+
+-- no operation is left
+pub all_raised_by : (most n : ℕ) (ops : List Op) (first : List ℕ) (i : ℕ) (rooms : List ℕ) → AreRaisedBy most n ops first i rooms → length ops ≤ i → rooms ≡ raised most n ops first
+all_raised_by most n ops first i rooms before end = ap (λ left. raised most n left rooms) (sym (drop_all ops i end)) ∙ before.all
 
 -- before the first operation each has room for one item
 pub first_raised : (trace : Trace) (rules : KeepsRules trace) (most : ℕ) (rooms : List ℕ) (heaps : ℕ) → rooms ≡ replicate heaps 1 → heaps ≡ trace.shared_heaps → most ≡ 1 + exit_room trace → AreRaised trace 0 most rooms

@@ -18,6 +18,7 @@ use Rattle.k_types.specs.Totals.{total}
 use Rattle.k_types.specs.Trace.{Trace, operations_of, process_count, segment_count}
 use Rattle.k_types.specs.TraceRules.{KeepsRules}
 use Rattle.k_base.proofs.Lists.{numbers_push}
+use Rattle.k_base.proofs.Numbered.{drop_all}
 use Rattle.k_base.proofs.Sums.{total_push, total_at_most}
 use Rattle.k_bounds.specs.Counts.{allocates_in, is_share_of, is_store, one_if, stores_in}
 use Rattle.k_bounds.proofs.Counting.{count_low, one_if_low}
@@ -201,6 +202,10 @@ module _ (procs p : ℕ) (ops : List Op) (first : List ℕ) (i : ℕ) (op : Op) 
     all = ap (λ left. counted procs p left counts) (sym (drop_read ops i op inside read)) ∙ before.all;
     can = can_go_on procs p op (drop (i + 1) ops) counts can_count_rest;
   })
+
+-- no operation is left
+pub all_counted_by : (procs p : ℕ) (ops : List Op) (first : List ℕ) (i : ℕ) (counts : List ℕ) → AreCountedBy procs p ops first i counts → length ops ≤ i → counts ≡ counted procs p ops first
+all_counted_by procs p ops first i counts before end = ap (λ left. counted procs p left counts) (sym (drop_all ops i end)) ∙ before.all
 
 -- before the first operation the directory alone is counted
 pub first_counted : (trace : Trace) (rules : KeepsRules trace) (counts : List ℕ) (others : ℕ) → counts ≡ 1 ∷ replicate others 0 → others ≡ process_count trace + trace.shared_heaps → AreCounted trace 0 counts
