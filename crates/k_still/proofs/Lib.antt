@@ -6,4 +6,4 @@ pub mod Passes
 pub mod FirstCells
 pub mod FirstBook
 pub mod Begun
-pub mod Prepared
+pub mod Preparation

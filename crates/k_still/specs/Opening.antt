@@ -10,6 +10,7 @@ use Rattle.k_types.specs.declared.names.Heap.TheVariants.{Shared}
 use Rattle.k_types.specs.declared.names.Pid.{Pid}
 use Rattle.k_types.specs.declared.names.SharedId.{SharedId}
 use Rattle.k_types.specs.declared.setup.Setup.{Setup}
+use Rattle.k_types.specs.Numbers.{numbers_below}
 use Rattle.k_types.specs.Trace.{Trace, operations_of, process_count, segment_count, segment_of, trace_of}
 use Rattle.k_types.specs.TraceRules.{KeepsRules}
 use Rattle.k_agree.specs.Rooms.{event_room, exit_room, serial_room}
@@ -18,10 +19,14 @@ use Rattle.k_bodies.specs.Bodies.{bodies_of}
 use Rattle.k_tie.specs.Values.{JournalValue, NoteValue, blank_note, empty_journal}
 use Rattle.k_locked.specs.Keeping.{SharedKeeps}
 use Rattle.k_locked.specs.Rooms.{shared_exit_room}
+use Rattle.k_trace.specs.declared.trace.Trace.{Trace as TraceRead}
+use Rattle.k_trace.specs.Meaning.{meaning_of}
 use Rattle.k_trace.specs.Named.{NamedTrace}
+use Rattle.k_trace.specs.Rules.{IsTrace}
 use Rattle.k_shared.specs.SharedHeaps.{SharedRecord}
 use Rattle.k_still.specs.declared.beginning.Beginnings.{Beginnings}
 use Rattle.k_process.specs.declared.process.Process.{Process}
+use Rattle.k_still.specs.declared.prepared.Prepared.{Prepared}
 use Rattle.k_still.specs.declared.still.Still.{Still}
 use Rattle.k_process.specs.Standing.{HeapsStand, ProcessStands, ProcessesStand, RestStands}
 use Rattle.k_process.specs.Worlds.{WorldValue}
@@ -178,6 +183,23 @@ pub record CanOpenBook (world : WorldValue) (setup : Setup) (exits events : ℕ)
   pub enough_events : event_room world.trace ≤ events
   pub table : tie ≡ world.table
   pub empty : seat ≡ empty_journal world.table
+
+-- the bodies, the rooms and the counts are those of the trace
+pub record IsPrepared (trace : Trace) (p : Prepared) : Type 0 where
+  pub bodies : map (λ made. made.items) p.bodies.items ≡ map (bodies_of trace.types) trace.operations
+  pub serials : AreSerialRooms trace p.serials.items
+  pub shared_exits : AreSharedRooms trace p.shared_exits.items
+  pub stores : p.stores ≡ exit_room trace
+  pub events : p.events ≡ event_room trace
+
+-- the world is a run of the trace that was read, what is prepared is for it, and the journal is empty, with a blank note for each segment
+pub record CanOpenWith (world : WorldValue) (read : TraceRead) (p : Prepared) (tie : TableId) (seat : JournalValue) (notes : List NoteValue) : Type 0 where
+  pub is_trace : IsTrace (meaning_of read)
+  pub same : world.trace ≡ (meaning_of read).trace
+  pub prepared : IsPrepared world.trace p
+  pub table : tie ≡ world.table
+  pub empty : seat ≡ empty_journal world.table
+  pub blank : notes ≡ map (blank_note world.table) (numbers_below (segment_count world.trace))
 
 -- all processes, the kernel, the shared heaps and the book stand
 pub record StillStands (world : WorldValue) (still : Still) : Type 0 where

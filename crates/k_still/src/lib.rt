@@ -2,6 +2,7 @@
 #![tactic(auto)]
 
 mod beginning;
+mod prepared;
 mod rooms;
 mod still;
 

@@ -3,19 +3,18 @@ ghost use Rattle.std.specs.Prelude.{◌≡◌, IfOk};
 ghost use Rattle.k_locked.specs.Keeping.{BookKeeps};
 ghost use Rattle.k_trace.specs.Meaning.{meaning_of};
 ghost use Rattle.k_trace.specs.Rules.{IsTrace};
-ghost use Rattle.k_still.specs.Opening.{CanOpenBook, IsOpened};
+ghost use Rattle.k_still.specs.Opening.{CanOpenBook, CanOpenWith, IsOpened};
 ghost use Rattle.k_process.specs.Worlds.{WorldValue};
 
 use crate::beginning::{Beginnings, open_kernel, open_processes, open_shared};
-use crate::rooms::{all_events, all_stores, serial_rooms, shared_rooms};
-use k_bodies::bodies;
+use crate::prepared::{Prepared, prepare};
 use k_book::Book;
 use k_io::NoMemory;
 use k_kernel::KernelCell;
 use k_limits::MakeError;
 use k_process::Process;
 use k_shared::SharedCell;
-use k_tie::{JournalSeat, Tie};
+use k_tie::{JournalSeat, Note, Tie};
 use k_trace::{Names, Trace};
 use k_types::{Pid, Setup};
 use std::alloc::Global;
@@ -31,14 +30,16 @@ pub struct Still {
     pub order: Vec<Pid>,
     /// Each process with its cell, in the place of its number.
     pub processes: Vec<Process>,
+    /// The kernel's cell.
     pub kernel: KernelCell,
     /// The cell of each shared heap, in the place of its number.
     pub shared: Vec<SharedCell>,
+    /// What stands between the heaps, with the journal.
     pub book: Book,
 }
 
 impl Still {
-    /// The book, whose journal is empty.
+    /// The book. Before the first event its journal is empty.
     pub fn book(&self) -> &Book
         ensures { result.now ≡ self.now.book }
     {
@@ -66,6 +67,48 @@ fn open_book(
     }
 }
 
+/// The run of a trace, with what was prepared for it, over a journal with a note for each cell.
+fn open_with(
+    alloc: Global,
+    trace: Trace,
+    prepared: Prepared,
+    tie: Tie,
+    seat: JournalSeat,
+    notes: Vec<Note>,
+) -> Result<Still, NoMemory>
+    ghost world: { WorldValue }
+    requires { CanOpenWith world trace prepared tie seat notes.items }
+    ensures { IfOk result (λ still. IsOpened (meaning_of trace) still) }
+{
+    let Trace {
+        setup,
+        names,
+        ops,
+        order,
+    } = trace;
+    let Prepared {
+        bodies,
+        serials,
+        shared_exits,
+        stores,
+        events,
+    } = prepared;
+    let book = open_book(alloc, &setup, stores, events, tie, seat)?;
+    let mut beginnings = Beginnings { notes, serials };
+    let shared = open_shared(alloc, &setup, shared_exits, &mut beginnings)?;
+    let processes = open_processes(alloc, &setup, ops, bodies, &mut beginnings)?;
+    let kernel = open_kernel(alloc, &setup, stores, &mut beginnings)?;
+    Ok(Still {
+        setup,
+        names,
+        order,
+        processes,
+        kernel,
+        shared,
+        book,
+    })
+}
+
 /// All that a run of the trace needs, made before it begins: the bodies of all objects that operations may allocate, the journal with a note for
 /// each cell, the book, and each cell with room for all that the trace can put into it. It passes each operation a few times, and takes
 /// memory in proportion to the operations and to what they allocate.
@@ -77,30 +120,7 @@ pub fn open_still(alloc: Global, trace: Trace) -> Result<Still, NoMemory>
     requires { IsTrace (meaning_of trace) }
     ensures { IfOk result (λ still. IsOpened (meaning_of trace) still) }
 {
-    let made = bodies(alloc, &trace)?;
-    let serials = serial_rooms(alloc, &trace)?;
-    let shared_exits = shared_rooms(alloc, &trace)?;
-    let stores = all_stores(&trace);
-    let events = all_events(&trace);
-    let (tie, seat, notes) = Tie::make(alloc, serials.len() as u32)?;
-    let Trace {
-        setup,
-        names,
-        ops,
-        order,
-    } = trace;
-    let book = open_book(alloc, &setup, stores, events, tie, seat)?;
-    let mut beginnings = Beginnings { notes, serials };
-    let shared = open_shared(alloc, &setup, shared_exits, &mut beginnings)?;
-    let processes = open_processes(alloc, &setup, ops, made, &mut beginnings)?;
-    let kernel = open_kernel(alloc, &setup, stores, &mut beginnings)?;
-    Ok(Still {
-        setup,
-        names,
-        order,
-        processes,
-        kernel,
-        shared,
-        book,
-    })
+    let prepared = prepare(alloc, &trace)?;
+    let (tie, seat, notes) = Tie::make(alloc, prepared.serials.len() as u32)?;
+    open_with(alloc, trace, prepared, tie, seat, notes)
 }
