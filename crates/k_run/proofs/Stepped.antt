@@ -8,34 +8,31 @@ use Rattle.k_types.specs.Trace.{Trace}
 use Rattle.k_squares.specs.Locals.{is_local_in}
 use Rattle.k_moves.specs.Shown.{idle_part}
 use Rattle.k_book.specs.Books.{BookRecord}
-use Rattle.k_heap.specs.Heaps.{HeapRecord, has_ended_in}
+use Rattle.k_heap.specs.Heaps.{HeapRecord}
 use Rattle.k_locked.specs.Keeping.{operations_left}
 use Rattle.k_process.specs.declared.process.Process.{Process}
 use Rattle.k_process.specs.Standing.{ComesNext, HasDone}
 use Rattle.k_process.specs.Worlds.{WorldValue}
 use Rattle.k_operate.specs.Steps.{HasDoneInside, HasPublishedAll}
-use Rattle.k_run.specs.Running.{HasDoneUnless, HasSameLeft}
+use Rattle.k_operate.specs.Collecting.{HasSameLeft}
+use Rattle.k_run.specs.Running.{HasDoneUnless}
 
 -- publishing leaves all operations
 pub published_left : (world : WorldValue) (q r : Process) (b : BookRecord) → HasPublishedAll world q r b → HasSameLeft world.trace q.cell r.cell
 published_left world q r b t = record {
   pid = ap (λ (c : HeapRecord). c.pid) t.cell_is;
   left = ap (operations_left world.trace) t.cell_is;
-  ended = ap (λ (c : HeapRecord). has_ended_in c.value.process) t.cell_is;
 }
 
 module _ (trace : Trace) (op : Op) (a b c : HeapRecord) where
-  pub next_after : HasSameLeft trace a b → ComesNext trace a op → ComesNext trace b op
-  next_after s next = record { rest = next.rest; left = s.left ∙ next.left; lives = s.ended ∙ next.lives }
-
   pub done_after : HasSameLeft trace a b → HasDone trace op b c → HasDone trace op a c
   done_after s done = record { pid = done.pid ∙ s.pid; left = sym s.left ∙ done.left }
 
   pub done_before : HasDone trace op a b → HasSameLeft trace b c → HasDone trace op a c
   done_before done s = record { pid = s.pid ∙ done.pid; left = done.left ∙ ap (λ (ops : List Op). op ∷ ops) (sym s.left) }
 
-  pub left_twice : HasSameLeft trace a b → HasSameLeft trace b c → HasSameLeft trace a c
-  left_twice s t = record { pid = t.pid ∙ s.pid; left = t.left ∙ s.left; ended = t.ended ∙ s.ended }
+pub left_twice : (trace : Trace) (a b c : HeapRecord) → HasSameLeft trace a b → HasSameLeft trace b c → HasSameLeft trace a c
+left_twice trace a b c s t = record { pid = t.pid ∙ s.pid; left = t.left ∙ s.left }
 
 -- an operation is done inside the heap, or is not local
 pub inside_unless : (world : WorldValue) (op : Op) (p q : Process) (done : Bool) → ComesNext world.trace p.cell op → HasDoneInside world op p q done → HasDoneUnless world.trace op p.cell q.cell done

@@ -12,21 +12,15 @@ use Rattle.k_squares.specs.Touches.{other_cells_in}
 use Rattle.k_moves.specs.Shown.{idle_part}
 use Rattle.k_shares.specs.Sharers.{lowest_orphan}
 use Rattle.k_book.specs.Books.{BookRecord}
-use Rattle.k_heap.specs.Heaps.{HeapRecord, has_ended_in}
+use Rattle.k_heap.specs.Heaps.{HeapRecord}
 use Rattle.k_cell.specs.Holdings.{HoldingsValue}
-use Rattle.k_locked.specs.Keeping.{KernelKeeps, operations_left}
+use Rattle.k_locked.specs.Keeping.{KernelKeeps}
 use Rattle.k_steps.specs.declared.reached.Reach.{Reach}
 use Rattle.k_steps.specs.declared.reached.Reach.TheVariants.{Own, Kernel, Shared}
 use Rattle.k_operate.specs.Readiness.{IsOutside, IsReady}
-use Rattle.k_operate.specs.Collecting.{KernelCollects}
-use Rattle.k_process.specs.Standing.{HasDone}
+use Rattle.k_operate.specs.Collecting.{HasSameLeft, KernelCollects}
+use Rattle.k_process.specs.Standing.{ComesNext, HasDone}
 use Rattle.k_process.specs.Worlds.{WorldValue}
-
--- the process lives as before with the same operations left; some of its events may be published now
-pub record HasSameLeft (trace : Trace) (old new : HeapRecord) : Type 0 where
-  pub pid : new.pid ≡ old.pid
-  pub left : operations_left trace new ≡ operations_left trace old
-  pub ended : has_ended_in new.value.process ≡ has_ended_in old.value.process
 
 -- the process has done the operation where the answer is yes; where it is no, nothing changed and the operation is not local
 pub record HasDoneUnless (trace : Trace) (op : Op) (old new : HeapRecord) (answer : Bool) : Type 0 where
@@ -46,15 +40,20 @@ pub record HasDoneBeside (trace : Trace) (op : Op) (beside : Cell) (old new : He
   pub done : IsTrue answer → HasDone trace op old new
   pub elsewhere : IsFalse answer → other_cells_in trace (book_shown_by book.value) (idle_part old.value) old.pid.0 op ≢ beside ∷ []
 
--- an orphan is in the way, the kernel's cell keeps what its lock asks and the process has the same operations left; else the process has
--- done `kcollect`, and the kernel's heap is collected
+-- `kcollect` still comes next of the process, which has done nothing
+pub record WaitsToCollect (trace : Trace) (old new : HeapRecord) : Type 0 where
+  pub next : ComesNext trace new KCollect
+  pub same : HasSameLeft trace old new
+
+-- an orphan is in the way, the kernel's cell keeps what its lock asks, and `kcollect` still comes next; else the process has done it, and
+-- the collection of the kernel's heap has begun
 abbrev pub HasBegunUnless : Option SharedId → WorldValue → HeapRecord → HeapRecord → HoldingsValue → Type 0
-HasBegunUnless (Some orphan) world old new kernel = HasSameLeft world.trace old new × KernelKeeps world.trace world.table kernel
+HasBegunUnless (Some orphan) world old new kernel = WaitsToCollect world.trace old new × KernelKeeps world.trace world.table kernel
 HasBegunUnless None world old new kernel = HasDone world.trace KCollect old new × KernelCollects world Begun kernel
 
--- an orphan was in the way, and the process has the same operations left; else it has done `kcollect`
+-- an orphan was in the way, and `kcollect` still comes next; else the process has done it
 abbrev pub HasCollectedUnless : Option SharedId → Trace → HeapRecord → HeapRecord → Type 0
-HasCollectedUnless (Some orphan) trace old new = HasSameLeft trace old new
+HasCollectedUnless (Some orphan) trace old new = WaitsToCollect trace old new
 HasCollectedUnless None trace old new = HasDone trace KCollect old new
 
 -- where the shared heap was the first orphan, its absorption is the newest event of the book's journal

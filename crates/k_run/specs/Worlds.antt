@@ -27,6 +27,6 @@ AreFree turns passes = All (IsFree turns) passes
 pub record HoldsRun (world : WorldValue) (process_locks shared_locks : ℕ) (rooms : EndRooms) (turns : TurnsValue) (passes : List PassValue) (setup : Setup) : Type 0 where
   pub processes : process_locks ≡ process_count world.trace
   pub shared : shared_locks ≡ world.trace.shared_heaps
-  pub have_rooms : AreEndRooms process_locks shared_locks rooms
+  pub have_rooms : AreEndRooms (process_count world.trace) world.trace.shared_heaps rooms
   pub are_free : AreFree turns passes
   pub setup_is : world.trace ≡ trace_of setup world.trace.operations world.trace.order

@@ -1,7 +1,7 @@
 //! Collections, absorptions and ends of processes under locks. While a heap is marked its lock is held, and the book is free.
 ghost use Rattle.std.specs.Prelude.{IsTrue, ◌≡◌};
 ghost use Rattle.k_locked.specs.Keeping.{KernelKeeps};
-ghost use Rattle.k_operate.specs.Collecting.{Collects, KernelCollects};
+ghost use Rattle.k_operate.specs.Collecting.{Collects, HasSameLeft, KernelCollects};
 ghost use Rattle.k_process.specs.Standing.{ComesNext, HasDone, ProcessStands};
 ghost use Rattle.k_run.specs.Running.{HasBegunUnless, HasCollectedUnless, IsAbsorbedIfFirst};
 ghost use Rattle.k_types.specs.declared.names.CellPhase.TheVariants.{Begun, Marked};
@@ -84,13 +84,14 @@ fn begin_kernel<W: WorldName>(
     ensures { HasBegunUnless result W.world process.old process.new kernel.new }
 {
     publish_all(&mut process.process, &mut book.book);
-    let orphan = book.book.first_orphan();
-    if orphan.is_some() {
-        return orphan;
+    match book.book.first_orphan() {
+        Some(orphan) => Some(orphan),
+        None => {
+            tell(&process.process, gate, GatePlace::InBook);
+            begin_kernel_collection(&mut process.process, kernel, &mut book.book);
+            None
+        }
     }
-    tell(&process.process, gate, GatePlace::InBook);
-    begin_kernel_collection(&mut process.process, kernel, &mut book.book);
-    None
 }
 
 /// Ends the collection of the kernel's heap, which the process began.
@@ -120,13 +121,15 @@ impl<W: WorldName> LockedKernel<W> {
         requires { ComesNext W.world.trace process.old KCollect }
         ensures { HasCollectedUnless result W.world.trace process.old process.new }
     {
-        let orphan = begin_kernel(process, &mut self.kernel, &mut book.lock(rt), gate);
-        if orphan.is_some() {
-            return orphan;
+        let in_the_way = begin_kernel(process, &mut self.kernel, &mut book.lock(rt), gate);
+        match in_the_way {
+            Some(orphan) => Some(orphan),
+            None => {
+                mark_kernel_collection(&mut self.kernel);
+                end_kernel(process, &mut self.kernel, &mut book.lock(rt), gate);
+                None
+            }
         }
-        mark_kernel_collection(&mut self.kernel);
-        end_kernel(process, &mut self.kernel, &mut book.lock(rt), gate);
-        None
     }
 }
 

@@ -1,7 +1,7 @@
 //! A run that is put behind its locks.
 ghost use Rattle.std.specs.Prelude.{◌≡◌, IfOk, length};
 ghost use Rattle.k_process.specs.Standing.{HeapsStand, ProcessesStand};
-ghost use Rattle.k_still.specs.Opening.{StillStands};
+ghost use Rattle.k_still.specs.Opening.{IsSetupOf, StillStands};
 
 use crate::locked::{LockedBook, LockedKernel, LockedProcess, LockedShared};
 use crate::rooms::end_rooms;
@@ -60,7 +60,8 @@ pub fn open<W: WorldName, R: Wait>(
     alloc: Global,
     still: Still,
 ) -> Result<World<W>, NoMemory>
-    requires { StillStands W.world still }
+    requires stands { StillStands W.world still }
+    requires setup { IsSetupOf still.setup W.world }
     ensures { IfOk result (λ world. (world.names ≡ still.names) × (world.setup ≡ still.setup)) }
 {
     let Still {

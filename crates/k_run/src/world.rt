@@ -1,6 +1,6 @@
 //! A run whose heaps and book stand behind locks, and its end.
 ghost use Rattle.std.specs.Prelude.{length, vec_capacity, ◌≡◌};
-ghost use Rattle.k_complete.specs.Ended.{IsOutcome, IsSlice};
+ghost use Rattle.k_complete.specs.Ended.{IsOutcome};
 ghost use Rattle.k_run.specs.Gathering.{CanGather, CanGatherShared};
 ghost use Rattle.k_process.specs.Standing.{HeapsStand, ProcessesStand};
 
@@ -10,7 +10,7 @@ use crate::placing::{in_order, place_process, place_shared};
 use crate::rooms::EndRooms;
 use crate::worlds::WorldName;
 use k_book::Book;
-use k_complete::{complete_all, meet_all};
+use k_complete::end_all;
 use k_process::Process;
 use k_shared::SharedCell;
 use k_trace::Names;
@@ -91,7 +91,6 @@ fn gather_shared<W: WorldName>(
 /// done, one process after the other, and each cell then shows the machine after the journal, which is legal and complete. It waits for
 /// nobody, and takes no memory.
 pub fn finish<W: WorldName>(world: World<W>) -> Outcome
-    requires { IsSlice W.world.trace }
     ensures { IsOutcome W.world.trace result }
 {
     let World {
@@ -118,8 +117,7 @@ pub fn finish<W: WorldName>(world: World<W>) -> Outcome
     let mut kernel = kernel.into_inner().into_kernel();
     let mut processes = gather(processes, process_places, processes_into, &mut book);
     let mut shared = gather_shared(shared, shared_places, shared_into, &mut book);
-    complete_all(&mut processes, &mut kernel, &mut shared, &mut book);
-    meet_all(&mut processes, &mut kernel, &mut shared, &mut book);
+    end_all(&mut processes, &mut kernel, &mut shared, &mut book);
     Outcome {
         names,
         processes,

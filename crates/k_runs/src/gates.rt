@@ -45,33 +45,40 @@ impl Signal {
     }
 }
 
+/// Gives the one and waits for the other.
+fn meet(own: &Signal, other: &Signal) {
+    own.give();
+    other.wait();
+}
+
 /// Holds each of two processes where its heap is to be marked until the other has come there too.
 #[derive(Drop)]
 pub(crate) struct BothMark {
-    marking: [Signal; 2],
+    first: Signal,
+    second: Signal,
 }
 
 impl BothMark {
     pub(crate) fn new() -> BothMark {
         BothMark {
-            marking: [Signal::new(), Signal::new()],
+            first: Signal::new(),
+            second: Signal::new(),
         }
     }
 
     /// Whether both were there at once.
     pub(crate) fn met(&self) -> bool {
-        self.marking[0].came() && self.marking[1].came()
+        self.first.came() && self.second.came()
     }
 }
 
 impl Gate for BothMark {
     fn pass(&self, pid: u32, _done: u32, place: GatePlace) {
-        if place != GatePlace::Marking {
-            return;
+        match (pid, place) {
+            (0, GatePlace::Marking) => meet(&self.first, &self.second),
+            (1, GatePlace::Marking) => meet(&self.second, &self.first),
+            _ => {}
         }
-        let (own, other) = if pid == 0 { (0, 1) } else { (1, 0) };
-        self.marking[own].give();
-        self.marking[other].wait();
     }
 }
 
@@ -100,10 +107,7 @@ impl AllocatesMeanwhile {
 impl Gate for AllocatesMeanwhile {
     fn pass(&self, pid: u32, done: u32, place: GatePlace) {
         match (pid, done, place) {
-            (0, _, GatePlace::Marking) => {
-                self.marking.give();
-                self.allocated.wait();
-            }
+            (0, _, GatePlace::Marking) => meet(&self.marking, &self.allocated),
             (1, 0, GatePlace::BeforeOp) => self.marking.wait(),
             (1, 1, GatePlace::BeforeOp) => self.allocated.give(),
             _ => {}
@@ -138,14 +142,8 @@ impl Gate for MovesMeanwhile {
     fn pass(&self, pid: u32, done: u32, place: GatePlace) {
         match (pid, done, place) {
             (0, 0, GatePlace::BeforeOp) => self.ready.wait(),
-            (0, 0, GatePlace::InBook) => {
-                self.in_book.give();
-                self.moved.wait();
-            }
-            (1, 1, GatePlace::BeforeOp) => {
-                self.ready.give();
-                self.in_book.wait();
-            }
+            (0, 0, GatePlace::InBook) => meet(&self.in_book, &self.moved),
+            (1, 1, GatePlace::BeforeOp) => meet(&self.ready, &self.in_book),
             (1, 2, GatePlace::BeforeOp) => self.moved.give(),
             _ => {}
         }
