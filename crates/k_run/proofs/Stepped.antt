@@ -1,11 +1,14 @@
 -- What a process has done between two locks.
-use Rattle.std.proofs.Common.{◌≡◌, refl, sym, ap, ◌∙◌, subst, [], ◌∷◌, List, Bool, false, true}
+use Rattle.std.proofs.Common.{◌≡◌, sym, ap, ◌∙◌, subst, [], ◌∷◌, List, Bool, false, true}
+use Rattle.std.proofs.lemmas.Bool.{false≢true}
 use Rattle.k_types.specs.declared.names.Heap.TheVariants.{Kernel, Shared}
 use Rattle.k_types.specs.declared.names.SharedId.{SharedId}
 use Rattle.k_types.specs.declared.op.Op.{Op}
+use Rattle.k_types.specs.Agree.{book_shown_by}
 use Rattle.k_types.specs.Cells.{Cell}
 use Rattle.k_types.specs.Trace.{Trace}
 use Rattle.k_squares.specs.Locals.{is_local_in}
+use Rattle.k_squares.specs.Touches.{other_cells_in}
 use Rattle.k_moves.specs.Shown.{idle_part}
 use Rattle.k_book.specs.Books.{BookRecord}
 use Rattle.k_heap.specs.Heaps.{HeapRecord}
@@ -14,8 +17,9 @@ use Rattle.k_process.specs.declared.process.Process.{Process}
 use Rattle.k_process.specs.Standing.{ComesNext, HasDone}
 use Rattle.k_process.specs.Worlds.{WorldValue}
 use Rattle.k_operate.specs.Steps.{HasDoneInside, HasPublishedAll}
-use Rattle.k_operate.specs.Collecting.{HasSameLeft}
-use Rattle.k_run.specs.Running.{HasDoneUnless}
+use Rattle.k_operate.specs.Collecting.{HasSameLeft, IsNextAndSettled}
+use Rattle.k_operate.proofs.Since.{next_since}
+use Rattle.k_run.specs.Running.{HasDoneBeside, HasDoneUnless}
 
 -- publishing leaves all operations
 pub published_left : (world : WorldValue) (q r : Process) (b : BookRecord) → HasPublishedAll world q r b → HasSameLeft world.trace q.cell r.cell
@@ -45,15 +49,29 @@ inside_unless world op p q done next t = record {
   };
 }
 
--- what is reached is not another cell
-pub reaches_own : (cells : List Cell) (c : Cell) → [] ≡ cells → cells ≡ c ∷ [] → ⊥
-reaches_own cells c none one = cc
+-- a process whose events are published can go on with its next operation
+pub next_settled : (world : WorldValue) (q r : Process) (b : BookRecord) (op : Op) → HasPublishedAll world q r b → ComesNext world.trace q.cell op → IsNextAndSettled world r b op
+next_settled world q r b op t next = record { pair = t.pair; settled = t.settled; next = next_since world q r b op t next }
 
-pub reaches_kernel : (cells : List Cell) (s : SharedId) → Kernel ∷ [] ≡ cells → cells ≡ Shared s ∷ [] → ⊥
-reaches_kernel cells s kernel shared = cc
+pub none_reached : (c : Cell) → [] ≡ c ∷ [] → ⊥
+none_reached c e = cc
 
-pub reaches_other : (cells : List Cell) (s t : SharedId) → Shared s ∷ [] ≡ cells → (t ≡ s → ⊥) → cells ≡ Shared t ∷ [] → ⊥
-reaches_other cells s t first apart second = apart (same_heap s t (sym second ∙ sym first))
+pub kernel_not_shared : (s : SharedId) → Kernel ∷ [] ≡ Shared s ∷ [] → ⊥
+kernel_not_shared s e = cc
+
+pub shared_not_kernel : (s : SharedId) → Shared s ∷ [] ≡ Kernel ∷ [] → ⊥
+shared_not_kernel s e = cc
+
+pub shared_apart : (s t : SharedId) → (t ≡ s → ⊥) → Shared s ∷ [] ≡ Shared t ∷ [] → ⊥
+shared_apart s t apart e = apart (same s t e)
   where
-    same_heap : (s t : SharedId) → Shared t ∷ [] ≡ Shared s ∷ [] → t ≡ s
-    same_heap s t e = cc
+    same : (s t : SharedId) → Shared s ∷ [] ≡ Shared t ∷ [] → t ≡ s
+    same s t e = cc
+
+module _ (trace : Trace) (op : Op) (beside : Cell) (c : HeapRecord) (b : BookRecord) where
+  -- the operation is not done: it reaches none, or another cell
+  pub not_done : (cells : List Cell) → cells ≡ other_cells_in trace (book_shown_by b.value) (idle_part c.value) c.pid.0 op → (cells ≡ beside ∷ [] → ⊥) → HasDoneBeside trace op beside c c b false
+  not_done cells reached apart = record { done = λ t. absurd (false≢true t); elsewhere = λ no one. apart (reached ∙ one) }
+
+  pub was_done : (d : HeapRecord) → HasDone trace op c d → HasDoneBeside trace op beside c d b true
+  was_done d done = record { done = λ t. done; elsewhere = λ no. absurd (false≢true (sym no)) }
