@@ -158,7 +158,7 @@ module _ (world : WorldValue) (k : HoldingsValue) (b : BookRecord) (can : CanCol
         }
 
         the_end_is : the_end ≡ end_of world.trace (step world.trace now Closing) Kernel
-        the_end_is = end_is world.trace (state_after world.trace l.journal.list) t.objects t.bytes t.exits 0 ended.possible ∙ ap (λ (st : State). end_of world.trace st Kernel) state_closed
+        the_end_is = end_is world.trace (state_after world.trace l.journal.list) Kernel t.objects t.bytes t.exits 0 ended.possible ∙ ap (λ (st : State). end_of world.trace st Kernel) state_closed
 
         journal_ended : e.journal.list ≡ b.journal.list ++ with_end world.trace now Closing (Some Kernel)
         journal_ended =

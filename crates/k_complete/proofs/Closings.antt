@@ -1,19 +1,22 @@
 -- What absorptions and the last collection of the kernel leave of processes and shared heaps.
-use Rattle.std.proofs.Common.{◌≡◌, ℕ, ◌+◌, ◌&&◌, not, Bool, true, false, cond, refl, sym, ap, ap₂, ◌∙◌, List, [], ◌∷◌, filter, find, map, length, Some, None, arith}
+use Rattle.std.proofs.Common.{◌≡◌, ℕ, ◌+◌, ◌<◌, ◌&&◌, not, Bool, true, false, cond, refl, sym, ap, ap₂, ◌∙◌, List, [], ◌∷◌, filter, find, map, length, Some, None, arith}
 use Rattle.std.specs.List.{list_all}
 use Rattle.std.proofs.Math.Path.{fun_ext}
-use Rattle.std.proofs.lemmas.Bool.{and_parts, false≢true}
+use Rattle.std.proofs.lemmas.Bool.{false_from_ne_true, false≢true}
 use Rattle.k_types.specs.declared.event.Event.{Event}
 use Rattle.k_types.specs.declared.event.Event.TheVariants.{Done, Ended, Absorbed, Closing}
+use Rattle.k_types.specs.declared.names.Heap.{Heap}
 use Rattle.k_types.specs.declared.names.Heap.TheVariants.{Kernel}
 use Rattle.k_types.specs.Effects.{after_absorbed, after_closing, after_ended, share_stays, step}
 use Rattle.k_types.specs.FileOrder.{end_of}
 use Rattle.k_types.specs.Following.{is_closing}
+use Rattle.k_types.specs.Numbers.{numbers_below}
 use Rattle.k_types.specs.Owners.{phase_of}
 use Rattle.k_types.specs.State.{Sharing, State}
 use Rattle.k_types.specs.Steps.{IsLegalHistory, IsPossible, MayEnd, has_sharer, is_live, is_orphan, run, state_after}
 use Rattle.k_types.specs.Trace.{Trace}
 use Rattle.k_types.specs.Updates.{close, close_scan, keep_exits, keep_objects, keep_shares, open_scan, set_phase}
+use Rattle.k_base.proofs.Numbered.{all_at_below}
 use Rattle.k_bounds.specs.Counts.{closing_count, one_if}
 use Rattle.k_bounds.proofs.AbsorbedCounts.{closings}
 
@@ -64,9 +67,9 @@ module _ (trace : Trace) where
       ap (λ (test : ℕ → Bool). find test ns)
       (fun_ext (λ s. same_orphans closed (step trace closed (Ended Kernel objects bytes exits shares)) (end_leaves closed objects bytes exits shares) s ∙ same_orphans st closed (closing_leaves st) s))
 
-  -- the end of the kernel's collection that is possible is the one of the file's order
-  pub end_is : (st : State) (objects bytes exits shares : ℕ) → IsPossible trace st (Ended Kernel objects bytes exits shares) → Ended Kernel objects bytes exits shares ≡ end_of trace st Kernel
-  end_is st objects bytes exits shares may = λ i. Ended Kernel (may.objects_gone i) (may.bytes_gone i) (may.exits_gone i) (may.shares_gone i)
+  -- the end of a collection that is possible is the one of the file's order
+  pub end_is : (st : State) (heap : Heap) (objects bytes exits shares : ℕ) → IsPossible trace st (Ended heap objects bytes exits shares) → Ended heap objects bytes exits shares ≡ end_of trace st heap
+  end_is st heap objects bytes exits shares may = λ i. Ended heap (may.objects_gone i) (may.bytes_gone i) (may.exits_gone i) (may.shares_gone i)
 
   -- where no event is the closing, the last collection has not begun
   pub still_open : (history : List Event) → IsLegalHistory trace history → list_all (λ event. not (is_closing event)) history ≡ true → (state_after trace history).closed ≡ false
@@ -82,3 +85,16 @@ module _ (trace : Trace) where
       no_closings (Ended h a b c d ∷ events) all = no_closings events all
       no_closings (Absorbed s ∷ events) all = no_closings events all
       no_closings (Closing ∷ events) all = absurd (false≢true all)
+
+-- where one fails, not all pass
+pub all_fails : (f : ℕ → Bool) (n k : ℕ) → k < n → f k ≡ false → list_all f (numbers_below n) ≡ false
+all_fails f n k inside fails = false_from_ne_true (list_all f (numbers_below n)) (λ t. false≢true (sym fails ∙ all_at_below f n k t inside))
+
+-- what is not true of the test that says the opposite
+pub not_lives : (b : Bool) → not b ≡ true → b ≡ false
+not_lives true e = absurd (false≢true e)
+not_lives false e = refl
+
+pub not_dead : (b : Bool) → not b ≡ false → b ≡ true
+not_dead true e = refl
+not_dead false e = absurd (false≢true (sym e))

@@ -1,6 +1,6 @@
 //! What is left of a run, done on the caller's thread.
-ghost use Rattle.k_complete.specs.Ended.{AllEnded, AllMet, AllStand, AllThrough, CanComplete, HasCompleted};
-ghost use Rattle.k_complete.specs.Meetings.{HeapsAndBook, HeapsMet, ProcessesMet, ProcessesThrough};
+ghost use Rattle.k_complete.specs.Ended.{AllMet, AllStand, AllThrough, CanComplete, HasCompleted};
+ghost use Rattle.k_complete.specs.Meetings.{CellsAndBook, CellsMet, HeapsAndBook, HeapsMet, ProcessesAndBook, ProcessesMet};
 ghost use Rattle.k_process.specs.Worlds.{WorldValue};
 
 use crate::closing::close_all;
@@ -47,8 +47,8 @@ pub fn complete_all(
 /// Has each process's cell meet the journal.
 fn meet_processes(processes: &mut Vec<Process>, book: &mut Book)
     ghost world: { WorldValue }
-    requires { ProcessesThrough world processes.old.items book.old }
-    ensures { ProcessesMet world processes.new.items book.old book.new }
+    requires { ProcessesAndBook world processes.old.items book.old }
+    ensures { ProcessesMet world processes.old.items processes.new.items book.old book.new }
 {
     for process in processes.iter_mut() {
         meet_heap(&mut process.cell, book);
@@ -74,8 +74,8 @@ pub fn meet_all(
     book: &mut Book,
 )
     ghost world: { WorldValue }
-    requires { AllEnded world processes.old.items kernel.old shared.old.items book.old }
-    ensures { AllMet world processes.new.items kernel.new shared.new.items book.new }
+    requires { CellsAndBook world processes.old.items kernel.old shared.old.items book.old }
+    ensures { CellsMet world processes.old.items processes.new.items kernel.new shared.new.items book.old book.new }
 {
     meet_processes(processes, book);
     meet_kernel(kernel, book);

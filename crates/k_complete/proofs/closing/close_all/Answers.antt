@@ -5,6 +5,10 @@ use Rattle.k_complete.proofs.closing.close_all.Goals as goal
 pub all_have_ended-requires : goal.all_have_ended-requires
 all_have_ended-requires g c = c.requires.book.stands.of_trace
 
+pub returns-then-not-all_have_ended : goal.returns-then-not-all_have_ended
+returns-then-not-all_have_ended g c =
+    closed_none g.world' c.args.kernel.now c.args.shared.now.items c.args.book.now c.requires (sym c.all_have_ended.ensures ∙ c.if-not-all_have_ended.true)
+
 pub absorb_orphans-requires : goal.absorb_orphans-requires
 absorb_orphans-requires g c = c.requires
 
