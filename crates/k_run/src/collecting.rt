@@ -151,10 +151,11 @@ impl<W: WorldName> LockedShared<W> {
         let Some(first) = book.book.first_orphan() else {
             return true;
         };
-        if first == orphan {
-            tell(&process.process, gate, GatePlace::InBook);
-            absorb_orphan(&mut self.shared, &mut kernel.kernel, &mut book.book);
+        if first != orphan {
+            return true;
         }
+        tell(&process.process, gate, GatePlace::InBook);
+        absorb_orphan(&mut self.shared, &mut kernel.kernel, &mut book.book);
         true
     }
 }

@@ -24,4 +24,3 @@ returns-in-Kernel g c =
     subst (λ (b : BookRecord). HasDoneBeside g.W.WorldName.world.trace c.args.op.now (Shared c.args.shared.now.id) c.args.self.now c.self.inside.process.cell b false) c.book.view_is
     (subst (λ (x : HeapRecord). HasDoneBeside g.W.WorldName.world.trace c.args.op.now (Shared c.args.shared.now.id) x c.self.inside.process.cell c.book.inside.book false) c.self.view_is
     (not_done g.W.WorldName.world.trace c.args.op.now (Shared c.args.shared.now.id) c.self.inside.process.cell c.book.inside.book (Kernel ∷ []) c.in-Kernel.ensures (kernel_not_shared c.args.shared.now.id)))
-
