@@ -14,31 +14,16 @@ use Rattle.k_shared.specs.SharedHeaps.{SharedRecord}
 use Rattle.k_commit.specs.Met.{HeapHasMet, KernelHasMet, SharedHasMet}
 use Rattle.k_commit.specs.Standing.{BookStands}
 use Rattle.k_locked.specs.Keeping.{operations_left}
-use Rattle.k_locked.proofs.CanDo.{passes_at}
 use Rattle.k_process.specs.declared.process.Process.{Process}
 use Rattle.k_process.specs.Standing.{IsNextOf}
 use Rattle.k_complete.specs.Closing.{HasClosedAll}
-use Rattle.k_complete.specs.Ended.{AllEnded, AllMet, AllStand, AllThrough, CanComplete, HasCompleted, IsSlice}
+use Rattle.k_complete.specs.Ended.{AllEnded, AllMet, AllStand, AllThrough, CanComplete, HasCompleted}
 use Rattle.k_complete.specs.Meetings.{AreSameButNotes, BookEnds, CellsAndBook, CellsMet, HeapsAndBook, HeapsMet, ProcessesAndBook, ProcessesMet, ProcessesThrough}
 use Rattle.k_process.specs.Standing.{ComesNext, HasDone, IsThroughWith, ProcessStands, RestStands}
-use Rattle.k_operate.specs.Steps.{CanDoNext, HasPublishedAll, is_put_off}
+use Rattle.k_operate.specs.Steps.{HasPublishedAll}
 use Rattle.k_process.specs.Worlds.{WorldValue}
 use Rattle.k_process.proofs.Written.{get_set_cases}
 use Rattle.k_process.proofs.Kept.{met_heap, met_kernel, met_shared, process_set, shared_set}
-
--- the next operation of a slice's process is not put off
-goes_on : (b : Bool) → not b ≡ true → b ≡ false
-goes_on true t = absurd (false≢true t)
-goes_on false t = refl
-
-module _ (world : WorldValue) (slice : IsSlice world.trace) where
-  pub can_next : (p : Process) (k : HoldingsValue) (s : List SharedRecord) (b : BookRecord) (op : Op) → ProcessStands world p → RestStands world k s b → ComesNext world.trace p.cell op → CanDoNext world p k s b op
-  can_next p k s b op stands rest next = record {
-    process = stands;
-    rest = rest;
-    next = next;
-    goes_on = goes_on (is_put_off op) (passes_at (λ o. not (is_put_off o)) (done_in p.cell.value.process) (operations_of world.trace p.cell.pid.0) op next.rest (slice p.cell.pid.0) next.left);
-  }
 
 -- fewer operations are left
 pub fewer_left : (world : WorldValue) (op : Op) (old new : HeapRecord) → HasDone world.trace op old new → length (operations_left world.trace new) < length (operations_left world.trace old)
@@ -46,7 +31,7 @@ fewer_left world op old new d = let all = ap length d.left in omega (arith, all)
 
 -- a process of which nothing is left has published its last events
 pub completed : (world : WorldValue) (first p q : Process) (k : HoldingsValue) (s : List SharedRecord) (b l : BookRecord) → ProcessStands world p → RestStands world k s b → p.cell.pid ≡ first.cell.pid →
-    IsNextOf world.trace p.cell None → HasPublishedAll world p q l → HasCompleted world first q k s l
+    IsNextOf world.trace p.cell None → HasPublishedAll world p q b l → HasCompleted world first q k s l
 completed world first p q k s b l stands rest same none t = record {
   process = t.pair.process;
   rest = record { kernel = rest.kernel; shared = rest.shared; book = t.pair.book };
@@ -62,10 +47,10 @@ module _ (world : WorldValue) (ps : List Process) (k : HoldingsValue) (s : List 
   all_begin a j p inside = absurd (omega (arith, inside))
 
   pub can_complete : AllStand world ps k s b → (n : ℕ) (p : Process) → slice_get ps n ≡ Some p → CanComplete world p k s b
-  can_complete a n p at = record { process = a.processes.each n p at; rest = a.rest; slice = a.slice }
+  can_complete a n p at = record { process = a.processes.each n p at; rest = a.rest }
 
   pub one_completed : AllStand world ps k s b → (n : ℕ) (p q : Process) → slice_get ps n ≡ Some p → (x : HoldingsValue) (t : List SharedRecord) (l : BookRecord) → HasCompleted world p q x t l → AllStand world (set ps n q) x t l
-  one_completed a n p q at x t l h = record { processes = process_set world ps n p q a.processes at h.process h.pid; rest = h.rest; slice = a.slice }
+  one_completed a n p q at x t l h = record { processes = process_set world ps n p q a.processes at h.process h.pid; rest = h.rest }
 
 -- a process whose cell is as it was but for its note is through as before
 pub through_kept : (world : WorldValue) (c w : HeapRecord) → w ≡ record c { note = w.note } → IsThroughWith world.trace c → IsThroughWith world.trace w

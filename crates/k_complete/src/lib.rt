@@ -3,6 +3,8 @@
 
 mod closing;
 mod ending;
+mod replaying;
 
 pub use closing::close_all;
 pub use ending::{complete_all, end_all, meet_all};
+pub use replaying::replay;

@@ -1,12 +1,11 @@
 -- The absorption of orphans keeps what the locks ask.
-use Rattle.std.proofs.Common.{◌≡◌, ◌≢◌, ◌<◌, ◌≤◌, ◌-◌, ℕ, ◌++◌, refl, sym, ap, ap₂, ◌∙◌, subst, List, [], ◌∷◌, length, set, append-nil, append_assoc, find, arith, Option, Some, None, is_some, slice_get}
+use Rattle.std.proofs.Common.{◌≡◌, ◌≢◌, ◌<◌, ◌≤◌, ◌-◌, ℕ, ◌++◌, refl, sym, ap, ◌∙◌, subst, List, [], ◌∷◌, length, set, append-nil, append_assoc, find, arith, Option, Some, None, is_some, slice_get}
 use Rattle.std.proofs.lemmas.Bool.{false≢true}
 use Rattle.std.proofs.lemmas.List.{length-append}
 use Rattle.k_types.specs.declared.event.Event.{Event}
 use Rattle.k_types.specs.declared.event.Event.TheVariants.{Absorbed}
 use Rattle.k_types.specs.declared.names.Heap.TheVariants.{Kernel, Shared}
 use Rattle.k_types.specs.declared.names.SharedId.{SharedId}
-use Rattle.k_types.specs.Effects.{step}
 use Rattle.k_types.specs.FileOrder.{absorptions}
 use Rattle.k_types.specs.Numbers.{numbers_below}
 use Rattle.k_types.specs.Sound.{IsSound}
@@ -33,7 +32,7 @@ use Rattle.k_locked.specs.Rooms.{shared_exit_room}
 use Rattle.k_process.specs.Standing.{RestStands}
 use Rattle.k_process.specs.Worlds.{WorldValue}
 use Rattle.k_process.proofs.Kept.{shared_set}
-use Rattle.k_operate.specs.Absorbing.{CanAbsorbOrphan, HasAbsorbedOrphan, HasAbsorbedOrphans}
+use Rattle.k_operate.specs.Absorbing.{CanAbsorbOrphan, HasAbsorbedOrphan}
 use Rattle.k_operate.proofs.AbsorbOrphans.{absorptions_next, found_below, found_passes, none_to_absorb}
 use Rattle.k_operate.proofs.Appended.{book_keeps_on, gives_else, room_for}
 
@@ -52,7 +51,7 @@ module _ (trace : Trace) (b : BookRecord) (stands : BookStands trace b) where
   first_told s first = sym first_is ∙ first
 
   pub heap_known : (s : SharedId) → lowest_orphan b.value.phases b.value.shares ≡ Some s.0 → s.0 < trace.shared_heaps
-  heap_known s first = found_below (is_orphan at_last) s.0 0 trace.shared_heaps (first_told (Some s.0) first)
+  heap_known s first = let low = found_below (is_orphan at_last) s.0 0 trace.shared_heaps (first_told (Some s.0) first) in omega (arith, low)
 
 module _ (world : WorldValue) (s : SharedRecord) (k : HoldingsValue) (b : BookRecord) (can : CanAbsorbOrphan world s k b) where
   abbrev now : State

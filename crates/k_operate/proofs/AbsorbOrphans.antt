@@ -1,5 +1,5 @@
 -- The orphans that are left to absorb, once the one of the lowest number is absorbed.
-use Rattle.std.proofs.Common.{◌≡◌, ◌≢◌, ℕ, zero, suc, ◌+◌, ◌<◌, ◌&&◌, not, Bool, true, false, cond, refl, sym, ap, ap₂, ◌∙◌, List, [], ◌∷◌, filter, find, map, length, Option, Some, None, arith, get_or-set_same, get_or-set_other}
+use Rattle.std.proofs.Common.{◌≡◌, ◌≢◌, ℕ, zero, suc, ◌+◌, ◌<◌, ◌&&◌, not, Bool, true, false, cond, refl, sym, ap, ap₂, ◌∙◌, List, [], ◌∷◌, filter, find, map, length, Some, None, arith, get_or-set_same, get_or-set_other}
 use Rattle.std.proofs.lemmas.Bool.{false≢true}
 use Rattle.k_types.specs.declared.event.Event.TheVariants.{Absorbed}
 use Rattle.k_types.specs.declared.names.Phase.TheVariants.{Unmade, Absorbed as AbsorbedPhase}

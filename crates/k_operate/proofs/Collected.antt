@@ -33,6 +33,8 @@ use Rattle.k_process.specs.declared.process.Process.{Process}
 use Rattle.k_process.specs.Worlds.{WorldValue}
 use Rattle.k_operate.specs.Collecting.{CanEndCollection, Collects, HasBegunCollection, HasEndedCollection, HasMarkedCollection, HasSameLeft, IsNextAndSettled}
 use Rattle.k_operate.specs.Steps.{HasDoneAlone}
+use Rattle.k_operate.specs.Adding.{AddsEnd, AddsOperation, known_to}
+use Rattle.k_operate.proofs.Added.{adds_known, adds_with_end}
 use Rattle.k_operate.proofs.Appended.{book_keeps_on, heap_keeps_by, in_turn, left_by_done, open_once_met, room_for_end}
 
 -- the operation that comes next has room for its event
@@ -80,11 +82,12 @@ module _ (world : WorldValue) (p : Process) (b : BookRecord) (n : IsNextAndSettl
       operations = n.pair.process.operations ∙ ap (λ (x : HeapRecord). operations_of world.trace x.pid.0) (sym s.heap_goes_on.cell_is);
     }
 
-    pub has_begun : HasBegunCollection world p (record p { cell = c }) l
+    pub has_begun : HasBegunCollection world p (record p { cell = c }) b l
     has_begun = record {
       process = process_begun;
       book = book_begun;
       done = record { pid = same_pid; left = n.next.left ∙ ap (λ (ops : List Op). Collect ∷ ops) (sym left_then) };
+      events = record { said = DoneReply; new_is = journal_then };
     }
 
 -- a process that differs only in the note and the value of its cell collects on, in the phase of the value
@@ -195,7 +198,7 @@ module _ (world : WorldValue) (p : Process) (b : BookRecord) (h : Collects world
     left_kept : operations_left world.trace c ≡ operations_left world.trace p.cell
     left_kept = ap₂ (λ n (q : Pid). Rattle.std.proofs.Common.drop n (operations_of world.trace q.0)) done_kept pid_kept
 
-    pub has_ended : HasEndedCollection world p (record p { cell = c }) l
+    pub has_ended : HasEndedCollection world p (record p { cell = c }) b l
     has_ended = record {
       pair = record {
         process = record {
@@ -206,19 +209,34 @@ module _ (world : WorldValue) (p : Process) (b : BookRecord) (h : Collects world
         };
         book = book_ended;
       };
+      settled = s.heap_goes_on.settled;
       same = record { pid = pid_kept; left = left_kept };
+      events = record { objects = s.objects; bytes = s.bytes; exits = s.exits; shares = s.shares; new_is = s.appended.journal ∙ ap (λ e. b.journal.list ++ e ∷ []) s.event_is };
     }
 
--- what has the same operations left as what has the same left, has the same left
-pub left_through : (world : WorldValue) (c d e : HeapRecord) → HasSameLeft world.trace c d → HasSameLeft world.trace d e → HasSameLeft world.trace c e
-left_through world c d e one two = record { pid = two.pid ∙ one.pid; left = two.left ∙ one.left }
+-- the end after the meeting is the end
+pub ended_through : (world : WorldValue) (p q r : Process) (b m l : BookRecord) → HasSameLeft world.trace p.cell q.cell → m ≡ b → HasEndedCollection world q r m l → HasEndedCollection world p r b l
+ended_through world p q r b m l same is ends = record {
+  pair = ends.pair;
+  settled = ends.settled;
+  same = record { pid = ends.same.pid ∙ same.pid; left = ends.same.left ∙ same.left };
+  events = subst (λ (x : BookRecord). AddsEnd (User p.cell.pid) x.journal.list l.journal.list) is
+      (subst (λ (x : Pid). AddsEnd (User x) m.journal.list l.journal.list) same.pid ends.events);
+}
 
 -- from the beginning to the end
-pub collected : (world : WorldValue) (p q r s : Process) (b l : BookRecord) → HasBegunCollection world p q b → HasMarkedCollection world q r → HasEndedCollection world r s l → HasDoneAlone world Collect p s l
-collected world p q r s b l begun marks ends = record {
-  pair = ends.pair;
-  done = record {
-    pid = ends.same.pid ∙ marks.same.pid ∙ begun.done.pid;
-    left = begun.done.left ∙ ap (λ (ops : List Op). Collect ∷ ops) (sym (ends.same.left ∙ marks.same.left));
-  };
-}
+module _ (world : WorldValue) (p q r s : Process) (b m l : BookRecord) (begun : HasBegunCollection world p q b m) (marks : HasMarkedCollection world q r) (ends : HasEndedCollection world r s m l) where
+  pub collected : HasDoneAlone world Collect p s l
+  collected = record {
+    pair = ends.pair;
+    done = record {
+      pid = ends.same.pid ∙ marks.same.pid ∙ begun.done.pid;
+      left = begun.done.left ∙ ap (λ (ops : List Op). Collect ∷ ops) (sym (ends.same.left ∙ marks.same.left));
+    };
+  }
+
+  pub collected_adds : p.cell.value.tail ≡ [] → AddsOperation world.trace p.cell.pid Collect (known_to p b) (known_to s l)
+  collected_adds none =
+      adds_known world.trace Collect p.cell.pid p s b l none ends.settled
+      (adds_with_end world.trace p.cell.pid Collect (User p.cell.pid) b.journal.list b.journal.list m.journal.list l.journal.list refl (sym (append-nil b.journal.list)) begun.events
+      (subst (λ (x : Pid). AddsEnd (User x) m.journal.list l.journal.list) (marks.same.pid ∙ begun.done.pid) ends.events))

@@ -34,6 +34,8 @@ use Rattle.k_process.specs.declared.process.Process.{Process}
 use Rattle.k_process.specs.Worlds.{WorldValue}
 use Rattle.k_operate.specs.Collecting.{CanExitNow}
 use Rattle.k_operate.specs.Steps.{HasDoneWithKernel}
+use Rattle.k_operate.specs.Adding.{AddsOperation, known_to}
+use Rattle.k_operate.proofs.Added.{adds_exit, adds_known}
 use Rattle.k_operate.proofs.Appended.{book_keeps_on, gives_else, heap_keeps_by, in_turn, left_by_done}
 use Rattle.k_operate.proofs.Collected.{room_for_next}
 
@@ -119,3 +121,8 @@ module _ (world : WorldValue) (p : Process) (k : HoldingsValue) (b : BookRecord)
         numbers = subst (λ (w : HoldingsValue). segment_count world.trace ≤ w.bound) (sym s.kernel_is) n.kernel.numbers;
       };
     }
+
+    pub exit_adds : AddsOperation world.trace p.cell.pid Exit (known_to p b) (known_to (record p { cell = c }) l)
+    exit_adds =
+        adds_known world.trace Exit p.cell.pid p (record p { cell = c }) b l n.own.settled s.settled
+        (adds_exit world.trace p.cell.pid b.journal.list l.journal.list (record { said = DoneReply; new_is = exited.journal }))

@@ -65,7 +65,7 @@ module _ (world : WorldValue) (p : Process) (k : HoldingsValue) (b : BookRecord)
       numbers = subst (λ (y : HoldingsValue). segment_count world.trace ≤ y.bound) (sym s.kernel_goes_on.kernel_is) n.kernel.numbers;
     }
 
-    pub has_begun_kernel : HasBegunKernelCollection world p (record p { cell = c }) x l
+    pub has_begun_kernel : HasBegunKernelCollection world p (record p { cell = c }) x b l
     has_begun_kernel = record {
       own = record {
         pair = record {
@@ -79,7 +79,9 @@ module _ (world : WorldValue) (p : Process) (k : HoldingsValue) (b : BookRecord)
         };
         done = record { pid = same_pid; left = n.own.next.left ∙ ap (λ (ops : List Op). KCollect ∷ ops) (sym left_then) };
       };
+      settled = s.heap_goes_on.settled;
       kernel = kernel_begun;
+      events = record { said = DoneReply; new_is = journal_then };
     }
 
 -- the marking
@@ -112,7 +114,7 @@ module _ (world : WorldValue) (k : HoldingsValue) (b : BookRecord) (n : CanEndKe
     book_ended = subst (λ e. HasAppended world.trace b l e → BookKeeps world.trace world.table l) (sym s.event_is)
         (λ a. book_keeps_on world.trace world.table b l (Ended Kernel s.objects s.bytes s.exits 0) n.book a tt refl) s.appended
 
-    pub has_ended_kernel : HasEndedKernelCollection world x l
+    pub has_ended_kernel : HasEndedKernelCollection world x b l
     has_ended_kernel = record {
       kernel = record {
         rules = n.kernel.rules;
@@ -124,4 +126,5 @@ module _ (world : WorldValue) (k : HoldingsValue) (b : BookRecord) (n : CanEndKe
         numbers = subst (λ (y : HoldingsValue). segment_count world.trace ≤ y.bound) (sym s.kernel_goes_on.kernel_is) n.kernel.numbers;
       };
       book = book_ended;
+      events = record { objects = s.objects; bytes = s.bytes; exits = s.exits; shares = 0; new_is = s.appended.journal ∙ ap (λ e. b.journal.list ++ e ∷ []) s.event_is };
     }

@@ -1,3 +1,4 @@
+pub mod Added
 pub mod Published
 pub mod StepsKept
 pub mod Since

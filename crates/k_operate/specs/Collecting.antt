@@ -19,6 +19,7 @@ use Rattle.k_locked.specs.Keeping.{BookKeeps, CanGive, KernelKeeps, operations_l
 use Rattle.k_process.specs.declared.process.Process.{Process}
 use Rattle.k_process.specs.Standing.{ComesNext, HasDone}
 use Rattle.k_process.specs.Worlds.{WorldValue}
+use Rattle.k_operate.specs.Adding.{AddsEnd, AddsOne}
 use Rattle.k_operate.specs.Steps.{HasDoneAlone, PairStands}
 
 -- process and book stand with nothing unpublished, and the operation comes next
@@ -45,11 +46,12 @@ pub record HasSameLeft (trace : Trace) (old new : HeapRecord) : Type 0 where
   pub pid : new.pid ≡ old.pid
   pub left : operations_left trace new ≡ operations_left trace old
 
--- the process has done `collect`, its heap's collection has begun, and the book stands still
-pub record HasBegunCollection (world : WorldValue) (old new : Process) (b : BookRecord) : Type 0 where
+-- the process has done `collect`, which is in the journal, its heap's collection has begun, and the book stands still
+pub record HasBegunCollection (world : WorldValue) (old new : Process) (old_b b : BookRecord) : Type 0 where
   pub process : Collects world Begun new
   pub book : BookKeeps world.trace world.table b
   pub done : HasDone world.trace Collect old.cell new.cell
+  pub events : AddsOne old.cell.pid Collect old_b.journal.list b.journal.list
 
 -- the process's heap is marked, and nothing else has changed
 pub record HasMarkedCollection (world : WorldValue) (old new : Process) : Type 0 where
@@ -61,10 +63,12 @@ pub record CanEndCollection (world : WorldValue) (p : Process) (b : BookRecord) 
   pub process : Collects world Marked p
   pub book : BookKeeps world.trace world.table b
 
--- process and book stand, with no collection of the heap open, and the process has done nothing since
-pub record HasEndedCollection (world : WorldValue) (old new : Process) (b : BookRecord) : Type 0 where
+-- the end of the heap's collection is in the journal; process and book stand, with nothing unpublished, and the process has done nothing since
+pub record HasEndedCollection (world : WorldValue) (old new : Process) (old_b b : BookRecord) : Type 0 where
   pub pair : PairStands world new b
+  pub settled : new.cell.value.tail ≡ []
   pub same : HasSameLeft world.trace old.cell new.cell
+  pub events : AddsEnd (User old.cell.pid) old_b.journal.list b.journal.list
 
 -- the kernel stands as between operations, but its heap's collection is in this phase
 pub record KernelCollects (world : WorldValue) (phase : CellPhase) (k : HoldingsValue) : Type 0 where
@@ -82,20 +86,24 @@ pub record CanBeginKernelCollection (world : WorldValue) (p : Process) (k : Hold
   pub kernel : KernelKeeps world.trace world.table k
   pub orphans : lowest_orphan b.value.phases b.value.shares ≡ None
 
--- the process has done `kcollect`, process and book stand still, and the collection of the kernel's heap has begun
-pub record HasBegunKernelCollection (world : WorldValue) (old new : Process) (k : HoldingsValue) (b : BookRecord) : Type 0 where
+-- the process has done `kcollect`, which is in the journal, process and book stand still with nothing unpublished, and the collection of
+-- the kernel's heap has begun
+pub record HasBegunKernelCollection (world : WorldValue) (old new : Process) (k : HoldingsValue) (old_b b : BookRecord) : Type 0 where
   pub own : HasDoneAlone world KCollect old new b
+  pub settled : new.cell.value.tail ≡ []
   pub kernel : KernelCollects world Begun k
+  pub events : AddsOne old.cell.pid KCollect old_b.journal.list b.journal.list
 
 -- the kernel's heap is marked, and the book stands
 pub record CanEndKernelCollection (world : WorldValue) (k : HoldingsValue) (b : BookRecord) : Type 0 where
   pub kernel : KernelCollects world Marked k
   pub book : BookKeeps world.trace world.table b
 
--- kernel and book stand, with no collection of the kernel's heap open
-pub record HasEndedKernelCollection (world : WorldValue) (k : HoldingsValue) (b : BookRecord) : Type 0 where
+-- the end of the collection of the kernel's heap is in the journal, and kernel and book stand
+pub record HasEndedKernelCollection (world : WorldValue) (k : HoldingsValue) (old_b b : BookRecord) : Type 0 where
   pub kernel : KernelKeeps world.trace world.table k
   pub book : BookKeeps world.trace world.table b
+  pub events : AddsEnd Kernel old_b.journal.list b.journal.list
 
 -- `exit` comes next, and the kernel stands
 pub record CanExitNow (world : WorldValue) (p : Process) (k : HoldingsValue) (b : BookRecord) : Type 0 where

@@ -1,4 +1,5 @@
 //! Shared heaps that nobody shares, which the kernel absorbs, and its collection, which comes after that.
+ghost use Rattle.k_operate.specs.Adding.{AddsOperation, known_to};
 ghost use Rattle.k_operate.specs.Absorbing.{CanAbsorbOrphan, CanCollectKernel, HasAbsorbedOrphan, HasAbsorbedOrphans};
 ghost use Rattle.k_operate.specs.Steps.{HasDoneNext};
 ghost use Rattle.k_process.specs.Standing.{RestStands};
@@ -44,7 +45,8 @@ pub fn do_collect_kernel(
 )
     ghost world: { WorldValue }
     requires { CanCollectKernel world process.old kernel.old shared.old.items book.old }
-    ensures { HasDoneNext world KCollect process.old process.new kernel.new shared.new.items book.new }
+    ensures done { HasDoneNext world KCollect process.old process.new kernel.new shared.new.items book.new }
+    ensures events { AddsOperation world.trace process.old.cell.pid KCollect (known_to process.old book.old) (known_to process.new book.new) }
 {
     absorb_orphans(shared, kernel, book);
     begin_kernel_collection(process, kernel, book);

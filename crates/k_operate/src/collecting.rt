@@ -3,6 +3,7 @@
 //! Each is made of three pieces. The book is needed for the first and the last; marking needs its cell alone, and the events of
 //! other processes may come in between.
 ghost use Rattle.k_locked.specs.Keeping.{BookKeeps};
+ghost use Rattle.k_operate.specs.Adding.{AddsOperation, known_to};
 ghost use Rattle.k_operate.specs.Collecting.{CanBeginKernelCollection, CanEndCollection, CanEndKernelCollection, Collects, HasBegunCollection, HasBegunKernelCollection, HasEndedCollection, HasEndedKernelCollection, HasMarkedCollection, IsNextAndSettled, KernelCollects};
 ghost use Rattle.k_operate.specs.Steps.{HasDoneAlone};
 ghost use Rattle.k_process.specs.Worlds.{WorldValue};
@@ -21,7 +22,7 @@ use k_steps::{begin_heap, begin_kernel, end_heap, end_kernel};
 pub fn begin_collection(process: &mut Process, book: &mut Book)
     ghost world: { WorldValue }
     requires { IsNextAndSettled world process.old book.old Collect }
-    ensures { HasBegunCollection world process.old process.new book.new }
+    ensures { HasBegunCollection world process.old process.new book.old book.new }
 {
     begin_heap(&mut process.cell, book);
 }
@@ -40,7 +41,7 @@ pub fn mark_collection(process: &mut Process)
 pub fn end_collection(process: &mut Process, book: &mut Book)
     ghost world: { WorldValue }
     requires { CanEndCollection world process.old book.old }
-    ensures { HasEndedCollection world process.old process.new book.new }
+    ensures { HasEndedCollection world process.old process.new book.old book.new }
 {
     meet_heap(&mut process.cell, book);
     end_heap(&mut process.cell, book);
@@ -50,7 +51,8 @@ pub fn end_collection(process: &mut Process, book: &mut Book)
 pub fn do_collect(process: &mut Process, book: &mut Book)
     ghost world: { WorldValue }
     requires { IsNextAndSettled world process.old book.old Collect }
-    ensures { HasDoneAlone world Collect process.old process.new book.new }
+    ensures done { HasDoneAlone world Collect process.old process.new book.new }
+    ensures events { AddsOperation world.trace process.old.cell.pid Collect (known_to process.old book.old) (known_to process.new book.new) }
 {
     begin_collection(process, book);
     mark_collection(process);
@@ -62,7 +64,7 @@ pub fn do_collect(process: &mut Process, book: &mut Book)
 pub fn begin_kernel_collection(process: &mut Process, kernel: &mut KernelCell, book: &mut Book)
     ghost world: { WorldValue }
     requires { CanBeginKernelCollection world process.old kernel.old book.old }
-    ensures { HasBegunKernelCollection world process.old process.new kernel.new book.new }
+    ensures { HasBegunKernelCollection world process.old process.new kernel.new book.old book.new }
 {
     begin_kernel(&mut process.cell, kernel, book);
 }
@@ -81,7 +83,7 @@ pub fn mark_kernel_collection(kernel: &mut KernelCell)
 pub fn end_kernel_collection(kernel: &mut KernelCell, book: &mut Book)
     ghost world: { WorldValue }
     requires { CanEndKernelCollection world kernel.old book.old }
-    ensures { HasEndedKernelCollection world kernel.new book.new }
+    ensures { HasEndedKernelCollection world kernel.new book.old book.new }
 {
     end_kernel(kernel, book);
 }

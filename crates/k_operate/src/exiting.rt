@@ -1,4 +1,5 @@
 //! The end of a process by its own operation.
+ghost use Rattle.k_operate.specs.Adding.{AddsOperation, known_to};
 ghost use Rattle.k_operate.specs.Collecting.{CanExitNow};
 ghost use Rattle.k_operate.specs.Steps.{HasDoneWithKernel};
 ghost use Rattle.k_process.specs.Worlds.{WorldValue};
@@ -15,7 +16,8 @@ use k_steps::exit;
 pub fn do_exit(process: &mut Process, kernel: &mut KernelCell, book: &mut Book)
     ghost world: { WorldValue }
     requires { CanExitNow world process.old kernel.old book.old }
-    ensures { HasDoneWithKernel world Exit process.old process.new kernel.new book.new }
+    ensures done { HasDoneWithKernel world Exit process.old process.new kernel.new book.new }
+    ensures events { AddsOperation world.trace process.old.cell.pid Exit (known_to process.old book.old) (known_to process.new book.new) }
 {
     know_exits(&process.cell);
     know_kernel_exits(kernel);

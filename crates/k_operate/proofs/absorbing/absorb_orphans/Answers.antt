@@ -1,4 +1,4 @@
-use Rattle.std.proofs.Common.{◌<◌, ◌∙◌, refl, sym, subst}
+use Rattle.std.proofs.Common.{◌<◌, refl, sym, subst}
 use Rattle.k_process.proofs.Looped.{found_at}
 use Rattle.k_operate.proofs.AbsorbKept.{absorbing_goes_on, can_absorb_first, heap_known, heap_there, less_room, none_absorbed, rest_absorbed}
 use Rattle.k_operate.proofs.absorbing.absorb_orphans.Goals as goal
