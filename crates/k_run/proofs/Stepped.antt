@@ -1,10 +1,9 @@
 -- What a process has done between two locks.
-use Rattle.std.proofs.Common.{◌≡◌, refl, sym, ap, ◌∙◌, subst, [], ◌∷◌, List, Bool, false, true}
+use Rattle.std.proofs.Common.{◌≡◌, sym, ap, ◌∙◌, subst, [], ◌∷◌, List, Bool, false, true}
 use Rattle.std.proofs.lemmas.Bool.{false≢true}
 use Rattle.k_types.specs.declared.names.Heap.TheVariants.{Kernel, Shared}
 use Rattle.k_types.specs.declared.names.SharedId.{SharedId}
 use Rattle.k_types.specs.declared.op.Op.{Op}
-use Rattle.k_types.specs.declared.op.Op.TheVariants.{New, KNew, SNew, Store, Load, Move, Clear, Dir, Put, Get, Collect, KCollect, Share, Freeze, Attach, Exit}
 use Rattle.k_types.specs.Agree.{book_shown_by}
 use Rattle.k_types.specs.Cells.{Cell}
 use Rattle.k_types.specs.Trace.{Trace}
@@ -17,14 +16,14 @@ use Rattle.k_locked.specs.Keeping.{operations_left}
 use Rattle.k_process.specs.declared.process.Process.{Process}
 use Rattle.k_process.specs.Standing.{ComesNext, HasDone}
 use Rattle.k_process.specs.Worlds.{WorldValue}
-use Rattle.k_operate.specs.Steps.{HasDoneInside, HasPublishedAll, is_put_off}
+use Rattle.k_operate.specs.Steps.{HasDoneInside, HasPublishedAll}
 use Rattle.k_operate.specs.Collecting.{HasSameLeft, IsNextAndSettled}
 use Rattle.k_operate.proofs.Since.{next_since}
 use Rattle.k_run.specs.Running.{HasDoneBeside, HasDoneUnless}
 
 -- publishing leaves all operations
-pub published_left : (world : WorldValue) (q r : Process) (b : BookRecord) → HasPublishedAll world q r b → HasSameLeft world.trace q.cell r.cell
-published_left world q r b t = record {
+pub published_left : (world : WorldValue) (q r : Process) (a b : BookRecord) → HasPublishedAll world q r a b → HasSameLeft world.trace q.cell r.cell
+published_left world q r a b t = record {
   pid = ap (λ (c : HeapRecord). c.pid) t.cell_is;
   left = ap (operations_left world.trace) t.cell_is;
 }
@@ -51,8 +50,8 @@ inside_unless world op p q done next t = record {
 }
 
 -- a process whose events are published can go on with its next operation
-pub next_settled : (world : WorldValue) (q r : Process) (b : BookRecord) (op : Op) → HasPublishedAll world q r b → ComesNext world.trace q.cell op → IsNextAndSettled world r b op
-next_settled world q r b op t next = record { pair = t.pair; settled = t.settled; next = next_since world q r b op t next }
+pub next_settled : (world : WorldValue) (q r : Process) (a b : BookRecord) (op : Op) → HasPublishedAll world q r a b → ComesNext world.trace q.cell op → IsNextAndSettled world r b op
+next_settled world q r a b op t next = record { pair = t.pair; settled = t.settled; next = next_since world q r b op t next }
 
 pub none_reached : (c : Cell) → [] ≡ c ∷ [] → ⊥
 none_reached c e = cc
@@ -80,22 +79,3 @@ module _ (trace : Trace) (op : Op) (beside : Cell) (c : HeapRecord) (b : BookRec
 -- what is told of the process before, where nothing had changed
 pub done_same : (trace : Trace) (op : Op) (a b c : HeapRecord) → b ≡ a → HasDone trace op b c → HasDone trace op a c
 done_same trace op a b c same done = subst (λ (x : HeapRecord). HasDone trace op x c) same done
-
--- an operation that is none of the three goes on
-pub goes_on_else : (op : Op) → (op ≡ Collect → ⊥) → (op ≡ KCollect → ⊥) → (op ≡ Exit → ⊥) → is_put_off op ≡ false
-goes_on_else (New r ty) a b c = refl
-goes_on_else (KNew r ty) a b c = refl
-goes_on_else (SNew r s ty) a b c = refl
-goes_on_else (Store base i value) a b c = refl
-goes_on_else (Load r base i) a b c = refl
-goes_on_else (Move r from) a b c = refl
-goes_on_else (Clear r) a b c = refl
-goes_on_else (Dir r) a b c = refl
-goes_on_else (Put base i number) a b c = refl
-goes_on_else (Get base i) a b c = refl
-goes_on_else Collect a b c = absurd (a refl)
-goes_on_else KCollect a b c = absurd (b refl)
-goes_on_else (Share s) a b c = refl
-goes_on_else (Freeze s root) a b c = refl
-goes_on_else (Attach r s) a b c = refl
-goes_on_else Exit a b c = absurd (c refl)

@@ -2,8 +2,7 @@
 ghost use Rattle.std.specs.Prelude.{IfNone, IfSome, IsFalse, None, ◌<◌, ◌≡◌};
 ghost use Rattle.k_frame.specs.PartUpdates.{done_in};
 ghost use Rattle.k_process.specs.Standing.{ComesNext, IsNextOf};
-ghost use Rattle.k_operate.specs.Readiness.{IsOutside, IsReady};
-ghost use Rattle.k_operate.specs.Steps.{is_put_off};
+ghost use Rattle.k_operate.specs.Readiness.{IsOutside, IsReady, begins_or_ends};
 ghost use Rattle.k_run.specs.Running.{HasDoneBeside, HasDoneUnless, IsReadyFor};
 ghost use Rattle.k_types.specs.Trace.{process_count};
 ghost use Rattle.k_types.specs.declared.names.Heap.TheVariants.{Kernel, Shared};
@@ -75,7 +74,7 @@ impl<W: WorldName> LockedProcess<W> {
         gate: &impl Gate,
     ) -> Reach
         requires outside { IsOutside W.world.trace self.old op.now }
-        requires goes_on { IsFalse (is_put_off op.now) }
+        requires steps { IsFalse (begins_or_ends op.now) }
         ensures { IsReadyFor result W.world.trace op.now self.old self.new }
     {
         publish_all(&mut self.process, &mut book.book);
@@ -99,7 +98,8 @@ impl<W: WorldName> LockedProcess<W> {
         op: &Op,
         gate: &impl Gate,
     ) -> bool
-        requires { IsReady W.world.trace self.old op.now }
+        requires ready { IsReady W.world.trace self.old op.now }
+        requires steps { IsFalse (begins_or_ends op.now) }
         ensures { HasDoneBeside W.world.trace op.now Kernel self.old self.new book.old result }
     {
         match reach(&self.process.cell, &book.book, op) {
@@ -121,7 +121,8 @@ impl<W: WorldName> LockedProcess<W> {
         op: &Op,
         gate: &impl Gate,
     ) -> bool
-        requires { IsReady W.world.trace self.old op.now }
+        requires ready { IsReady W.world.trace self.old op.now }
+        requires steps { IsFalse (begins_or_ends op.now) }
         ensures { HasDoneBeside W.world.trace op.now (Shared shared.old.id) self.old self.new book.old result }
     {
         match reach(&self.process.cell, &book.book, op) {

@@ -1,7 +1,7 @@
 //! The next operation of a process, under the locks that it needs: each takes those of its process's heap, the kernel's, a shared heap's
 //! and the book's in this order, as far as it needs them.
 ghost use Rattle.std.specs.Prelude.{IsFalse, IsTrue};
-ghost use Rattle.k_operate.specs.Steps.{is_put_off};
+ghost use Rattle.k_operate.specs.Readiness.{begins_or_ends};
 ghost use Rattle.k_process.specs.Standing.{ComesNext, HasDone};
 
 use crate::collecting::collect_kernel;
@@ -38,7 +38,7 @@ fn operate<W: WorldName>(
     gate: &impl Gate,
 ) -> bool
     requires next { ComesNext W.world.trace process.old op.now }
-    requires goes_on { IsFalse (is_put_off op.now) }
+    requires steps { IsFalse (begins_or_ends op.now) }
     ensures { IsTrue result → HasDone W.world.trace op.now process.old process.new }
 {
     if process.do_inside(op) {

@@ -12,12 +12,12 @@ use Rattle.k_run.proofs.locked.LockedProcess.do_under_kernel.Goals as goal
 pub reach-requires : goal.reach-requires
 reach-requires g c =
     can_reach g.W.WorldName.world c.self.inside.process c.book.inside.book c.args.op.now (record { process = c.self.invariant; book = c.book.invariant })
-    (subst (λ (x : HeapRecord). ComesNext g.W.WorldName.world.trace x c.args.op.now) (sym c.self.view_is) c.requires.next)
+    (subst (λ (x : HeapRecord). ComesNext g.W.WorldName.world.trace x c.args.op.now) (sym c.self.view_is) c.requires.ready.next)
 
 pub do_with_kernel-requires : goal.do_with_kernel-requires
 do_with_kernel-requires g c = record {
   due = due g.W.WorldName.world c.self.inside.process c.book.inside.book c.args.op.now (Kernel ∷ []) (record { process = c.self.invariant; book = c.book.invariant })
-      (subst (λ (x : HeapRecord). IsReady g.W.WorldName.world.trace x c.args.op.now) (sym c.self.view_is) c.requires) (sym c.in-Kernel.ensures);
+      (subst (λ (x : HeapRecord). IsReady g.W.WorldName.world.trace x c.args.op.now) (sym c.self.view_is) c.requires.ready) c.requires.steps (sym c.in-Kernel.ensures);
   kernel = c.kernel.invariant;
 }
 
@@ -37,4 +37,4 @@ pub returns-in-Kernel : goal.returns-in-Kernel
 returns-in-Kernel g c =
     subst (λ (b : BookRecord). HasDoneBeside g.W.WorldName.world.trace c.args.op.now Kernel c.args.self.now c.do_with_kernel.new.process.cell b true) c.book.view_is
     (subst (λ (x : HeapRecord). HasDoneBeside g.W.WorldName.world.trace c.args.op.now Kernel x c.do_with_kernel.new.process.cell c.book.inside.book true) c.self.view_is
-    (was_done g.W.WorldName.world.trace c.args.op.now Kernel c.self.inside.process.cell c.book.inside.book c.do_with_kernel.new.process.cell c.do_with_kernel.ensures.own.done))
+    (was_done g.W.WorldName.world.trace c.args.op.now Kernel c.self.inside.process.cell c.book.inside.book c.do_with_kernel.new.process.cell c.do_with_kernel.ensures.done.own.done))

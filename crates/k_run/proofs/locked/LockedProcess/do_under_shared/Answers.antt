@@ -11,7 +11,7 @@ use Rattle.k_run.proofs.locked.LockedProcess.do_under_shared.Goals as goal
 pub reach-requires : goal.reach-requires
 reach-requires g c =
     can_reach g.W.WorldName.world c.self.inside.process c.book.inside.book c.args.op.now (record { process = c.self.invariant; book = c.book.invariant })
-    (subst (λ (x : HeapRecord). ComesNext g.W.WorldName.world.trace x c.args.op.now) (sym c.self.view_is) c.requires.next)
+    (subst (λ (x : HeapRecord). ComesNext g.W.WorldName.world.trace x c.args.op.now) (sym c.self.view_is) c.requires.ready.next)
 
 pub returns-in-Own : goal.returns-in-Own
 returns-in-Own g c =
