@@ -12,7 +12,6 @@ use Rattle.k_types.specs.Agree.{CellValue}
 use Rattle.k_types.specs.FileOrder.{heap_begun}
 use Rattle.k_types.specs.Trace.{Trace}
 use Rattle.k_book.specs.Books.{BookRecord}
-use Rattle.k_heap.specs.Heaps.{HeapRecord}
 use Rattle.k_local.specs.Locals.{local_answer}
 use Rattle.k_commit.specs.Stepped.{HasStepped}
 use Rattle.k_process.specs.declared.process.Process.{Process}

@@ -18,7 +18,7 @@ use Rattle.k_frame.specs.PartUpdates.{done_in}
 use Rattle.k_frame.proofs.Histories.{done_append}
 use Rattle.k_agree.specs.Agreement.{Agrees}
 use Rattle.k_agree.specs.Marking.{marked}
-use Rattle.k_agree.specs.Meeting.{Fits, met_note}
+use Rattle.k_agree.specs.Meeting.{Fits}
 use Rattle.k_bodies.specs.Bodies.{bodies_of}
 use Rattle.k_book.specs.Books.{BookRecord}
 use Rattle.k_heap.specs.Heaps.{HeapRecord, own_segment}

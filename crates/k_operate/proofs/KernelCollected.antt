@@ -7,7 +7,6 @@ use Rattle.k_types.specs.declared.names.CellPhase.TheVariants.{Begun, Marked}
 use Rattle.k_types.specs.declared.names.Heap.TheVariants.{Kernel}
 use Rattle.k_types.specs.declared.op.Op.{Op}
 use Rattle.k_types.specs.declared.op.Op.TheVariants.{KCollect}
-use Rattle.k_types.specs.Agree.{CellValue}
 use Rattle.k_types.specs.Trace.{operations_of, segment_count}
 use Rattle.k_agree.specs.Agreement.{Agrees}
 use Rattle.k_agree.specs.Rooms.{exit_room}

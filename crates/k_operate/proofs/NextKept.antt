@@ -16,7 +16,7 @@ use Rattle.k_heap.specs.Heaps.{HeapRecord}
 use Rattle.k_shared.specs.SharedHeaps.{SharedRecord}
 use Rattle.k_locked.specs.Keeping.{operations_left}
 use Rattle.k_process.specs.declared.process.Process.{Process}
-use Rattle.k_process.specs.Standing.{ComesNext, HasDone, RestStands}
+use Rattle.k_process.specs.Standing.{ComesNext, RestStands}
 use Rattle.k_process.specs.Worlds.{WorldValue}
 use Rattle.k_process.proofs.Kept.{shared_set}
 use Rattle.k_steps.specs.Reaching.{CanReach}
