@@ -1,5 +1,5 @@
 -- The last collection of the kernel keeps what is asked at the end.
-use Rattle.std.proofs.Common.{◌≡◌, ◌≤◌, ◌++◌, ℕ, true, false, refl, sym, ap, ap₂, ◌∙◌, subst, List, [], ◌∷◌, length, append-nil, append_assoc, find, Option, Some, None, is_some, IsTrue, if◌then◌else◌}
+use Rattle.std.proofs.Common.{◌≡◌, ◌≤◌, ◌++◌, ℕ, true, false, refl, sym, ap, ap₂, ◌∙◌, subst, List, [], ◌∷◌, length, append-nil, append_assoc, filter, find, Option, Some, None, is_some, IsTrue, if◌then◌else◌}
 use Rattle.std.specs.List.{list_all}
 use Rattle.std.proofs.Math.Path.{fun_ext}
 use Rattle.std.proofs.lemmas.Bool.{false≢true}
@@ -13,7 +13,7 @@ use Rattle.k_types.specs.Complete.{EndsWithClosing, all_ended}
 use Rattle.k_types.specs.FileOrder.{absorptions, end_of, last_events, with_end}
 use Rattle.k_types.specs.Names.{among}
 use Rattle.k_types.specs.Numbers.{numbers_below}
-use Rattle.k_types.specs.State.{State}
+use Rattle.k_types.specs.State.{State, opening}
 use Rattle.k_types.specs.Steps.{IsPossible, is_orphan, run, state_after}
 use Rattle.k_types.specs.Effects.{step}
 use Rattle.k_types.specs.Trace.{Trace, process_count, segment_count}
@@ -199,13 +199,13 @@ module _ (world : WorldValue) (k : HoldingsValue) (ss : List SharedRecord) (b : 
 
   module _ (ended : all_ended_in world.trace b.value ≡ true) (x : HoldingsValue) (ts : List SharedRecord) (l : BookRecord) (a : HasAbsorbedOrphans world x ts b l) where
     state_absorbed : state_after world.trace l.journal.list ≡ run world.trace before (absorptions world.trace before)
-    state_absorbed = ap (state_after world.trace) a.journal ∙ run_append world.trace _ b.journal.list (absorptions world.trace before)
+    state_absorbed = ap (state_after world.trace) a.journal ∙ run_append world.trace (opening world.trace) b.journal.list (absorptions world.trace before)
 
     ended_still : all_ended_in world.trace l.value ≡ true
     ended_still =
         ended_told world.trace l a.rest.book.stands
         ∙ ap (λ (es : List ℕ). list_all (λ p. among p es) (numbers_below (process_count world.trace)))
-        (ap (λ (st : State). st.ended) state_absorbed ∙ absorptions_end_none world.trace _ before)
+        (ap (λ (st : State). st.ended) state_absorbed ∙ absorptions_end_none world.trace (filter (is_orphan before) (numbers_below world.trace.shared_heaps)) before)
         ∙ sym (ended_told world.trace b rest.book.stands)
         ∙ ended
 

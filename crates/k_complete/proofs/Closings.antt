@@ -81,9 +81,9 @@ module _ (trace : Trace) where
 
       no_closings : (events : List Event) → list_all (λ event. not (is_closing event)) events ≡ true → closing_count events ≡ 0
       no_closings [] all = refl
-      no_closings (Done pid op said ∷ events) all = no_closings events all
-      no_closings (Ended h a b c d ∷ events) all = no_closings events all
-      no_closings (Absorbed s ∷ events) all = no_closings events all
+      no_closings (Done pid op said ∷ events) all = let rest = no_closings events all in omega (arith, rest)
+      no_closings (Ended h a b c d ∷ events) all = let rest = no_closings events all in omega (arith, rest)
+      no_closings (Absorbed s ∷ events) all = let rest = no_closings events all in omega (arith, rest)
       no_closings (Closing ∷ events) all = absurd (false≢true all)
 
 -- where one fails, not all pass

@@ -1,5 +1,5 @@
 -- All operations in the order of the file.
-use Rattle.std.proofs.Common.{◌≡◌, ℕ, zero, suc, ◌+◌, ◌<◌, ◌≤◌, nat_lt, Bool, true, refl, sym, ap, ap₂, ◌∙◌, subst, List, [], ◌∷◌, ◌++◌, append-nil, append_assoc, map, drop, set, get_or, length, arith, Some, slice_get, IsTrue, IsFalse, inl, inr, eq-refl}
+use Rattle.std.proofs.Common.{◌≡◌, ℕ, zero, suc, ◌+◌, ◌<◌, ◌≤◌, nat_lt, Bool, true, refl, sym, ap, ap₂, ◌∙◌, subst, List, [], ◌∷◌, ◌++◌, append-nil, append_assoc, map, drop, set, get_or, length, arith, Some, slice_get, IsTrue, IsFalse, inl, inr}
 use Rattle.std.specs.List.{list_all}
 use Rattle.std.proofs.lemmas.Bool.{and_parts}
 use Rattle.std.proofs.lemmas.Bool.Decides.{nat_tests}
@@ -24,6 +24,7 @@ use Rattle.k_book.specs.Books.{BookRecord}
 use Rattle.k_cell.specs.Holdings.{HoldingsValue}
 use Rattle.k_heap.specs.Heaps.{HeapRecord, has_ended_in}
 use Rattle.k_shared.specs.SharedHeaps.{SharedRecord}
+use Rattle.k_locked.proofs.Kept.{drop_none}
 use Rattle.k_locked.specs.Keeping.{HeapKeeps, operations_left}
 use Rattle.k_process.specs.declared.process.Process.{Process}
 use Rattle.k_process.specs.Standing.{IsThroughWith, ProcessesStand, RestStands}
@@ -77,11 +78,18 @@ place_known n (pid ∷ pids) (suc i) d all inside =
 
 pub places_left : (pids : List Pid) (i : ℕ) (d : Pid) → i < length pids → map (λ (pid : Pid). pid.0) (drop i pids) ≡ (get_or pids i d).0 ∷ map (λ (pid : Pid). pid.0) (drop (i + 1) pids)
 places_left [] i d inside = absurd (omega arith)
-places_left (pid ∷ pids) zero d inside = refl
-places_left (pid ∷ pids) (suc i) d inside = places_left pids i d (omega arith)
+places_left (pid ∷ pids) zero d inside = ap (λ qs. pid.0 ∷ map (λ (q : Pid). q.0) qs) (sym (drop_none pids))
+places_left (pid ∷ pids) (suc i) d inside =
+    let e : suc i + 1 ≡ suc (i + 1) = omega arith in
+    places_left pids i d (omega arith) ∙ ap (λ n. (get_or pids i d).0 ∷ map (λ (q : Pid). q.0) (drop n (pid ∷ pids))) (sym e)
 
 pub no_places_left : (pids : List Pid) (i : ℕ) → length pids ≤ i → map (λ (pid : Pid). pid.0) (drop i pids) ≡ []
 no_places_left pids i past = ap (map (λ (pid : Pid). pid.0)) (drop_all pids i past)
+
+-- the place that comes next is a process of the trace
+pub next_known : (trace : Trace) (order : List Pid) (i : ℕ) (d : Pid) → KeepsRules trace → map (λ (pid : Pid). pid.0) order ≡ trace.order → i < length order → (get_or order i d).0 < process_count trace
+next_known trace order i d rules is inside =
+    place_known (process_count trace) order i d (subst (λ (ps : List ℕ). list_all (λ p. nat_lt p (process_count trace)) ps ≡ true) (sym is) rules.operations.ordered) inside
 
 -- one line more
 module _ (world : WorldValue) (ps : List Process) (k : HoldingsValue) (ss : List SharedRecord) (b : BookRecord) (processes : ProcessesStand world ps) (rest : RestStands world k ss b) (published : ArePublished ps)
