@@ -23,15 +23,15 @@ do_with_kernel-requires g c = record {
 
 pub returns-in-Own : goal.returns-in-Own
 returns-in-Own g c =
-    subst (λ (b : BookRecord). HasDoneBeside g.W.WorldName.world.trace c.args.op.now (Kernel) c.args.self.now c.self.inside.process.cell b false) c.book.view_is
-    (subst (λ (x : HeapRecord). HasDoneBeside g.W.WorldName.world.trace c.args.op.now (Kernel) x c.self.inside.process.cell c.book.inside.book false) c.self.view_is
+    subst (λ (b : BookRecord). HasDoneBeside g.W.WorldName.world.trace c.args.op.now (Kernel) c.args.self.now c.args.self.now b false) c.book.view_is
+    (subst (λ (x : HeapRecord). HasDoneBeside g.W.WorldName.world.trace c.args.op.now (Kernel) x x c.book.inside.book false) c.self.view_is
     (not_done g.W.WorldName.world.trace c.args.op.now (Kernel) c.self.inside.process.cell c.book.inside.book ([]) c.in-Own.ensures (none_reached Kernel)))
 
 pub returns-in-Shared : goal.returns-in-Shared
 returns-in-Shared g c =
-    subst (λ (b : BookRecord). HasDoneBeside g.W.WorldName.world.trace c.args.op.now (Kernel) c.args.self.now c.self.inside.process.cell b false) c.book.view_is
-    (subst (λ (x : HeapRecord). HasDoneBeside g.W.WorldName.world.trace c.args.op.now (Kernel) x c.self.inside.process.cell c.book.inside.book false) c.self.view_is
-    (not_done g.W.WorldName.world.trace c.args.op.now (Kernel) c.self.inside.process.cell c.book.inside.book (Shared c.in-Shared.0 ∷ []) c.in-Shared.ensures (shared_not_kernel c.in-Shared.0)))
+    subst (λ (b : BookRecord). HasDoneBeside g.W.WorldName.world.trace c.args.op.now (Kernel) c.args.self.now c.args.self.now b false) c.book.view_is
+    (subst (λ (x : HeapRecord). HasDoneBeside g.W.WorldName.world.trace c.args.op.now (Kernel) x x c.book.inside.book false) c.self.view_is
+    (not_done g.W.WorldName.world.trace c.args.op.now (Kernel) c.self.inside.process.cell c.book.inside.book (Shared c.in-Shared.field-0 ∷ []) c.in-Shared.ensures (shared_not_kernel c.in-Shared.field-0)))
 
 pub returns-in-Kernel : goal.returns-in-Kernel
 returns-in-Kernel g c =

@@ -15,12 +15,12 @@ reach-requires g c =
 
 pub returns-in-Own : goal.returns-in-Own
 returns-in-Own g c =
-    subst (λ (b : BookRecord). HasDoneBeside g.W.WorldName.world.trace c.args.op.now (Shared c.args.shared.now.id) c.args.self.now c.self.inside.process.cell b false) c.book.view_is
-    (subst (λ (x : HeapRecord). HasDoneBeside g.W.WorldName.world.trace c.args.op.now (Shared c.args.shared.now.id) x c.self.inside.process.cell c.book.inside.book false) c.self.view_is
+    subst (λ (b : BookRecord). HasDoneBeside g.W.WorldName.world.trace c.args.op.now (Shared c.args.shared.now.id) c.args.self.now c.args.self.now b false) c.book.view_is
+    (subst (λ (x : HeapRecord). HasDoneBeside g.W.WorldName.world.trace c.args.op.now (Shared c.args.shared.now.id) x x c.book.inside.book false) c.self.view_is
     (not_done g.W.WorldName.world.trace c.args.op.now (Shared c.args.shared.now.id) c.self.inside.process.cell c.book.inside.book ([]) c.in-Own.ensures (none_reached (Shared c.args.shared.now.id))))
 
 pub returns-in-Kernel : goal.returns-in-Kernel
 returns-in-Kernel g c =
-    subst (λ (b : BookRecord). HasDoneBeside g.W.WorldName.world.trace c.args.op.now (Shared c.args.shared.now.id) c.args.self.now c.self.inside.process.cell b false) c.book.view_is
-    (subst (λ (x : HeapRecord). HasDoneBeside g.W.WorldName.world.trace c.args.op.now (Shared c.args.shared.now.id) x c.self.inside.process.cell c.book.inside.book false) c.self.view_is
+    subst (λ (b : BookRecord). HasDoneBeside g.W.WorldName.world.trace c.args.op.now (Shared c.args.shared.now.id) c.args.self.now c.args.self.now b false) c.book.view_is
+    (subst (λ (x : HeapRecord). HasDoneBeside g.W.WorldName.world.trace c.args.op.now (Shared c.args.shared.now.id) x x c.book.inside.book false) c.self.view_is
     (not_done g.W.WorldName.world.trace c.args.op.now (Shared c.args.shared.now.id) c.self.inside.process.cell c.book.inside.book (Kernel ∷ []) c.in-Kernel.ensures (kernel_not_shared c.args.shared.now.id)))
