@@ -1,5 +1,5 @@
 -- Lists whose last element is taken.
-use Rattle.std.proofs.Common.{◌≡◌, ◌+◌, ◌++◌, ℕ, zero, suc, ap, ◌∙◌, List, [], ◌∷◌, length, Some, slice_get, refl, arith}
+use Rattle.std.proofs.Common.{◌≡◌, ◌<◌, ◌+◌, ◌++◌, ℕ, zero, suc, ap, ◌∙◌, List, [], ◌∷◌, length, Some, slice_get, refl, arith}
 
 at_end : {A : Type 0} (ys : List A) (x : A) → slice_get (ys ++ x ∷ []) (length ys) ≡ Some x
 at_end [] x = refl
@@ -23,3 +23,10 @@ module _ {A : Type 0} (P : A → Type 0) (xs ys : List A) (x : A) (is : xs ≡ y
   -- and of each of the others
   pub front_of : (k : ℕ) (y : A) → slice_get ys k ≡ Some y → P y
   front_of k y at = each k y (ap (λ (zs : List A). slice_get zs k) is ∙ in_front ys x k y at)
+
+pub shorter : {A : Type 0} (xs ys : List A) (x : A) → xs ≡ ys ++ x ∷ [] → length ys < length xs
+shorter xs ys x is = omega (arith, ap length is, longer ys x)
+
+-- one element is moved from the end of one list to that of another
+pub one_moved : {A B : Type 0} (xs ys : List A) (x : A) (ls ms : List B) (m : B) (total : ℕ) → xs ≡ ys ++ x ∷ [] → ms ≡ ls ++ m ∷ [] → length ls + length xs ≡ total → length ms + length ys ≡ total
+one_moved xs ys x ls ms m total popped pushed all = omega (arith, ap length popped, ap length pushed, longer ys x, longer ls m, all)

@@ -10,4 +10,4 @@ invariant-loop-process g l = record {
 }
 
 abbrev pub decreases-loop-process : goal.decreases-loop-process
-decreases-loop-process g l = goal.left-loop-process g l
+decreases-loop-process g l = length l.processes.items

@@ -10,4 +10,4 @@ invariant-loop-cell g l = record {
 }
 
 abbrev pub decreases-loop-cell : goal.decreases-loop-cell
-decreases-loop-cell g l = goal.left-loop-cell g l
+decreases-loop-cell g l = length l.shared.items
