@@ -14,6 +14,7 @@ mod rooms;
 mod running;
 mod stepping;
 mod turning;
+mod whole;
 mod world;
 mod worlds;
 
@@ -22,5 +23,6 @@ pub use locked::{LockedBook, LockedKernel, LockedProcess, LockedShared};
 pub use opening::open;
 pub use outcome::Outcome;
 pub use running::run;
+pub use whole::run_trace;
 pub use world::{World, finish};
 pub use worlds::WorldName;

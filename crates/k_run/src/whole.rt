@@ -1,12 +1,16 @@
 //! A trace that is run on threads, from its opening to its end.
 ghost use Rattle.std.specs.Prelude.{IfOk, ◌≡◌};
 ghost use Rattle.k_complete.specs.Ended.{IsOutcome};
-ghost use Rattle.k_still.specs.Opening.{StillStands};
+ghost use Rattle.k_still.specs.Opening.{IsSetupOf, StillStands};
 ghost use Rattle.k_trace.specs.Meaning.{meaning_of};
 ghost use Rattle.k_trace.specs.Rules.{IsTrace};
 
+use crate::opening::open;
+use crate::outcome::Outcome;
+use crate::running::run;
+use crate::world::{World, finish};
+use crate::worlds::WorldName;
 use k_io::{Gate, NoMemory};
-use k_run::{Outcome, World, WorldName, finish, open, run};
 use k_still::{Still, open_still};
 use k_trace::Trace;
 use std::alloc::Global;
@@ -21,7 +25,8 @@ fn run_still<W: WorldName + Send + Sync, G: Gate, R: Threads + Wait + Sync>(
     still: Still,
     gate: &G,
 ) -> Result<Outcome, NoMemory>
-    requires { StillStands W.world still }
+    requires stands { StillStands W.world still }
+    requires setup { IsSetupOf still.setup W.world }
     ensures { IfOk result (λ outcome. IsOutcome W.world.trace outcome) }
 {
     let mut world: World<W> = open(rt, alloc, still)?;

@@ -7,7 +7,7 @@ use Rattle.k_trace.specs.Named.{NamedTrace}
 use Rattle.k_process.specs.declared.process.Process.{Process}
 use Rattle.k_still.specs.declared.still.Still.{Still}
 use Rattle.k_still.specs.Opening.{IsOpened, world_of}
-use Rattle.k_runs.specs.Runs.{trace_in, world_in}
+use Rattle.k_run.specs.Runs.{trace_in, world_in}
 
 -- lists of operations that processes have, each at its place
 told_lists : (lists : List (List Op)) (ps : List Process) → length ps ≡ length lists → ((k : ℕ) (p : Process) → slice_get ps k ≡ Some p → p.ops.items ≡ slice_index_or lists k []) →
