@@ -3,4 +3,3 @@ pub mod Places
 pub mod Gathering
 pub mod Rooms
 pub mod Worlds
-pub mod Runs
