@@ -1,5 +1,5 @@
 -- What absorptions and the last collection of the kernel leave of processes and shared heaps.
-use Rattle.std.proofs.Common.{◌≡◌, ℕ, ◌+◌, ◌<◌, ◌&&◌, not, Bool, true, false, cond, refl, sym, ap, ap₂, ◌∙◌, List, [], ◌∷◌, filter, find, map, length, Some, None, arith}
+use Rattle.std.proofs.Common.{◌≡◌, ℕ, ◌<◌, ◌&&◌, not, Bool, true, false, cond, refl, sym, ap, ap₂, ◌∙◌, List, [], ◌∷◌, filter, find, map, Some, None, arith}
 use Rattle.std.specs.List.{list_all}
 use Rattle.std.proofs.Math.Path.{fun_ext}
 use Rattle.std.proofs.lemmas.Bool.{false_from_ne_true, false≢true}
@@ -13,7 +13,7 @@ use Rattle.k_types.specs.Following.{is_closing}
 use Rattle.k_types.specs.Numbers.{numbers_below}
 use Rattle.k_types.specs.Owners.{phase_of}
 use Rattle.k_types.specs.State.{Sharing, State}
-use Rattle.k_types.specs.Steps.{IsLegalHistory, IsPossible, MayEnd, has_sharer, is_live, is_orphan, run, state_after}
+use Rattle.k_types.specs.Steps.{IsLegalHistory, IsPossible, has_sharer, is_live, is_orphan, run, state_after}
 use Rattle.k_types.specs.Trace.{Trace}
 use Rattle.k_types.specs.Updates.{close, close_scan, keep_exits, keep_objects, keep_shares, open_scan, set_phase}
 use Rattle.k_base.proofs.Numbered.{all_at_below}
@@ -89,12 +89,3 @@ module _ (trace : Trace) where
 -- where one fails, not all pass
 pub all_fails : (f : ℕ → Bool) (n k : ℕ) → k < n → f k ≡ false → list_all f (numbers_below n) ≡ false
 all_fails f n k inside fails = false_from_ne_true (list_all f (numbers_below n)) (λ t. false≢true (sym fails ∙ all_at_below f n k t inside))
-
--- what is not true of the test that says the opposite
-pub not_lives : (b : Bool) → not b ≡ true → b ≡ false
-not_lives true e = absurd (false≢true e)
-not_lives false e = refl
-
-pub not_dead : (b : Bool) → not b ≡ false → b ≡ true
-not_dead true e = refl
-not_dead false e = absurd (false≢true (sym e))
