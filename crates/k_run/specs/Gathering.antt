@@ -21,15 +21,3 @@ pub record CanGatherShared (world : WorldValue) (count : ℕ) (free : List (Opti
   pub empty : into ≡ []
   pub room : world.trace.shared_heaps ≤ capacity
   pub table : book.journal.table ≡ world.table
-
--- a world has as many locks as its trace has processes and shared heaps, and rooms to end it
-pub record HaveRooms (world : WorldValue) (process_locks shared_locks : ℕ) (free : List (Option Process)) (free_shared : List (Option SharedRecord))
-    (into : List Process) (into_shared : List SharedRecord) (capacity shared_capacity : ℕ) : Type 0 where
-  pub processes : process_locks ≡ process_count world.trace
-  pub shared : shared_locks ≡ world.trace.shared_heaps
-  pub process_places : free ≡ replicate (process_count world.trace) None
-  pub shared_places : free_shared ≡ replicate world.trace.shared_heaps None
-  pub processes_empty : into ≡ []
-  pub shared_empty : into_shared ≡ []
-  pub process_room : process_count world.trace ≤ capacity
-  pub shared_room : world.trace.shared_heaps ≤ shared_capacity

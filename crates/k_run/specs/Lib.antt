@@ -1,3 +1,5 @@
 pub mod Running
 pub mod Places
 pub mod Gathering
+pub mod Rooms
+pub mod Worlds

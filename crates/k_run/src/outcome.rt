@@ -1,4 +1,6 @@
 //! What a run leaves.
+ghost use Rattle.std.specs.Prelude.{length, ◌≡◌};
+
 use k_book::Book;
 use k_kernel::KernelCell;
 use k_process::Process;
@@ -26,4 +28,13 @@ impl Model for Outcome {
     ghost use Rattle.k_process.specs.declared.process.Process.{Process};
 
     ghost view = { λ o. record { processes = map (λ (p : Process). p.cell) o.processes.items; kernel = o.kernel; shared = o.shared.items; book = o.book } };
+}
+
+impl Outcome {
+    /// The number of events of the journal.
+    pub fn event_count(&self) -> u32
+        ensures { result ≡ length self.now.book.journal.list }
+    {
+        self.book.len()
+    }
 }

@@ -1,92 +1,105 @@
-//! Processes on threads.
-use crate::locked::{LockedBook, LockedKernel, LockedProcess, LockedShared};
-use crate::turning::is_put_off;
-use crate::world::World;
+//! Workers on threads, which draw processes and do their operations.
+ghost use Rattle.k_run.specs.Worlds.{AreFree, IsFree};
+ghost use Rattle.std.specs.Prelude.{◌≡◌};
+
+use crate::turning::turn;
+use crate::world::{Locks, World};
 use crate::worlds::WorldName;
 use k_io::Gate;
-use k_steps::Reach;
-use std::sync::{Mutex, Wait};
+use k_turns::{TurnPass, Turns};
+use k_types::Pid;
+use std::marker::Model;
+use std::sync::Wait;
 use std::thread;
 use std::thread::Threads;
 
-/// What threads share.
+/// The most operations that a worker does of a process before others have their turn.
+const OPERATIONS_A_TURN: u32 = 64;
+
+/// The most workers of a run.
+const MOST_WORKERS: u32 = 4;
+
+/// What workers share. Contracts see the queue.
 #[derive(Drop)]
-struct Hall<'a, W: WorldName, G: Gate> {
-    processes: &'a Vec<Mutex<LockedProcess<W>>>,
-    kernel: &'a Mutex<LockedKernel<W>>,
-    shared: &'a Vec<Mutex<LockedShared<W>>>,
-    book: &'a Mutex<LockedBook<W>>,
-    gate: &'a G,
+pub(crate) struct Hall<'a, W: WorldName, G: Gate> {
+    pub(crate) locks: &'a Locks<W>,
+    pub(crate) turns: &'a Turns,
+    pub(crate) gate: &'a G,
 }
 
-/// Runs each process on a thread of its own, or on the caller's where no thread can be made. It waits for locks, and takes no memory.
-/// What it leaves, `finish` does.
+impl<'a, W: WorldName, G: Gate> Model for Hall<'a, W, G> {
+    ghost use Rattle.k_turns.specs.Values.{TurnsValue};
+
+    ghost Value = { TurnsValue };
+
+    ghost view = { λ h. h.turns.now };
+}
+
+/// Does what the processes have to do, by as many workers as there are processes and at most four. Each draws the process that has
+/// waited longest, does up to 64 of its operations, and gives it back, or lets it go where nothing is left to do; where no thread can
+/// be made for a worker, the caller does its work. The gate is told of each operation and of each step. It waits for locks and for the
+/// queue, and takes no memory. What it leaves, `finish` does.
 pub fn run<W: WorldName + Send + Sync, G: Gate, R: Threads + Wait + Sync>(
     rt: &R,
-    world: &World<W>,
+    world: &mut World<W>,
     gate: &G,
-) {
+)
+    ensures { world.new ≡ world.old }
+{
     let hall = Hall {
-        processes: &world.processes,
-        kernel: &world.kernel,
-        shared: &world.shared,
-        book: &world.book,
+        locks: &world.locks,
+        turns: &world.turns,
         gate,
     };
-    run_in(rt, &hall);
+    work_all(rt, &hall, world.passes.as_mut_slice());
 }
 
-fn run_in<W: WorldName + Send + Sync, G: Gate, R: Threads + Wait + Sync>(
+/// Each worker on a thread of its own.
+fn work_all<W: WorldName + Send + Sync, G: Gate, R: Threads + Wait + Sync>(
     rt: &R,
     hall: &Hall<W, G>,
-) {
-    thread::scope(thread::scope_env(), rt, |scope| {
-        for lock in hall.processes {
-            if scope.spawn(move || work(rt, hall, lock)).is_err() {
-                work(rt, hall, lock);
-            }
-        }
-    });
-}
-
-/// Does the operations of the process behind the lock, one hold of the lock for each.
-fn work<W: WorldName, G: Gate>(rt: &impl Wait, hall: &Hall<W, G>, lock: &Mutex<LockedProcess<W>>) {
-    for _ in rt.forever() {
-        if !turn(rt, hall, lock) {
-            return;
-        }
-    }
-}
-
-/// Does the process's next operation. Where there is none, or it is left for the end, it says so.
-fn turn<W: WorldName, G: Gate>(
-    rt: &impl Wait,
-    hall: &Hall<W, G>,
-    lock: &Mutex<LockedProcess<W>>,
-) -> bool {
-    let mut process = lock.lock(rt);
-    let Some(op) = process.next() else {
-        return false;
-    };
-    if is_put_off(&op) {
-        return false;
-    }
-    if process.do_inside(&op) {
-        return true;
-    }
-    match process.do_under_book(&mut hall.book.lock(rt), &op) {
-        Reach::Own => true,
-        Reach::Kernel => {
-            let mut kernel = hall.kernel.lock(rt);
-            process.do_under_kernel(&mut kernel, &mut hall.book.lock(rt), &op);
-            true
-        }
-        Reach::Shared(id) => match hall.shared.get(id.0 as usize) {
-            Some(lock) => {
-                let mut shared = lock.lock(rt);
-                process.do_under_shared(&mut shared, &mut hall.book.lock(rt), &op)
-            }
-            None => false,
+    passes: &mut [TurnPass],
+)
+    requires { AreFree hall.now passes.old }
+    ensures { AreFree hall.now passes.new }
+{
+    thread::for_each_mut(
+        rt,
+        passes,
+        MOST_WORKERS as usize,
+        &|_, pass: &mut TurnPass|
+            requires { IsFree hall.now pass.old }
+            ensures { IsFree hall.entry.now pass.new }
+        {
+            work(rt, hall, pass);
         },
+    );
+}
+
+/// One worker, until it finds no process in the queue.
+fn work<W: WorldName, G: Gate>(rt: &impl Wait, hall: &Hall<W, G>, pass: &mut TurnPass)
+    requires { IsFree hall.now pass.old }
+    ensures { IsFree hall.now pass.new }
+{
+    for _ in rt.forever() {
+        let Some(pid) = hall.turns.draw(rt, pass) else {
+            return;
+        };
+        if take_turn(rt, hall, pid) {
+            hall.turns.give_back(rt, pass);
+        } else {
+            hall.turns.retire(pass);
+        }
     }
+    unreachable!()
+}
+
+/// One turn of the process, and whether it may have more to do.
+fn take_turn<W: WorldName, G: Gate>(rt: &impl Wait, hall: &Hall<W, G>, pid: Pid) -> bool {
+    for _ in 0..OPERATIONS_A_TURN {
+        if !turn(rt, hall.locks, pid, hall.gate) {
+            return false;
+        }
+    }
+    true
 }

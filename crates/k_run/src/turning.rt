@@ -1,114 +1,109 @@
-//! The next operation of a process whose lock is held.
-ghost use Rattle.std.specs.Prelude.{IsFalse, ◌<◌, ◌≡◌};
-ghost use Rattle.k_process.specs.Standing.{IsNextOf};
-ghost use Rattle.k_operate.specs.Readiness.{IsOutside, IsOutsideUnless, IsReady};
-ghost use Rattle.k_run.specs.Running.{IsReadyFor};
-ghost use Rattle.k_process.specs.Standing.{ComesNext};
-ghost use Rattle.k_operate.specs.Steps.{is_put_off};
-ghost use Rattle.k_types.specs.Trace.{process_count};
+//! The next operation of a process, under the locks that it needs: each takes those of its process's heap, the kernel's, a shared heap's
+//! and the book's in this order, as far as it needs them.
+ghost use Rattle.std.specs.Prelude.{IsFalse, IsTrue};
+ghost use Rattle.k_operate.specs.Readiness.{begins_or_ends};
+ghost use Rattle.k_process.specs.Standing.{ComesNext, HasDone};
 
-use crate::locked::{LockedBook, LockedKernel, LockedProcess, LockedShared};
+use crate::collecting::collect_kernel;
+use crate::locked::LockedProcess;
+use crate::world::Locks;
 use crate::worlds::WorldName;
-use k_operate::{do_alone, do_inside, do_with_kernel, do_with_shared, publish_all};
-use k_process::next;
-use k_steps::{Reach, reach};
+use k_io::{Gate, GatePlace};
+use k_steps::Reach;
 use k_types::{Op, Pid};
+use std::sync::{Mutex, Wait};
 
-/// Whether the operation opens a collection, or ends its process.
-pub(crate) fn is_put_off(op: &Op) -> bool
-    ensures { result ≡ is_put_off op.now }
+/// Tells the gate, with no lock held, that an operation of the process comes next. It says no where none does, or where another process
+/// stands behind the lock.
+fn tell_next<W: WorldName>(
+    rt: &impl Wait,
+    lock: &Mutex<LockedProcess<W>>,
+    pid: Pid,
+    gate: &impl Gate,
+) -> bool {
+    let Some(done) = lock.lock(rt).done_before_next(pid) else {
+        return false;
+    };
+    gate.pass(pid.0, done, GatePlace::BeforeOp);
+    true
+}
+
+/// Does the operation, which neither collects nor ends its process, and says whether it did. It is left for the end where the cell of
+/// another shared heap stands behind the lock of the one that it reaches.
+fn operate<W: WorldName>(
+    rt: &impl Wait,
+    locks: &Locks<W>,
+    process: &mut LockedProcess<W>,
+    op: &Op,
+    gate: &impl Gate,
+) -> bool
+    requires next { ComesNext W.world.trace process.old op.now }
+    requires steps { IsFalse (begins_or_ends op.now) }
+    ensures { IsTrue result → HasDone W.world.trace op.now process.old process.new }
 {
-    match *op {
-        Op::Collect => true,
-        Op::KCollect => true,
-        Op::Exit => true,
-        _ => false,
+    if process.do_inside(op) {
+        return true;
+    }
+    let reached = process.do_under_book(&mut locks.book.lock(rt), op, gate);
+    match reached {
+        Reach::Own => true,
+        Reach::Kernel => {
+            let mut kernel = locks.kernel.lock(rt);
+            process.do_under_kernel(&mut kernel, &mut locks.book.lock(rt), op, gate)
+        }
+        Reach::Shared(id) => match locks.shared.get(id.0 as usize) {
+            Some(lock) => {
+                let mut shared = lock.lock(rt);
+                process.do_under_shared(&mut shared, &mut locks.book.lock(rt), op, gate)
+            }
+            None => false,
+        },
     }
 }
 
-impl<W: WorldName> LockedProcess<W> {
-    /// The process.
-    pub fn pid(&self) -> Pid
-        ensures pid { result ≡ self.now.pid }
-        ensures there { result.0 < process_count W.world.trace }
-    {
-        self.process.cell.pid()
-    }
-
-    /// How many of its operations are done.
-    pub fn done(&self) -> u32 {
-        self.process.cell.done()
-    }
-
-    /// Its next operation; none where it has ended or done all.
-    pub(crate) fn next(&self) -> Option<Op>
-        ensures { IsNextOf W.world.trace self.now result }
-    {
-        next(&self.process)
-    }
-
-    /// Does the operation inside the process's own heap, if it needs that heap alone, and says whether it did.
-    pub(crate) fn do_inside(&mut self, op: &Op) -> bool
-        requires { ComesNext W.world.trace self.old op.now }
-        ensures { IsOutsideUnless result W.world.trace self.new op.now }
-    {
-        do_inside(&mut self.process, op)
-    }
-
-    /// Publishes what was done inside the heap, and does the operation if it touches the process's own cell alone. It answers what the
-    /// operation reaches.
-    pub(crate) fn do_under_book(&mut self, book: &mut LockedBook<W>, op: &Op) -> Reach
-        requires outside { IsOutside W.world.trace self.old op.now }
-        requires goes_on { IsFalse (is_put_off op.now) }
-        ensures { IsReadyFor result W.world.trace self.new op.now }
-    {
-        publish_all(&mut self.process, &mut book.book);
-        let reached = reach(&self.process.cell, &book.book, op);
-        match reached {
-            Reach::Own => do_alone(&mut self.process, &mut book.book, op),
-            Reach::Kernel => {}
-            Reach::Shared(_) => {}
+/// Does the operation, and says whether it did.
+fn do_any<W: WorldName>(
+    rt: &impl Wait,
+    locks: &Locks<W>,
+    process: &mut LockedProcess<W>,
+    op: &Op,
+    gate: &impl Gate,
+) -> bool
+    requires { ComesNext W.world.trace process.old op.now }
+    ensures { IsTrue result → HasDone W.world.trace op.now process.old process.new }
+{
+    match *op {
+        Op::Collect => {
+            process.collect(rt, &locks.book, gate);
+            true
         }
-        reached
-    }
-
-    /// Does the operation if it reaches the kernel's cell.
-    pub(crate) fn do_under_kernel(
-        &mut self,
-        kernel: &mut LockedKernel<W>,
-        book: &mut LockedBook<W>,
-        op: &Op,
-    )
-        requires { IsReady W.world.trace self.old op.now }
-    {
-        match reach(&self.process.cell, &book.book, op) {
-            Reach::Own => {}
-            Reach::Kernel => {
-                do_with_kernel(&mut self.process, &mut kernel.kernel, &mut book.book, op);
-            }
-            Reach::Shared(_) => {}
+        Op::KCollect => collect_kernel(rt, locks, process, gate),
+        Op::Exit => {
+            let mut kernel = locks.kernel.lock(rt);
+            process.exit(&mut kernel, &mut locks.book.lock(rt), gate);
+            true
         }
+        _ => operate(rt, locks, process, op, gate),
     }
+}
 
-    /// Does the operation if it reaches the shared heap's cell. It says no where it reaches another one's.
-    pub(crate) fn do_under_shared(
-        &mut self,
-        shared: &mut LockedShared<W>,
-        book: &mut LockedBook<W>,
-        op: &Op,
-    ) -> bool
-        requires { IsReady W.world.trace self.old op.now }
-    {
-        match reach(&self.process.cell, &book.book, op) {
-            Reach::Own => true,
-            Reach::Kernel => true,
-            Reach::Shared(id) => {
-                if shared.shared.id() != id {
-                    return false;
-                }
-                do_with_shared(&mut self.process, &mut shared.shared, &mut book.book, op);
-                true
-            }
-        }
+/// Does the process's next operation, and says whether it did. There may be none; or it is left for the end, where another cell stands
+/// behind a lock than its place says.
+pub(crate) fn turn<W: WorldName>(
+    rt: &impl Wait,
+    locks: &Locks<W>,
+    pid: Pid,
+    gate: &impl Gate,
+) -> bool {
+    let Some(lock) = locks.processes.get(pid.0 as usize) else {
+        return false;
+    };
+    if !tell_next(rt, lock, pid, gate) {
+        return false;
+    }
+    let mut process = lock.lock(rt);
+    match process.next() {
+        Some(op) => do_any(rt, locks, &mut process, &op, gate),
+        None => false,
     }
 }

@@ -1,52 +1,56 @@
 //! A run whose heaps and book stand behind locks, and its end.
 ghost use Rattle.std.specs.Prelude.{length, vec_capacity, ◌≡◌};
-ghost use Rattle.k_complete.specs.Ended.{IsOutcome, IsSlice};
+ghost use Rattle.k_complete.specs.Ended.{IsOutcome};
 ghost use Rattle.k_run.specs.Gathering.{CanGather, CanGatherShared};
 ghost use Rattle.k_process.specs.Standing.{HeapsStand, ProcessesStand};
 
 use crate::locked::{LockedBook, LockedKernel, LockedProcess, LockedShared};
 use crate::outcome::Outcome;
 use crate::placing::{in_order, place_process, place_shared};
+use crate::rooms::EndRooms;
 use crate::worlds::WorldName;
 use k_book::Book;
-use k_complete::{complete_all, meet_all};
+use k_complete::end_all;
 use k_process::Process;
 use k_shared::SharedCell;
 use k_trace::Names;
+use k_turns::{TurnPass, Turns};
+use k_types::Setup;
 use std::marker::Model;
 use std::sync::Mutex;
 
-/// Places for the cells at the end, all free, and lists with room for them, so that the end takes no memory.
+/// One lock for each process's heap, for the kernel's, for each shared heap and for the book. They are taken in this order.
 #[derive(Drop)]
-pub(crate) struct EndRooms {
-    pub(crate) process_places: Vec<Option<Process>>,
-    pub(crate) shared_places: Vec<Option<SharedCell>>,
-    pub(crate) processes: Vec<Process>,
-    pub(crate) shared: Vec<SharedCell>,
-}
-
-/// A run named `W`: one lock for each process's heap, for the kernel's, for each shared heap and for the book.
-#[derive(Drop)]
-pub struct World<W: WorldName> {
+pub(crate) struct Locks<W: WorldName> {
     pub(crate) processes: Vec<Mutex<LockedProcess<W>>>,
     pub(crate) kernel: Mutex<LockedKernel<W>>,
     pub(crate) shared: Vec<Mutex<LockedShared<W>>>,
     pub(crate) book: Mutex<LockedBook<W>>,
-    pub(crate) names: Names,
+}
+
+/// A run named `W`: its locks, the queue of its processes with a pass for each worker, and the memory with which it is ended. Contracts
+/// see the names that its trace declares, and its setup.
+#[derive(Drop)]
+pub struct World<W: WorldName> {
+    pub(crate) locks: Locks<W>,
+    pub(crate) turns: Turns,
+    pub(crate) passes: Vec<TurnPass>,
     pub(crate) rooms: EndRooms,
+    pub(crate) names: Names,
+    pub(crate) setup: Setup,
 }
 
 impl<W: WorldName> Model for World<W> {
-    ghost use Rattle.std.specs.Prelude.{ℕ};
+    ghost use Rattle.k_run.specs.Worlds.{RunValue};
 
-    ghost Value = { ℕ };
+    ghost Value = { RunValue };
 
-    ghost use Rattle.std.specs.Prelude.{length, vec_capacity};
-    ghost use Rattle.k_run.specs.Gathering.{HaveRooms};
+    ghost use Rattle.std.specs.Prelude.{length};
+    ghost use Rattle.k_run.specs.Worlds.{HoldsRun};
 
-    ghost view = { λ w. length w.processes.items };
+    ghost view = { λ w. record { names = w.names; setup = w.setup } };
 
-    ghost invariant = { λ w. HaveRooms W.world (length w.processes.items) (length w.shared.items) w.rooms.process_places.items w.rooms.shared_places.items w.rooms.processes.items w.rooms.shared.items (vec_capacity w.rooms.processes) (vec_capacity w.rooms.shared) };
+    ghost invariant = { λ w. HoldsRun W.world (length w.locks.processes.items) (length w.locks.shared.items) w.rooms w.turns w.passes.items w.setup };
 }
 
 /// Takes the processes from behind their locks, each to the place of its number.
@@ -87,17 +91,22 @@ fn gather_shared<W: WorldName>(
 /// done, one process after the other, and each cell then shows the machine after the journal, which is legal and complete. It waits for
 /// nobody, and takes no memory.
 pub fn finish<W: WorldName>(world: World<W>) -> Outcome
-    requires { IsSlice W.world.trace }
     ensures { IsOutcome W.world.trace result }
 {
     let World {
+        locks,
+        turns: _,
+        passes: _,
+        rooms,
+        names,
+        setup: _,
+    } = world;
+    let Locks {
         processes,
         kernel,
         shared,
         book,
-        names,
-        rooms,
-    } = world;
+    } = locks;
     let EndRooms {
         process_places,
         shared_places,
@@ -108,8 +117,7 @@ pub fn finish<W: WorldName>(world: World<W>) -> Outcome
     let mut kernel = kernel.into_inner().into_kernel();
     let mut processes = gather(processes, process_places, processes_into, &mut book);
     let mut shared = gather_shared(shared, shared_places, shared_into, &mut book);
-    complete_all(&mut processes, &mut kernel, &mut shared, &mut book);
-    meet_all(&mut processes, &mut kernel, &mut shared, &mut book);
+    end_all(&mut processes, &mut kernel, &mut shared, &mut book);
     Outcome {
         names,
         processes,

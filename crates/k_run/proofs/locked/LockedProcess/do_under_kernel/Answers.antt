@@ -1,5 +1,8 @@
-use Rattle.std.proofs.Common.{sym, subst, [], ◌∷◌}
-use Rattle.k_types.specs.declared.names.Heap.TheVariants.{Kernel}
+use Rattle.std.proofs.Common.{sym, subst, [], ◌∷◌, false, true}
+use Rattle.k_types.specs.declared.names.Heap.TheVariants.{Kernel, Shared}
+use Rattle.k_book.specs.Books.{BookRecord}
+use Rattle.k_run.specs.Running.{HasDoneBeside}
+use Rattle.k_run.proofs.Stepped.{none_reached, not_done, shared_not_kernel, was_done}
 use Rattle.k_heap.specs.Heaps.{HeapRecord}
 use Rattle.k_operate.specs.Readiness.{IsReady}
 use Rattle.k_process.specs.Standing.{ComesNext}
@@ -9,11 +12,29 @@ use Rattle.k_run.proofs.locked.LockedProcess.do_under_kernel.Goals as goal
 pub reach-requires : goal.reach-requires
 reach-requires g c =
     can_reach g.W.WorldName.world c.self.inside.process c.book.inside.book c.args.op.now (record { process = c.self.invariant; book = c.book.invariant })
-    (subst (λ (x : HeapRecord). ComesNext g.W.WorldName.world.trace x c.args.op.now) (sym c.self.view_is) c.requires.next)
+    (subst (λ (x : HeapRecord). ComesNext g.W.WorldName.world.trace x c.args.op.now) (sym c.self.view_is) c.requires.ready.next)
 
 pub do_with_kernel-requires : goal.do_with_kernel-requires
 do_with_kernel-requires g c = record {
   due = due g.W.WorldName.world c.self.inside.process c.book.inside.book c.args.op.now (Kernel ∷ []) (record { process = c.self.invariant; book = c.book.invariant })
-      (subst (λ (x : HeapRecord). IsReady g.W.WorldName.world.trace x c.args.op.now) (sym c.self.view_is) c.requires) (sym c.in-Kernel.ensures);
+      (subst (λ (x : HeapRecord). IsReady g.W.WorldName.world.trace x c.args.op.now) (sym c.self.view_is) c.requires.ready) c.requires.steps (sym c.in-Kernel.ensures);
   kernel = c.kernel.invariant;
 }
+
+pub returns-in-Own : goal.returns-in-Own
+returns-in-Own g c =
+    subst (λ (b : BookRecord). HasDoneBeside g.W.WorldName.world.trace c.args.op.now (Kernel) c.args.self.now c.args.self.now b false) c.book.view_is
+    (subst (λ (x : HeapRecord). HasDoneBeside g.W.WorldName.world.trace c.args.op.now (Kernel) x x c.book.inside.book false) c.self.view_is
+    (not_done g.W.WorldName.world.trace c.args.op.now (Kernel) c.self.inside.process.cell c.book.inside.book ([]) c.in-Own.ensures (none_reached Kernel)))
+
+pub returns-in-Shared : goal.returns-in-Shared
+returns-in-Shared g c =
+    subst (λ (b : BookRecord). HasDoneBeside g.W.WorldName.world.trace c.args.op.now (Kernel) c.args.self.now c.args.self.now b false) c.book.view_is
+    (subst (λ (x : HeapRecord). HasDoneBeside g.W.WorldName.world.trace c.args.op.now (Kernel) x x c.book.inside.book false) c.self.view_is
+    (not_done g.W.WorldName.world.trace c.args.op.now (Kernel) c.self.inside.process.cell c.book.inside.book (Shared c.in-Shared.field-0 ∷ []) c.in-Shared.ensures (shared_not_kernel c.in-Shared.field-0)))
+
+pub returns-in-Kernel : goal.returns-in-Kernel
+returns-in-Kernel g c =
+    subst (λ (b : BookRecord). HasDoneBeside g.W.WorldName.world.trace c.args.op.now Kernel c.args.self.now c.do_with_kernel.new.process.cell b true) c.book.view_is
+    (subst (λ (x : HeapRecord). HasDoneBeside g.W.WorldName.world.trace c.args.op.now Kernel x c.do_with_kernel.new.process.cell c.book.inside.book true) c.self.view_is
+    (was_done g.W.WorldName.world.trace c.args.op.now Kernel c.self.inside.process.cell c.book.inside.book c.do_with_kernel.new.process.cell c.do_with_kernel.ensures.done.own.done))

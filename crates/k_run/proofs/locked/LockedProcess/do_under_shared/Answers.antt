@@ -1,4 +1,8 @@
-use Rattle.std.proofs.Common.{sym, subst}
+use Rattle.std.proofs.Common.{sym, subst, [], ◌∷◌, false, true}
+use Rattle.k_types.specs.declared.names.Heap.TheVariants.{Kernel, Shared}
+use Rattle.k_book.specs.Books.{BookRecord}
+use Rattle.k_run.specs.Running.{HasDoneBeside}
+use Rattle.k_run.proofs.Stepped.{kernel_not_shared, none_reached, not_done, shared_apart, was_done}
 use Rattle.k_heap.specs.Heaps.{HeapRecord}
 use Rattle.k_process.specs.Standing.{ComesNext}
 use Rattle.k_operate.proofs.Since.{can_reach}
@@ -7,4 +11,16 @@ use Rattle.k_run.proofs.locked.LockedProcess.do_under_shared.Goals as goal
 pub reach-requires : goal.reach-requires
 reach-requires g c =
     can_reach g.W.WorldName.world c.self.inside.process c.book.inside.book c.args.op.now (record { process = c.self.invariant; book = c.book.invariant })
-    (subst (λ (x : HeapRecord). ComesNext g.W.WorldName.world.trace x c.args.op.now) (sym c.self.view_is) c.requires.next)
+    (subst (λ (x : HeapRecord). ComesNext g.W.WorldName.world.trace x c.args.op.now) (sym c.self.view_is) c.requires.ready.next)
+
+pub returns-in-Own : goal.returns-in-Own
+returns-in-Own g c =
+    subst (λ (b : BookRecord). HasDoneBeside g.W.WorldName.world.trace c.args.op.now (Shared c.args.shared.now.id) c.args.self.now c.args.self.now b false) c.book.view_is
+    (subst (λ (x : HeapRecord). HasDoneBeside g.W.WorldName.world.trace c.args.op.now (Shared c.args.shared.now.id) x x c.book.inside.book false) c.self.view_is
+    (not_done g.W.WorldName.world.trace c.args.op.now (Shared c.args.shared.now.id) c.self.inside.process.cell c.book.inside.book ([]) c.in-Own.ensures (none_reached (Shared c.args.shared.now.id))))
+
+pub returns-in-Kernel : goal.returns-in-Kernel
+returns-in-Kernel g c =
+    subst (λ (b : BookRecord). HasDoneBeside g.W.WorldName.world.trace c.args.op.now (Shared c.args.shared.now.id) c.args.self.now c.args.self.now b false) c.book.view_is
+    (subst (λ (x : HeapRecord). HasDoneBeside g.W.WorldName.world.trace c.args.op.now (Shared c.args.shared.now.id) x x c.book.inside.book false) c.self.view_is
+    (not_done g.W.WorldName.world.trace c.args.op.now (Shared c.args.shared.now.id) c.self.inside.process.cell c.book.inside.book (Kernel ∷ []) c.in-Kernel.ensures (kernel_not_shared c.args.shared.now.id)))

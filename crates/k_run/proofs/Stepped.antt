@@ -1,0 +1,81 @@
+-- What a process has done between two locks.
+use Rattle.std.proofs.Common.{◌≡◌, sym, ap, ◌∙◌, subst, [], ◌∷◌, List, Bool, false, true}
+use Rattle.std.proofs.lemmas.Bool.{false≢true}
+use Rattle.k_types.specs.declared.names.Heap.TheVariants.{Kernel, Shared}
+use Rattle.k_types.specs.declared.names.SharedId.{SharedId}
+use Rattle.k_types.specs.declared.op.Op.{Op}
+use Rattle.k_types.specs.Agree.{book_shown_by}
+use Rattle.k_types.specs.Cells.{Cell}
+use Rattle.k_types.specs.Trace.{Trace}
+use Rattle.k_squares.specs.Locals.{is_local_in}
+use Rattle.k_squares.specs.Touches.{other_cells_in}
+use Rattle.k_moves.specs.Shown.{idle_part}
+use Rattle.k_book.specs.Books.{BookRecord}
+use Rattle.k_heap.specs.Heaps.{HeapRecord}
+use Rattle.k_locked.specs.Keeping.{operations_left}
+use Rattle.k_process.specs.declared.process.Process.{Process}
+use Rattle.k_process.specs.Standing.{ComesNext, HasDone}
+use Rattle.k_process.specs.Worlds.{WorldValue}
+use Rattle.k_operate.specs.Steps.{HasDoneInside, HasPublishedAll}
+use Rattle.k_operate.specs.Collecting.{HasSameLeft, IsNextAndSettled}
+use Rattle.k_operate.proofs.Since.{next_since}
+use Rattle.k_run.specs.Running.{HasDoneBeside, HasDoneUnless}
+
+-- publishing leaves all operations
+pub published_left : (world : WorldValue) (q r : Process) (a b : BookRecord) → HasPublishedAll world q r a b → HasSameLeft world.trace q.cell r.cell
+published_left world q r a b t = record {
+  pid = ap (λ (c : HeapRecord). c.pid) t.cell_is;
+  left = ap (operations_left world.trace) t.cell_is;
+}
+
+module _ (trace : Trace) (op : Op) (a b c : HeapRecord) where
+  pub done_after : HasSameLeft trace a b → HasDone trace op b c → HasDone trace op a c
+  done_after s done = record { pid = done.pid ∙ s.pid; left = sym s.left ∙ done.left }
+
+  pub done_before : HasDone trace op a b → HasSameLeft trace b c → HasDone trace op a c
+  done_before done s = record { pid = s.pid ∙ done.pid; left = done.left ∙ ap (λ (ops : List Op). op ∷ ops) (sym s.left) }
+
+pub left_twice : (trace : Trace) (a b c : HeapRecord) → HasSameLeft trace a b → HasSameLeft trace b c → HasSameLeft trace a c
+left_twice trace a b c s t = record { pid = t.pid ∙ s.pid; left = t.left ∙ s.left }
+
+-- an operation is done inside the heap, or is not local
+pub inside_unless : (world : WorldValue) (op : Op) (p q : Process) (done : Bool) → ComesNext world.trace p.cell op → HasDoneInside world op p q done → HasDoneUnless world.trace op p.cell q.cell done
+inside_unless world op p q done next t = record {
+  done = t.some;
+  same = t.none;
+  outside = λ no. record {
+    next = subst (λ (c : HeapRecord). ComesNext world.trace c op) (sym (t.none no)) next;
+    outside = subst (λ (c : HeapRecord). is_local_in (idle_part c.value) c.pid.0 op ≡ false) (sym (t.none no)) (t.outside no);
+  };
+}
+
+-- a process whose events are published can go on with its next operation
+pub next_settled : (world : WorldValue) (q r : Process) (a b : BookRecord) (op : Op) → HasPublishedAll world q r a b → ComesNext world.trace q.cell op → IsNextAndSettled world r b op
+next_settled world q r a b op t next = record { pair = t.pair; settled = t.settled; next = next_since world q r b op t next }
+
+pub none_reached : (c : Cell) → [] ≡ c ∷ [] → ⊥
+none_reached c e = cc
+
+pub kernel_not_shared : (s : SharedId) → Kernel ∷ [] ≡ Shared s ∷ [] → ⊥
+kernel_not_shared s e = cc
+
+pub shared_not_kernel : (s : SharedId) → Shared s ∷ [] ≡ Kernel ∷ [] → ⊥
+shared_not_kernel s e = cc
+
+pub shared_apart : (s t : SharedId) → (t ≡ s → ⊥) → Shared s ∷ [] ≡ Shared t ∷ [] → ⊥
+shared_apart s t apart e = apart (same s t e)
+  where
+    same : (s t : SharedId) → Shared s ∷ [] ≡ Shared t ∷ [] → t ≡ s
+    same s t e = cc
+
+module _ (trace : Trace) (op : Op) (beside : Cell) (c : HeapRecord) (b : BookRecord) where
+  -- the operation is not done: it reaches none, or another cell
+  pub not_done : (cells : List Cell) → cells ≡ other_cells_in trace (book_shown_by b.value) (idle_part c.value) c.pid.0 op → (cells ≡ beside ∷ [] → ⊥) → HasDoneBeside trace op beside c c b false
+  not_done cells reached apart = record { done = λ t. absurd (false≢true t); elsewhere = λ no one. apart (reached ∙ one) }
+
+  pub was_done : (d : HeapRecord) → HasDone trace op c d → HasDoneBeside trace op beside c d b true
+  was_done d done = record { done = λ t. done; elsewhere = λ no. absurd (false≢true (sym no)) }
+
+-- what is told of the process before, where nothing had changed
+pub done_same : (trace : Trace) (op : Op) (a b c : HeapRecord) → b ≡ a → HasDone trace op b c → HasDone trace op a c
+done_same trace op a b c same done = subst (λ (x : HeapRecord). HasDone trace op x c) same done

@@ -1,0 +1,7 @@
+use Rattle.k_run.proofs.collecting.begin_kernel.Given as goal
+
+abbrev pub ghost-publish_all : goal.ghost-publish_all
+ghost-publish_all g a = g.W.WorldName.world
+
+abbrev pub ghost-begin_kernel_collection : goal.ghost-begin_kernel_collection
+ghost-begin_kernel_collection g a = g.W.WorldName.world

@@ -1,0 +1,4 @@
+use Rattle.k_run.proofs.collecting.end.Given as goal
+
+abbrev pub ghost-end_collection : goal.ghost-end_collection
+ghost-end_collection g a = g.W.WorldName.world

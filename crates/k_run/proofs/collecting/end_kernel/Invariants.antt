@@ -1,0 +1,4 @@
+use Rattle.k_run.proofs.collecting.end_kernel.Given as goal
+
+abbrev pub ghost-end_kernel_collection : goal.ghost-end_kernel_collection
+ghost-end_kernel_collection g a = g.W.WorldName.world

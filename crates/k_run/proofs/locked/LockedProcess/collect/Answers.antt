@@ -1,0 +1,13 @@
+use Rattle.std.proofs.Common.{sym, subst}
+use Rattle.k_types.specs.declared.op.Op.TheVariants.{Collect}
+use Rattle.k_heap.specs.Heaps.{HeapRecord}
+use Rattle.k_process.specs.Standing.{ComesNext, HasDone}
+use Rattle.k_run.proofs.Stepped.{done_before}
+use Rattle.k_run.proofs.locked.LockedProcess.collect.Goals as goal
+
+pub returns : goal.returns
+returns g c =
+    let t = g.W.WorldName.world.trace in
+    subst (λ (x : HeapRecord). HasDone t Collect x c.end.new.process.cell) c.self.view_is
+    (done_before t Collect c.self.inside.process.cell c.mark_collection.new.process.cell c.end.new.process.cell
+    (done_before t Collect c.self.inside.process.cell c.begin.new.process.cell c.mark_collection.new.process.cell c.begin.ensures.done c.mark_collection.ensures.same) c.end.ensures.same)

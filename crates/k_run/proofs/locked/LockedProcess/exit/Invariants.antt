@@ -1,0 +1,7 @@
+use Rattle.k_run.proofs.locked.LockedProcess.exit.Given as goal
+
+abbrev pub ghost-publish_all : goal.ghost-publish_all
+ghost-publish_all g a = g.W.WorldName.world
+
+abbrev pub ghost-do_exit : goal.ghost-do_exit
+ghost-do_exit g a = g.W.WorldName.world

@@ -1,0 +1,4 @@
+use Rattle.k_run.proofs.locked.LockedShared.leave.Given as goal
+
+abbrev pub ghost-absorb_orphan : goal.ghost-absorb_orphan
+ghost-absorb_orphan g a = g.W.WorldName.world

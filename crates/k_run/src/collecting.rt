@@ -1,0 +1,188 @@
+//! Collections, absorptions and ends of processes under locks. While a heap is marked its lock is held, and the book is free.
+ghost use Rattle.std.specs.Prelude.{IsTrue, ◌≡◌};
+ghost use Rattle.k_locked.specs.Keeping.{KernelKeeps};
+ghost use Rattle.k_operate.specs.Collecting.{Collects, HasSameLeft, KernelCollects};
+ghost use Rattle.k_process.specs.Standing.{ComesNext, HasDone, ProcessStands};
+ghost use Rattle.k_run.specs.Running.{HasBegunUnless, HasCollectedUnless, IsAbsorbedIfFirst};
+ghost use Rattle.k_types.specs.declared.names.CellPhase.TheVariants.{Begun, Marked};
+ghost use Rattle.k_types.specs.declared.op.Op.TheVariants.{Collect, Exit, KCollect};
+
+use crate::locked::{LockedBook, LockedKernel, LockedProcess, LockedShared};
+use crate::stepping::tell;
+use crate::world::Locks;
+use crate::worlds::WorldName;
+use k_io::{Gate, GatePlace};
+use k_kernel::KernelCell;
+use k_operate::{
+    absorb_orphan, begin_collection, begin_kernel_collection, do_exit, end_collection,
+    end_kernel_collection, mark_collection, mark_kernel_collection, publish_all,
+};
+use k_process::Process;
+use k_types::SharedId;
+use std::sync::{Mutex, Wait};
+
+/// Publishes what the process did inside its heap, and begins the heap's collection.
+fn begin<W: WorldName>(process: &mut Process, book: &mut LockedBook<W>, gate: &impl Gate)
+    requires stands { ProcessStands W.world process.old }
+    requires next { ComesNext W.world.trace process.old.cell Collect }
+    ensures collects { Collects W.world Begun process.new }
+    ensures done { HasDone W.world.trace Collect process.old.cell process.new.cell }
+{
+    publish_all(process, &mut book.book);
+    tell(process, gate, GatePlace::InBook);
+    begin_collection(process, &mut book.book);
+}
+
+/// Ends the collection of the process's heap.
+fn end<W: WorldName>(process: &mut Process, book: &mut LockedBook<W>, gate: &impl Gate)
+    requires { Collects W.world Marked process.old }
+    ensures stands { ProcessStands W.world process.new }
+    ensures same { HasSameLeft W.world.trace process.old.cell process.new.cell }
+{
+    tell(process, gate, GatePlace::InBook);
+    end_collection(process, &mut book.book);
+}
+
+impl<W: WorldName> LockedProcess<W> {
+    /// Does `collect`. It holds the book where the collection begins and where it ends.
+    pub(crate) fn collect(&mut self, rt: &impl Wait, book: &Mutex<LockedBook<W>>, gate: &impl Gate)
+        requires { ComesNext W.world.trace self.old Collect }
+        ensures { HasDone W.world.trace Collect self.old self.new }
+    {
+        begin(&mut self.process, &mut book.lock(rt), gate);
+        tell(&self.process, gate, GatePlace::Marking);
+        mark_collection(&mut self.process);
+        end(&mut self.process, &mut book.lock(rt), gate);
+    }
+
+    /// Does `exit`.
+    pub(crate) fn exit(
+        &mut self,
+        kernel: &mut LockedKernel<W>,
+        book: &mut LockedBook<W>,
+        gate: &impl Gate,
+    )
+        requires { ComesNext W.world.trace self.old Exit }
+        ensures { HasDone W.world.trace Exit self.old self.new }
+    {
+        publish_all(&mut self.process, &mut book.book);
+        tell(&self.process, gate, GatePlace::InBook);
+        do_exit(&mut self.process, &mut kernel.kernel, &mut book.book);
+    }
+}
+
+/// Publishes what the process did inside its heap, and begins the kernel's collection, unless a shared heap is an orphan: it answers
+/// the first one then.
+fn begin_kernel<W: WorldName>(
+    process: &mut LockedProcess<W>,
+    kernel: &mut KernelCell,
+    book: &mut LockedBook<W>,
+    gate: &impl Gate,
+) -> Option<SharedId>
+    requires kernel { KernelKeeps W.world.trace W.world.table kernel.old }
+    requires next { ComesNext W.world.trace process.old KCollect }
+    ensures { HasBegunUnless result W.world process.old process.new kernel.new }
+{
+    publish_all(&mut process.process, &mut book.book);
+    match book.book.first_orphan() {
+        Some(orphan) => Some(orphan),
+        None => {
+            tell(&process.process, gate, GatePlace::InBook);
+            begin_kernel_collection(&mut process.process, kernel, &mut book.book);
+            None
+        }
+    }
+}
+
+/// Ends the collection of the kernel's heap, which the process began.
+fn end_kernel<W: WorldName>(
+    process: &LockedProcess<W>,
+    kernel: &mut KernelCell,
+    book: &mut LockedBook<W>,
+    gate: &impl Gate,
+)
+    requires { KernelCollects W.world Marked kernel.old }
+    ensures { KernelKeeps W.world.trace W.world.table kernel.new }
+{
+    tell(&process.process, gate, GatePlace::InBook);
+    end_kernel_collection(kernel, &mut book.book);
+}
+
+impl<W: WorldName> LockedKernel<W> {
+    /// Does `kcollect` unless a shared heap is an orphan: it answers the first one then. It holds the book where the collection begins
+    /// and where it ends.
+    fn collect(
+        &mut self,
+        rt: &impl Wait,
+        process: &mut LockedProcess<W>,
+        book: &Mutex<LockedBook<W>>,
+        gate: &impl Gate,
+    ) -> Option<SharedId>
+        requires { ComesNext W.world.trace process.old KCollect }
+        ensures { HasCollectedUnless result W.world.trace process.old process.new }
+    {
+        let in_the_way = begin_kernel(process, &mut self.kernel, &mut book.lock(rt), gate);
+        match in_the_way {
+            Some(orphan) => Some(orphan),
+            None => {
+                mark_kernel_collection(&mut self.kernel);
+                end_kernel(process, &mut self.kernel, &mut book.lock(rt), gate);
+                None
+            }
+        }
+    }
+}
+
+impl<W: WorldName> LockedShared<W> {
+    /// Has the kernel absorb the shared heap, if it is the first orphan still. It says no where the cell is another one's.
+    fn leave(
+        &mut self,
+        kernel: &mut LockedKernel<W>,
+        book: &mut LockedBook<W>,
+        orphan: SharedId,
+        process: &LockedProcess<W>,
+        gate: &impl Gate,
+    ) -> bool
+        ensures { IsTrue result → IsAbsorbedIfFirst orphan book.old book.new }
+    {
+        if self.shared.id() != orphan {
+            return false;
+        }
+        let Some(first) = book.book.first_orphan() else {
+            return true;
+        };
+        if first != orphan {
+            return true;
+        }
+        tell(&process.process, gate, GatePlace::InBook);
+        absorb_orphan(&mut self.shared, &mut kernel.kernel, &mut book.book);
+        true
+    }
+}
+
+/// Does `kcollect`, once no shared heap is an orphan, and says whether it did. It is left for the end where the cell of another shared
+/// heap stands behind an orphan's lock.
+pub(crate) fn collect_kernel<W: WorldName>(
+    rt: &impl Wait,
+    locks: &Locks<W>,
+    process: &mut LockedProcess<W>,
+    gate: &impl Gate,
+) -> bool
+    requires { ComesNext W.world.trace process.old KCollect }
+    ensures { IsTrue result → HasDone W.world.trace KCollect process.old process.new }
+{
+    let mut kernel = locks.kernel.lock(rt);
+    for _ in rt.forever() {
+        let Some(orphan) = kernel.collect(rt, process, &locks.book, gate) else {
+            return true;
+        };
+        let Some(lock) = locks.shared.get(orphan.0 as usize) else {
+            return false;
+        };
+        let mut shared = lock.lock(rt);
+        if !shared.leave(&mut kernel, &mut locks.book.lock(rt), orphan, process, gate) {
+            return false;
+        }
+    }
+    unreachable!()
+}

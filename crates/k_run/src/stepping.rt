@@ -1,0 +1,141 @@
+//! The next operation of a process whose lock is held.
+ghost use Rattle.std.specs.Prelude.{IfNone, IfSome, IsFalse, None, ◌<◌, ◌≡◌};
+ghost use Rattle.k_frame.specs.PartUpdates.{done_in};
+ghost use Rattle.k_process.specs.Standing.{ComesNext, IsNextOf};
+ghost use Rattle.k_operate.specs.Readiness.{IsOutside, IsReady, begins_or_ends};
+ghost use Rattle.k_run.specs.Running.{HasDoneBeside, HasDoneUnless, IsReadyFor};
+ghost use Rattle.k_types.specs.Trace.{process_count};
+ghost use Rattle.k_types.specs.declared.names.Heap.TheVariants.{Kernel, Shared};
+
+use crate::locked::{LockedBook, LockedKernel, LockedProcess, LockedShared};
+use crate::worlds::WorldName;
+use k_io::{Gate, GatePlace};
+use k_operate::{do_alone, do_inside, do_with_kernel, do_with_shared, publish_all};
+use k_process::{Process, next};
+use k_steps::{Reach, reach};
+use k_types::{Op, Pid};
+
+/// Tells the gate that the process is at the place.
+pub(crate) fn tell(process: &Process, gate: &impl Gate, place: GatePlace) {
+    gate.pass(process.cell.pid().0, process.cell.done(), place);
+}
+
+impl<W: WorldName> LockedProcess<W> {
+    /// The process.
+    pub fn pid(&self) -> Pid
+        ensures pid { result ≡ self.now.pid }
+        ensures there { result.0 < process_count W.world.trace }
+    {
+        self.process.cell.pid()
+    }
+
+    /// How many of its operations are done.
+    pub fn done(&self) -> u32
+        ensures { result ≡ done_in self.now.value.process }
+    {
+        self.process.cell.done()
+    }
+
+    /// Its next operation; none where it has ended or done all.
+    pub(crate) fn next(&self) -> Option<Op>
+        ensures { IsNextOf W.world.trace self.now result }
+    {
+        next(&self.process)
+    }
+
+    /// How many of its operations are done, where it is the process and another comes next.
+    pub(crate) fn done_before_next(&self, pid: Pid) -> Option<u32>
+        ensures some { IfSome result (λ done. (done ≡ done_in self.now.value.process) × (self.now.pid ≡ pid)) }
+        ensures none { IfNone result (self.now.pid ≡ pid → IsNextOf W.world.trace self.now None) }
+    {
+        if self.process.cell.pid() != pid {
+            return None;
+        }
+        match next(&self.process) {
+            Some(_) => Some(self.process.cell.done()),
+            None => None,
+        }
+    }
+
+    /// Does the operation inside the process's own heap, if it needs that heap alone, and says whether it did.
+    pub(crate) fn do_inside(&mut self, op: &Op) -> bool
+        requires { ComesNext W.world.trace self.old op.now }
+        ensures { HasDoneUnless W.world.trace op.now self.old self.new result }
+    {
+        do_inside(&mut self.process, op)
+    }
+
+    /// Publishes what was done inside the heap, and does the operation if it touches the process's own cell alone. It answers what the
+    /// operation reaches.
+    pub(crate) fn do_under_book(
+        &mut self,
+        book: &mut LockedBook<W>,
+        op: &Op,
+        gate: &impl Gate,
+    ) -> Reach
+        requires outside { IsOutside W.world.trace self.old op.now }
+        requires steps { IsFalse (begins_or_ends op.now) }
+        ensures { IsReadyFor result W.world.trace op.now self.old self.new }
+    {
+        publish_all(&mut self.process, &mut book.book);
+        let reached = reach(&self.process.cell, &book.book, op);
+        match reached {
+            Reach::Own => {
+                tell(&self.process, gate, GatePlace::InBook);
+                do_alone(&mut self.process, &mut book.book, op);
+            }
+            Reach::Kernel => {}
+            Reach::Shared(_) => {}
+        }
+        reached
+    }
+
+    /// Does the operation if it reaches the kernel's cell, and says whether it did.
+    pub(crate) fn do_under_kernel(
+        &mut self,
+        kernel: &mut LockedKernel<W>,
+        book: &mut LockedBook<W>,
+        op: &Op,
+        gate: &impl Gate,
+    ) -> bool
+        requires ready { IsReady W.world.trace self.old op.now }
+        requires steps { IsFalse (begins_or_ends op.now) }
+        ensures { HasDoneBeside W.world.trace op.now Kernel self.old self.new book.old result }
+    {
+        match reach(&self.process.cell, &book.book, op) {
+            Reach::Own => false,
+            Reach::Kernel => {
+                tell(&self.process, gate, GatePlace::InBook);
+                do_with_kernel(&mut self.process, &mut kernel.kernel, &mut book.book, op);
+                true
+            }
+            Reach::Shared(_) => false,
+        }
+    }
+
+    /// Does the operation if it reaches the shared heap's cell, and says whether it did.
+    pub(crate) fn do_under_shared(
+        &mut self,
+        shared: &mut LockedShared<W>,
+        book: &mut LockedBook<W>,
+        op: &Op,
+        gate: &impl Gate,
+    ) -> bool
+        requires ready { IsReady W.world.trace self.old op.now }
+        requires steps { IsFalse (begins_or_ends op.now) }
+        ensures { HasDoneBeside W.world.trace op.now (Shared shared.old.id) self.old self.new book.old result }
+    {
+        match reach(&self.process.cell, &book.book, op) {
+            Reach::Own => false,
+            Reach::Kernel => false,
+            Reach::Shared(id) => {
+                if shared.shared.id() != id {
+                    return false;
+                }
+                tell(&self.process, gate, GatePlace::InBook);
+                do_with_shared(&mut self.process, &mut shared.shared, &mut book.book, op);
+                true
+            }
+        }
+    }
+}

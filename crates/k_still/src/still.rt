@@ -1,0 +1,126 @@
+//! A run before its first event, on one thread.
+ghost use Rattle.std.specs.Prelude.{◌≡◌, IfOk};
+ghost use Rattle.k_locked.specs.Keeping.{BookKeeps};
+ghost use Rattle.k_trace.specs.Meaning.{meaning_of};
+ghost use Rattle.k_trace.specs.Rules.{IsTrace};
+ghost use Rattle.k_still.specs.Opening.{CanOpenBook, CanOpenWith, IsOpened};
+ghost use Rattle.k_process.specs.Worlds.{WorldValue};
+
+use crate::beginning::{Beginnings, open_kernel, open_processes, open_shared};
+use crate::prepared::{Prepared, prepare};
+use k_book::Book;
+use k_io::NoMemory;
+use k_kernel::KernelCell;
+use k_limits::MakeError;
+use k_process::Process;
+use k_shared::SharedCell;
+use k_tie::{JournalSeat, Note, Tie};
+use k_trace::{Names, Trace};
+use k_types::{Pid, Setup};
+use std::alloc::Global;
+
+/// A run before its first event: all cells and the book, not yet behind locks, with all memory that the run will need.
+#[derive(Drop)]
+pub struct Still {
+    /// What the trace declares, without names.
+    pub setup: Setup,
+    /// The names that it declares.
+    pub names: Names,
+    /// The process of each operation, in the order of the trace.
+    pub order: Vec<Pid>,
+    /// Each process with its cell, in the place of its number.
+    pub processes: Vec<Process>,
+    /// The kernel's cell.
+    pub kernel: KernelCell,
+    /// The cell of each shared heap, in the place of its number.
+    pub shared: Vec<SharedCell>,
+    /// What stands between the heaps, with the journal.
+    pub book: Book,
+}
+
+impl Still {
+    /// The book. Before the first event its journal is empty.
+    pub fn book(&self) -> &Book
+        ensures { result.now ≡ self.now.book }
+    {
+        &self.book
+    }
+}
+
+/// The book before the first event. What the trace reserves fits, so memory alone can fail it.
+fn open_book(
+    alloc: Global,
+    setup: &Setup,
+    exits: u32,
+    events: u32,
+    tie: Tie,
+    seat: JournalSeat,
+) -> Result<Book, NoMemory>
+    ghost world: { WorldValue }
+    requires { CanOpenBook world setup.now exits events tie seat }
+    ensures { IfOk result (λ made. BookKeeps world.trace world.table made × (made.journal ≡ seat)) }
+{
+    match Book::make(alloc, setup, exits, events, tie, seat) {
+        Ok(book) => Ok(book),
+        Err(MakeError::ReserveFull(_)) => unreachable!(),
+        Err(MakeError::NoMemory(refused)) => Err(refused),
+    }
+}
+
+/// The run of a trace, with what was prepared for it, over a journal with a note for each cell.
+fn open_with(
+    alloc: Global,
+    trace: Trace,
+    prepared: Prepared,
+    tie: Tie,
+    seat: JournalSeat,
+    notes: Vec<Note>,
+) -> Result<Still, NoMemory>
+    ghost world: { WorldValue }
+    requires { CanOpenWith world trace prepared tie seat notes.items }
+    ensures { IfOk result (λ still. IsOpened (meaning_of trace) still) }
+{
+    let Trace {
+        setup,
+        names,
+        ops,
+        order,
+    } = trace;
+    let Prepared {
+        bodies,
+        serials,
+        shared_exits,
+        stores,
+        events,
+    } = prepared;
+    let book = open_book(alloc, &setup, stores, events, tie, seat)?;
+    let mut beginnings = Beginnings { notes, serials };
+    let shared = open_shared(alloc, &setup, shared_exits, &mut beginnings)?;
+    let processes = open_processes(alloc, &setup, ops, bodies, &mut beginnings)?;
+    let kernel = open_kernel(alloc, &setup, stores, &mut beginnings)?;
+    Ok(Still {
+        setup,
+        names,
+        order,
+        processes,
+        kernel,
+        shared,
+        book,
+    })
+}
+
+/// All that a run of the trace needs, made before it begins: the bodies of all objects that operations may allocate, the journal with a note for
+/// each cell, the book, and each cell with room for all that the trace can put into it. It passes each operation a few times, and takes
+/// memory in proportion to the operations and to what they allocate.
+///
+/// # Errors
+///
+/// `NoMemory` where any of this finds no room.
+pub fn open_still(alloc: Global, trace: Trace) -> Result<Still, NoMemory>
+    requires { IsTrace (meaning_of trace) }
+    ensures { IfOk result (λ still. IsOpened (meaning_of trace) still) }
+{
+    let prepared = prepare(alloc, &trace)?;
+    let (tie, seat, notes) = Tie::make(alloc, prepared.serials.len() as u32)?;
+    open_with(alloc, trace, prepared, tie, seat, notes)
+}
