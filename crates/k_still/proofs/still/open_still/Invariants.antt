@@ -1,5 +1,0 @@
-use Rattle.k_trace.specs.Meaning.{meaning_of}
-use Rattle.k_still.proofs.still.open_still.Given as goal
-
-abbrev pub ghost-open_with : goal.ghost-open_with
-ghost-open_with a = record { trace = (meaning_of a.trace).trace; table = a.tie }
