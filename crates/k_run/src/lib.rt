@@ -1,7 +1,8 @@
 //! Runs of a trace: each heap and the book behind a lock of its own, workers on threads, and what is left done on one thread.
 //!
-//! [`run`] has workers do what the processes have to do, and [`finish`] ends the run, whatever they did. A lock tells nothing of its value but the value's type; so the types of all values behind the locks are named by the
-//! run's trace and by the table of its journal ([`WorldName`]).
+//! [`run`] has workers do what the processes have to do, and [`finish`] ends the run, whatever they did. A lock tells nothing of its value
+//! but the value's type; so the types of all values behind the locks are named by the run's trace and by the table of its journal
+//! ([`WorldName`]).
 #![tactic(auto)]
 
 mod collecting;
