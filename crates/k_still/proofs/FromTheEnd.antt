@@ -39,8 +39,8 @@ get_last [] y = refl
 get_last (z ∷ xs) y = get_last xs y
 
 -- what is left to be read begins with what is read
-pub drop_read : {A : Type 0} (xs : List A) (i : ℕ) (x : A) → i < length xs → x ≡ get_or xs i x → drop i xs ≡ x ∷ drop (i + 1) xs
-drop_read xs i x inside read = drop-cons xs i x inside ∙ ap₂ (λ y k. y ∷ drop k xs) (sym read) (let e : suc i ≡ i + 1 = omega arith in e)
+pub drop_read : {A : Type 0} (xs : List A) (i : ℕ) (d : A) → i < length xs → drop i xs ≡ get_or xs i d ∷ drop (i + 1) xs
+drop_read xs i d inside = drop-cons xs i d inside ∙ ap (λ k. get_or xs i d ∷ drop k xs) (let e : suc i ≡ i + 1 = omega arith in e)
 
 -- a list made of the numbers below n has at each place what is made of its number
 pub each_numbered : {A : Type 0} (f : ℕ → A) (xs : List A) (n : ℕ) → xs ≡ map f (numbers_below n) → Each (λ k x. x ≡ f k) xs

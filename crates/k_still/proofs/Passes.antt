@@ -1,5 +1,5 @@
 -- A pass over the operations of all processes of a trace that was read.
-use Rattle.std.proofs.Common.{◌≡◌, ℕ, ◌+◌, ◌*◌, ◌<◌, ◌≤◌, ◌^◌, sym, ap, ◌∙◌, List, [], length, map, take, get_or, Vec, Global, arith}
+use Rattle.std.proofs.Common.{◌≡◌, ℕ, ◌+◌, ◌*◌, ◌<◌, ◌≤◌, ◌^◌, refl, sym, ap, ◌∙◌, List, [], length, map, take, get_or, Vec, Global, arith}
 use Rattle.std.proofs.Math.Seq.{take-length}
 use Rattle.std.proofs.lemmas.List.{length-map}
 use Rattle.k_types.specs.declared.names.Pid.{Pid}
@@ -34,8 +34,11 @@ module _ (t : Trace) (is : IsTrace (meaning_of t)) (items : List (Vec Op Global)
   pub stores_fit : (stores more : ℕ) → stores ≡ total stores_in (take p (meaning_of t).trace.operations) → more ≡ stores_in v.items → stores + more < 2 ^ 32
   stores_fit stores more so_far one = omega (arith, so_far, one, stores_few (meaning_of t).trace is.rules p v.items listed_inside own)
 
+-- the pass is over
+pub listed_end : (t : Trace) (items : List (Vec Op Global)) (n : ℕ) → items ≡ t.ops.items → n ≤ length items → length items ≤ n → n ≡ length (meaning_of t).trace.operations
+listed_end t items n same low end = omega (arith, low, end, listed t items same)
+
 module _ (t : Trace) (is : IsTrace (meaning_of t)) where
-  -- the pass is over
   pub stores_all : (items : List (Vec Op Global)) (stores n : ℕ) → items ≡ t.ops.items → stores ≡ total stores_in (take n (meaning_of t).trace.operations) → n ≡ length items → stores ≡ exit_room (meaning_of t).trace
   stores_all items stores n same so_far end =
       so_far
@@ -57,3 +60,8 @@ module _ (t : Trace) (is : IsTrace (meaning_of t)) where
 
   pub events_all : 2 * length t.order.items + t.setup.shared + 2 ≡ event_room (meaning_of t).trace
   events_all = omega (arith, event_room_is (meaning_of t).trace is.rules, ordered)
+
+-- the operations of one process, read by its number
+module _ (t : Trace) (is : IsTrace (meaning_of t)) (p : ℕ) (v : Vec Op Global) (known : p < length t.setup.procs.items) (read : v ≡ get_or t.ops.items p v) where
+  pub own_at : operations_of (meaning_of t).trace p ≡ v.items
+  own_at = own_operations t t.ops.items p v refl (omega (arith, known, listed t t.ops.items refl, is.rules.operations.each)) read

@@ -41,7 +41,7 @@ abbrev pub AreLow : ℕ → List ℕ → Type 0
 AreLow most xs = (s : ℕ) → s < length xs → get_or xs s 0 ≤ most
 
 more_low : (most n : ℕ) (o : Option ℕ) (xs : List ℕ) → AreLow most xs → AreLow most (with_more most n o xs)
-more_low most n None xs low = low
+more_low most n None xs low s inside = low s inside
 more_low most n (Some at) xs low s inside =
     let within : s < length xs = omega (arith, inside, length-set xs at (min most (get_or xs at 0 + n))) in
     elim (cases_eq at s) [
@@ -229,17 +229,17 @@ module _ (most n : ℕ) (op : Op) (rest : List Op) (rooms : List ℕ) (can : Can
     fits = can.fits;
   }
 
-module _ (most n : ℕ) (ops : List Op) (first : List ℕ) (i : ℕ) (op : Op) (rooms : List ℕ) (before : AreRaisedBy most n ops first i rooms) (inside : i < length ops) (read : op ≡ get_or ops i op) where
-  can_raise_left : CanRaise most n (op ∷ drop (i + 1) ops) rooms
-  can_raise_left = subst (λ left. CanRaise most n left rooms) (drop_read ops i op inside read) before.can
+module _ (most n : ℕ) (ops : List Op) (first : List ℕ) (i : ℕ) (d : Op) (rooms : List ℕ) (before : AreRaisedBy most n ops first i rooms) (inside : i < length ops) where
+  can_raise_left : CanRaise most n (get_or ops i d ∷ drop (i + 1) ops) rooms
+  can_raise_left = subst (λ left. CanRaise most n left rooms) (drop_read ops i d inside) before.can
 
-  pub next_fits_more : FitsMore rooms n (heap_made op)
-  next_fits_more = more_fits most n op (drop (i + 1) ops) rooms can_raise_left
+  pub next_fits_more : FitsMore rooms n (heap_made (get_or ops i d))
+  next_fits_more = more_fits most n (get_or ops i d) (drop (i + 1) ops) rooms can_raise_left
 
-  pub next_raised_by : (new : List ℕ) → new ≡ with_more most n (heap_made op) rooms → AreRaisedBy most n ops first (i + 1) new
+  pub next_raised_by : (new : List ℕ) → new ≡ with_more most n (heap_made (get_or ops i d)) rooms → AreRaisedBy most n ops first (i + 1) new
   next_raised_by new is = subst (AreRaisedBy most n ops first (i + 1)) (sym is) (record {
-    all = ap (λ left. raised most n left rooms) (sym (drop_read ops i op inside read)) ∙ before.all;
-    can = can_raise_rest most n op (drop (i + 1) ops) rooms can_raise_left;
+    all = ap (λ left. raised most n left rooms) (sym (drop_read ops i d inside)) ∙ before.all;
+    can = can_raise_rest most n (get_or ops i d) (drop (i + 1) ops) rooms can_raise_left;
   })
 
 -- no operation is left

@@ -190,17 +190,17 @@ module _ (procs p : ℕ) (op : Op) (rest : List Op) (counts : List ℕ) (can : C
             omega (arith, one_more_at seg counts at within, can.room at within, one_if_low (is_given seg at));
       }
 
-module _ (procs p : ℕ) (ops : List Op) (first : List ℕ) (i : ℕ) (op : Op) (counts : List ℕ) (before : AreCountedBy procs p ops first i counts) (inside : i < length ops) (read : op ≡ get_or ops i op) where
-  can_count_rest : CanCount procs p (op ∷ drop (i + 1) ops) counts
-  can_count_rest = subst (λ left. CanCount procs p left counts) (drop_read ops i op inside read) before.can
+module _ (procs p : ℕ) (ops : List Op) (first : List ℕ) (i : ℕ) (d : Op) (counts : List ℕ) (before : AreCountedBy procs p ops first i counts) (inside : i < length ops) where
+  can_count_rest : CanCount procs p (get_or ops i d ∷ drop (i + 1) ops) counts
+  can_count_rest = subst (λ left. CanCount procs p left counts) (drop_read ops i d inside) before.can
 
-  pub next_fits : FitsOneMore counts (segment_given procs p op)
-  next_fits = one_fits procs p op (drop (i + 1) ops) counts can_count_rest
+  pub next_fits : FitsOneMore counts (segment_given procs p (get_or ops i d))
+  next_fits = one_fits procs p (get_or ops i d) (drop (i + 1) ops) counts can_count_rest
 
-  pub next_counted_by : (new : List ℕ) → new ≡ with_one_more (segment_given procs p op) counts → AreCountedBy procs p ops first (i + 1) new
+  pub next_counted_by : (new : List ℕ) → new ≡ with_one_more (segment_given procs p (get_or ops i d)) counts → AreCountedBy procs p ops first (i + 1) new
   next_counted_by new is = subst (AreCountedBy procs p ops first (i + 1)) (sym is) (record {
-    all = ap (λ left. counted procs p left counts) (sym (drop_read ops i op inside read)) ∙ before.all;
-    can = can_go_on procs p op (drop (i + 1) ops) counts can_count_rest;
+    all = ap (λ left. counted procs p left counts) (sym (drop_read ops i d inside)) ∙ before.all;
+    can = can_go_on procs p (get_or ops i d) (drop (i + 1) ops) counts can_count_rest;
   })
 
 -- no operation is left

@@ -42,17 +42,21 @@ front_low f (x ∷ xs) (suc k) d inside = omega (arith, front_low f xs k d (omeg
 pub front_next : {A : Type 0} (f : A → ℕ) (xs : List A) (k : ℕ) (d : A) → k < length xs → total f (take (k + 1) xs) ≡ total f (take k xs) + f (get_or xs k d)
 front_next f xs k d inside = ap (total f) (take_more xs k d inside) ∙ total_push f (take k xs) (get_or xs k d)
 
-from_low : (f : ℕ → ℕ) (a k m : ℕ) → total f (numbers_from a k) + f (a + k) ≤ total f (numbers_from a (k + suc m))
-from_low f a zero m = let e : f (a + 0) ≡ f a = ap f (omega arith) in omega (arith, e)
-from_low f a (suc k) m = let e : f (a + suc k) ≡ f (suc a + k) = ap f (omega arith) in omega (arith, e, from_low f (suc a) k m)
+from_low : (f : ℕ → ℕ) (first k n : ℕ) → k < n → total f (numbers_from first k) + f (first + k) ≤ total f (numbers_from first n)
+from_low f first k zero inside = absurd (omega arith)
+from_low f first zero (suc n) inside = let e : f (first + 0) ≡ f first = ap f (let z : first + 0 ≡ first = omega arith in z) in omega (arith, e)
+from_low f first (suc k) (suc n) inside =
+    let e : f (first + suc k) ≡ f (suc first + k) = ap f (let z : first + suc k ≡ suc first + k = omega arith in z) in
+    omega (arith, e, from_low f (suc first) k n (omega (arith, inside)))
 
 pub below_low : (f : ℕ → ℕ) (k n : ℕ) → k < n → total f (numbers_below k) + f k ≤ total f (numbers_below n)
-below_low f k n inside =
-    let e : k + suc (n - k - 1) ≡ n = omega (arith, inside) in
-    subst (λ m. total f (numbers_below k) + f k ≤ total f (numbers_below m)) e (from_low f 0 k (n - k - 1))
+below_low f k n inside = let e : f (0 + k) ≡ f k = ap f (let z : 0 + k ≡ k = omega arith in z) in omega (arith, e, from_low f 0 k n inside)
 
 pub below_next : (f : ℕ → ℕ) (k : ℕ) → total f (numbers_below (k + 1)) ≡ total f (numbers_below k) + f k
-below_next f k = ap (λ n. total f (numbers_below n)) (omega arith) ∙ ap (total f) (numbers_push 0 k) ∙ total_push f (numbers_below k) (0 + k)
+below_next f k =
+    let e : f (0 + k) ≡ f k = ap f (let z : 0 + k ≡ k = omega arith in z) in
+    let more : numbers_below (k + 1) ≡ numbers_below k ++ (0 + k) ∷ [] = ap numbers_below (let z : k + 1 ≡ suc k = omega arith in z) ∙ numbers_push 0 k in
+    ap (total f) more ∙ total_push f (numbers_below k) (0 + k) ∙ ap (λ m. total f (numbers_below k) + m) e
 
 module _ (trace : Trace) (rules : KeepsRules trace) where
   pub over_lists : (g : List Op → ℕ) → over_processes trace (λ p. g (operations_of trace p)) ≡ total g trace.operations
