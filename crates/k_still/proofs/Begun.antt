@@ -92,6 +92,25 @@ module _ (world : WorldValue) (setup : Setup) where
       subst (KernelKeeps world.trace world.table) (sym is)
       (kernel_stands world setup can.of objects exits note (begun.is_note ∙ ap (blank_note world.table) at) can.enough (subst (λ seg. serial_room world.trace seg ≤ objects) at begun.enough))
 
+  pub process_can_open : (all ops : List (Vec Op Global)) (own : Vec Op Global) (stocks bodies : List (VecDeque BodyValue Global)) (stock : VecDeque BodyValue Global) (b new : Beginnings) (made : List Process)
+      (note : NoteValue) (objects : ℕ) (pid : Pid) → ArePending world setup all stocks b made → all ≡ ops ++ own ∷ [] → stocks ≡ bodies ++ stock ∷ [] → HasBegun world b new note objects → pid.0 ≡ length ops →
+      CanOpenProcess world setup pid own.items stock.items objects note
+  process_can_open all ops own stocks bodies stock b new made note objects pid pending taken stock_taken begun at =
+      let fewer : length all ≡ length ops + 1 = ap length taken ∙ length-append ops (own ∷ []) in
+      let fewer_bodies : length stocks ≡ length bodies + 1 = ap length stock_taken ∙ length-append bodies (stock ∷ []) in
+      let same : length bodies ≡ length ops = omega (arith, pending.same, fewer, fewer_bodies) in
+      let seg : length new.notes.items ≡ pid.0 + 1 = omega (arith, pending.left, begun.fewer, fewer, at) in
+      record {
+        of = pending.of;
+        known = omega (arith, at, fewer, pending.count);
+        operations = each_last (λ k (list : Vec Op Global). list.items ≡ operations_of world.trace k) all ops own taken pending.own_operations ∙ ap (operations_of world.trace) (sym at);
+        made =
+            each_last (λ k (list : VecDeque BodyValue Global). list.items ≡ bodies_of world.trace.types (operations_of world.trace k)) stocks bodies stock stock_taken pending.own_bodies
+            ∙ ap (λ k. bodies_of world.trace.types (operations_of world.trace k)) (same ∙ sym at);
+        enough = subst (λ n. serial_room world.trace n ≤ objects) seg begun.enough;
+        is_note = begun.is_note ∙ ap (blank_note world.table) seg;
+      }
+
   pub processes_go_on : (all ops : List (Vec Op Global)) (own : Vec Op Global) (stocks bodies : List (VecDeque BodyValue Global)) (stock : VecDeque BodyValue Global) (b new : Beginnings) (made : List Process)
       (note : NoteValue) (objects : ℕ) (p : Process) → ArePending world setup all stocks b made → all ≡ ops ++ own ∷ [] → stocks ≡ bodies ++ stock ∷ [] → HasBegun world b new note objects →
       ProcessStands world p → p.cell.pid.0 ≡ length ops → ArePending world setup ops bodies new (made ++ p ∷ [])
@@ -120,6 +139,18 @@ module _ (world : WorldValue) (setup : Setup) where
     beginnings = pending.beginnings;
     left = omega (arith, pending.left, none);
   }
+
+  pub heap_can_open : (all exits : List ℕ) (room : ℕ) (b : Beginnings) (made : List SharedRecord) (id : SharedId) → ArePendingShared world setup all b made → all ≡ exits ++ room ∷ [] → id.0 ≡ length exits →
+      CanOpenHeap world setup id room b
+  heap_can_open all exits room b made id pending taken at =
+      let fewer : length all ≡ length exits + 1 = ap length taken ∙ length-append exits (room ∷ []) in
+      record {
+        of = pending.of;
+        known = omega (arith, at, fewer, pending.count);
+        enough = subst (λ n. shared_exit_room world.trace n ≤ room) (sym at) (each_last (λ k enough. shared_exit_room world.trace k ≤ enough) all exits room taken pending.rooms);
+        beginnings = pending.beginnings;
+        left = omega (arith, pending.left, fewer, at);
+      }
 
   pub heaps_go_on : (all exits : List ℕ) (room : ℕ) (b new : Beginnings) (made : List SharedRecord) (id : SharedId) (s : SharedRecord) → ArePendingShared world setup all b made → all ≡ exits ++ room ∷ [] →
       HasOpenedHeap world id s b new → id.0 ≡ length exits → ArePendingShared world setup exits new (made ++ s ∷ [])

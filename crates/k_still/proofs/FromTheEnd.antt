@@ -23,6 +23,10 @@ get_reversed (y ∷ ys) k x e =
       | inr here ↦ (0, ap Some here.1, omega (arith, here.0, length-reverse ys))
     ]
 
+-- there is nothing in an empty list
+pub each_none : {A : Type 0} (P : ℕ → A → Type 0) → Each P []
+each_none P k x found = absurd (cc)
+
 pub each_pushed : {A : Type 0} (P : ℕ → A → Type 0) (xs : List A) (y : A) → Each P xs → P (length xs) y → Each P (xs ++ y ∷ [])
 each_pushed P xs y each one k x found = elim (get_snoc xs y k x found) [
   | inl there ↦ each k x there

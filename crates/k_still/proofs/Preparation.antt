@@ -14,7 +14,7 @@ use Rattle.k_agree.specs.Rooms.{event_room, exit_room}
 use Rattle.k_bodies.specs.Bodies.{bodies_of}
 use Rattle.k_bodies.proofs.Operations.{own_operations}
 use Rattle.k_book.specs.Books.{BookRecord}
-use Rattle.k_locked.specs.Keeping.{BookKeeps, KernelKeeps}
+use Rattle.k_locked.specs.Keeping.{BookKeeps, KernelKeeps, SharedKeeps}
 use Rattle.k_shared.specs.SharedHeaps.{SharedRecord}
 use Rattle.k_space.specs.Objects.{BodyValue}
 use Rattle.k_tie.specs.Values.{JournalValue, NoteValue, blank_note, empty_journal}
@@ -22,12 +22,25 @@ use Rattle.k_trace.specs.declared.trace.Trace.{Trace as TraceRead}
 use Rattle.k_trace.specs.Meaning.{meaning_of}
 use Rattle.k_trace.specs.Rules.{IsTrace}
 use Rattle.k_process.specs.declared.process.Process.{Process}
+use Rattle.k_process.specs.Standing.{ProcessStands}
 use Rattle.k_process.specs.Worlds.{WorldValue}
 use Rattle.k_still.specs.declared.beginning.Beginnings.{Beginnings}
 use Rattle.k_still.specs.declared.prepared.Prepared.{Prepared}
 use Rattle.k_still.specs.declared.still.Still.{Still}
-use Rattle.k_still.specs.Opening.{AreBeginnings, ArePending, ArePendingShared, AreSerialRooms, AreSharedRooms, CanOpenBook, CanOpenKernel, CanOpenWith, HaveOpened, HaveOpenedShared, IsOpened, IsSetupOf, StillStands, world_of}
-use Rattle.k_still.proofs.FromTheEnd.{each_mapped, each_numbered}
+use Rattle.k_still.specs.Opening.{AreBeginnings, ArePending, ArePendingShared, AreSerialRooms, AreSharedRooms, CanOpenBook, CanOpenKernel, CanOpenWith, HaveOpened, HaveOpenedShared, IsOpened, IsPrepared, IsSetupOf, StillStands, world_of}
+use Rattle.k_still.proofs.FromTheEnd.{each_mapped, each_none, each_numbered}
+
+-- a journal that was just made is empty, and has a note for each segment
+pub can_open_with : (t : TraceRead) (p : Prepared) (tie : TableId) (seat : JournalValue) (notes : List NoteValue) (cells : ℕ) → IsTrace (meaning_of t) → IsPrepared (meaning_of t).trace p → seat ≡ empty_journal tie →
+    notes ≡ map (blank_note tie) (numbers_below cells) → cells ≡ length p.serials.items → CanOpenWith (record { trace = (meaning_of t).trace; table = tie }) t p tie seat notes
+can_open_with t p tie seat notes cells is prepared empty blank count = record {
+  is_trace = is;
+  same = refl;
+  prepared = prepared;
+  table = refl;
+  empty = empty;
+  blank = blank ∙ ap (λ n. map (blank_note tie) (numbers_below n)) (count ∙ prepared.serials.count);
+}
 
 module _ (world : WorldValue) (t : TraceRead) (p : Prepared) (tie : TableId) (seat : JournalValue) (notes : List NoteValue) (can : CanOpenWith world t p tie seat notes) where
   rules : KeepsRules world.trace
@@ -74,7 +87,7 @@ module _ (world : WorldValue) (t : TraceRead) (p : Prepared) (tie : TableId) (se
         beginnings = all;
         left = omega (arith, all.same, serials, rooms.count);
         count = omega (arith, rooms.count);
-        heaps = λ k s found. absurd (cc);
+        heaps = each_none (λ k (s : SharedRecord). SharedKeeps world.trace world.table s × (s.id.0 + k + 1 ≡ world.trace.shared_heaps));
       }
 
   pub processes_pending : (b : Beginnings) (shared : List SharedRecord) → HaveOpenedShared world b shared → ArePending world t.setup t.ops.items p.bodies.items b []
@@ -91,7 +104,7 @@ module _ (world : WorldValue) (t : TraceRead) (p : Prepared) (tie : TableId) (se
         beginnings = opened.beginnings;
         left = omega (arith, opened.left, listed);
         count = omega (arith, listed);
-        processes = λ k q found. absurd (cc);
+        processes = each_none (λ k (q : Process). ProcessStands world q × (q.cell.pid.0 + k + 1 ≡ process_count world.trace));
       }
 
   pub kernel_can_open : (b : Beginnings) (made : List Process) → HaveOpened world b made → CanOpenKernel world t.setup p.stores b

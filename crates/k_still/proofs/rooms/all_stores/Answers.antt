@@ -8,9 +8,11 @@ stores_in-stores-requires c =
     rw c.deref.ensures.value (own_short c.args.trace.now c.requires c.deref-ops-items.result.now c.deref-ops-items.ensures.value c.loop-ops.ops-index c.ops-item.result c.loop-ops-test.true c.ops-item.is)
 
 pub overflow_add-stores : goal.overflow_add-stores
-overflow_add-stores c = omega (arith,
-    stores_fit c.args.trace.now c.requires c.deref-ops-items.result.now c.deref-ops-items.ensures.value c.loop-ops.ops-index c.ops-item.result c.loop-ops-test.true c.ops-item.is c.loop-ops.stores c.stores_in-stores.result c.loop-ops.invariant
-    (c.stores_in-stores.ensures ∙ ap stores_in c.deref.ensures.value))
+overflow_add-stores c = omega (
+  arith,
+  stores_fit c.args.trace.now c.requires c.deref-ops-items.result.now c.deref-ops-items.ensures.value c.loop-ops.ops-index c.ops-item.result c.loop-ops-test.true c.ops-item.is c.loop-ops.stores c.stores_in-stores.result c.loop-ops.invariant
+      (c.stores_in-stores.ensures ∙ ap stores_in c.deref.ensures.value),
+)
 
 pub loop-ops-preserved : goal.loop-ops-preserved
 loop-ops-preserved c =
