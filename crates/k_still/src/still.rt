@@ -121,6 +121,7 @@ pub fn open_still(alloc: Global, trace: Trace) -> Result<Still, NoMemory>
     ensures { IfOk result (λ still. IsOpened (meaning_of trace) still) }
 {
     let prepared = prepare(alloc, &trace)?;
-    let (tie, seat, notes) = Tie::make(alloc, prepared.serials.len() as u32)?;
+    let journal = Tie::make(alloc, prepared.serials.len() as u32)?;
+    let (tie, seat, notes) = journal;
     open_with(alloc, trace, prepared, tie, seat, notes)
 }
