@@ -22,12 +22,13 @@ use Rattle.k_trace.specs.declared.trace.Trace.{Trace as TraceRead}
 use Rattle.k_trace.specs.Meaning.{meaning_of}
 use Rattle.k_trace.specs.Rules.{IsTrace}
 use Rattle.k_process.specs.declared.process.Process.{Process}
-use Rattle.k_process.specs.Standing.{ProcessStands}
+use Rattle.k_process.specs.Standing.{HeapsStand, ProcessStands, ProcessesStand}
 use Rattle.k_process.specs.Worlds.{WorldValue}
 use Rattle.k_still.specs.declared.beginning.Beginnings.{Beginnings}
+use Rattle.k_still.specs.declared.beginning.Cells.{Cells}
 use Rattle.k_still.specs.declared.prepared.Prepared.{Prepared}
 use Rattle.k_still.specs.declared.still.Still.{Still}
-use Rattle.k_still.specs.Opening.{AreBeginnings, ArePending, ArePendingShared, AreSerialRooms, AreSharedRooms, CanOpenBook, CanOpenKernel, CanOpenWith, HaveOpened, HaveOpenedShared, IsOpened, IsPrepared, IsSetupOf, StillStands, world_of}
+use Rattle.k_still.specs.Opening.{AreBeginnings, ArePending, ArePendingShared, AreSerialRooms, AreSharedRooms, CanOpenBook, CanOpenCells, CanOpenWith, CellsStand, IsOpened, IsPrepared, IsSetupOf, StillStands, world_of}
 use Rattle.k_still.proofs.FromTheEnd.{each_mapped, each_none, each_numbered}
 
 -- a journal that was just made is empty, and has a note for each segment
@@ -90,8 +91,8 @@ module _ (world : WorldValue) (t : TraceRead) (p : Prepared) (tie : TableId) (se
         heaps = each_none (λ k (s : SharedRecord). SharedKeeps world.trace world.table s × (s.id.0 + k + 1 ≡ world.trace.shared_heaps));
       }
 
-  pub processes_pending : (b : Beginnings) (shared : List SharedRecord) → HaveOpenedShared world b shared → ArePending world t.setup t.ops.items p.bodies.items b []
-  processes_pending b shared opened =
+  pub processes_pending : (b : Beginnings) → AreBeginnings world b → length b.notes.items ≡ 1 + process_count world.trace → ArePending world t.setup t.ops.items p.bodies.items b []
+  processes_pending b beginnings left =
       let all : length p.bodies.items ≡ length world.trace.operations
       = sym (length-map p.bodies.items (λ (one : VecDeque BodyValue Global). one.items)) ∙ ap length can.prepared.bodies ∙ length-map world.trace.operations (bodies_of world.trace.types) in
       record {
@@ -101,31 +102,36 @@ module _ (world : WorldValue) (t : TraceRead) (p : Prepared) (tie : TableId) (se
             ∙ ap (λ (tr : Trace). operations_of tr k) (sym can.same);
         same = omega (arith, all, listed, rules.operations.each);
         own_bodies = each_mapped (λ (one : VecDeque BodyValue Global). one.items) (bodies_of world.trace.types) p.bodies.items world.trace.operations [] can.prepared.bodies;
-        beginnings = opened.beginnings;
-        left = omega (arith, opened.left, listed);
+        beginnings = beginnings;
+        left = omega (arith, left, listed);
         count = omega (arith, listed);
         processes = each_none (λ k (q : Process). ProcessStands world q × (q.cell.pid.0 + k + 1 ≡ process_count world.trace));
       }
 
-  pub kernel_can_open : (b : Beginnings) (made : List Process) → HaveOpened world b made → CanOpenKernel world t.setup p.stores b
-  kernel_can_open b made opened = record {
-    of = of_setup;
+  pub cells_can_open : (b : Beginnings) → b.notes.items ≡ notes → b.serials.items ≡ p.serials.items → CanOpenCells world t.setup t.ops.items p.bodies.items p.shared_exits.items p.stores b
+  cells_can_open b notes_are serials_are = record {
+    shared = shared_pending b notes_are serials_are;
+    processes = processes_pending;
     enough = omega (arith, can.prepared.stores);
-    beginnings = opened.beginnings;
-    left = opened.left;
   }
 
-  pub all_opened : (still : Still) (shared_left left : Beginnings) → still.setup ≡ t.setup → still.names ≡ t.names → still.order ≡ t.order → HaveOpened world left still.processes.items →
-      HaveOpenedShared world shared_left still.shared.items → KernelKeeps world.trace world.table still.kernel → BookKeeps world.trace world.table still.book → still.book.journal ≡ seat → IsOpened (meaning_of t) still
-  all_opened still shared_left left setup names order processes shared kernel book journal =
+  pub all_opened : (still : Still) (cells : Cells) → still.setup ≡ t.setup → still.names ≡ t.names → still.order ≡ t.order → still.processes ≡ cells.processes → still.kernel ≡ cells.kernel → still.shared ≡ cells.shared →
+      CellsStand world cells → BookKeeps world.trace world.table still.book → still.book.journal ≡ seat → IsOpened (meaning_of t) still
+  all_opened still cells setup names order processes kernel shared stand book journal =
       let is_empty : still.book.journal ≡ empty_journal world.table = journal ∙ can.empty in
       let table : world.table ≡ still.book.journal.table = sym (ap (λ (j : JournalValue). j.table) is_empty) in
       let same : world ≡ world_of (meaning_of t) still = ap₂ (λ (tr : Trace) (tb : TableId). let w : WorldValue = record { trace = tr; table = tb } in w) can.same table in
+      let stands : StillStands world still
+      = record {
+        processes = subst (λ (ps : Vec Process Global). ProcessesStand world ps.items) (sym processes) stand.processes;
+        rest = record {
+          kernel = subst (KernelKeeps world.trace world.table) (sym kernel) stand.kernel;
+          shared = subst (λ (ss : Vec SharedRecord Global). HeapsStand world ss.items) (sym shared) stand.shared;
+          book = book;
+        };
+      } in
       record {
-        stands = subst (λ w. StillStands w still) same (record {
-          processes = processes.processes;
-          rest = record { kernel = kernel; shared = shared.shared; book = book };
-        });
+        stands = subst (λ w. StillStands w still) same stands;
         setup = subst (λ w. IsSetupOf still.setup w) same (subst (λ s. IsSetupOf s world) (sym setup) of_setup);
         names = names;
         order = ap (λ (pids : Vec Pid Global). map (λ (pid : Pid). pid.0) pids.items) order;

@@ -17,7 +17,7 @@ use Rattle.k_agree.specs.Rooms.{event_room, exit_room, serial_room}
 use Rattle.k_space.specs.Objects.{BodyValue}
 use Rattle.k_bodies.specs.Bodies.{bodies_of}
 use Rattle.k_tie.specs.Values.{JournalValue, NoteValue, blank_note, empty_journal}
-use Rattle.k_locked.specs.Keeping.{SharedKeeps}
+use Rattle.k_locked.specs.Keeping.{KernelKeeps, SharedKeeps}
 use Rattle.k_locked.specs.Rooms.{shared_exit_room}
 use Rattle.k_trace.specs.declared.trace.Trace.{Trace as TraceRead}
 use Rattle.k_trace.specs.Meaning.{meaning_of}
@@ -25,6 +25,7 @@ use Rattle.k_trace.specs.Named.{NamedTrace}
 use Rattle.k_trace.specs.Rules.{IsTrace}
 use Rattle.k_shared.specs.SharedHeaps.{SharedRecord}
 use Rattle.k_still.specs.declared.beginning.Beginnings.{Beginnings}
+use Rattle.k_still.specs.declared.beginning.Cells.{Cells}
 use Rattle.k_process.specs.declared.process.Process.{Process}
 use Rattle.k_still.specs.declared.prepared.Prepared.{Prepared}
 use Rattle.k_still.specs.declared.still.Still.{Still}
@@ -175,6 +176,18 @@ pub record CanOpenKernel (world : WorldValue) (setup : Setup) (exits : ℕ) (b :
   pub enough : exit_room world.trace ≤ exits
   pub beginnings : AreBeginnings world b
   pub left : length b.notes.items ≡ 1
+
+-- all cells can be made, the shared heaps first, then the processes with the beginnings that those leave, and then the kernel
+pub record CanOpenCells (world : WorldValue) (setup : Setup) (ops : List (Vec Op Global)) (bodies : List (VecDeque BodyValue Global)) (exits : List ℕ) (stores : ℕ) (b : Beginnings) : Type 0 where
+  pub shared : ArePendingShared world setup exits b []
+  pub processes : (left : Beginnings) → AreBeginnings world left → length left.notes.items ≡ 1 + process_count world.trace → ArePending world setup ops bodies left []
+  pub enough : exit_room world.trace ≤ stores
+
+-- all cells stand
+pub record CellsStand (world : WorldValue) (cells : Cells) : Type 0 where
+  pub processes : ProcessesStand world cells.processes.items
+  pub kernel : KernelKeeps world.trace world.table cells.kernel
+  pub shared : HeapsStand world cells.shared.items
 
 -- the book of the setup can be made with these rooms, and with the seat of an empty journal of the table
 pub record CanOpenBook (world : WorldValue) (setup : Setup) (exits events : ℕ) (tie : TableId) (seat : JournalValue) : Type 0 where

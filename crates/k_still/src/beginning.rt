@@ -1,7 +1,7 @@
 //! The cells before the first event.
 ghost use Rattle.std.specs.Prelude.{◌≡◌, [], IfOk};
 ghost use Rattle.k_locked.specs.Keeping.{KernelKeeps};
-ghost use Rattle.k_still.specs.Opening.{ArePending, ArePendingShared, CanBegin, CanOpenHeap, CanOpenKernel, CanOpenProcess, HasBegun, HasOpenedHeap, HaveOpened, HaveOpenedShared};
+ghost use Rattle.k_still.specs.Opening.{ArePending, ArePendingShared, CanBegin, CanOpenCells, CanOpenHeap, CanOpenKernel, CanOpenProcess, CellsStand, HasBegun, HasOpenedHeap, HaveOpened, HaveOpenedShared};
 ghost use Rattle.k_process.specs.Standing.{ProcessStands};
 ghost use Rattle.k_process.specs.Worlds.{WorldValue};
 
@@ -136,4 +136,36 @@ pub(crate) fn open_kernel(
 {
     let (note, objects) = take_last(beginnings);
     KernelCell::make(alloc, setup, objects, exits, note)
+}
+
+/// All cells of a run.
+#[derive(Drop)]
+pub(crate) struct Cells {
+    pub(crate) processes: Vec<Process>,
+    pub(crate) kernel: KernelCell,
+    pub(crate) shared: Vec<SharedCell>,
+}
+
+/// All cells before the first event. The kernel's is the first by number, and is made last.
+pub(crate) fn open_cells(
+    alloc: Global,
+    setup: &Setup,
+    ops: Vec<Vec<Op>>,
+    bodies: Vec<VecDeque<Body>>,
+    shared_exits: Vec<u32>,
+    stores: u32,
+    mut beginnings: Beginnings,
+) -> Result<Cells, NoMemory>
+    ghost world: { WorldValue }
+    requires { CanOpenCells world setup.now ops.items bodies.items shared_exits.items stores beginnings }
+    ensures { IfOk result (λ cells. CellsStand world cells) }
+{
+    let shared = open_shared(alloc, setup, shared_exits, &mut beginnings)?;
+    let processes = open_processes(alloc, setup, ops, bodies, &mut beginnings)?;
+    let kernel = open_kernel(alloc, setup, stores, &mut beginnings)?;
+    Ok(Cells {
+        processes,
+        kernel,
+        shared,
+    })
 }

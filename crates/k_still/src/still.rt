@@ -6,7 +6,7 @@ ghost use Rattle.k_trace.specs.Rules.{IsTrace};
 ghost use Rattle.k_still.specs.Opening.{CanOpenBook, CanOpenWith, IsOpened};
 ghost use Rattle.k_process.specs.Worlds.{WorldValue};
 
-use crate::beginning::{Beginnings, open_kernel, open_processes, open_shared};
+use crate::beginning::{Beginnings, open_cells};
 use crate::prepared::{Prepared, prepare};
 use k_book::Book;
 use k_io::NoMemory;
@@ -80,6 +80,14 @@ fn open_with(
     requires { CanOpenWith world trace prepared tie seat notes.items }
     ensures { IfOk result (λ still. IsOpened (meaning_of trace) still) }
 {
+    let book = open_book(
+        alloc,
+        &trace.setup,
+        prepared.stores,
+        prepared.events,
+        tie,
+        seat,
+    )?;
     let Trace {
         setup,
         names,
@@ -91,20 +99,17 @@ fn open_with(
         serials,
         shared_exits,
         stores,
-        events,
+        events: _,
     } = prepared;
-    let book = open_book(alloc, &setup, stores, events, tie, seat)?;
-    let mut beginnings = Beginnings { notes, serials };
-    let shared = open_shared(alloc, &setup, shared_exits, &mut beginnings)?;
-    let processes = open_processes(alloc, &setup, ops, bodies, &mut beginnings)?;
-    let kernel = open_kernel(alloc, &setup, stores, &mut beginnings)?;
+    let beginnings = Beginnings { notes, serials };
+    let cells = open_cells(alloc, &setup, ops, bodies, shared_exits, stores, beginnings)?;
     Ok(Still {
         setup,
         names,
         order,
-        processes,
-        kernel,
-        shared,
+        processes: cells.processes,
+        kernel: cells.kernel,
+        shared: cells.shared,
         book,
     })
 }

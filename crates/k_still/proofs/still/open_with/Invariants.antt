@@ -3,11 +3,5 @@ use Rattle.k_still.proofs.still.open_with.Given as goal
 abbrev pub ghost-open_book : goal.ghost-open_book
 ghost-open_book g a = g.world'
 
-abbrev pub ghost-open_shared : goal.ghost-open_shared
-ghost-open_shared g a = g.world'
-
-abbrev pub ghost-open_processes : goal.ghost-open_processes
-ghost-open_processes g a = g.world'
-
-abbrev pub ghost-open_kernel : goal.ghost-open_kernel
-ghost-open_kernel g a = g.world'
+abbrev pub ghost-open_cells : goal.ghost-open_cells
+ghost-open_cells g a = g.world'
