@@ -2,7 +2,7 @@ use Rattle.k_io.proofs.Writings.{writes_same}
 use Rattle.k_trace.specs.Meaning.{meaning_of}
 use Rattle.kaffe.proofs.Reports.{report_of_run, named_in_run}
 use Rattle.kaffe.proofs.Written.{written_by}
-use Rattle.kaffe.proofs.file_order.write_report.Goals as goal
+use Rattle.kaffe.proofs.running.write_report.Goals as goal
 
 pub report-requires : goal.report-requires
 report-requires g c = named_in_run (meaning_of c.args.trace.now) c.args.end.now.machine.setup c.requires.good c.requires.run.setup
