@@ -1,9 +1,8 @@
 -- What is left of processes, done one after the other.
-use Rattle.std.proofs.Common.{◌≡◌, ◌<◌, ℕ, refl, sym, ap, ◌∙◌, subst, List, length, set, not, Bool, true, false, Some, None, slice_get, IsTrue, inl, inr, arith}
-use Rattle.std.proofs.lemmas.Bool.{false≢true}
+use Rattle.std.proofs.Common.{◌≡◌, ◌<◌, ℕ, refl, sym, ap, ◌∙◌, subst, List, length, set, Some, None, slice_get, IsTrue, inl, inr, arith}
 use Rattle.k_types.specs.declared.op.Op.{Op}
 use Rattle.k_types.specs.Trace.{operations_of}
-use Rattle.k_frame.specs.PartUpdates.{done_in}
+use Rattle.k_tie.specs.Values.{NoteValue}
 use Rattle.k_agree.specs.Settled.{all_ended_in, no_orphan_in}
 use Rattle.k_types.specs.Complete.{EndsWithClosing}
 use Rattle.k_book.specs.Books.{BookRecord}
@@ -11,31 +10,18 @@ use Rattle.k_cell.specs.Holdings.{HoldingsValue}
 use Rattle.k_heap.specs.Heaps.{HeapRecord, has_ended_in}
 use Rattle.k_shared.specs.SharedHeaps.{SharedRecord}
 use Rattle.k_commit.specs.Met.{HeapHasMet, KernelHasMet, SharedHasMet}
+use Rattle.k_commit.specs.Standing.{BookStands}
 use Rattle.k_locked.specs.Keeping.{operations_left}
-use Rattle.k_locked.proofs.CanDo.{passes_at}
 use Rattle.k_process.specs.declared.process.Process.{Process}
 use Rattle.k_process.specs.Standing.{IsNextOf}
-use Rattle.k_complete.specs.Ended.{AllEnded, AllMet, AllStand, CanComplete, HasCompleted, IsSlice}
-use Rattle.k_complete.specs.Meetings.{BookEnds, HeapsAndBook, HeapsMet, ProcessesMet, ProcessesThrough}
-use Rattle.k_process.specs.Standing.{ComesNext, HasDone, IsThroughWith, ProcessStands, RestStands}
-use Rattle.k_operate.specs.Steps.{CanDoNext, HasPublishedAll, is_put_off}
+use Rattle.k_complete.specs.Closing.{HasClosedAll}
+use Rattle.k_complete.specs.Ended.{AllEnded, AllMet, AllStand, AllThrough, CanComplete, HasCompleted}
+use Rattle.k_complete.specs.Meetings.{AreSameButNotes, BookEnds, CellsAndBook, CellsMet, HeapsAndBook, HeapsMet, ProcessesAndBook, ProcessesMet}
+use Rattle.k_process.specs.Standing.{HasDone, IsThroughWith, ProcessStands, RestStands}
+use Rattle.k_operate.specs.Steps.{HasPublishedAll}
 use Rattle.k_process.specs.Worlds.{WorldValue}
 use Rattle.k_process.proofs.Written.{get_set_cases}
 use Rattle.k_process.proofs.Kept.{met_heap, met_kernel, met_shared, process_set, shared_set}
-
--- the next operation of a slice's process is not put off
-goes_on : (b : Bool) → not b ≡ true → b ≡ false
-goes_on true t = absurd (false≢true t)
-goes_on false t = refl
-
-module _ (world : WorldValue) (slice : IsSlice world.trace) where
-  pub can_next : (p : Process) (k : HoldingsValue) (s : List SharedRecord) (b : BookRecord) (op : Op) → ProcessStands world p → RestStands world k s b → ComesNext world.trace p.cell op → CanDoNext world p k s b op
-  can_next p k s b op stands rest next = record {
-    process = stands;
-    rest = rest;
-    next = next;
-    goes_on = goes_on (is_put_off op) (passes_at (λ o. not (is_put_off o)) (done_in p.cell.value.process) (operations_of world.trace p.cell.pid.0) op next.rest (slice p.cell.pid.0) next.left);
-  }
 
 -- fewer operations are left
 pub fewer_left : (world : WorldValue) (op : Op) (old new : HeapRecord) → HasDone world.trace op old new → length (operations_left world.trace new) < length (operations_left world.trace old)
@@ -43,7 +29,7 @@ fewer_left world op old new d = let all = ap length d.left in omega (arith, all)
 
 -- a process of which nothing is left has published its last events
 pub completed : (world : WorldValue) (first p q : Process) (k : HoldingsValue) (s : List SharedRecord) (b l : BookRecord) → ProcessStands world p → RestStands world k s b → p.cell.pid ≡ first.cell.pid →
-    IsNextOf world.trace p.cell None → HasPublishedAll world p q l → HasCompleted world first q k s l
+    IsNextOf world.trace p.cell None → HasPublishedAll world p q b l → HasCompleted world first q k s l
 completed world first p q k s b l stands rest same none t = record {
   process = t.pair.process;
   rest = record { kernel = rest.kernel; shared = rest.shared; book = t.pair.book };
@@ -59,28 +45,41 @@ module _ (world : WorldValue) (ps : List Process) (k : HoldingsValue) (s : List 
   all_begin a j p inside = absurd (omega (arith, inside))
 
   pub can_complete : AllStand world ps k s b → (n : ℕ) (p : Process) → slice_get ps n ≡ Some p → CanComplete world p k s b
-  can_complete a n p at = record { process = a.processes.each n p at; rest = a.rest; slice = a.slice }
+  can_complete a n p at = record { process = a.processes.each n p at; rest = a.rest }
 
   pub one_completed : AllStand world ps k s b → (n : ℕ) (p q : Process) → slice_get ps n ≡ Some p → (x : HoldingsValue) (t : List SharedRecord) (l : BookRecord) → HasCompleted world p q x t l → AllStand world (set ps n q) x t l
-  one_completed a n p q at x t l h = record { processes = process_set world ps n p q a.processes at h.process h.pid; rest = h.rest; slice = a.slice }
+  one_completed a n p q at x t l h = record { processes = process_set world ps n p q a.processes at h.process h.pid; rest = h.rest }
 
--- a process whose cell has met the journal is through as before
-pub met_through : (world : WorldValue) (c w : HeapRecord) (b l : BookRecord) → IsThroughWith world.trace c → HeapHasMet world.trace c w b l → IsThroughWith world.trace w
-met_through world c w b l t s = subst (IsThroughWith world.trace) (sym s.cell_is) (record { published = t.published; all = t.all })
+-- a process whose cell is as it was but for its note is through as before
+pub through_kept : (world : WorldValue) (c w : HeapRecord) → w ≡ record c { note = w.note } → IsThroughWith world.trace c → IsThroughWith world.trace w
+through_kept world c w is t = subst (IsThroughWith world.trace) (sym is) (record { published = t.published; all = t.all })
 
-module _ (world : WorldValue) (ps : List Process) (b l : BookRecord) (t : ProcessesThrough world ps b) (n : ℕ) (p : Process) (at : slice_get ps n ≡ Some p) (w : HeapRecord) (s : HeapHasMet world.trace p.cell w b l) where
-  pub one_met : ProcessesThrough world (set ps n (record p { cell = w })) l
+pub all_same : (ps : List Process) → AreSameButNotes ps ps
+all_same ps k q at = (q, at, refl)
+
+-- one more has met the journal
+pub one_same : (old ps : List Process) (n : ℕ) (p : Process) (w : HeapRecord) (note : NoteValue) → AreSameButNotes old ps → slice_get ps n ≡ Some p → w ≡ record p.cell { note = note } → AreSameButNotes old (set ps n (record p { cell = w }))
+one_same old ps n p w note same at is k q found = elim (get_set_cases ps n k (record p { cell = w }) q found) [
+  | inl here ↦
+      let before = same n p at in
+      let now : w ≡ record before.0.cell { note = w.note } =
+      is ∙ ap (λ (c : HeapRecord). record c { note = note }) before.2 ∙ ap (λ (m : NoteValue). record before.0.cell { note = m }) (sym (ap (λ (c : HeapRecord). c.note) is)) in
+      (before.0, ap (slice_get old) here.0 ∙ before.1, subst (λ (x : Process). x.cell ≡ record before.0.cell { note = x.cell.note }) here.1 now)
+  | inr there ↦ same k q there
+]
+
+-- a process whose cell has met the journal stands
+pub met_stands : (world : WorldValue) (p : Process) (b l : BookRecord) → BookStands world.trace b → b.journal.table ≡ world.table → ProcessStands world p → (w : HeapRecord) → HeapHasMet world.trace p.cell w b l →
+    ProcessStands world (record p { cell = w })
+met_stands world p b l stands table process w s = record {
+  cell = met_heap world.trace world.table b l stands table p.cell w process.cell s;
+  operations = process.operations ∙ ap (λ (c : HeapRecord). operations_of world.trace c.pid.0) (sym s.cell_is);
+}
+
+module _ (world : WorldValue) (ps : List Process) (b l : BookRecord) (t : ProcessesAndBook world ps b) (n : ℕ) (p : Process) (at : slice_get ps n ≡ Some p) (w : HeapRecord) (s : HeapHasMet world.trace p.cell w b l) where
+  pub one_met : ProcessesAndBook world (set ps n (record p { cell = w })) l
   one_met = record {
-    processes = process_set world ps n p (record p { cell = w }) t.processes at
-        (record {
-          cell = met_heap world.trace world.table b l t.book.stands t.book.table p.cell w (t.processes.each n p at).cell s;
-          operations = (t.processes.each n p at).operations ∙ ap (λ (c : HeapRecord). operations_of world.trace c.pid.0) (sym s.cell_is);
-        })
-        (ap (λ (c : HeapRecord). c.pid) s.cell_is);
-    through = λ k q found. elim (get_set_cases ps n k (record p { cell = w }) q found) [
-      | inl here ↦ subst (λ (x : Process). IsThroughWith world.trace x.cell) here.1 (met_through world p.cell w b l (t.through n p at) s)
-      | inr there ↦ t.through k q there
-    ];
+    processes = process_set world ps n p (record p { cell = w }) t.processes at (met_stands world p b l t.book.stands t.book.table (t.processes.each n p at) w s) (ap (λ (c : HeapRecord). c.pid) s.cell_is);
     book = subst (BookEnds world) (sym s.book_is) t.book;
   }
 
@@ -97,21 +96,50 @@ module _ (world : WorldValue) (ss : List SharedRecord) (b l : BookRecord) (t : H
   pub heap_met_list : w.note.list ≡ l.journal.list
   heap_met_list = ap (λ (c : SharedRecord). c.note.list) s.shared_is ∙ ap (λ (x : BookRecord). x.journal.list) (sym s.book_is)
 
+-- processes that are through, and what comes last is done
+pub all_closed : (world : WorldValue) (ps : List Process) (k x : HoldingsValue) (ss ts : List SharedRecord) (b l : BookRecord) → AllThrough world ps k ss b → HasClosedAll world x ts b l → AllEnded world ps x ts l
+all_closed world ps k x ss ts b l a c = record {
+  processes = record { processes = a.stand.processes; through = a.through; book = c.book };
+  kernel = c.kernel;
+  shared = c.shared;
+  orphans = c.orphans;
+  closed = c.closed;
+}
+
 -- all cells have met the journal
-pub all_met : (world : WorldValue) (ps qs : List Process) (k x : HoldingsValue) (ss ts : List SharedRecord) (b c d e : BookRecord) → AllEnded world ps k ss b → ProcessesMet world qs b c → KernelHasMet world.trace k x c d →
-    HeapsMet world ts d e → AllMet world qs x ts e
-all_met world ps qs k x ss ts b c d e all p kernel heaps =
+pub cells_met : (world : WorldValue) (ps qs : List Process) (k x : HoldingsValue) (ss ts : List SharedRecord) (b c d e : BookRecord) → CellsAndBook world ps k ss b → ProcessesMet world ps qs b c → KernelHasMet world.trace k x c d →
+    HeapsMet world ts d e → CellsMet world ps qs x ts b e
+cells_met world ps qs k x ss ts b c d e all p kernel heaps =
     let same : e ≡ c = heaps.book_is ∙ kernel.book_is in
-    let first : e ≡ b = same ∙ p.book_is in
     record {
-      ended = record {
-        processes = record { processes = p.through.processes; through = p.through.through; book = heaps.stand.book };
-        kernel = met_kernel world.trace world.table c d p.through.book.stands p.through.book.table k x all.kernel kernel;
+      stand = record {
+        processes = p.stand.processes;
+        kernel = met_kernel world.trace world.table c d p.stand.book.stands p.stand.book.table k x all.kernel kernel;
         shared = heaps.stand.heaps;
-        orphans = λ ended. subst (λ (y : BookRecord). IsTrue (no_orphan_in world.trace y.value)) (sym first) (all.orphans (subst (λ (y : BookRecord). IsTrue (all_ended_in world.trace y.value)) first ended));
-        closed = λ ended. subst (λ (y : BookRecord). EndsWithClosing y.journal.list) (sym first) (all.closed (subst (λ (y : BookRecord). IsTrue (all_ended_in world.trace y.value)) first ended));
+        book = heaps.stand.book;
       };
+      same = p.same;
       processes_met = λ j q found. p.met j q found ∙ ap (λ (y : BookRecord). y.journal.list) (sym same);
       kernel_met = ap (λ (y : HoldingsValue). y.note.list) kernel.kernel_is ∙ ap (λ (y : BookRecord). y.journal.list) (sym same);
       shared_met = heaps.met;
+      book_is = same ∙ p.book_is;
     }
+
+-- what holds of runs that are ended holds once all cells have met the journal
+pub all_met : (world : WorldValue) (ps qs : List Process) (k x : HoldingsValue) (ss ts : List SharedRecord) (b e : BookRecord) → AllEnded world ps k ss b → CellsMet world ps qs x ts b e → AllMet world qs x ts e
+all_met world ps qs k x ss ts b e all m = record {
+  ended = record {
+    processes = record {
+      processes = m.stand.processes;
+      through = λ j q found. let p = m.same j q found in through_kept world p.0.cell q.cell p.2 (all.processes.through j p.0 p.1);
+      book = m.stand.book;
+    };
+    kernel = m.stand.kernel;
+    shared = m.stand.shared;
+    orphans = λ ended. subst (λ (y : BookRecord). IsTrue (no_orphan_in world.trace y.value)) (sym m.book_is) (all.orphans (subst (λ (y : BookRecord). IsTrue (all_ended_in world.trace y.value)) m.book_is ended));
+    closed = λ ended. subst (λ (y : BookRecord). EndsWithClosing y.journal.list) (sym m.book_is) (all.closed (subst (λ (y : BookRecord). IsTrue (all_ended_in world.trace y.value)) m.book_is ended));
+  };
+  processes_met = m.processes_met;
+  kernel_met = m.kernel_met;
+  shared_met = m.shared_met;
+}

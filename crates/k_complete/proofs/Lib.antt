@@ -1,3 +1,7 @@
 pub mod EndKept
-pub mod Unended
+pub mod Closings
+pub mod ClosedKept
 pub mod Over
+pub mod Added
+pub mod LineKept
+pub mod ReplayKept

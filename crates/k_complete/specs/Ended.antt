@@ -1,33 +1,25 @@
 -- Runs that are over.
-use Rattle.std.specs.Prelude.{◌≡◌, ℕ, ◌<◌, not, IsFalse, IsTrue, List, Option, Some, None, [], slice_get}
-use Rattle.std.specs.List.{list_all}
-use Rattle.k_types.specs.declared.op.Op.{Op}
+use Rattle.std.specs.Prelude.{◌≡◌, ℕ, ◌<◌, IsTrue, List, Some, slice_get}
 use Rattle.k_types.specs.declared.names.Heap.TheVariants.{Kernel, Shared, User}
 use Rattle.k_types.specs.Complete.{EndsWithClosing, IsComplete}
 use Rattle.k_types.specs.Steps.{IsLegalHistory, state_after}
-use Rattle.k_types.specs.Trace.{Trace, operations_of, process_count}
+use Rattle.k_types.specs.Trace.{Trace, process_count}
 use Rattle.k_agree.specs.Agreement.{BookShows, Shows}
 use Rattle.k_agree.specs.Settled.{all_ended_in, no_orphan_in}
 use Rattle.k_book.specs.Books.{BookRecord}
 use Rattle.k_cell.specs.Holdings.{HoldingsValue}
-use Rattle.k_heap.specs.Heaps.{HeapRecord, has_ended_in}
+use Rattle.k_heap.specs.Heaps.{HeapRecord}
 use Rattle.k_shared.specs.SharedHeaps.{SharedRecord}
-use Rattle.k_locked.specs.Keeping.{KernelKeeps, operations_left}
+use Rattle.k_locked.specs.Keeping.{KernelKeeps}
 use Rattle.k_process.specs.declared.process.Process.{Process}
 use Rattle.k_complete.specs.Meetings.{ProcessesThrough}
-use Rattle.k_process.specs.Standing.{ComesNext, HeapsStand, IsThroughWith, ProcessStands, ProcessesStand, RestStands}
-use Rattle.k_operate.specs.Steps.{is_put_off}
+use Rattle.k_process.specs.Standing.{HeapsStand, IsThroughWith, ProcessStands, ProcessesStand, RestStands}
 use Rattle.k_process.specs.Worlds.{WorldValue}
 
--- none of the trace's operations is put off
-abbrev pub IsSlice : Trace → Type 0
-IsSlice trace = (p : ℕ) → IsTrue (list_all (λ op. not (is_put_off op)) (operations_of trace p))
-
--- process, kernel, shared heaps and book stand, and no operation is put off
+-- process, kernel, shared heaps and book stand
 pub record CanComplete (world : WorldValue) (p : Process) (kernel : HoldingsValue) (shared : List SharedRecord) (book : BookRecord) : Type 0 where
   pub process : ProcessStands world p
   pub rest : RestStands world kernel shared book
-  pub slice : IsSlice world.trace
 
 -- all stands still, and the process is through
 pub record HasCompleted (world : WorldValue) (old new : Process) (kernel : HoldingsValue) (shared : List SharedRecord) (book : BookRecord) : Type 0 where
@@ -36,11 +28,10 @@ pub record HasCompleted (world : WorldValue) (old new : Process) (kernel : Holdi
   pub pid : new.cell.pid ≡ old.cell.pid
   pub through : IsThroughWith world.trace new.cell
 
--- all processes, the kernel, the shared heaps and the book stand, and no operation is put off
+-- all processes, the kernel, the shared heaps and the book stand
 pub record AllStand (world : WorldValue) (ps : List Process) (kernel : HoldingsValue) (shared : List SharedRecord) (book : BookRecord) : Type 0 where
   pub processes : ProcessesStand world ps
   pub rest : RestStands world kernel shared book
-  pub slice : IsSlice world.trace
 
 -- and each process is through
 pub record AllThrough (world : WorldValue) (processes : List Process) (kernel : HoldingsValue) (shared : List SharedRecord) (book : BookRecord) : Type 0 where

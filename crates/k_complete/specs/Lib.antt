@@ -1,2 +1,4 @@
 pub mod Meetings
+pub mod Closing
 pub mod Ended
+pub mod Replaying

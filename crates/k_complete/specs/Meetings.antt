@@ -1,9 +1,11 @@
 -- Cells that all meet the journal at the end.
 use Rattle.std.specs.Prelude.{◌≡◌, ℕ, List, Some, slice_get}
 use Rattle.k_book.specs.Books.{BookRecord}
+use Rattle.k_cell.specs.Holdings.{HoldingsValue}
 use Rattle.k_shared.specs.SharedHeaps.{SharedRecord}
 use Rattle.k_agree.specs.Rooms.{AreFirst}
 use Rattle.k_commit.specs.Standing.{BookStands}
+use Rattle.k_locked.specs.Keeping.{KernelKeeps}
 use Rattle.k_process.specs.declared.process.Process.{Process}
 use Rattle.k_process.specs.Standing.{HeapsStand, IsThroughWith, ProcessesStand}
 use Rattle.k_process.specs.Worlds.{WorldValue}
@@ -14,15 +16,26 @@ pub record BookEnds (world : WorldValue) (b : BookRecord) : Type 0 where
   pub table : b.journal.table ≡ world.table
   pub first : AreFirst world.trace b.journal.list
 
+-- all processes and the book stand
+pub record ProcessesAndBook (world : WorldValue) (ps : List Process) (b : BookRecord) : Type 0 where
+  pub processes : ProcessesStand world ps
+  pub book : BookEnds world b
+
 -- all processes stand and are through, and the book stands
 pub record ProcessesThrough (world : WorldValue) (ps : List Process) (b : BookRecord) : Type 0 where
   pub processes : ProcessesStand world ps
   pub through : (k : ℕ) (p : Process) → slice_get ps k ≡ Some p → IsThroughWith world.trace p.cell
   pub book : BookEnds world b
 
--- they still do, the book is as it was, and each process's cell knows the whole journal
-pub record ProcessesMet (world : WorldValue) (ps : List Process) (old_b b : BookRecord) : Type 0 where
-  pub through : ProcessesThrough world ps b
+-- each process's cell is as it was but for its note
+abbrev pub AreSameButNotes : List Process → List Process → Type 0
+AreSameButNotes old new =
+    (k : ℕ) (q : Process) → slice_get new k ≡ Some q → (p : Process) × (slice_get old k ≡ Some p) × (q.cell ≡ record p.cell { note = q.cell.note })
+
+-- processes and book still stand and are as they were but for the notes, and each process's cell knows the whole journal
+pub record ProcessesMet (world : WorldValue) (old_ps ps : List Process) (old_b b : BookRecord) : Type 0 where
+  pub stand : ProcessesAndBook world ps b
+  pub same : AreSameButNotes old_ps ps
   pub met : (k : ℕ) (p : Process) → slice_get ps k ≡ Some p → p.cell.note.list ≡ b.journal.list
   pub book_is : b ≡ old_b
 
@@ -35,4 +48,20 @@ pub record HeapsAndBook (world : WorldValue) (ss : List SharedRecord) (b : BookR
 pub record HeapsMet (world : WorldValue) (ss : List SharedRecord) (old_b b : BookRecord) : Type 0 where
   pub stand : HeapsAndBook world ss b
   pub met : (k : ℕ) (s : SharedRecord) → slice_get ss k ≡ Some s → s.note.list ≡ b.journal.list
+  pub book_is : b ≡ old_b
+
+-- all processes, the kernel, all shared heaps and the book stand
+pub record CellsAndBook (world : WorldValue) (ps : List Process) (k : HoldingsValue) (ss : List SharedRecord) (b : BookRecord) : Type 0 where
+  pub processes : ProcessesStand world ps
+  pub kernel : KernelKeeps world.trace world.table k
+  pub shared : HeapsStand world ss
+  pub book : BookEnds world b
+
+-- they still do, the processes and the book are as they were but for the notes, and each cell knows the whole journal
+pub record CellsMet (world : WorldValue) (old_ps ps : List Process) (k : HoldingsValue) (ss : List SharedRecord) (old_b b : BookRecord) : Type 0 where
+  pub stand : CellsAndBook world ps k ss b
+  pub same : AreSameButNotes old_ps ps
+  pub processes_met : (j : ℕ) (p : Process) → slice_get ps j ≡ Some p → p.cell.note.list ≡ b.journal.list
+  pub kernel_met : k.note.list ≡ b.journal.list
+  pub shared_met : (j : ℕ) (s : SharedRecord) → slice_get ss j ≡ Some s → s.note.list ≡ b.journal.list
   pub book_is : b ≡ old_b

@@ -1,8 +1,9 @@
 //! What is left of a run, done on the caller's thread.
-ghost use Rattle.k_complete.specs.Ended.{AllEnded, AllMet, AllStand, AllThrough, CanComplete, HasCompleted};
-ghost use Rattle.k_complete.specs.Meetings.{HeapsAndBook, HeapsMet, ProcessesMet, ProcessesThrough};
+ghost use Rattle.k_complete.specs.Ended.{AllMet, AllStand, AllThrough, CanComplete, HasCompleted};
+ghost use Rattle.k_complete.specs.Meetings.{CellsAndBook, CellsMet, HeapsAndBook, HeapsMet, ProcessesAndBook, ProcessesMet};
 ghost use Rattle.k_process.specs.Worlds.{WorldValue};
 
+use crate::closing::close_all;
 use k_book::Book;
 use k_commit::{meet_heap, meet_kernel, meet_shared};
 use k_kernel::KernelCell;
@@ -46,8 +47,8 @@ pub fn complete_all(
 /// Has each process's cell meet the journal.
 fn meet_processes(processes: &mut Vec<Process>, book: &mut Book)
     ghost world: { WorldValue }
-    requires { ProcessesThrough world processes.old.items book.old }
-    ensures { ProcessesMet world processes.new.items book.old book.new }
+    requires { ProcessesAndBook world processes.old.items book.old }
+    ensures { ProcessesMet world processes.old.items processes.new.items book.old book.new }
 {
     for process in processes.iter_mut() {
         meet_heap(&mut process.cell, book);
@@ -73,10 +74,27 @@ pub fn meet_all(
     book: &mut Book,
 )
     ghost world: { WorldValue }
-    requires { AllEnded world processes.old.items kernel.old shared.old.items book.old }
-    ensures { AllMet world processes.new.items kernel.new shared.new.items book.new }
+    requires { CellsAndBook world processes.old.items kernel.old shared.old.items book.old }
+    ensures { CellsMet world processes.old.items processes.new.items kernel.new shared.new.items book.old book.new }
 {
     meet_processes(processes, book);
     meet_kernel(kernel, book);
     meet_heaps(shared, book);
+}
+
+/// Ends the run: does all operations that are left, one process after the other, then what comes last where every process has ended,
+/// and has each cell meet the journal.
+pub fn end_all(
+    processes: &mut Vec<Process>,
+    kernel: &mut KernelCell,
+    shared: &mut Vec<SharedCell>,
+    book: &mut Book,
+)
+    ghost world: { WorldValue }
+    requires { AllStand world processes.old.items kernel.old shared.old.items book.old }
+    ensures { AllMet world processes.new.items kernel.new shared.new.items book.new }
+{
+    complete_all(processes, kernel, shared, book);
+    close_all(kernel, shared, book);
+    meet_all(processes, kernel, shared, book);
 }

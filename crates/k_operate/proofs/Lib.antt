@@ -1,5 +1,12 @@
+pub mod Added
 pub mod Published
 pub mod StepsKept
 pub mod Since
 pub mod HeapsReached
 pub mod NextKept
+pub mod Appended
+pub mod Collected
+pub mod KernelCollected
+pub mod Exited
+pub mod AbsorbOrphans
+pub mod AbsorbKept

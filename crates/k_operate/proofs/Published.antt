@@ -56,7 +56,7 @@ module _ (world : WorldValue) (p : Process) (b : BookRecord) (pair : PairStands 
     room = λ fits. tail_fits world.trace world.table p.cell b pair.process.cell pair.book fits;
   }
 
-  pub published_all : (w : HeapRecord) (l : BookRecord) → HasPublished world.trace p.cell.value.tail p.cell w b l → HasPublishedAll world p (record p { cell = w }) l
+  pub published_all : (w : HeapRecord) (l : BookRecord) → HasPublished world.trace p.cell.value.tail p.cell w b l → HasPublishedAll world p (record p { cell = w }) b l
   published_all w l s = record {
     pair = record {
       process = record {
@@ -66,5 +66,6 @@ module _ (world : WorldValue) (p : Process) (b : BookRecord) (pair : PairStands 
       book = published_book world.trace world.table p.cell w b l pair.process.cell pair.book s;
     };
     settled = ap (λ (x : HeapRecord). x.value.tail) s.cell_is;
+    journal = s.journal;
     cell_is = s.cell_is;
   }

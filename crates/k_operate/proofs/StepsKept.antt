@@ -26,44 +26,48 @@ use Rattle.k_locked.proofs.Kept.{book_keeps, heap_keeps, kernel_keeps, left_now,
 use Rattle.k_locked.proofs.Steps.{alone_allocates, beside_allocates, local_keeps, local_left}
 use Rattle.k_process.specs.declared.process.Process.{Process}
 use Rattle.k_process.specs.Standing.{ComesNext, HasDone, ProcessStands}
-use Rattle.k_operate.specs.Steps.{CanDoAlone, CanDoInside, CanDoWithKernel, CanDoWithShared, HasDoneAlone, HasDoneInside, HasDoneWithKernel, HasDoneWithShared, PairStands, is_put_off}
+use Rattle.k_operate.specs.Steps.{CanDoAlone, CanDoInside, CanDoWithKernel, CanDoWithShared, HasDoneAlone, HasDoneInside, HasDoneWithKernel, HasDoneWithShared, PairStands}
+use Rattle.k_operate.specs.Readiness.{begins_or_ends}
 use Rattle.k_process.specs.Worlds.{WorldValue}
+use Rattle.k_operate.proofs.Added.{local_steps}
 
-goes_on_own : (op : Op) → is_put_off op ≡ false → is_collect op ≡ false
-goes_on_own (New r ty) e = refl
-goes_on_own (KNew r ty) e = refl
-goes_on_own (SNew r s ty) e = refl
-goes_on_own (Store base i value) e = refl
-goes_on_own (Load r base i) e = refl
-goes_on_own (Move r from) e = refl
-goes_on_own (Clear r) e = refl
-goes_on_own (Dir r) e = refl
-goes_on_own (Put base i number) e = refl
-goes_on_own (Get base i) e = refl
-goes_on_own Collect e = absurd (false≢true (sym e))
-goes_on_own KCollect e = refl
-goes_on_own (Share s) e = refl
-goes_on_own (Freeze s root) e = refl
-goes_on_own (Attach r s) e = refl
-goes_on_own Exit e = refl
+-- a step in the own cell alone begins no collection
+steps_own : (op : Op) → begins_or_ends op ≡ false → is_collect op ≡ false
+steps_own (New r ty) e = refl
+steps_own (KNew r ty) e = refl
+steps_own (SNew r s ty) e = refl
+steps_own (Store base i value) e = refl
+steps_own (Load r base i) e = refl
+steps_own (Move r from) e = refl
+steps_own (Clear r) e = refl
+steps_own (Dir r) e = refl
+steps_own (Put base i number) e = refl
+steps_own (Get base i) e = refl
+steps_own Collect e = absurd (false≢true (sym e))
+steps_own KCollect e = refl
+steps_own (Share s) e = refl
+steps_own (Freeze s root) e = refl
+steps_own (Attach r s) e = refl
+steps_own Exit e = refl
 
-goes_on_pair : (op : Op) → is_put_off op ≡ false → collects_or_exits op ≡ false
-goes_on_pair (New r ty) e = refl
-goes_on_pair (KNew r ty) e = refl
-goes_on_pair (SNew r s ty) e = refl
-goes_on_pair (Store base i value) e = refl
-goes_on_pair (Load r base i) e = refl
-goes_on_pair (Move r from) e = refl
-goes_on_pair (Clear r) e = refl
-goes_on_pair (Dir r) e = refl
-goes_on_pair (Put base i number) e = refl
-goes_on_pair (Get base i) e = refl
-goes_on_pair Collect e = refl
-goes_on_pair KCollect e = absurd (false≢true (sym e))
-goes_on_pair (Share s) e = refl
-goes_on_pair (Freeze s root) e = refl
-goes_on_pair (Attach r s) e = refl
-goes_on_pair Exit e = absurd (false≢true (sym e))
+-- a step with the kernel neither collects the kernel nor ends its process
+steps_pair : (op : Op) → begins_or_ends op ≡ false → collects_or_exits op ≡ false
+steps_pair (New r ty) e = refl
+steps_pair (KNew r ty) e = refl
+steps_pair (SNew r s ty) e = refl
+steps_pair (Store base i value) e = refl
+steps_pair (Load r base i) e = refl
+steps_pair (Move r from) e = refl
+steps_pair (Clear r) e = refl
+steps_pair (Dir r) e = refl
+steps_pair (Put base i number) e = refl
+steps_pair (Get base i) e = refl
+steps_pair Collect e = refl
+steps_pair KCollect e = absurd (false≢true (sym e))
+steps_pair (Share s) e = refl
+steps_pair (Freeze s root) e = refl
+steps_pair (Attach r s) e = refl
+steps_pair Exit e = absurd (false≢true (sym e))
 
 module _ (world : WorldValue) (p : Process) (op : Op) (can : CanDoInside world p op) where
   pub done_inside : (w : HeapRecord) (r : Option Reply) → r ≡ local_answer p.cell.value p.cell.pid.0 op → is_some r ≡ is_local_in (idle_part p.cell.value) p.cell.pid.0 op → IfNone r (w ≡ p.cell) →
@@ -73,6 +77,8 @@ module _ (world : WorldValue) (p : Process) (op : Op) (can : CanDoInside world p
     some = λ t. absurd (false≢true t);
     none = λ t. none;
     outside = λ t. sym told;
+    events = λ t. absurd (false≢true t);
+    steps = λ t. absurd (false≢true t);
   }
   done_inside w (Some said) answer told none some =
       let kept = local_keeps world.trace world.table p.cell can.process.cell op can.next.rest can.next.left can.next.lives said (sym answer) in
@@ -83,6 +89,8 @@ module _ (world : WorldValue) (p : Process) (op : Op) (can : CanDoInside world p
         some = λ t. subst (λ (x : HeapRecord). HasDone world.trace op p.cell x) (sym some) (record { pid = refl; left = can.next.left ∙ ap (λ (ops : List Op). op ∷ ops) (sym left) });
         none = λ t. absurd (false≢true (sym t));
         outside = λ t. absurd (false≢true (sym t));
+        events = λ t. record { said = said; new_is = ap (λ (x : HeapRecord). x.value.tail) some };
+        steps = λ t. local_steps p.cell.value p.cell.pid.0 op said (sym answer);
       }
 
 module _ (world : WorldValue) (p : Process) (b l : BookRecord) (op : Op) (w : HeapRecord) (event : Event) (pair : PairStands world p b) (next : ComesNext world.trace p.cell op) (s : HasStepped world.trace op p.cell w b l event) where
@@ -106,7 +114,7 @@ module _ (world : WorldValue) (p : Process) (b : BookRecord) (op : Op) (items : 
   can_alone due distinct = record {
     can = can_operate world.trace world.table p.cell due.pair.process.cell op due.next.rest due.next.left b due.pair.book due.settled due.next.lives items distinct
         (alone_allocates world.trace _ _ p.cell.pid.0 op due.touches);
-    own = λ fits. record { alone = due.touches; not_local = due.outside; no_collection = goes_on_own op due.goes_on };
+    own = λ fits. record { alone = due.touches; not_local = due.outside; no_collection = steps_own op due.steps };
   }
 
   pub can_with_kernel : (kernel : HoldingsValue) → CanDoWithKernel world p kernel b op → AreDistinctNames kernel.value.exits → CanStepWithKernel world.trace p.cell kernel b op
@@ -114,7 +122,7 @@ module _ (world : WorldValue) (p : Process) (b : BookRecord) (op : Op) (items : 
     can = can_operate_with_kernel world.trace world.table p.cell can.due.pair.process.cell op can.due.next.rest can.due.next.left b can.due.pair.book can.due.settled can.due.next.lives items kernel can.kernel distinct
         (beside_allocates world.trace _ _ p.cell.pid.0 Kernel op can.due.touches);
     touches = λ fits kernel_fits. can.due.touches;
-    goes_on = goes_on_pair op can.due.goes_on;
+    goes_on = steps_pair op can.due.steps;
   }
 
 module _ (world : WorldValue) (p : Process) (b l : BookRecord) (op : Op) (w : HeapRecord) (event : Event) where

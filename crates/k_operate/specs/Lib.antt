@@ -1,2 +1,5 @@
-pub mod Steps
+pub mod Adding
 pub mod Readiness
+pub mod Steps
+pub mod Collecting
+pub mod Absorbing

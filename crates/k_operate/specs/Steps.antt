@@ -2,9 +2,7 @@
 use Rattle.std.specs.Prelude.{◌≡◌, Bool, IsFalse, IsTrue, List, [], ◌∷◌}
 use Rattle.k_types.specs.declared.names.Heap.TheVariants.{Kernel, Shared}
 use Rattle.k_types.specs.declared.op.Op.{Op}
-use Rattle.k_types.specs.declared.op.Op.TheVariants.{Collect, KCollect, Exit}
 use Rattle.k_types.specs.Agree.{book_shown_by}
-use Rattle.std.specs.Prelude.{true, false}
 use Rattle.k_squares.specs.Locals.{is_local_in}
 use Rattle.k_squares.specs.Touches.{other_cells_in}
 use Rattle.k_moves.specs.Shown.{idle_part}
@@ -16,13 +14,8 @@ use Rattle.k_locked.specs.Keeping.{BookKeeps, KernelKeeps, SharedKeeps}
 use Rattle.k_process.specs.declared.process.Process.{Process}
 use Rattle.k_process.specs.Standing.{ComesNext, HasDone, ProcessStands, RestStands}
 use Rattle.k_process.specs.Worlds.{WorldValue}
-
--- the operation opens a collection, or ends its process: it is not done yet
-abbrev pub is_put_off : Op → Bool
-is_put_off Collect = true
-is_put_off KCollect = true
-is_put_off Exit = true
-is_put_off _ = false
+use Rattle.k_operate.specs.Adding.{AddsOne, known_to}
+use Rattle.k_operate.specs.Readiness.{IsReady, begins_or_ends}
 
 -- process and book stand
 pub record PairStands (world : WorldValue) (p : Process) (b : BookRecord) : Type 0 where
@@ -34,27 +27,30 @@ pub record CanDoInside (world : WorldValue) (p : Process) (op : Op) : Type 0 whe
   pub process : ProcessStands world p
   pub next : ComesNext world.trace p.cell op
 
--- the process stands still; the operation was done, or it was not local and nothing changed
+-- the process stands still; the operation was done by a step and its event is unpublished, or it was not local and nothing changed
 pub record HasDoneInside (world : WorldValue) (op : Op) (old new : Process) (done : Bool) : Type 0 where
   pub process : ProcessStands world new
   pub some : IsTrue done → HasDone world.trace op old.cell new.cell
   pub none : IsFalse done → new.cell ≡ old.cell
   pub outside : IsFalse done → IsFalse (is_local_in (idle_part old.cell.value) old.cell.pid.0 op)
+  pub events : IsTrue done → AddsOne old.cell.pid op old.cell.value.tail new.cell.value.tail
+  pub steps : IsTrue done → IsFalse (begins_or_ends op)
 
--- process and book stand still, nothing is unpublished, and else the cell shows what it showed
-pub record HasPublishedAll (world : WorldValue) (old new : Process) (book : BookRecord) : Type 0 where
+-- process and book stand still, what was unpublished is in the journal, and else the cell shows what it showed
+pub record HasPublishedAll (world : WorldValue) (old new : Process) (old_book book : BookRecord) : Type 0 where
   pub pair : PairStands world new book
   pub settled : new.cell.value.tail ≡ []
+  pub journal : book.journal.list ≡ known_to old old_book
   pub cell_is : new.cell ≡ record old.cell { note = new.cell.note; value = record old.cell.value { tail = [] } }
 
--- process and book stand with nothing unpublished; the operation comes next, is not local, and touches these cells beside the own
+-- process and book stand with nothing unpublished; the operation comes next, is not local, is done by a step, and touches these cells beside the own
 pub record IsDueWith (world : WorldValue) (p : Process) (b : BookRecord) (op : Op) (cells : List Cell) : Type 0 where
   pub pair : PairStands world p b
   pub settled : p.cell.value.tail ≡ []
   pub next : ComesNext world.trace p.cell op
   pub outside : IsFalse (is_local_in (idle_part p.cell.value) p.cell.pid.0 op)
   pub touches : other_cells_in world.trace (book_shown_by b.value) (idle_part p.cell.value) p.cell.pid.0 op ≡ cells
-  pub goes_on : IsFalse (is_put_off op)
+  pub steps : IsFalse (begins_or_ends op)
 
 -- the operation touches no other cell
 abbrev pub CanDoAlone : WorldValue → Process → BookRecord → Op → Type 0
@@ -91,7 +87,13 @@ pub record CanDoNext (world : WorldValue) (p : Process) (kernel : HoldingsValue)
   pub process : ProcessStands world p
   pub rest : RestStands world kernel shared book
   pub next : ComesNext world.trace p.cell op
-  pub goes_on : IsFalse (is_put_off op)
+
+-- all stands, and the operation is ready and done by a step
+pub record CanStepNext (world : WorldValue) (p : Process) (kernel : HoldingsValue) (shared : List SharedRecord) (book : BookRecord) (op : Op) : Type 0 where
+  pub process : ProcessStands world p
+  pub rest : RestStands world kernel shared book
+  pub ready : IsReady world.trace p.cell op
+  pub steps : IsFalse (begins_or_ends op)
 
 -- all stands still, and the process has done the operation
 pub record HasDoneNext (world : WorldValue) (op : Op) (old new : Process) (kernel : HoldingsValue) (shared : List SharedRecord) (book : BookRecord) : Type 0 where

@@ -1,18 +1,19 @@
 //! One operation of a process, with the cells that it touches and the book.
-ghost use Rattle.k_base.specs.Distinct.{AreDistinctNames};
-ghost use Rattle.k_book.specs.Books.{book_entries};
-ghost use Rattle.k_entry.specs.Entries.{AreEntries};
-ghost use Rattle.k_operate.specs.Steps.{CanDoAlone, CanDoInside, CanDoNext, CanDoWithKernel, CanDoWithShared, HasDoneAlone, HasDoneInside, HasDoneNext, HasDoneWithKernel, HasDoneWithShared, HasPublishedAll, PairStands};
+ghost use Rattle.k_operate.specs.Adding.{AddsOperation, known_to};
+ghost use Rattle.k_operate.specs.Steps.{CanDoAlone, CanDoInside, CanDoNext, CanDoWithKernel, CanDoWithShared, CanStepNext, HasDoneAlone, HasDoneInside, HasDoneNext, HasDoneWithKernel, HasDoneWithShared, HasPublishedAll, PairStands};
 ghost use Rattle.k_process.specs.Worlds.{WorldValue};
 
+use crate::absorbing::do_collect_kernel;
+use crate::collecting::do_collect;
+use crate::exiting::do_exit;
+use crate::known::{know_entries, know_exits, know_kernel_exits, know_shared_exits};
 use k_book::Book;
-use k_heap::HeapCell;
 use k_kernel::KernelCell;
 use k_local::local;
 use k_process::Process;
 use k_shared::SharedCell;
 use k_steps::{Reach, publish, reach, step_kernel, step_own, step_shared};
-use k_types::{Heap, Op};
+use k_types::Op;
 
 /// Does the operation inside the process's own heap, if it needs that heap alone, and says whether it did.
 pub fn do_inside(process: &mut Process, op: &Op) -> bool
@@ -27,44 +28,17 @@ pub fn do_inside(process: &mut Process, op: &Op) -> bool
 pub fn publish_all(process: &mut Process, book: &mut Book)
     ghost world: { WorldValue }
     requires { PairStands world process.old book.old }
-    ensures { HasPublishedAll world process.old process.new book.new }
+    ensures { HasPublishedAll world process.old process.new book.old book.new }
 {
     publish(&mut process.cell, book);
-}
-
-/// Tells that no exit item of the process stands twice.
-fn know_exits(cell: &HeapCell)
-    ensures { AreDistinctNames cell.now.value.exits }
-{
-    cell.exit_count();
-}
-
-/// Tells the same of the kernel's exit items.
-fn know_kernel_exits(kernel: &KernelCell)
-    ensures { AreDistinctNames kernel.now.value.exits }
-{
-    kernel.exit_count();
-}
-
-/// Tells the same of a shared heap's exit items.
-fn know_shared_exits(shared: &SharedCell)
-    ensures { AreDistinctNames shared.now.value.exits }
-{
-    shared.exit_count();
-}
-
-/// Tells that no entry item of the book stands twice, and that each counts.
-fn know_entries(book: &Book)
-    ensures { AreEntries (book_entries book.now) }
-{
-    book.first_entry(Heap::Kernel);
 }
 
 /// Does an operation that touches the process's own cell alone.
 pub fn do_alone(process: &mut Process, book: &mut Book, op: &Op)
     ghost world: { WorldValue }
     requires { CanDoAlone world process.old book.old op.now }
-    ensures { HasDoneAlone world op.now process.old process.new book.new }
+    ensures done { HasDoneAlone world op.now process.old process.new book.new }
+    ensures events { AddsOperation world.trace process.old.cell.pid op.now (known_to process.old book.old) (known_to process.new book.new) }
 {
     know_exits(&process.cell);
     know_entries(book);
@@ -75,7 +49,8 @@ pub fn do_alone(process: &mut Process, book: &mut Book, op: &Op)
 pub fn do_with_kernel(process: &mut Process, kernel: &mut KernelCell, book: &mut Book, op: &Op)
     ghost world: { WorldValue }
     requires { CanDoWithKernel world process.old kernel.old book.old op.now }
-    ensures { HasDoneWithKernel world op.now process.old process.new kernel.new book.new }
+    ensures done { HasDoneWithKernel world op.now process.old process.new kernel.new book.new }
+    ensures events { AddsOperation world.trace process.old.cell.pid op.now (known_to process.old book.old) (known_to process.new book.new) }
 {
     know_kernel_exits(kernel);
     know_entries(book);
@@ -86,14 +61,39 @@ pub fn do_with_kernel(process: &mut Process, kernel: &mut KernelCell, book: &mut
 pub fn do_with_shared(process: &mut Process, shared: &mut SharedCell, book: &mut Book, op: &Op)
     ghost world: { WorldValue }
     requires { CanDoWithShared world process.old shared.old book.old op.now }
-    ensures { HasDoneWithShared world op.now process.old process.new shared.old shared.new book.new }
+    ensures done { HasDoneWithShared world op.now process.old process.new shared.old shared.new book.new }
+    ensures events { AddsOperation world.trace process.old.cell.pid op.now (known_to process.old book.old) (known_to process.new book.new) }
 {
     know_shared_exits(shared);
     know_entries(book);
     step_shared(&mut process.cell, shared, book, op);
 }
 
-/// Does the process's next operation, with whatever it touches.
+/// Does an operation that is ready and done by a step, with the cells that it reaches.
+fn do_by_step(
+    process: &mut Process,
+    kernel: &mut KernelCell,
+    shared: &mut Vec<SharedCell>,
+    book: &mut Book,
+    op: &Op,
+)
+    ghost world: { WorldValue }
+    requires { CanStepNext world process.old kernel.old shared.old.items book.old op.now }
+    ensures done { HasDoneNext world op.now process.old process.new kernel.new shared.new.items book.new }
+    ensures events { AddsOperation world.trace process.old.cell.pid op.now (known_to process.old book.old) (known_to process.new book.new) }
+{
+    match reach(&process.cell, book, op) {
+        Reach::Own => do_alone(process, book, op),
+        Reach::Kernel => do_with_kernel(process, kernel, book, op),
+        Reach::Shared(id) => {
+            let heap = &mut shared[id.0 as usize];
+            do_with_shared(process, heap, book, op);
+        }
+    }
+}
+
+/// Does the process's next operation, with whatever it touches: inside its own heap, by a step, or as a collection or the end of
+/// the process, from the beginning to the end.
 pub fn do_next(
     process: &mut Process,
     kernel: &mut KernelCell,
@@ -103,18 +103,17 @@ pub fn do_next(
 )
     ghost world: { WorldValue }
     requires { CanDoNext world process.old kernel.old shared.old.items book.old op.now }
-    ensures { HasDoneNext world op.now process.old process.new kernel.new shared.new.items book.new }
+    ensures done { HasDoneNext world op.now process.old process.new kernel.new shared.new.items book.new }
+    ensures events { AddsOperation world.trace process.old.cell.pid op.now (known_to process.old book.old) (known_to process.new book.new) }
 {
     if do_inside(process, op) {
         return;
     }
     publish_all(process, book);
-    match reach(&process.cell, book, op) {
-        Reach::Own => do_alone(process, book, op),
-        Reach::Kernel => do_with_kernel(process, kernel, book, op),
-        Reach::Shared(id) => {
-            let heap = &mut shared[id.0 as usize];
-            do_with_shared(process, heap, book, op);
-        }
+    match *op {
+        Op::Collect => do_collect(process, book),
+        Op::KCollect => do_collect_kernel(process, kernel, shared, book),
+        Op::Exit => do_exit(process, kernel, book),
+        _ => do_by_step(process, kernel, shared, book, op),
     }
 }

@@ -2,15 +2,16 @@ use Rattle.std.proofs.Common.{◌≡◌, ◌<◌, refl, sym, ap, ◌∙◌, subs
 use Rattle.std.proofs.lemmas.Option.{slice_get-get_or, slice_get_within}
 use Rattle.k_book.specs.Books.{BookRecord}
 use Rattle.k_process.specs.declared.process.Process.{Process}
-use Rattle.k_complete.specs.Meetings.{ProcessesMet, ProcessesThrough}
-use Rattle.k_complete.proofs.EndKept.{met_list, one_met}
+use Rattle.k_complete.specs.Meetings.{AreSameButNotes, ProcessesAndBook, ProcessesMet}
+use Rattle.k_complete.proofs.EndKept.{all_same, met_list, one_met, one_same}
 use Rattle.k_process.proofs.Kept.{heap_can_meet, set_below}
 use Rattle.k_process.proofs.Looped.{all_of}
 use Rattle.k_complete.proofs.ending.meet_processes.Goals as goal
 
 pub loop-process-init : goal.loop-process-init
 loop-process-init g c = record {
-  through = subst (λ (ps : List Process). ProcessesThrough g.world' ps c.args.book.now) (sym c.deref_mut-process-items.ensures.value) c.requires;
+  stand = subst (λ (ps : List Process). ProcessesAndBook g.world' ps c.args.book.now) (sym c.deref_mut-process-items.ensures.value) c.requires;
+  same = subst (AreSameButNotes c.args.processes.now.items) (sym c.deref_mut-process-items.ensures.value) (all_same c.args.processes.now.items);
   met = λ k p inside at. absurd (omega (arith, inside));
   book_is = refl;
 }
@@ -18,20 +19,25 @@ loop-process-init g c = record {
 pub meet_heap-requires : goal.meet_heap-requires
 meet_heap-requires g c =
     let p : Process = get_or c.loop-process.process-items c.loop-process.process-index c.process-item.result in
-    let through = c.loop-process.invariant.through in
-    heap_can_meet g.world'.trace g.world'.table c.loop-process.book c.loop-process.book through.book.stands through.book.table p.cell
-    (through.processes.each c.loop-process.process-index p (slice_get-get_or c.loop-process.process-items c.loop-process.process-index c.process-item.result (subst (λ n. c.loop-process.process-index < n) (sym c.loop-process.auto.process-items) c.loop-process-test.true))).cell
+    let stand = c.loop-process.invariant.stand in
+    heap_can_meet g.world'.trace g.world'.table c.loop-process.book c.loop-process.book stand.book.stands stand.book.table p.cell
+    (stand.processes.each c.loop-process.process-index p (slice_get-get_or c.loop-process.process-items c.loop-process.process-index c.process-item.result (subst (λ n. c.loop-process.process-index < n) (sym c.loop-process.auto.process-items) c.loop-process-test.true))).cell
 
 pub loop-process-preserved : goal.loop-process-preserved
 loop-process-preserved g c = record {
-  through = one_met g.world' c.loop-process.process-items c.loop-process.book c.meet_heap.new.book c.loop-process.invariant.through c.loop-process.process-index
+  stand = one_met g.world' c.loop-process.process-items c.loop-process.book c.meet_heap.new.book c.loop-process.invariant.stand c.loop-process.process-index
       (get_or c.loop-process.process-items c.loop-process.process-index c.process-item.result)
       (slice_get-get_or c.loop-process.process-items c.loop-process.process-index c.process-item.result (subst (λ n. c.loop-process.process-index < n) (sym c.loop-process.auto.process-items) c.loop-process-test.true))
       c.meet_heap.new.cell c.meet_heap.ensures;
+  same = one_same c.args.processes.now.items c.loop-process.process-items c.loop-process.process-index
+      (get_or c.loop-process.process-items c.loop-process.process-index c.process-item.result)
+      c.meet_heap.new.cell _ c.loop-process.invariant.same
+      (slice_get-get_or c.loop-process.process-items c.loop-process.process-index c.process-item.result (subst (λ n. c.loop-process.process-index < n) (sym c.loop-process.auto.process-items) c.loop-process-test.true))
+      c.meet_heap.ensures.cell_is;
   met = set_below (λ (p : Process). p.cell.note.list ≡ c.meet_heap.new.book.journal.list) c.loop-process.process-items c.loop-process.process-index
       (record { cell = c.meet_heap.new.cell; ops = (get_or c.loop-process.process-items c.loop-process.process-index c.process-item.result).ops })
       (λ k p inside at. c.loop-process.invariant.met k p inside at ∙ ap (λ (b : BookRecord). b.journal.list) (sym c.meet_heap.ensures.book_is))
-      (met_list g.world' c.loop-process.process-items c.loop-process.book c.meet_heap.new.book c.loop-process.invariant.through c.loop-process.process-index
+      (met_list g.world' c.loop-process.process-items c.loop-process.book c.meet_heap.new.book c.loop-process.invariant.stand c.loop-process.process-index
       (get_or c.loop-process.process-items c.loop-process.process-index c.process-item.result)
       (slice_get-get_or c.loop-process.process-items c.loop-process.process-index c.process-item.result (subst (λ n. c.loop-process.process-index < n) (sym c.loop-process.auto.process-items) c.loop-process-test.true))
       c.meet_heap.new.cell c.meet_heap.ensures);
@@ -40,8 +46,9 @@ loop-process-preserved g c = record {
 
 pub returns : goal.returns
 returns g c =
-    subst (λ (ps : List Process). ProcessesMet g.world' ps c.args.book.now c.loop-process.book) (sym (all_of c.loop-process.process-items c.args.processes.now.items c.args.processes.now.len (c.loop-process.auto.process-items ∙ ap length c.deref_mut-process-items.ensures.value) (sym c.deref_mut-process-items.ensures.len ∙ ap length c.deref_mut-process-items.ensures.value))) (record {
-      through = c.loop-process.invariant.through;
+    subst (λ (ps : List Process). ProcessesMet g.world' c.args.processes.now.items ps c.args.book.now c.loop-process.book) (sym (all_of c.loop-process.process-items c.args.processes.now.items c.args.processes.now.len (c.loop-process.auto.process-items ∙ ap length c.deref_mut-process-items.ensures.value) (sym c.deref_mut-process-items.ensures.len ∙ ap length c.deref_mut-process-items.ensures.value))) (record {
+      stand = c.loop-process.invariant.stand;
+      same = c.loop-process.invariant.same;
       met = λ k p at.
           let within = slice_get_within c.loop-process.process-items k p at in
           let all = c.loop-process.auto.process-items in

@@ -6,14 +6,14 @@ ghost-do_inside g a = g.world'
 abbrev pub ghost-publish_all : goal.ghost-publish_all
 ghost-publish_all g a = g.world'
 
-abbrev pub ghost-do_alone : goal.ghost-do_alone
-ghost-do_alone g a = g.world'
+abbrev pub ghost-do_collect : goal.ghost-do_collect
+ghost-do_collect g a = g.world'
 
-abbrev pub ghost-do_with_kernel : goal.ghost-do_with_kernel
-ghost-do_with_kernel g a = g.world'
+abbrev pub ghost-do_collect_kernel : goal.ghost-do_collect_kernel
+ghost-do_collect_kernel g a = g.world'
 
-abbrev pub ghost-do_with_shared : goal.ghost-do_with_shared
-ghost-do_with_shared g a = g.world'
+abbrev pub ghost-do_exit : goal.ghost-do_exit
+ghost-do_exit g a = g.world'
 
-abbrev pub ghost-reach : goal.ghost-reach
-ghost-reach g a = g.world'.trace
+abbrev pub ghost-do_by_step : goal.ghost-do_by_step
+ghost-do_by_step g a = g.world'

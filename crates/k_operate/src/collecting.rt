@@ -1,0 +1,89 @@
+//! Collections of a process's heap and of the kernel's, from their beginning to their end.
+//!
+//! Each is made of three pieces. The book is needed for the first and the last; marking needs its cell alone, and the events of
+//! other processes may come in between.
+ghost use Rattle.k_locked.specs.Keeping.{BookKeeps};
+ghost use Rattle.k_operate.specs.Adding.{AddsOperation, known_to};
+ghost use Rattle.k_operate.specs.Collecting.{CanBeginKernelCollection, CanEndCollection, CanEndKernelCollection, Collects, HasBegunCollection, HasBegunKernelCollection, HasEndedCollection, HasEndedKernelCollection, HasMarkedCollection, IsNextAndSettled, KernelCollects};
+ghost use Rattle.k_operate.specs.Steps.{HasDoneAlone};
+ghost use Rattle.k_process.specs.Worlds.{WorldValue};
+ghost use Rattle.k_types.specs.declared.names.CellPhase.TheVariants.{Begun, Marked};
+ghost use Rattle.k_types.specs.declared.op.Op.TheVariants.{Collect};
+
+use k_book::Book;
+use k_collect::{mark_heap, mark_kernel};
+use k_commit::meet_heap;
+use k_kernel::KernelCell;
+use k_process::Process;
+use k_steps::{begin_heap, begin_kernel, end_heap, end_kernel};
+
+/// Does the operation `collect`, with which the collection of the process's heap begins. The cost is in proportion to the exit items
+/// of the heap and to its entered and pinned objects.
+pub fn begin_collection(process: &mut Process, book: &mut Book)
+    ghost world: { WorldValue }
+    requires { IsNextAndSettled world process.old book.old Collect }
+    ensures { HasBegunCollection world process.old process.new book.old book.new }
+{
+    begin_heap(&mut process.cell, book);
+}
+
+/// Marks what the roots of the process's heap reach. The cost is in proportion to the marked objects and their fields.
+pub fn mark_collection(process: &mut Process)
+    ghost world: { WorldValue }
+    requires { Collects world Begun process.old }
+    ensures { HasMarkedCollection world process.old process.new }
+{
+    mark_heap(&mut process.cell);
+}
+
+/// Ends the collection of the process's heap: what is not marked goes. The book may have new events of other processes since the
+/// collection began. The cost is in proportion to the objects that were live and the exit items.
+pub fn end_collection(process: &mut Process, book: &mut Book)
+    ghost world: { WorldValue }
+    requires { CanEndCollection world process.old book.old }
+    ensures { HasEndedCollection world process.old process.new book.old book.new }
+{
+    meet_heap(&mut process.cell, book);
+    end_heap(&mut process.cell, book);
+}
+
+/// Does the operation `collect` from its beginning to its end. The cost is that of the three pieces.
+pub fn do_collect(process: &mut Process, book: &mut Book)
+    ghost world: { WorldValue }
+    requires { IsNextAndSettled world process.old book.old Collect }
+    ensures done { HasDoneAlone world Collect process.old process.new book.new }
+    ensures events { AddsOperation world.trace process.old.cell.pid Collect (known_to process.old book.old) (known_to process.new book.new) }
+{
+    begin_collection(process, book);
+    mark_collection(process);
+    end_collection(process, book);
+}
+
+/// Does the operation `kcollect`, with which the collection of the kernel's heap begins, where no shared heap is an orphan. The cost
+/// is in proportion to the kernel's segments and exit items and to its entered and pinned objects.
+pub fn begin_kernel_collection(process: &mut Process, kernel: &mut KernelCell, book: &mut Book)
+    ghost world: { WorldValue }
+    requires { CanBeginKernelCollection world process.old kernel.old book.old }
+    ensures { HasBegunKernelCollection world process.old process.new kernel.new book.old book.new }
+{
+    begin_kernel(&mut process.cell, kernel, book);
+}
+
+/// Marks what the roots of the kernel's heap reach. The cost is in proportion to the marked objects and their fields.
+pub fn mark_kernel_collection(kernel: &mut KernelCell)
+    ghost world: { WorldValue }
+    requires { KernelCollects world Begun kernel.old }
+    ensures { KernelCollects world Marked kernel.new }
+{
+    mark_kernel(kernel);
+}
+
+/// Ends the collection of the kernel's heap: what is not marked goes. The book may have new events of other processes since the
+/// collection began. The cost is in proportion to the objects that were live and the exit items.
+pub fn end_kernel_collection(kernel: &mut KernelCell, book: &mut Book)
+    ghost world: { WorldValue }
+    requires { CanEndKernelCollection world kernel.old book.old }
+    ensures { HasEndedKernelCollection world kernel.new book.old book.new }
+{
+    end_kernel(kernel, book);
+}
