@@ -1,23 +1,20 @@
 //! The commands that run a trace: on threads, or in the order of the file.
 ghost use Rattle.std.specs.Prelude.{◌≡◌};
 ghost use Rattle.k_types.specs.Bounds.{most_trace_bytes};
-ghost use Rattle.k_types.specs.FileOrder.{file_order};
 ghost use Rattle.k_outcome.specs.Ends.{journal_of};
 ghost use Rattle.k_run.specs.Runs.{IsRunOf};
-ghost use Rattle.k_solo.specs.Runs.{IsFiled};
 ghost use Rattle.k_text.specs.Report.{report_text};
 ghost use Rattle.k_trace.specs.Meaning.{meaning_of};
 ghost use Rattle.k_trace.specs.Named.{NamedTrace};
 ghost use Rattle.k_trace.specs.Rules.{IsTrace};
 ghost use Rattle.kaffe.specs.Answers.{IsUnwritten};
 ghost use Rattle.kaffe.specs.Parts.{Answers, IsWritten, TellsOfBytes, TellsOfSource, TellsOfTrace};
-ghost use Rattle.kaffe.specs.declared.running.Order.TheVariants.{OfTheFile, OfThreads};
 
 use crate::status::{Status, want_of_memory};
 use crate::texts::{after_writing, write_bad_trace};
 use k_io::{Gate, ReadAllError, Sink, Source, read_all};
 use k_outcome::Outcome;
-use k_solo::{PlainEnd, solo};
+use k_run::{replay_trace, run_trace};
 use k_text::report;
 use k_trace::{Trace, TraceError, read_trace};
 use k_types::MOST_TRACE_BYTES;
@@ -70,62 +67,39 @@ fn run_bytes<K: Sink, G: Gate, R: Threads + Wait + Sync>(
     ensures unwritten { IsUnwritten result → out.new ≡ out.old }
 {
     match read_trace(alloc, bytes) {
-        Ok(trace) => match order {
-            Order::OfTheFile => run_in_file_order(alloc, &trace, out),
-            Order::OfThreads => run_on_threads(rt, alloc, trace, out, gate),
-        },
+        Ok(trace) => run_in_order(rt, alloc, order, trace, out, gate),
         Err(TraceError::NoMemory(refused)) => want_of_memory(refused),
         Err(TraceError::Bad { line, reason }) => write_bad_trace(out, line, reason),
     }
 }
 
-/// Runs the trace in the order of the file, and writes its report.
-fn run_in_file_order<K: Sink>(alloc: Global, trace: &Trace, out: &mut K) -> Status
-    requires { IsTrace (meaning_of trace.now) }
-    ensures answered { Answers (TellsOfTrace OfTheFile (meaning_of trace.now))
-        (record { agreed = K.Holds out.old; agrees = K.Holds out.new; failed_before = K.faults out.old; failed_after = K.faults out.new })
-        result }
-    ensures unwritten { IsUnwritten result → out.new ≡ out.old }
-{
-    match solo(alloc, trace) {
-        Ok(end) => write_report(out, trace, &end),
-        Err(refused) => want_of_memory(refused),
-    }
-}
-
-/// Writes the report of the trace in the order of the file.
-fn write_report<K: Sink>(out: &mut K, trace: &Trace, end: &PlainEnd) -> Status
-    requires good { IsTrace (meaning_of trace.now) }
-    requires run { IsFiled (meaning_of trace.now).trace end.now }
-    ensures { IsWritten
-        (record { agreed = K.Holds out.old; agrees = K.Holds out.new; failed_before = K.faults out.old; failed_after = K.faults out.new })
-        Status.Good (report_text (meaning_of trace.now).names (meaning_of trace.now).trace (file_order (meaning_of trace.now).trace)) result }
-{
-    after_writing(Status::Good, report(out, &trace.names, end))
-}
-
-/// Runs the trace on threads, and writes its report.
-fn run_on_threads<K: Sink, G: Gate, R: Threads + Wait + Sync>(
+/// Runs the trace in that order, and writes its report.
+fn run_in_order<K: Sink, G: Gate, R: Threads + Wait + Sync>(
     rt: &R,
     alloc: Global,
+    order: Order,
     trace: Trace,
     out: &mut K,
     gate: &G,
 ) -> Status
     requires { IsTrace (meaning_of trace) }
-    ensures answered { Answers (TellsOfTrace OfThreads (meaning_of trace))
+    ensures answered { Answers (TellsOfTrace order (meaning_of trace))
         (record { agreed = K.Holds out.old; agrees = K.Holds out.new; failed_before = K.faults out.old; failed_after = K.faults out.new })
         result }
     ensures unwritten { IsUnwritten result → out.new ≡ out.old }
 {
-    match k_run::run_trace(rt, alloc, trace, gate) {
-        Ok(outcome) => write_outcome(out, &outcome),
+    let ended = match order {
+        Order::OfThreads => run_trace(rt, alloc, trace, gate),
+        Order::OfTheFile => replay_trace(alloc, trace),
+    };
+    match ended {
+        Ok(outcome) => write_report(out, &outcome),
         Err(refused) => want_of_memory(refused),
     }
 }
 
 /// Writes the report of the run that is over.
-fn write_outcome<K: Sink>(out: &mut K, outcome: &Outcome) -> Status
+fn write_report<K: Sink>(out: &mut K, outcome: &Outcome) -> Status
     ghost of: { NamedTrace }
     requires good { IsTrace of }
     requires run { IsRunOf of outcome.now }
