@@ -1,11 +1,10 @@
 //! The commands that run a trace: on threads, or in the order of the file.
 ghost use Rattle.std.specs.Prelude.{◌≡◌};
 ghost use Rattle.k_types.specs.Bounds.{most_trace_bytes};
-ghost use Rattle.k_outcome.specs.Ends.{journal_of};
-ghost use Rattle.k_run.specs.Runs.{IsRunOf};
-ghost use Rattle.k_text.specs.Report.{report_text};
+ghost use Rattle.k_outcome.specs.Ends.{journal_of, last_state};
+ghost use Rattle.k_text.specs.Named.{AreNamed};
+ghost use Rattle.k_text.specs.Report.{text_over};
 ghost use Rattle.k_trace.specs.Meaning.{meaning_of};
-ghost use Rattle.k_trace.specs.Named.{NamedTrace};
 ghost use Rattle.k_trace.specs.Rules.{IsTrace};
 ghost use Rattle.kaffe.specs.Answers.{IsUnwritten};
 ghost use Rattle.kaffe.specs.Parts.{Answers, IsWritten, TellsOfBytes, TellsOfSource, TellsOfTrace};
@@ -100,12 +99,10 @@ fn run_in_order<K: Sink, G: Gate, R: Threads + Wait + Sync>(
 
 /// Writes the report of the run that is over.
 fn write_report<K: Sink>(out: &mut K, outcome: &Outcome) -> Status
-    ghost of: { NamedTrace }
-    requires good { IsTrace of }
-    requires run { IsRunOf of outcome.now }
+    requires { AreNamed outcome.now.names outcome.now.setup }
     ensures { IsWritten
         (record { agreed = K.Holds out.old; agrees = K.Holds out.new; failed_before = K.faults out.old; failed_after = K.faults out.new })
-        Status.Good (report_text of.names of.trace (journal_of outcome.now)) result }
+        Status.Good (text_over outcome.now.names outcome.now.setup (journal_of outcome.now) (last_state outcome.now)) result }
 {
     after_writing(Status::Good, report(out, &outcome.names, outcome))
 }
