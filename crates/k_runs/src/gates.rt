@@ -1,151 +1,114 @@
-//! Gates that hold a process until another one has come somewhere.
+//! Gates that hold a process at a place of a run until another one has come somewhere, or that see what a run tells.
 use k_io::{Gate, GatePlace};
 use std::hint::spin_loop;
 use std::sync::atomic::{AtomicBool, AtomicU32, Ordering};
+use std::thread::yield_now;
 
-/// The most rounds that a gate waits.
-const MOST_ROUNDS: u32 = 100_000_000;
+/// The most turns for which a gate holds a process.
+const MOST_TURNS: u32 = 100_000_000;
 
-/// How many rounds a process is held before it begins.
-const ROUNDS_AT_THE_START: u32 = 1_000_000;
+/// The turns for which a process is held before it begins, so that others can begin before it has done anything.
+const TURNS_AT_THE_START: u32 = 1_000_000;
 
-/// Something that happens once, for which threads wait.
+/// How many processes a gate counts for.
+const COUNTED: usize = 8;
+
+/// Waits until the flag is set, and says whether it was.
+fn wait_for(flag: &AtomicBool) -> bool {
+    for _ in 0..MOST_TURNS {
+        if flag.load(Ordering::SeqCst) {
+            return true;
+        }
+        yield_now();
+    }
+    false
+}
+
+/// A process at a place of the run.
 #[derive(Drop)]
-pub(crate) struct Signal {
-    given: AtomicBool,
+pub(crate) struct Stop {
+    pid: u32,
+    // How many operations it has done; any number where none is given.
+    done: Option<u32>,
+    place: GatePlace,
+    // Which stop has to be reached before the process goes on from here.
+    until: Option<usize>,
+    reached: AtomicBool,
+}
+
+impl Stop {
+    /// The process before the operation that comes when it has done so many. It waits there for the stop of that number.
+    pub(crate) fn before(pid: u32, done: u32, until: Option<usize>) -> Stop {
+        Stop {
+            pid,
+            done: Some(done),
+            place: GatePlace::BeforeOp,
+            until,
+            reached: AtomicBool::new(false),
+        }
+    }
+
+    /// The process at that place, whatever it has done. It waits there for the stop of that number.
+    pub(crate) fn at(pid: u32, place: GatePlace, until: usize) -> Stop {
+        Stop {
+            pid,
+            done: None,
+            place,
+            until: Some(until),
+            reached: AtomicBool::new(false),
+        }
+    }
+
+    fn is_here(&self, pid: u32, done: u32, place: GatePlace) -> bool {
+        self.pid == pid && self.place == place && self.done.is_none_or(|wanted| wanted == done)
+    }
+}
+
+/// Holds each process at its stops.
+#[derive(Drop)]
+pub(crate) struct Stops<const N: usize> {
+    stops: [Stop; N],
     missed: AtomicBool,
 }
 
-impl Signal {
-    fn new() -> Signal {
-        Signal {
-            given: AtomicBool::new(false),
+impl<const N: usize> Stops<N> {
+    pub(crate) fn of(stops: [Stop; N]) -> Stops<N> {
+        Stops {
+            stops,
             missed: AtomicBool::new(false),
         }
     }
 
-    fn give(&self) {
-        self.given.store(true, Ordering::SeqCst);
+    /// Whether all stops were reached, and no process waited in vain.
+    pub(crate) fn all_met(&self) -> bool {
+        let mut reached = !self.missed.load(Ordering::SeqCst);
+        for stop in &self.stops {
+            reached &= stop.reached.load(Ordering::SeqCst);
+        }
+        reached
     }
 
-    /// Waits for it, and gives up after the most rounds.
-    fn wait(&self) {
-        for _ in 0..MOST_ROUNDS {
-            if self.given.load(Ordering::SeqCst) {
-                return;
+    /// Waits until the stop of that number was reached.
+    fn wait(&self, until: usize) {
+        let reached = match self.stops.get(until) {
+            Some(stop) => wait_for(&stop.reached),
+            None => false,
+        };
+        if !reached {
+            self.missed.store(true, Ordering::SeqCst);
+        }
+    }
+}
+
+impl<const N: usize> Gate for Stops<N> {
+    fn pass(&self, pid: u32, done: u32, place: GatePlace) {
+        for stop in &self.stops {
+            if stop.is_here(pid, done, place) {
+                stop.reached.store(true, Ordering::SeqCst);
+                if let Some(until) = stop.until {
+                    self.wait(until);
+                }
             }
-            spin_loop();
-        }
-        self.missed.store(true, Ordering::SeqCst);
-    }
-
-    /// Whether it was given, and nobody waited for it in vain.
-    fn came(&self) -> bool {
-        self.given.load(Ordering::SeqCst) && !self.missed.load(Ordering::SeqCst)
-    }
-}
-
-/// Gives the one and waits for the other.
-fn meet(own: &Signal, other: &Signal) {
-    own.give();
-    other.wait();
-}
-
-/// Holds each of two processes where its heap is to be marked until the other has come there too.
-#[derive(Drop)]
-pub(crate) struct BothMark {
-    first: Signal,
-    second: Signal,
-}
-
-impl BothMark {
-    pub(crate) fn new() -> BothMark {
-        BothMark {
-            first: Signal::new(),
-            second: Signal::new(),
-        }
-    }
-
-    /// Whether both were there at once.
-    pub(crate) fn met(&self) -> bool {
-        self.first.came() && self.second.came()
-    }
-}
-
-impl Gate for BothMark {
-    fn pass(&self, pid: u32, _done: u32, place: GatePlace) {
-        match (pid, place) {
-            (0, GatePlace::Marking) => meet(&self.first, &self.second),
-            (1, GatePlace::Marking) => meet(&self.second, &self.first),
-            _ => {}
-        }
-    }
-}
-
-/// Holds the second process before its first operation until the first one's heap is to be marked, and the first one there until the
-/// second has done an operation.
-#[derive(Drop)]
-pub(crate) struct AllocatesMeanwhile {
-    marking: Signal,
-    allocated: Signal,
-}
-
-impl AllocatesMeanwhile {
-    pub(crate) fn new() -> AllocatesMeanwhile {
-        AllocatesMeanwhile {
-            marking: Signal::new(),
-            allocated: Signal::new(),
-        }
-    }
-
-    /// Whether the second process allocated while the first one's heap was collected.
-    pub(crate) fn met(&self) -> bool {
-        self.marking.came() && self.allocated.came()
-    }
-}
-
-impl Gate for AllocatesMeanwhile {
-    fn pass(&self, pid: u32, done: u32, place: GatePlace) {
-        match (pid, done, place) {
-            (0, _, GatePlace::Marking) => meet(&self.marking, &self.allocated),
-            (1, 0, GatePlace::BeforeOp) => self.marking.wait(),
-            (1, 1, GatePlace::BeforeOp) => self.allocated.give(),
-            _ => {}
-        }
-    }
-}
-
-/// Holds the first process, which has the book's lock, until the second has done an operation inside its heap.
-#[derive(Drop)]
-pub(crate) struct MovesMeanwhile {
-    ready: Signal,
-    in_book: Signal,
-    moved: Signal,
-}
-
-impl MovesMeanwhile {
-    pub(crate) fn new() -> MovesMeanwhile {
-        MovesMeanwhile {
-            ready: Signal::new(),
-            in_book: Signal::new(),
-            moved: Signal::new(),
-        }
-    }
-
-    /// Whether the second process went on without the book.
-    pub(crate) fn met(&self) -> bool {
-        self.ready.came() && self.in_book.came() && self.moved.came()
-    }
-}
-
-impl Gate for MovesMeanwhile {
-    fn pass(&self, pid: u32, done: u32, place: GatePlace) {
-        match (pid, done, place) {
-            (0, 0, GatePlace::BeforeOp) => self.ready.wait(),
-            (0, 0, GatePlace::InBook) => meet(&self.in_book, &self.moved),
-            (1, 1, GatePlace::BeforeOp) => meet(&self.ready, &self.in_book),
-            (1, 2, GatePlace::BeforeOp) => self.moved.give(),
-            _ => {}
         }
     }
 }
@@ -154,30 +117,42 @@ impl Gate for MovesMeanwhile {
 /// sees whether that came before any turn was over.
 #[derive(Drop)]
 pub(crate) struct FifthComes {
-    fifth: Signal,
+    fifth: AtomicBool,
     turn_over: AtomicBool,
     too_early: AtomicBool,
-    operations: AtomicU32,
+    missed: AtomicBool,
 }
 
 impl FifthComes {
     pub(crate) fn new() -> FifthComes {
         FifthComes {
-            fifth: Signal::new(),
+            fifth: AtomicBool::new(false),
             turn_over: AtomicBool::new(false),
             too_early: AtomicBool::new(false),
-            operations: AtomicU32::new(0),
+            missed: AtomicBool::new(false),
         }
     }
 
     /// Whether the fifth process had its turn once one of four workers was free, and before any process had a second turn.
     pub(crate) fn met(&self) -> bool {
-        self.fifth.came() && !self.too_early.load(Ordering::SeqCst)
+        self.fifth.load(Ordering::SeqCst)
+            && !self.too_early.load(Ordering::SeqCst)
+            && !self.missed.load(Ordering::SeqCst)
     }
 
-    /// How many operations were told.
-    pub(crate) fn operations(&self) -> u32 {
-        self.operations.load(Ordering::SeqCst)
+    /// The fifth process begins.
+    fn begin_fifth(&self) {
+        if !self.turn_over.load(Ordering::SeqCst) {
+            self.too_early.store(true, Ordering::SeqCst);
+        }
+        self.fifth.store(true, Ordering::SeqCst);
+    }
+
+    /// A process comes to its second turn.
+    fn wait_for_fifth(&self) {
+        if !wait_for(&self.fifth) {
+            self.missed.store(true, Ordering::SeqCst);
+        }
     }
 }
 
@@ -186,22 +161,76 @@ impl Gate for FifthComes {
         if place != GatePlace::BeforeOp {
             return;
         }
-        self.operations.fetch_add(1, Ordering::SeqCst);
         match (pid, done) {
-            (4, 0) => {
-                if !self.turn_over.load(Ordering::SeqCst) {
-                    self.too_early.store(true, Ordering::SeqCst);
-                }
-                self.fifth.give();
-            }
+            (4, 0) => self.begin_fifth(),
             (_, 0) => {
-                for _ in 0..ROUNDS_AT_THE_START {
+                for _ in 0..TURNS_AT_THE_START {
                     spin_loop();
                 }
             }
             (_, 63) => self.turn_over.store(true, Ordering::SeqCst),
-            (_, 64) => self.fifth.wait(),
+            (_, 64) => self.wait_for_fifth(),
             _ => {}
+        }
+    }
+}
+
+/// Counts, for each process, the operations that are told and the steps under the book's lock.
+#[derive(Drop)]
+pub(crate) struct Counts {
+    operations: [AtomicU32; COUNTED],
+    steps: [AtomicU32; COUNTED],
+    // Whether an operation was told twice, left out, or told before an earlier one.
+    astray: AtomicBool,
+}
+
+impl Counts {
+    pub(crate) fn new() -> Counts {
+        Counts {
+            operations: [const { AtomicU32::new(0) }; COUNTED],
+            steps: [const { AtomicU32::new(0) }; COUNTED],
+            astray: AtomicBool::new(false),
+        }
+    }
+
+    /// How many operations of the process were told, each once and in order, and how many steps; none where one was told out of order.
+    pub(crate) fn of(&self, pid: usize) -> Option<(u32, u32)> {
+        if self.astray.load(Ordering::SeqCst) {
+            return None;
+        }
+        let operations = self.operations.get(pid)?.load(Ordering::SeqCst);
+        let steps = self.steps.get(pid)?.load(Ordering::SeqCst);
+        Some((operations, steps))
+    }
+
+    /// The process comes to an operation, and has done so many.
+    fn count_operation(&self, pid: usize, done: u32) {
+        let told = match self.operations.get(pid) {
+            Some(operations) => operations.fetch_add(1, Ordering::SeqCst) == done,
+            None => false,
+        };
+        if !told {
+            self.astray.store(true, Ordering::SeqCst);
+        }
+    }
+
+    /// The process comes to a step under the book's lock.
+    fn count_step(&self, pid: usize) {
+        match self.steps.get(pid) {
+            Some(steps) => {
+                steps.fetch_add(1, Ordering::SeqCst);
+            }
+            None => self.astray.store(true, Ordering::SeqCst),
+        }
+    }
+}
+
+impl Gate for Counts {
+    fn pass(&self, pid: u32, done: u32, place: GatePlace) {
+        match place {
+            GatePlace::BeforeOp => self.count_operation(pid as usize, done),
+            GatePlace::InBook => self.count_step(pid as usize),
+            GatePlace::Marking => {}
         }
     }
 }

@@ -1,90 +1,130 @@
-//! Runs on threads.
-use crate::gates::{AllocatesMeanwhile, BothMark, FifthComes, MovesMeanwhile};
-use crate::run_trace;
-use k_io::{Gate, NoGate};
-use k_trace::read_trace;
+//! What no contract of a run tells: that threads overlap, which locks they hold meanwhile, and that they do all the work.
+use crate::gates::{Counts, FifthComes, Stop, Stops};
+use crate::reports::{parts, replay_report, run_report};
+use k_io::{GatePlace, NoGate};
 use std::alloc::Global;
-use std::sync::Wait;
 use std::test::Fail;
-use std::thread::Threads;
 
-const HEADER: &str = "kaffe 1
-kernel 200 2
-type Node ref ref int
-limit root 1000
-limit a root hard 120
-limit b root soft 400
-proc p1 a
-proc p2 b
+/// The state at the end where each process has one object, and the first one a register that refers to it.
+const ONE_OBJECT_EACH: &str = "kernel.1 kernel directory null null
+p1.1 p1 Node null null 0
+p2.1 p2 Node null null 0
+roots
+p1 r0 p1.1
+exits
+shares
+faults
+p1 0
+p2 0
+charges
+kernel 32 of 200
+limit root 160 of 1000
+limit a 40 of 120
+limit b 40 of 400
+process p1 40
+process p2 40
+shared s 0 unmade
+end
 ";
 
-/// How many events the journal of the trace has in the end, run with the gate. The lines `more` declare more processes.
-fn events_of<G: Gate, R: Threads + Wait + Sync>(
-    rt: &R,
-    alloc: Global,
-    more: &str,
-    lines: &str,
-    gate: &G,
-) -> Result<u32, Fail> {
-    let mut text = String::from_str(alloc, HEADER)?;
-    text.push_str(more)?;
-    text.push_str("shared s\n")?;
-    text.push_str(lines)?;
-    let trace = read_trace(alloc, text.as_bytes())?;
-    Ok(run_trace(rt, alloc, trace, gate)?.event_count())
+#[test]
+fn two_heaps_are_marked_at_once(rt: HostRuntime) -> Result<(), Fail> {
+    let gate = Stops::of([
+        Stop::at(0, GatePlace::Marking, 1),
+        Stop::at(1, GatePlace::Marking, 0),
+    ]);
+    let lines = "p1 new r0 Node\np2 new r0 Node\np1 collect\np2 collect\n";
+    run_report(&rt, rt.alloc(), "", lines, &gate)?;
+    assert!(rt; gate.all_met());
+    Ok(())
+}
+
+/// Holds the second process before its first operation until the first one's heap is to be marked, and the first one there until the
+/// second has done that operation.
+fn meanwhile_of_marking() -> Stops<3> {
+    Stops::of([
+        Stop::before(1, 0, Some(1)),
+        Stop::at(0, GatePlace::Marking, 2),
+        Stop::before(1, 1, None),
+    ])
 }
 
 #[test]
-fn each_trace_is_done(rt: HostRuntime) -> Result<(), Fail> {
-    for (lines, want) in [
-        ("", 0),
-        ("p1 new r0 Node\np2 new r0 Node\np1 move r1 r0\n", 3),
-        (
-            "p1 new r0 Node\np1 collect\np2 collect\np2 kcollect\np1 kcollect\n",
-            9,
-        ),
-        (
-            "p1 share s\np1 snew r0 s Node\np1 freeze s r0\np1 drop r0\np1 collect\np1 kcollect\n",
-            9,
-        ),
-        (
-            "p1 knew r0 Node\np2 dir r0\np2 store r0 0 r0\np1 exit\np2 exit\n",
-            7,
-        ),
+fn others_allocate_while_a_heap_is_marked(rt: HostRuntime) -> Result<(), Fail> {
+    let gate = meanwhile_of_marking();
+    let lines = "p1 new r0 Node\np1 collect\np2 new r0 Node\np2 drop r0\n";
+    let out = run_report(&rt, rt.alloc(), "", lines, &gate)?;
+    assert!(rt; gate.all_met());
+    let (events, state) = parts(&out)?;
+    let first = "p1 new r0 Node = p1.1\np1 collect = ok\np2 new r0 Node = p2.1\n";
+    let rest = events.strip_prefix(first).ok_or("other events")?;
+    assert!(rt;
+        rest == "ended p1 0 0 0 0\np2 drop r0 = ok\n"
+            || rest == "p2 drop r0 = ok\nended p1 0 0 0 0\n",
+        "{rest}"
+    );
+    assert_eq!(rt; state, ONE_OBJECT_EACH);
+    Ok(())
+}
+
+#[test]
+fn others_do_any_operation_while_a_heap_is_marked(rt: HostRuntime) -> Result<(), Fail> {
+    for op in [
+        "drop r0",
+        "knew r0 Node",
+        "dir r0",
+        "share s",
+        "collect",
+        "kcollect",
     ] {
-        assert_eq!(rt;
-            events_of(&rt, rt.alloc(), "", lines, &NoGate)?,
-            want,
-            "{lines}"
-        );
+        let gate = meanwhile_of_marking();
+        let lines = format!(in rt.alloc(); "p1 new r0 Node\np1 collect\np2 {op}\np2 drop r1\n")?;
+        run_report(&rt, rt.alloc(), "", &lines, &gate)?;
+        assert!(rt; gate.all_met(), "{op}");
     }
     Ok(())
 }
 
-#[test]
-fn two_heaps_are_marked_at_once(rt: HostRuntime) -> Result<(), Fail> {
-    let gate = BothMark::new();
-    let lines = "p1 new r0 Node\np2 new r0 Node\np1 collect\np2 collect\n";
-    assert_eq!(rt; events_of(&rt, rt.alloc(), "", lines, &gate)?, 6);
-    assert!(rt; gate.met());
-    Ok(())
-}
-
-#[test]
-fn others_allocate_while_a_heap_is_collected(rt: HostRuntime) -> Result<(), Fail> {
-    let gate = AllocatesMeanwhile::new();
-    let lines = "p1 new r0 Node\np1 collect\np2 new r0 Node\np2 drop r0\n";
-    assert_eq!(rt; events_of(&rt, rt.alloc(), "", lines, &gate)?, 5);
-    assert!(rt; gate.met());
-    Ok(())
+/// Holds the first process under the book's lock until the second has done its second operation.
+fn meanwhile_of_a_step() -> Stops<4> {
+    Stops::of([
+        Stop::before(0, 0, Some(1)),
+        Stop::before(1, 1, Some(2)),
+        Stop::at(0, GatePlace::InBook, 3),
+        Stop::before(1, 2, None),
+    ])
 }
 
 #[test]
 fn a_move_needs_no_book(rt: HostRuntime) -> Result<(), Fail> {
-    let gate = MovesMeanwhile::new();
+    let gate = meanwhile_of_a_step();
     let lines = "p1 new r0 Node\np2 new r0 Node\np2 move r1 r0\np2 drop r0\n";
-    assert_eq!(rt; events_of(&rt, rt.alloc(), "", lines, &gate)?, 4);
-    assert!(rt; gate.met());
+    let out = run_report(&rt, rt.alloc(), "", lines, &gate)?;
+    assert!(rt; gate.all_met());
+    let (events, _) = parts(&out)?;
+    assert_eq!(rt;
+        events,
+        "p2 new r0 Node = p2.1\np1 new r0 Node = p1.1\np2 move r1 r0 = ok\np2 drop r0 = ok\n"
+    );
+    Ok(())
+}
+
+#[test]
+fn no_work_inside_a_heap_needs_the_book(rt: HostRuntime) -> Result<(), Fail> {
+    for op in [
+        "drop r0",
+        "put r0 2 5",
+        "get r0 2",
+        "store r0 0 r0",
+        "load r1 r0 0",
+    ] {
+        let gate = meanwhile_of_a_step();
+        let lines = format!(in rt.alloc();
+            "p1 new r0 Node\np2 new r0 Node\np2 {op}\np2 drop r0\n"
+        )?;
+        run_report(&rt, rt.alloc(), "", &lines, &gate)?;
+        assert!(rt; gate.all_met(), "{op}");
+    }
     Ok(())
 }
 
@@ -104,8 +144,37 @@ fn processes_take_turns_of_64_operations(rt: HostRuntime) -> Result<(), Fail> {
     let gate = FifthComes::new();
     let more = "proc p3 b\nproc p4 b\nproc p5 b\n";
     let lines = turns_lines(rt.alloc())?;
-    assert_eq!(rt; events_of(&rt, rt.alloc(), more, &lines, &gate)?, 325);
+    run_report(&rt, rt.alloc(), more, &lines, &gate)?;
     assert!(rt; gate.met());
-    assert_eq!(rt; gate.operations(), 325);
+    Ok(())
+}
+
+#[test]
+fn threads_leave_nothing_to_the_end(rt: HostRuntime) -> Result<(), Fail> {
+    let gate = Counts::new();
+    let lines =
+        "p1 new r0 Node\np1 store r0 0 r0\np1 collect\np1 drop r0\np1 share s\np2 new r0 Node
+p2 dir r1\np2 store r1 0 r0\np2 kcollect\np2 exit\n";
+    run_report(&rt, rt.alloc(), "", lines, &gate)?;
+    assert_eq!(rt; gate.of(0), Some((5, 4)));
+    assert_eq!(rt; gate.of(1), Some((5, 6)));
+    Ok(())
+}
+
+#[test]
+fn a_run_leaves_what_its_replay_leaves(rt: HostRuntime) -> Result<(), Fail> {
+    for lines in [
+        "",
+        "p1 new r0 Node\np1 collect\np2 new r0 Node\np2 drop r0\n",
+        "p1 new r0 Node\np1 new r1 Node\np1 new r2 Node\np1 new r3 Node\np2 load r0 r9 7\np2 new r0 Node\np2 put r0 0 5\n",
+        "p1 share s\np1 snew r0 s Node\np1 freeze s r0\np1 drop r0\np1 collect\np1 kcollect\np2 new r0 Node\np2 collect\n",
+        "p1 new r0 Node\np1 dir r1\np1 store r1 0 r0\np1 drop r0\np1 collect\np2 new r0 Node\np2 dir r1\np2 store r1 1 r0\np2 exit\n",
+    ] {
+        let replayed = replay_report(rt.alloc(), "", lines)?;
+        for _ in 0..4 {
+            let run = run_report(&rt, rt.alloc(), "", lines, &NoGate)?;
+            assert_eq!(rt; parts(&run)?.1, parts(&replayed)?.1, "{lines}");
+        }
+    }
     Ok(())
 }

@@ -1,5 +1,0 @@
-use Rattle.k_runs.specs.Runs.{world_in}
-use Rattle.k_runs.proofs.whole.run_trace.Given as goal
-
-abbrev pub ghosts-run_still : goal.ghosts-run_still
-ghosts-run_still g a = record { world = world_in a.still }
