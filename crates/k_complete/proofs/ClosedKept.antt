@@ -7,10 +7,9 @@ use Rattle.k_types.specs.declared.event.Event.{Event}
 use Rattle.k_types.specs.declared.event.Event.TheVariants.{Ended, Closing}
 use Rattle.k_types.specs.declared.names.CellPhase.TheVariants.{Begun, Marked}
 use Rattle.k_types.specs.declared.names.Heap.TheVariants.{Kernel}
-use Rattle.k_types.specs.declared.names.Phase.{Phase}
 use Rattle.k_types.specs.Cells.{BookPart, book_part}
-use Rattle.k_types.specs.Complete.{EndsWithClosing, all_ended}
-use Rattle.k_types.specs.FileOrder.{absorptions, end_of, last_events, with_end}
+use Rattle.k_types.specs.Complete.{all_ended}
+use Rattle.k_types.specs.FileOrder.{absorptions, end_of, with_end}
 use Rattle.k_types.specs.Names.{among}
 use Rattle.k_types.specs.Numbers.{numbers_below}
 use Rattle.k_types.specs.State.{State, opening}
@@ -18,7 +17,6 @@ use Rattle.k_types.specs.Steps.{IsPossible, is_orphan, run, state_after}
 use Rattle.k_types.specs.Effects.{step}
 use Rattle.k_types.specs.Trace.{Trace, process_count, segment_count}
 use Rattle.k_frame.proofs.Histories.{run_append, state_next}
-use Rattle.k_agree.specs.Agreement.{Agrees}
 use Rattle.k_agree.specs.Meeting.{Fits}
 use Rattle.k_agree.specs.Rooms.{AreFirst, event_room, exit_room}
 use Rattle.k_agree.specs.Settled.{all_ended_in, no_orphan_in}

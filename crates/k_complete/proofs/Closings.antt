@@ -1,5 +1,5 @@
 -- What absorptions and the last collection of the kernel leave of processes and shared heaps.
-use Rattle.std.proofs.Common.{◌≡◌, ℕ, ◌+◌, ◌<◌, ◌&&◌, not, Bool, true, false, cond, refl, sym, ap, ap₂, ◌∙◌, List, [], ◌∷◌, filter, find, map, length, Some, None, arith}
+use Rattle.std.proofs.Common.{◌≡◌, ℕ, ◌<◌, ◌&&◌, not, Bool, true, false, cond, refl, sym, ap, ap₂, ◌∙◌, List, [], ◌∷◌, filter, find, map, Some, None, arith}
 use Rattle.std.specs.List.{list_all}
 use Rattle.std.proofs.Math.Path.{fun_ext}
 use Rattle.std.proofs.lemmas.Bool.{false_from_ne_true, false≢true}
@@ -13,7 +13,7 @@ use Rattle.k_types.specs.Following.{is_closing}
 use Rattle.k_types.specs.Numbers.{numbers_below}
 use Rattle.k_types.specs.Owners.{phase_of}
 use Rattle.k_types.specs.State.{Sharing, State}
-use Rattle.k_types.specs.Steps.{IsLegalHistory, IsPossible, MayEnd, has_sharer, is_live, is_orphan, run, state_after}
+use Rattle.k_types.specs.Steps.{IsLegalHistory, IsPossible, has_sharer, is_live, is_orphan, run, state_after}
 use Rattle.k_types.specs.Trace.{Trace}
 use Rattle.k_types.specs.Updates.{close, close_scan, keep_exits, keep_objects, keep_shares, open_scan, set_phase}
 use Rattle.k_base.proofs.Numbered.{all_at_below}

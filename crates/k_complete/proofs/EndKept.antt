@@ -1,9 +1,7 @@
 -- What is left of processes, done one after the other.
-use Rattle.std.proofs.Common.{◌≡◌, ◌<◌, ℕ, refl, sym, ap, ◌∙◌, subst, List, length, set, not, Bool, true, false, Some, None, slice_get, IsTrue, inl, inr, arith}
-use Rattle.std.proofs.lemmas.Bool.{false≢true}
+use Rattle.std.proofs.Common.{◌≡◌, ◌<◌, ℕ, refl, sym, ap, ◌∙◌, subst, List, length, set, Some, None, slice_get, IsTrue, inl, inr, arith}
 use Rattle.k_types.specs.declared.op.Op.{Op}
 use Rattle.k_types.specs.Trace.{operations_of}
-use Rattle.k_frame.specs.PartUpdates.{done_in}
 use Rattle.k_tie.specs.Values.{NoteValue}
 use Rattle.k_agree.specs.Settled.{all_ended_in, no_orphan_in}
 use Rattle.k_types.specs.Complete.{EndsWithClosing}
@@ -18,8 +16,8 @@ use Rattle.k_process.specs.declared.process.Process.{Process}
 use Rattle.k_process.specs.Standing.{IsNextOf}
 use Rattle.k_complete.specs.Closing.{HasClosedAll}
 use Rattle.k_complete.specs.Ended.{AllEnded, AllMet, AllStand, AllThrough, CanComplete, HasCompleted}
-use Rattle.k_complete.specs.Meetings.{AreSameButNotes, BookEnds, CellsAndBook, CellsMet, HeapsAndBook, HeapsMet, ProcessesAndBook, ProcessesMet, ProcessesThrough}
-use Rattle.k_process.specs.Standing.{ComesNext, HasDone, IsThroughWith, ProcessStands, RestStands}
+use Rattle.k_complete.specs.Meetings.{AreSameButNotes, BookEnds, CellsAndBook, CellsMet, HeapsAndBook, HeapsMet, ProcessesAndBook, ProcessesMet}
+use Rattle.k_process.specs.Standing.{HasDone, IsThroughWith, ProcessStands, RestStands}
 use Rattle.k_operate.specs.Steps.{HasPublishedAll}
 use Rattle.k_process.specs.Worlds.{WorldValue}
 use Rattle.k_process.proofs.Written.{get_set_cases}

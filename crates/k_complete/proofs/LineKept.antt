@@ -1,11 +1,10 @@
 -- One operation in the order of the file.
-use Rattle.std.proofs.Common.{◌≡◌, ℕ, zero, suc, Bool, true, false, refl, sym, ap, ap₂, ◌∙◌, subst, List, [], ◌∷◌, ◌++◌, append-nil, drop, get_or, Option, Some, None, slice_get, IsFalse, if◌then◌else◌}
-use Rattle.std.proofs.lemmas.Bool.{false≢true}
+use Rattle.std.proofs.Common.{◌≡◌, ℕ, zero, suc, Bool, true, false, refl, sym, ap, ap₂, ◌∙◌, subst, List, [], ◌∷◌, ◌++◌, append-nil, drop, get_or, Some, None, slice_get, if◌then◌else◌}
 use Rattle.k_types.specs.declared.names.Heap.TheVariants.{User}
 use Rattle.k_types.specs.declared.names.Pid.{Pid}
 use Rattle.k_types.specs.declared.op.Op.{Op}
 use Rattle.k_types.specs.Agree.{CellValue}
-use Rattle.k_types.specs.Cells.{ProcessPart, ShownPart, part}
+use Rattle.k_types.specs.Cells.{ShownPart, part}
 use Rattle.k_types.specs.FileOrder.{events_of, next_operation}
 use Rattle.k_types.specs.Names.{among}
 use Rattle.k_types.specs.State.{State}

@@ -1,5 +1,5 @@
 -- All operations in the order of the file.
-use Rattle.std.proofs.Common.{◌≡◌, ℕ, zero, suc, ◌+◌, ◌<◌, ◌≤◌, nat_lt, Bool, true, refl, sym, ap, ap₂, ◌∙◌, subst, List, [], ◌∷◌, ◌++◌, append-nil, append_assoc, map, drop, set, get_or, length, arith, Some, slice_get, IsTrue, IsFalse, inl, inr}
+use Rattle.std.proofs.Common.{◌≡◌, ℕ, zero, suc, ◌+◌, ◌<◌, ◌≤◌, nat_lt, true, refl, sym, ap, ap₂, ◌∙◌, subst, List, [], ◌∷◌, ◌++◌, append-nil, append_assoc, map, drop, set, get_or, length, arith, Some, slice_get, IsTrue, inl, inr}
 use Rattle.std.specs.List.{list_all}
 use Rattle.std.proofs.lemmas.Bool.{and_parts}
 use Rattle.std.proofs.lemmas.Bool.Decides.{nat_tests}
@@ -8,7 +8,6 @@ use Rattle.k_types.specs.declared.names.Heap.TheVariants.{User}
 use Rattle.k_types.specs.declared.names.Pid.{Pid}
 use Rattle.k_types.specs.Complete.{EndsWithClosing, IsComplete}
 use Rattle.k_types.specs.FileOrder.{events_of, file_order, file_order_from, last_events, next_operation}
-use Rattle.k_types.specs.Names.{among}
 use Rattle.k_types.specs.State.{State, opening}
 use Rattle.k_types.specs.Steps.{done_by, run, state_after}
 use Rattle.k_types.specs.Trace.{Trace, operations_of, process_count}
@@ -25,7 +24,7 @@ use Rattle.k_cell.specs.Holdings.{HoldingsValue}
 use Rattle.k_heap.specs.Heaps.{HeapRecord, has_ended_in}
 use Rattle.k_shared.specs.SharedHeaps.{SharedRecord}
 use Rattle.k_locked.proofs.Kept.{drop_none}
-use Rattle.k_locked.specs.Keeping.{HeapKeeps, operations_left}
+use Rattle.k_locked.specs.Keeping.{HeapKeeps}
 use Rattle.k_process.specs.declared.process.Process.{Process}
 use Rattle.k_process.specs.Standing.{IsThroughWith, ProcessesStand, RestStands}
 use Rattle.k_process.specs.Worlds.{WorldValue}
@@ -33,7 +32,7 @@ use Rattle.k_process.proofs.Kept.{process_set}
 use Rattle.k_process.proofs.Written.{get_set_cases}
 use Rattle.k_complete.specs.Closing.{HasClosedAll}
 use Rattle.k_complete.specs.Meetings.{CellsMet}
-use Rattle.k_complete.specs.Replaying.{ArePublished, CanDoLine, CanReplay, HasDoneLine, HasReplayed}
+use Rattle.k_complete.specs.Replaying.{ArePublished, CanDoLine, HasDoneLine, HasReplayed}
 use Rattle.k_complete.proofs.LineKept.{process_shown}
 
 -- what is left of the order, and the journal, are together the history of the file's order

@@ -1,0 +1,10 @@
+pub mod Lists
+pub mod Places
+pub mod Setups
+pub mod Met
+pub mod Made
+pub mod Sorted
+pub mod Filled
+pub mod Told
+pub mod Charged
+pub mod Walked

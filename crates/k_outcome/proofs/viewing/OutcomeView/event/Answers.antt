@@ -1,0 +1,10 @@
+use Rattle.std.proofs.Common.{◌≡◌, sym, ap, ◌∙◌, slice_get}
+use Rattle.k_book.specs.Books.{BookRecord}
+use Rattle.k_outcome.proofs.Told.{book_shown, event_known}
+use Rattle.k_outcome.proofs.viewing.OutcomeView.event.Goals as goal
+
+pub returns-clause-known : goal.returns-clause-known
+returns-clause-known c =
+    let e = c.args.self.now in
+    event_known e c.cells.ensures.end c.args.i c.event.result.now
+    (ap (λ (b : BookRecord). slice_get b.journal.list c.args.i) (sym (book_shown e.cells c.cells.result.now c.book.result.now c.cells.ensures.cells c.book.ensures)) ∙ c.event.ensures)
