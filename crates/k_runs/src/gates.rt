@@ -13,13 +13,20 @@ const TURNS_AT_THE_START: u32 = 1_000_000;
 /// How many processes a gate counts for.
 const COUNTED: usize = 8;
 
+/// How many turns pass before a thread that waits lets others run.
+const TURNS_OF_ONE_STRETCH: u32 = 1_000;
+
 /// Waits until the flag is set, and says whether it was.
 fn wait_for(flag: &AtomicBool) -> bool {
-    for _ in 0..MOST_TURNS {
+    for turn in 0..MOST_TURNS {
         if flag.load(Ordering::SeqCst) {
             return true;
         }
-        yield_now();
+        if turn % TURNS_OF_ONE_STRETCH == 0 {
+            yield_now();
+        } else {
+            spin_loop();
+        }
     }
     false
 }

@@ -2,10 +2,9 @@
 ghost use Rattle.k_text.specs.Named.{AreNamed};
 
 use k_io::{Gate, MemSink};
-use k_outcome::Outcome;
 use k_run::{replay_trace, run_trace};
-use k_text::report;
-use k_trace::read_trace;
+use k_text::{View, report};
+use k_trace::{Names, read_trace};
 use std::alloc::Global;
 use std::sync::Wait;
 use std::test::Fail;
@@ -31,11 +30,11 @@ fn trace_text(alloc: Global, more: &str, lines: &str) -> Result<String, Fail> {
 }
 
 /// The report of the end of a run.
-fn written(alloc: Global, outcome: &Outcome) -> Result<MemSink, Fail>
-    requires { AreNamed outcome.now.names outcome.now.setup }
+fn written<V: View>(alloc: Global, names: &Names, end: &V) -> Result<MemSink, Fail>
+    requires { AreNamed names.now (V.trace end.now) }
 {
     let mut out = MemSink::make(alloc, MOST_BYTES, Vec::new(alloc))?;
-    report(&mut out, &outcome.names, outcome)?;
+    report(&mut out, names, end)?;
     Ok(out)
 }
 
@@ -50,7 +49,7 @@ pub(crate) fn run_report<G: Gate, R: Threads + Wait + Sync>(
     let text = trace_text(alloc, more, lines)?;
     let trace = read_trace(alloc, text.as_bytes())?;
     let outcome = run_trace(rt, alloc, trace, gate)?;
-    written(alloc, &outcome)
+    written(alloc, &outcome.names, &outcome)
 }
 
 /// The report of these operations, done in the order of the lines.
@@ -58,7 +57,7 @@ pub(crate) fn replay_report(alloc: Global, more: &str, lines: &str) -> Result<Me
     let text = trace_text(alloc, more, lines)?;
     let trace = read_trace(alloc, text.as_bytes())?;
     let outcome = replay_trace(alloc, trace)?;
-    written(alloc, &outcome)
+    written(alloc, &outcome.names, &outcome)
 }
 
 /// The lines of the events of a report, and those of the state that they left.
