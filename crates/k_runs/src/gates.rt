@@ -10,9 +10,6 @@ const MOST_TURNS: u32 = 100_000_000;
 /// The turns for which a process is held before it begins, so that others can begin before it has done anything.
 const TURNS_AT_THE_START: u32 = 1_000_000;
 
-/// How many processes a gate counts for.
-const COUNTED: usize = 8;
-
 /// How many turns pass before a thread that waits lets others run.
 const TURNS_OF_ONE_STRETCH: u32 = 1_000;
 
@@ -182,11 +179,26 @@ impl Gate for FifthComes {
     }
 }
 
-/// Counts, for each process, the operations that are told and the steps under the book's lock.
+/// How often a process was told.
+#[derive(Drop)]
+struct Count {
+    operations: AtomicU32,
+    steps: AtomicU32,
+}
+
+impl Count {
+    fn new() -> Count {
+        Count {
+            operations: AtomicU32::new(0),
+            steps: AtomicU32::new(0),
+        }
+    }
+}
+
+/// Counts, for each of two processes, the operations that are told and the steps under the book's lock.
 #[derive(Drop)]
 pub(crate) struct Counts {
-    operations: [AtomicU32; COUNTED],
-    steps: [AtomicU32; COUNTED],
+    of_each: [Count; 2],
     // Whether an operation was told twice, left out, or told before an earlier one.
     astray: AtomicBool,
 }
@@ -194,8 +206,7 @@ pub(crate) struct Counts {
 impl Counts {
     pub(crate) fn new() -> Counts {
         Counts {
-            operations: [const { AtomicU32::new(0) }; COUNTED],
-            steps: [const { AtomicU32::new(0) }; COUNTED],
+            of_each: [Count::new(), Count::new()],
             astray: AtomicBool::new(false),
         }
     }
@@ -205,38 +216,28 @@ impl Counts {
         if self.astray.load(Ordering::SeqCst) {
             return None;
         }
-        let operations = self.operations.get(pid)?.load(Ordering::SeqCst);
-        let steps = self.steps.get(pid)?.load(Ordering::SeqCst);
+        let count = self.of_each.get(pid)?;
+        let operations = count.operations.load(Ordering::SeqCst);
+        let steps = count.steps.load(Ordering::SeqCst);
         Some((operations, steps))
-    }
-
-    /// The process comes to an operation, and has done so many.
-    fn count_operation(&self, pid: usize, done: u32) {
-        let told = match self.operations.get(pid) {
-            Some(operations) => operations.fetch_add(1, Ordering::SeqCst) == done,
-            None => false,
-        };
-        if !told {
-            self.astray.store(true, Ordering::SeqCst);
-        }
-    }
-
-    /// The process comes to a step under the book's lock.
-    fn count_step(&self, pid: usize) {
-        match self.steps.get(pid) {
-            Some(steps) => {
-                steps.fetch_add(1, Ordering::SeqCst);
-            }
-            None => self.astray.store(true, Ordering::SeqCst),
-        }
     }
 }
 
 impl Gate for Counts {
     fn pass(&self, pid: u32, done: u32, place: GatePlace) {
+        let Some(count) = self.of_each.get(pid as usize) else {
+            self.astray.store(true, Ordering::SeqCst);
+            return;
+        };
         match place {
-            GatePlace::BeforeOp => self.count_operation(pid as usize, done),
-            GatePlace::InBook => self.count_step(pid as usize),
+            GatePlace::BeforeOp => {
+                if count.operations.fetch_add(1, Ordering::SeqCst) != done {
+                    self.astray.store(true, Ordering::SeqCst);
+                }
+            }
+            GatePlace::InBook => {
+                count.steps.fetch_add(1, Ordering::SeqCst);
+            }
             GatePlace::Marking => {}
         }
     }
