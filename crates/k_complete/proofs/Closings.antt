@@ -89,12 +89,3 @@ module _ (trace : Trace) where
 -- where one fails, not all pass
 pub all_fails : (f : ℕ → Bool) (n k : ℕ) → k < n → f k ≡ false → list_all f (numbers_below n) ≡ false
 all_fails f n k inside fails = false_from_ne_true (list_all f (numbers_below n)) (λ t. false≢true (sym fails ∙ all_at_below f n k t inside))
-
--- what is not true of the test that says the opposite
-pub not_lives : (b : Bool) → not b ≡ true → b ≡ false
-not_lives true e = absurd (false≢true e)
-not_lives false e = refl
-
-pub not_dead : (b : Bool) → not b ≡ false → b ≡ true
-not_dead true e = refl
-not_dead false e = absurd (false≢true (sym e))

@@ -41,6 +41,7 @@ fn collect_last(kernel: &mut KernelCell, book: &mut Book)
 }
 
 /// Where every process has ended, the kernel absorbs all orphans and its heap is collected for the last time; else nothing happens.
+/// The cost is that of the absorptions and of the collection, beside one look at each process. It takes no memory.
 pub fn close_all(kernel: &mut KernelCell, shared: &mut Vec<SharedCell>, book: &mut Book)
     ghost world: { WorldValue }
     requires { RestStands world kernel.old shared.old.items book.old }

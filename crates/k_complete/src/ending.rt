@@ -28,7 +28,8 @@ fn complete(
     publish_all(process, book);
 }
 
-/// Does so for each process, in the order of their numbers.
+/// Does all operations that are left of each process, in the order of their numbers, and publishes their events. The cost is that of
+/// the operations.
 pub fn complete_all(
     processes: &mut Vec<Process>,
     kernel: &mut KernelCell,
@@ -66,7 +67,7 @@ fn meet_heaps(shared: &mut Vec<SharedCell>, book: &mut Book)
     }
 }
 
-/// Has each cell meet the journal, so that all show the state after it.
+/// Has each cell meet the journal, so that all show the state after it. The cost is one meeting for each cell.
 pub fn meet_all(
     processes: &mut Vec<Process>,
     kernel: &mut KernelCell,
@@ -83,7 +84,7 @@ pub fn meet_all(
 }
 
 /// Ends the run: does all operations that are left, one process after the other, then what comes last where every process has ended,
-/// and has each cell meet the journal.
+/// and has each cell meet the journal. The cost is that of the operations and of what comes last. It takes no memory.
 pub fn end_all(
     processes: &mut Vec<Process>,
     kernel: &mut KernelCell,

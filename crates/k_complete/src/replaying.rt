@@ -34,7 +34,8 @@ fn do_line(
 }
 
 /// Does all operations in that order, each with all its events, then what comes last where every process has ended, and has each
-/// cell meet the journal. A place in the order whose process has ended by then gives no event. It takes no memory.
+/// cell meet the journal. A place in the order whose process has ended by then gives no event. The cost is that of the operations
+/// and of what comes last, beside one meeting for each. It takes no memory.
 pub fn replay(
     processes: &mut Vec<Process>,
     kernel: &mut KernelCell,

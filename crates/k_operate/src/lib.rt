@@ -1,4 +1,10 @@
 //! One operation of a process, done with the cells that it touches and the book.
+//!
+//! [`do_inside`] does what needs the process's own heap alone and leaves its event unpublished; [`publish_all`] appends such events to
+//! the journal. All else needs the book: [`do_alone`], [`do_with_kernel`] and [`do_with_shared`] do an operation by a step,
+//! [`do_exit`] ends the process, and a collection is begun, marked and ended by three calls, so that the book is free while the heap is
+//! marked. [`do_collect`] and [`do_collect_kernel`] join the three, and [`do_next`] does any operation from its beginning to its end.
+//! Each keeps what the locks ask of cells and book, and tells which events it adds.
 #![tactic(auto)]
 
 mod absorbing;

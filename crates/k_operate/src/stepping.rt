@@ -15,7 +15,8 @@ use k_shared::SharedCell;
 use k_steps::{Reach, publish, reach, step_kernel, step_own, step_shared};
 use k_types::Op;
 
-/// Does the operation inside the process's own heap, if it needs that heap alone, and says whether it did.
+/// Does the operation inside the process's own heap, if it needs that heap alone, and says whether it did. Its event is then
+/// unpublished. Constant time, and no memory.
 pub fn do_inside(process: &mut Process, op: &Op) -> bool
     ghost world: { WorldValue }
     requires { CanDoInside world process.old op.now }
@@ -24,7 +25,7 @@ pub fn do_inside(process: &mut Process, op: &Op) -> bool
     local(&mut process.cell, op).is_some()
 }
 
-/// Publishes what the process did inside its heap.
+/// Appends to the journal what the process did inside its heap, in order. The cost is in proportion to the number of these events.
 pub fn publish_all(process: &mut Process, book: &mut Book)
     ghost world: { WorldValue }
     requires { PairStands world process.old book.old }
@@ -33,7 +34,8 @@ pub fn publish_all(process: &mut Process, book: &mut Book)
     publish(&mut process.cell, book);
 }
 
-/// Does an operation that touches the process's own cell alone.
+/// Does an operation that touches the process's own cell alone, and appends its event. Constant time where the hash spreads the
+/// names, and no memory.
 pub fn do_alone(process: &mut Process, book: &mut Book, op: &Op)
     ghost world: { WorldValue }
     requires { CanDoAlone world process.old book.old op.now }
@@ -45,7 +47,8 @@ pub fn do_alone(process: &mut Process, book: &mut Book, op: &Op)
     step_own(&mut process.cell, book, op);
 }
 
-/// Does an operation that touches the kernel's cell too.
+/// Does an operation that touches the kernel's cell too, and appends its event. Constant time where the hash spreads the names, and
+/// no memory.
 pub fn do_with_kernel(process: &mut Process, kernel: &mut KernelCell, book: &mut Book, op: &Op)
     ghost world: { WorldValue }
     requires { CanDoWithKernel world process.old kernel.old book.old op.now }
@@ -57,7 +60,8 @@ pub fn do_with_kernel(process: &mut Process, kernel: &mut KernelCell, book: &mut
     step_kernel(&mut process.cell, kernel, book, op);
 }
 
-/// Does an operation that touches a shared heap's cell too.
+/// Does an operation that touches a shared heap's cell too, and appends its event. Constant time where the hash spreads the names,
+/// but that a charge passes the limits above the process's; no memory.
 pub fn do_with_shared(process: &mut Process, shared: &mut SharedCell, book: &mut Book, op: &Op)
     ghost world: { WorldValue }
     requires { CanDoWithShared world process.old shared.old book.old op.now }
@@ -93,7 +97,8 @@ fn do_by_step(
 }
 
 /// Does the process's next operation, with whatever it touches: inside its own heap, by a step, or as a collection or the end of
-/// the process, from the beginning to the end.
+/// the process, from the beginning to the end. An operation that is refused is done too: its event tells the fault. The cost is that
+/// of the call that does it, after that of `publish_all`. No memory is taken.
 pub fn do_next(
     process: &mut Process,
     kernel: &mut KernelCell,

@@ -13,7 +13,7 @@ pub struct Process {
     pub ops: Vec<Op>,
 }
 
-/// The process's next operation; none where it has ended or done all.
+/// The process's next operation; none where it has ended or done all. Constant time.
 pub fn next(process: &Process) -> Option<Op>
     ghost world: { WorldValue }
     requires { ProcessStands world process.now }

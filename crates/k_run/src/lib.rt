@@ -1,13 +1,11 @@
 //! Runs of a trace: each heap and the book behind a lock of its own, workers on threads, and what is left done on one thread.
 //!
-//! [`open`] puts a run that has not begun behind its locks, [`run`] has workers do what the processes have to do, and [`finish`] ends it,
-//! whatever they did. A lock tells nothing of its value but the value's type; so the types of all values behind the locks are named by the
+//! [`run`] has workers do what the processes have to do, and [`finish`] ends the run, whatever they did. A lock tells nothing of its value but the value's type; so the types of all values behind the locks are named by the
 //! run's trace and by the table of its journal ([`WorldName`]).
 #![tactic(auto)]
 
 mod collecting;
 mod locked;
-mod opening;
 mod outcome;
 mod placing;
 mod rooms;
@@ -19,7 +17,6 @@ mod worlds;
 
 pub use k_process::Process;
 pub use locked::{LockedBook, LockedKernel, LockedProcess, LockedShared};
-pub use opening::open;
 pub use outcome::Outcome;
 pub use running::run;
 pub use world::{World, finish};

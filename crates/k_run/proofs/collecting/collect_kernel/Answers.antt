@@ -1,6 +1,8 @@
-use Rattle.k_types.specs.declared.op.Op.TheVariants.{KCollect}
-use Rattle.k_run.proofs.Stepped.{done_after, left_twice}
+use Rattle.k_run.proofs.Stepped.{left_twice}
 use Rattle.k_run.proofs.collecting.collect_kernel.Goals as goal
 
 pub loop-preserved : goal.loop-preserved
-loop-preserved g c = ?
+loop-preserved g c = record {
+  next = c.in-Some-collect.ensures.next;
+  same = left_twice g.W.WorldName.world.trace c.args.process.now c.loop.process c.collect.new.process c.loop.invariant.same c.in-Some-collect.ensures.same;
+}

@@ -1,0 +1,60 @@
+-- The charges of all processes have a small sum.
+use Rattle.std.proofs.Common.{◌≡◌, ◌∙◌, ℕ, zero, suc, ◌+◌, ◌*◌, ◌<◌, ◌≤◌, ◌^◌, ◌==◌, true, ap, List, length, arith}
+use Rattle.std.proofs.lemmas.Bool.Decides.{nat_tests}
+use Rattle.k_types.specs.declared.event.Event.{Event}
+use Rattle.k_types.specs.declared.setup.LimitRow.{LimitRow}
+use Rattle.k_types.specs.Limits.{direct_by, limits_in, max_of, use_of, use_within, with_maxima}
+use Rattle.k_types.specs.Numbers.{numbers_from}
+use Rattle.k_types.specs.Owners.{charge_of}
+use Rattle.k_types.specs.State.{State, opening}
+use Rattle.k_types.specs.Steps.{IsLegalHistory, state_after}
+use Rattle.k_types.specs.Totals.{total}
+use Rattle.k_types.specs.Trace.{Trace, limit_of, process_count}
+use Rattle.k_types.specs.TraceRules.{AreLimits, KeepsRules}
+use Rattle.k_base.proofs.Maxima.{length_in, own_maxima}
+use Rattle.k_base.proofs.Sums.{passing_within}
+use Rattle.k_frame.proofs.Constant.{run_maxima}
+use Rattle.k_laws.proofs.Laws.{uses_fit}
+use Rattle.k_big.specs.Summary.{HasSmallCharges}
+
+direct_at_most : (rows : List LimitRow) (direct : ℕ → ℕ) (depth m : ℕ) → 0 < depth → direct m ≤ use_within rows direct depth m
+unfolding use_within
+direct_at_most rows direct zero m positive = absurd (omega arith)
+direct_at_most rows direct (suc depth) m positive = omega arith
+
+-- a process is charged no more than is used at its limit
+charge_at_most : (trace : Trace) (st : State) (p : ℕ) → p < process_count trace → AreLimits trace → charge_of trace st p ≤ use_of trace st (limit_of trace p)
+charge_at_most trace st p known rules =
+    let limited = rules.limited p known in
+    let long = length_in trace.limits st.maxima in
+    let direct = direct_at_most (limits_in trace st) (direct_by trace (charge_of trace st)) (length (limits_in trace st)) (limit_of trace p) (omega (arith, limited, long)) in
+    let own : (limit_of trace p == limit_of trace p) ≡ true = grind (arith, nat_tests) in
+    let here = passing_within (charge_of trace st) (λ q. limit_of trace q == limit_of trace p) p 0 (process_count trace) own (omega arith) (omega (arith, known)) in
+    omega (arith, here, direct)
+
+-- the limits stay as the trace declares them
+limits_stay : (trace : Trace) (history : List Event) → limits_in trace (state_after trace history) ≡ trace.limits
+limits_stay trace history = ap (with_maxima trace.limits) (run_maxima trace (opening trace) history) ∙ own_maxima trace.limits
+
+charge_small : (trace : Trace) (history : List Event) (p : ℕ) → KeepsRules trace → IsLegalHistory trace history → p < process_count trace → charge_of trace (state_after trace history) p < 2 ^ 40
+charge_small trace history p rules legal known =
+    let limited = rules.limits.limited p known in
+    let charge = charge_at_most trace (state_after trace history) p known rules.limits in
+    let used = uses_fit trace history (limit_of trace p) rules.limits legal limited in
+    let same = ap (λ rows. max_of rows (limit_of trace p)) (limits_stay trace history) in
+    let small = rules.limits.small (limit_of trace p) limited in
+    omega (arith, charge, used, same, small)
+
+sum_small : (f : ℕ → ℕ) (most first n : ℕ) → ((p : ℕ) → p < first + n → f p ≤ most) → total f (numbers_from first n) ≤ n * most
+sum_small f most first zero small = omega arith
+sum_small f most first (suc n) small =
+    let here = small first (omega arith) in
+    let rest = sum_small f most (suc first) n (λ p low. small p (omega (arith, low))) in
+    omega (arith, here, rest)
+
+pub charges_small : (trace : Trace) (history : List Event) → KeepsRules trace → IsLegalHistory trace history → HasSmallCharges trace (state_after trace history)
+charges_small trace history rules legal =
+    let sum = sum_small (charge_of trace (state_after trace history)) (2 ^ 40) 0 (process_count trace)
+    (λ p low. let one = charge_small trace history p rules legal (omega (arith, low)) in omega (arith, one)) in
+    let few = rules.processes in
+    omega (arith, sum, few)
