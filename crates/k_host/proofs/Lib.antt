@@ -1,0 +1,6 @@
+pub mod Rooms
+pub mod Going
+pub mod Due
+pub mod Inside
+pub mod Made
+pub mod Collected

@@ -1,0 +1,5 @@
+pub mod Serving
+pub mod Hosts
+pub mod Doing
+pub mod Making
+pub mod Collecting
