@@ -56,13 +56,15 @@ module _ (basis : Basis) (g : Guest) (b : BookRecord) (can : CanGoOn basis g b) 
 
   pub settled : (w : HeapRecord) (l : BookRecord) → HasSettledHeap basis.trace g.cell w b l → HasSettled basis g (record g { cell = w }) b l
   settled w l s = record {
-    guest =
-        guest_goes_on basis b.journal.table l.journal.table g w g.bodies can.guest
-        (s.heap_goes_on.cell_is ∙ ap (λ (x : HeapRecord). record g.cell { note = w.note; value = w.value; bodies = x.bodies }) (sym s.heap_goes_on.cell_is))
-        s.heap_goes_on.agrees s.heap_goes_on.table (ap (λ (x : HeapRecord). x.bodies) s.heap_goes_on.cell_is ∙ can.guest.stock) (λ lives. can.lives);
-    book = book_goes_on basis b l can.book s.book_is s.agrees;
-    same_table = s.same_table;
-    pid = ap (λ (x : HeapRecord). x.pid) s.heap_goes_on.cell_is;
+    keeps = record {
+      guest =
+          guest_goes_on basis b.journal.table l.journal.table g w g.bodies can.guest
+          (s.heap_goes_on.cell_is ∙ ap (λ (x : HeapRecord). record g.cell { note = w.note; value = w.value; bodies = x.bodies }) (sym s.heap_goes_on.cell_is))
+          s.heap_goes_on.agrees s.heap_goes_on.table (ap (λ (x : HeapRecord). x.bodies) s.heap_goes_on.cell_is ∙ can.guest.stock) (λ lives. can.lives);
+      book = book_goes_on basis b l can.book s.book_is s.agrees;
+      same_table = s.same_table;
+      pid = ap (λ (x : HeapRecord). x.pid) s.heap_goes_on.cell_is;
+    };
     phase = s.heap_goes_on.in_phase;
     last = s.last;
     ends = s.ends;
@@ -132,10 +134,12 @@ module _ (basis : Basis) (g : Guest) (b : BookRecord) (can : CanGoOn basis g b) 
     went_on : (v : HeapRecord) (m : BookRecord) (event : Event) → GuestServes basis m.journal.table (record g { cell = v }) → BookServes basis m → m.journal.table ≡ l.journal.table → v.pid ≡ w.pid →
         m.journal.list ≡ l.journal.list ++ event ∷ [] → IsPossible basis.trace (state_after basis.trace l.journal.list) event → HasGoneOn basis g (record g { cell = v }) b m event
     went_on v m event guest book same pid list possible = record {
-      guest = guest;
-      book = book;
-      same_table = same ∙ s.same_table;
-      pid = pid ∙ ap (λ (x : HeapRecord). x.pid) s.cell_is;
+      keeps = record {
+        guest = guest;
+        book = book;
+        same_table = same ∙ s.same_table;
+        pid = pid ∙ ap (λ (x : HeapRecord). x.pid) s.cell_is;
+      };
       appended = record {
         journal = list ∙ ap (λ events. events ++ event ∷ []) s.journal;
         possible = subst (λ events. IsPossible basis.trace (state_after basis.trace events) event) s.journal possible;
@@ -335,8 +339,8 @@ module _ (basis : Basis) (s : SharedRecord) (k : HoldingsValue) (b : BookRecord)
 -- what is found passes the test
 pub found_passes : {A : Type 0} (f : A → Bool) (xs : List A) (x : A) → find f xs ≡ Some x → f x ≡ true
 found_passes f [] x is = absurd (cc)
-found_passes f (y ∷ xs) x is = go (f y) refl is
+found_passes f (y ∷ xs) x is = go (f y) refl is (found_passes f xs x)
   where
-    go : (t : Bool) → f y ≡ t → cond t (Some y) (find f xs) ≡ Some x → f x ≡ true
-    go true e found = let same : y ≡ x = cc in ap f (sym same) ∙ e
-    go false e found = found_passes f xs x found
+    go : (t : Bool) → f y ≡ t → cond t (Some y) (find f xs) ≡ Some x → (find f xs ≡ Some x → f x ≡ true) → f x ≡ true
+    go true e found later = let same : y ≡ x = cc in ap f (sym same) ∙ e
+    go false e found later = later found

@@ -30,7 +30,7 @@ use Rattle.k_own.specs.Own.{CanStepOwn}
 use Rattle.k_pair.specs.Operating.{CanStepWithKernel}
 use Rattle.k_sharing.specs.Operating.{CanStepWithShared}
 use Rattle.k_host.specs.declared.guest.Guest.{Guest}
-use Rattle.k_host.specs.Doing.{CanDoWithKernel, CanDoWithShared, HasDoneAlone, HasDoneWithKernel, HasDoneWithShared, IsDueWith}
+use Rattle.k_host.specs.Doing.{CanDoWithKernel, CanDoWithShared, HasDoneAlone, HasDoneWithKernel, HasDoneWithShared, HasPublishedAll, IsDueWith}
 use Rattle.k_host.specs.Serving.{Basis, BookServes, GuestServes, KernelServes, SharedServes}
 use Rattle.k_host.proofs.Going.{body_of, book_goes_on, guest_goes_on, kernel_goes_on, shared_goes_on}
 use Rattle.k_host.proofs.Rooms.{bodies_left, entry_left, event_left, serial_left, table_room}
@@ -55,6 +55,14 @@ module _ (basis : Basis) (g : Guest) (b : BookRecord) (guest : GuestServes basis
 
     pub book_published : BookServes basis l
     book_published = book_goes_on basis b l book (s.book_is ∙ ap (λ (x : BookRecord). record b { journal = l.journal; value = x.value }) (sym s.book_is)) s.book_agrees
+
+    pub published_all : HasPublishedAll basis g (record g { cell = w }) b l
+    published_all = record {
+      keeps = record { guest = guest_published; book = book_published; same_table = s.same_table; pid = ap (λ (x : HeapRecord). x.pid) s.cell_is };
+      guest_is = ap (λ (x : HeapRecord). record g { cell = x }) s.cell_is;
+      book_is = s.book_is;
+      journal = s.journal;
+    }
 
     pub longer_published : length l.journal.list ≡ length b.journal.list + length g.cell.value.tail
     longer_published = ap length s.journal ∙ length-append b.journal.list g.cell.value.tail

@@ -1,5 +1,5 @@
 -- What serves goes on serving after a step.
-use Rattle.std.proofs.Common.{◌≡◌, ℕ, ◌≤◌, refl, sym, ap, ◌∙◌, subst, List, ◌++◌, append-nil, append_assoc, ap₂, map, replicate, IsFalse, false, true, cond, get_or, Some, None, inl, inr}
+use Rattle.std.proofs.Common.{◌≡◌, ℕ, ◌+◌, ◌≤◌, refl, sym, ap, ◌∙◌, subst, List, ◌++◌, append-nil, append_assoc, ap₂, map, replicate, IsFalse, false, true, cond, get_or, Some, None, inl, inr}
 use Rattle.std.proofs.lemmas.Bool.{cases_Bool, false≢true}
 use Rattle.atomic_table.specs.Seated.{TableId}
 use Rattle.k_types.specs.declared.event.Event.{Event}

@@ -23,15 +23,15 @@ module _ (basis : Basis) (g : Guest) (op : Op) (can : CanDoInside basis g op) wh
   inside said answer = record {
     serves = record {
       rules = can.serves.rules;
-      agrees = local_agrees basis.trace can.serves.rules.limits g.cell.pid g.cell.note g.cell.value op said can.serves.agrees can.ready.awake.idle can.ready.awake.lives can.ready.in_range answer;
+      agrees = local_agrees basis.trace can.serves.rules.limits g.cell.pid g.cell.note g.cell.value op said can.serves.agrees can.awake.idle can.awake.lives can.in_range answer;
       table = can.serves.table;
       stock = can.serves.stock;
       exits = can.serves.exits;
-      serials = λ lives. can.serves.serials can.ready.awake.lives;
+      serials = λ lives. can.serves.serials can.awake.lives;
       tail = can.serves.tail;
     };
     guest_is = refl;
-    possible = local_is_possible basis.trace can.serves.rules.limits g.cell.pid g.cell.note g.cell.value op said can.serves.agrees can.ready.awake.idle can.ready.awake.lives can.ready.in_range answer;
+    possible = local_is_possible basis.trace can.serves.rules.limits g.cell.pid g.cell.note g.cell.value op said can.serves.agrees can.awake.idle can.awake.lives can.in_range answer;
   }
 
   pub done_inside : (w : HeapRecord) (answer : Option Reply) → answer ≡ local_answer g.cell.value g.cell.pid.0 op →

@@ -4,3 +4,6 @@ pub mod Due
 pub mod Inside
 pub mod Made
 pub mod Collected
+pub mod Hosts
+pub mod Opened
+pub mod Twined

@@ -1,8 +1,10 @@
 -- What is made serves.
-use Rattle.std.proofs.Common.{◌≡◌, ◌⊎◌, ℕ, zero, suc, ◌+◌, ◌-◌, ◌<◌, ◌≤◌, ◌==◌, cond, refl, sym, ap, ◌∙◌, subst, inl, inr, List, [], ◌∷◌, ◌++◌, map, length, replicate, slice_get, Some, None, arith, eq-eqb}
-use Rattle.std.proofs.lemmas.List.{length-append, length-map}
+use Rattle.std.proofs.Common.{◌≡◌, ◌⊎◌, ℕ, zero, suc, ◌+◌, ◌-◌, ◌<◌, ◌≤◌, ◌==◌, cond, refl, sym, ap, ◌∙◌, subst, inl, inr, List, [], ◌∷◌, ◌++◌, map, length, replicate, slice_get, Some, None, arith, eq-eqb, Result, Ok, Err}
+use Rattle.std.specs.Prelude.{IfOk}
+use Rattle.std.proofs.lemmas.List.{length-append, length-map, length-replicate}
 use Rattle.atomic_table.specs.Seated.{TableId}
 use Rattle.k_types.specs.declared.names.Heap.TheVariants.{Kernel, Shared, User}
+use Rattle.k_types.specs.declared.names.Phase.TheVariants.{Unmade}
 use Rattle.k_types.specs.declared.names.Pid.{Pid}
 use Rattle.k_types.specs.declared.names.SharedId.{SharedId}
 use Rattle.k_types.specs.Numbers.{numbers_below, numbers_from}
@@ -20,8 +22,13 @@ use Rattle.k_shared.specs.SharedHeaps.{SharedRecord, opened_shared}
 use Rattle.k_space.specs.Objects.{BodyValue, new_body}
 use Rattle.k_host.specs.declared.guest.Guest.{Guest}
 use Rattle.k_host.specs.declared.terms.Terms.{Terms}
-use Rattle.k_host.specs.Making.{AreGuestsSoFar, AreHeapsSoFar, AreNotes, CanMake, CanMakeFrom, CanMakeGuest, CanMakeShared, HaveMadeGuests}
+use Rattle.k_host.specs.Making.{AreGuestsSoFar, AreHeapsSoFar, AreNotes, CanMake, CanMakeGuest, CanMakeShared, HasMadeBook, HaveMadeGuests}
 use Rattle.k_host.specs.Serving.{Basis, BookServes, GivesSerials, GuestServes, HeapsServe, KernelServes, SharedServes, basis_of, open_trace}
+
+-- what follows from what holds of a success holds of it
+pub ok_weaker : {A E : Type 0} (P Q : A → Type 0) → ((a : A) → P a → Q a) → (r : Result A E) → IfOk r P → IfOk r Q
+ok_weaker P Q f (Ok a) h = f a h
+ok_weaker P Q f (Err e) h = tt
 
 -- what is found in a list with one element more
 get_snoc : {A : Type 0} (xs : List A) (y : A) (k : ℕ) (x : A) → slice_get (xs ++ y ∷ []) k ≡ Some x → (slice_get xs k ≡ Some x) ⊎ ((k ≡ length xs) × (y ≡ x))
@@ -121,9 +128,10 @@ module _ (terms : Terms) (can : CanMake terms) where
     ap (λ (x : SharedRecord). x.id) is,
   )
 
-  pub book_made : (b : BookRecord) (seat : JournalValue) (table : TableId) → seat ≡ empty_journal table → b ≡ opened terms.setup terms.events terms.events seat → BookServes basis b × (b.journal ≡ seat)
-  book_made b seat table empty is = (
-    subst (λ (x : BookRecord). BookServes basis x) (sym is)
+  pub book_made : (b : BookRecord) (seat : JournalValue) (table : TableId) → seat ≡ empty_journal table → b ≡ opened terms.setup terms.events terms.events seat → HasMadeBook terms seat b
+  book_made b seat table empty is = record {
+    serves =
+        subst (λ (x : BookRecord). BookServes basis x) (sym is)
         (subst (λ (j : JournalValue). BookServes basis (opened terms.setup terms.events terms.events j)) (sym empty)
         (record {
           stands = record {
@@ -134,16 +142,18 @@ module _ (terms : Terms) (can : CanMake terms) where
           };
           events = refl;
           entries = omega arith;
-        })),
-    ap (λ (x : BookRecord). x.journal) is,
-  )
+        }));
+    journal = ap (λ (x : BookRecord). x.journal) is;
+    procs = ap (λ (x : BookRecord). length x.procs) is;
+    heaps = ap (λ (x : BookRecord). length x.value.phases) is ∙ length-replicate terms.setup.shared Unmade;
+  }
 
   module _ (tie : TableId) where
-    pub no_guests_yet : (notes : List NoteValue) → CanMakeFrom terms tie 1 (length terms.setup.procs.items + terms.setup.shared) notes → AreGuestsSoFar terms tie 0 [] notes
-    no_guests_yet notes from = record {
+    pub no_guests_yet : (notes : List NoteValue) → AreNotes tie 1 (length terms.setup.procs.items + terms.setup.shared) notes → AreGuestsSoFar terms tie 0 [] notes
+    no_guests_yet notes are = record {
       left = length terms.setup.procs.items + terms.setup.shared;
       all = omega arith;
-      notes_left = from.notes_left ∙ ap (λ k. map (blank_note tie) (numbers_from k (length terms.setup.procs.items + terms.setup.shared))) (omega arith);
+      notes_left = are ∙ ap (λ k. map (blank_note tie) (numbers_from k (length terms.setup.procs.items + terms.setup.shared))) (omega arith);
       count = refl;
       each = λ k g found. absurd (cc);
     }
@@ -178,11 +188,11 @@ module _ (terms : Terms) (can : CanMake terms) where
           so_far.notes_left ∙ ap (λ k. map (blank_note tie) (numbers_from (k + 1) so_far.left)) all ∙ ap (λ n. map (blank_note tie) (numbers_from (length terms.setup.procs.items + 1) n)) same;
     }
 
-    pub no_heaps_yet : (notes : List NoteValue) → CanMakeFrom terms tie (1 + length terms.setup.procs.items) terms.setup.shared notes → AreHeapsSoFar terms tie 0 [] notes
-    no_heaps_yet notes from = record {
+    pub no_heaps_yet : (notes : List NoteValue) → AreNotes tie (length terms.setup.procs.items + 1) terms.setup.shared notes → AreHeapsSoFar terms tie 0 [] notes
+    no_heaps_yet notes are = record {
       left = terms.setup.shared;
       all = omega arith;
-      notes_left = from.notes_left ∙ ap (λ k. map (blank_note tie) (numbers_from k terms.setup.shared)) (omega arith);
+      notes_left = are ∙ ap (λ k. map (blank_note tie) (numbers_from k terms.setup.shared)) (omega arith);
       count = refl;
       each = λ k s found. absurd (cc);
     }

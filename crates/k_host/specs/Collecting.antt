@@ -16,7 +16,7 @@ use Rattle.k_shared.specs.SharedHeaps.{SharedRecord}
 use Rattle.k_shares.specs.Sharers.{is_orphan_by, lowest_orphan}
 use Rattle.k_host.specs.declared.guest.Guest.{Guest}
 use Rattle.k_host.specs.Doing.{HasEventsLeft, IsAppended, IsAwake}
-use Rattle.k_host.specs.Serving.{Basis, BookServes, GuestServes, KernelServes, SharedServes}
+use Rattle.k_host.specs.Serving.{Basis, BookServes, GuestServes, KeepsPair, KernelServes, SharedServes}
 
 -- process and book serve, the process lives, and the journal has room
 pub record CanGoOn (basis : Basis) (g : Guest) (b : BookRecord) : Type 0 where
@@ -27,10 +27,7 @@ pub record CanGoOn (basis : Basis) (g : Guest) (b : BookRecord) : Type 0 where
 
 -- process and book serve still, and the event is appended
 pub record HasGoneOn (basis : Basis) (old g : Guest) (old_b b : BookRecord) (event : Event) : Type 0 where
-  pub guest : GuestServes basis b.journal.table g
-  pub book : BookServes basis b
-  pub same_table : b.journal.table ≡ old_b.journal.table
-  pub pid : g.cell.pid ≡ old.cell.pid
+  pub keeps : KeepsPair basis old g old_b b
   pub appended : IsAppended basis old old_b b event
 
 -- no collection of the process's heap is open
@@ -68,10 +65,7 @@ pub record HasEnded (basis : Basis) (old g : Guest) (old_b b : BookRecord) (even
 
 -- what the process had unpublished is in the journal, and then the end of its open collection; no collection of its heap is open
 pub record HasSettled (basis : Basis) (old g : Guest) (old_b b : BookRecord) : Type 0 where
-  pub guest : GuestServes basis b.journal.table g
-  pub book : BookServes basis b
-  pub same_table : b.journal.table ≡ old_b.journal.table
-  pub pid : g.cell.pid ≡ old.cell.pid
+  pub keeps : KeepsPair basis old g old_b b
   pub phase : g.cell.value.collection ≡ Idle
   pub last : List Event
   pub ends : AreEnds (User old.cell.pid) old.cell.value.collection last

@@ -22,7 +22,7 @@ use Rattle.k_own.specs.Own.{is_collect}
 use Rattle.k_pair.specs.Operating.{collects_or_exits}
 use Rattle.k_shared.specs.SharedHeaps.{SharedRecord}
 use Rattle.k_host.specs.declared.guest.Guest.{Guest}
-use Rattle.k_host.specs.Serving.{Basis, BookServes, GuestServes, KernelServes, RestServes, SharedServes}
+use Rattle.k_host.specs.Serving.{Basis, BookServes, GuestServes, KeepsPair, KernelServes, RestServes, SharedServes}
 
 -- an allocation finds a body of its type
 abbrev pub HasItsBody : Basis → ℕ → Op → Type 0
@@ -66,10 +66,12 @@ pub record IsReady (basis : Basis) (g : Guest) (op : Op) : Type 0 where
   pub room : HasItemRoom basis g
   pub stock : HasItsBody basis g.bodies op
 
--- the process serves and is ready, and its cell has room for one more unpublished event
+-- the process serves and is awake, the operation names what the setup declares, and the cell has room for one more unpublished event
 pub record CanDoInside (basis : Basis) (g : Guest) (op : Op) : Type 0 where
   pub serves : GuestServes basis g.cell.note.table g
-  pub ready : IsReady basis g op
+  pub in_range : IsTrue (in_range basis.trace op)
+  pub awake : IsAwake g
+  pub room : HasItemRoom basis g
   pub tail : length g.cell.value.tail < basis.events
 
 -- the operation was done inside the heap: its event is the newest that the journal lacks, and possible after those before it
@@ -77,6 +79,13 @@ pub record HasDoneInside (basis : Basis) (op : Op) (old g : Guest) (said : Reply
   pub serves : GuestServes basis old.cell.note.table g
   pub guest_is : g ≡ record old { cell = record old.cell { value = after_local old.cell.pid op said old.cell.value } }
   pub possible : IsPossible basis.trace (state_after basis.trace (old.cell.note.list ++ old.cell.value.tail)) (Done old.cell.pid op said)
+
+-- what the process had unpublished is in the journal, and nothing else has changed
+pub record HasPublishedAll (basis : Basis) (old g : Guest) (old_b b : BookRecord) : Type 0 where
+  pub keeps : KeepsPair basis old g old_b b
+  pub guest_is : g ≡ record old { cell = record old.cell { note = g.cell.note; value = record old.cell.value { tail = [] } } }
+  pub book_is : b ≡ record old_b { journal = b.journal }
+  pub journal : b.journal.list ≡ old_b.journal.list ++ old.cell.value.tail
 
 -- process and book serve and are ready for the operation, which is not done inside the heap and touches these cells beside the own
 pub record IsDueWith (basis : Basis) (g : Guest) (b : BookRecord) (op : Op) (cells : List Cell) : Type 0 where

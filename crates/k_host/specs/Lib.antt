@@ -3,3 +3,5 @@ pub mod Hosts
 pub mod Doing
 pub mod Making
 pub mod Collecting
+pub mod Calls
+pub mod Twins

@@ -7,12 +7,13 @@ use Rattle.k_types.specs.declared.names.SharedId.{SharedId}
 use Rattle.k_types.specs.Numbers.{numbers_from}
 use Rattle.k_types.specs.Trace.{process_count, segment_of}
 use Rattle.k_types.specs.TraceRules.{KeepsRules}
+use Rattle.k_book.specs.Books.{BookRecord}
 use Rattle.k_heap.specs.Heaps.{own_segment}
 use Rattle.k_shared.specs.SharedHeaps.{SharedRecord}
 use Rattle.k_tie.specs.Values.{JournalValue, NoteValue, blank_note, empty_journal}
 use Rattle.k_host.specs.declared.guest.Guest.{Guest}
 use Rattle.k_host.specs.declared.terms.Terms.{Terms}
-use Rattle.k_host.specs.Serving.{GuestServes, GuestsServe, HeapsServe, SharedServes, basis_of, open_trace}
+use Rattle.k_host.specs.Serving.{BookServes, GuestServes, GuestsServe, HeapsServe, SharedServes, basis_of, open_trace}
 
 -- the setup has the type, and the rooms are numbers of 32 bits
 pub record AreFit (terms : Terms) : Type 0 where
@@ -40,10 +41,24 @@ pub record CanMakeShared (terms : Terms) (id : SharedId) (note : NoteValue) : Ty
   pub known : id.0 < terms.setup.shared
   pub blank : note ≡ blank_note note.table (segment_of (open_trace terms.setup) (Shared id))
 
--- the notes of the cells from that number on are left
-pub record CanMakeFrom (terms : Terms) (tie : TableId) (first : ℕ) (left : ℕ) (notes : List NoteValue) : Type 0 where
+-- the book serves with the seat's journal, and counts the processes and the shared heaps of the setup
+pub record HasMadeBook (terms : Terms) (seat : JournalValue) (b : BookRecord) : Type 0 where
+  pub serves : BookServes (basis_of terms) b
+  pub journal : b.journal ≡ seat
+  pub procs : length b.procs ≡ length terms.setup.procs.items
+  pub heaps : length b.value.phases ≡ terms.setup.shared
+
+-- the book counts the processes of the setup, and the notes of all cells but the kernel's are left
+pub record CanMakeGuests (terms : Terms) (b : BookRecord) (notes : List NoteValue) : Type 0 where
   pub can : CanMake terms
-  pub notes_left : AreNotes tie first left notes
+  pub procs : length b.procs ≡ length terms.setup.procs.items
+  pub notes_left : AreNotes b.journal.table 1 (length terms.setup.procs.items + terms.setup.shared) notes
+
+-- the book counts the shared heaps of the setup, and the notes of their cells are left
+pub record CanMakeHeaps (terms : Terms) (b : BookRecord) (notes : List NoteValue) : Type 0 where
+  pub can : CanMake terms
+  pub heaps : length b.value.phases ≡ terms.setup.shared
+  pub notes_left : AreNotes b.journal.table (length terms.setup.procs.items + 1) terms.setup.shared notes
 
 -- so many processes are made, in the places of their numbers, and so many notes are left
 pub record AreGuestsSoFar (terms : Terms) (tie : TableId) (made : ℕ) (guests : List Guest) (notes : List NoteValue) : Type 0 where

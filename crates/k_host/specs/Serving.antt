@@ -74,6 +74,13 @@ pub record BookServes (basis : Basis) (b : BookRecord) : Type 0 where
   pub events : b.event_room ≡ basis.events
   pub entries : basis.events ≤ b.entry_room
 
+-- process and book serve still, with the same table, and the process is the same one
+pub record KeepsPair (basis : Basis) (old g : Guest) (old_b b : BookRecord) : Type 0 where
+  pub guest : GuestServes basis b.journal.table g
+  pub book : BookServes basis b
+  pub same_table : b.journal.table ≡ old_b.journal.table
+  pub pid : g.cell.pid ≡ old.cell.pid
+
 -- there is a guest for each process, in the place of its number
 pub record GuestsServe (basis : Basis) (tie : TableId) (guests : List Guest) : Type 0 where
   pub count : length guests ≡ process_count basis.trace

@@ -14,7 +14,8 @@ use k_book::Book;
 use k_kernel::KernelCell;
 use k_shared::SharedCell;
 use k_tie::Tie;
-use k_types::{Event, Op, Pid};
+use k_trace::{Trace, read_trace};
+use k_types::{Event, Op, Pid, TypeId};
 use std::alloc::Global;
 use std::collections::VecDeque;
 use std::marker::Model;
@@ -56,12 +57,12 @@ impl Host {
         }
         let cells = 1 + terms.setup.procs.len() as u32 + terms.setup.shared;
         let (tie, seat, notes) = Tie::make(alloc, cells)?;
+        let book = make_book(alloc, &terms, tie, seat)?;
         let mut notes = VecDeque::from_vec(notes);
         let note = take_note(&mut notes);
         let kernel = make_kernel(alloc, &terms, note)?;
-        let guests = make_guests(alloc, &terms, &mut notes)?;
-        let shared = make_heaps(alloc, &terms, &mut notes)?;
-        let book = make_book(alloc, &terms, tie, seat)?;
+        let guests = make_guests(alloc, &terms, &book, &mut notes)?;
+        let shared = make_heaps(alloc, &terms, &book, &mut notes)?;
         Ok(Host {
             terms,
             guests,
@@ -69,6 +70,40 @@ impl Host {
             shared,
             book,
         })
+    }
+
+    /// A host of the setup that the text of a trace declares. Operations that stand there are left out.
+    ///
+    /// # Errors
+    ///
+    /// `Text` where the bytes spell no trace; else those of `make`.
+    pub fn read(
+        alloc: Global,
+        text: &[u8],
+        ty: TypeId,
+        bodies: u32,
+        events: u32,
+    ) -> Result<Host, OpenError> {
+        match read_trace(alloc, text) {
+            Ok(trace) => {
+                let Trace {
+                    setup,
+                    names: _,
+                    ops: _,
+                    order: _,
+                } = trace;
+                Host::make(
+                    alloc,
+                    Terms {
+                        setup,
+                        ty,
+                        bodies,
+                        events,
+                    },
+                )
+            }
+            Err(why) => Err(OpenError::Text(why)),
+        }
     }
 
     /// Does the operation of the process, inside its heap where it needs that heap alone, and answers its event.

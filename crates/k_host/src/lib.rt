@@ -8,6 +8,7 @@
 #![tactic(auto)]
 
 mod collecting;
+mod collections;
 mod doing;
 mod errors;
 mod guest;
@@ -16,10 +17,13 @@ mod looking;
 mod making;
 mod ranges;
 mod readiness;
+mod starting;
 mod stepping;
 mod terms;
+mod twin;
 
 pub use errors::{HostError, OpenError};
 pub use guest::Guest;
 pub use host::Host;
 pub use terms::Terms;
+pub use twin::Twin;

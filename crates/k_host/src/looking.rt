@@ -3,7 +3,10 @@ ghost use Rattle.std.specs.Prelude.{◌≡◌, length, slice_get};
 ghost use Rattle.k_types.specs.Counted.{counted};
 
 use crate::host::Host;
+use crate::twin::Twin;
+use k_io::NoMemory;
 use k_types::{CellPhase, Event, Name, Pid, SharedId};
+use std::alloc::Global;
 
 impl Host {
     /// The number of events in the journal. Constant time.
@@ -54,6 +57,12 @@ impl Host {
         ensures { result ≡ self.now.kernel.value.collection }
     {
         self.kernel.phase()
+    }
+
+    /// The machine on one thread before the first event, with the setup of the host. `NoMemory` comes where its lists find no memory.
+    pub fn twin(&self, alloc: Global) -> Result<Twin, NoMemory> {
+        let _book = &self.book;
+        Twin::make(alloc, &self.terms.setup)
     }
 
     /// The shared heap of the lowest number that was made, isn't absorbed and has no sharer. The cost is in proportion to the shares.

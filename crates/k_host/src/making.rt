@@ -1,10 +1,9 @@
 //! How the parts of a host are made.
 ghost use Rattle.std.specs.Prelude.{◌≡◌, ◌+◌, ◌<◌, ◌∷◌, IfOk, IsTrue, length, replicate};
-ghost use Rattle.atomic_table.specs.Seated.{TableId};
 ghost use Rattle.k_space.specs.Objects.{new_body};
 ghost use Rattle.k_tie.specs.Values.{blank_note, empty_journal};
-ghost use Rattle.k_host.specs.Making.{AreFit, CanMake, CanMakeFrom, CanMakeGuest, CanMakeShared, HaveMadeGuests};
-ghost use Rattle.k_host.specs.Serving.{BookServes, GuestServes, HeapsServe, KernelServes, SharedServes, basis_of};
+ghost use Rattle.k_host.specs.Making.{AreFit, CanMake, CanMakeGuest, CanMakeGuests, CanMakeHeaps, CanMakeShared, HasMadeBook, HaveMadeGuests};
+ghost use Rattle.k_host.specs.Serving.{GuestServes, HeapsServe, KernelServes, SharedServes, basis_of};
 
 use crate::errors::OpenError;
 use crate::guest::Guest;
@@ -76,14 +75,14 @@ fn make_guest(alloc: Global, terms: &Terms, pid: Pid, note: Note) -> Result<Gues
 pub(crate) fn make_guests(
     alloc: Global,
     terms: &Terms,
+    book: &Book,
     notes: &mut VecDeque<Note>,
 ) -> Result<Vec<Guest>, NoMemory>
-    ghost tie: { TableId }
-    requires { CanMakeFrom terms.now tie 1 (length terms.now.setup.procs.items + terms.now.setup.shared) notes.old.items }
-    ensures { IfOk result (λ made. HaveMadeGuests terms.now tie made.items notes.new.items) }
+    requires { CanMakeGuests terms.now book.now notes.old.items }
+    ensures { IfOk result (λ made. HaveMadeGuests terms.now book.now.journal.table made.items notes.new.items) }
 {
     let mut guests = Vec::new(alloc);
-    for p in 0..terms.setup.procs.len() as u32 {
+    for p in 0..book.procs() {
         let note = take_note(notes);
         guests.push(make_guest(alloc, terms, Pid(p), note)?)?;
     }
@@ -118,14 +117,14 @@ fn make_heap(alloc: Global, terms: &Terms, id: SharedId, note: Note) -> Result<S
 pub(crate) fn make_heaps(
     alloc: Global,
     terms: &Terms,
+    book: &Book,
     notes: &mut VecDeque<Note>,
 ) -> Result<Vec<SharedCell>, NoMemory>
-    ghost tie: { TableId }
-    requires { CanMakeFrom terms.now tie (1 + length terms.now.setup.procs.items) terms.now.setup.shared notes.old.items }
-    ensures { IfOk result (λ made. HeapsServe (basis_of terms.now) tie made.items) }
+    requires { CanMakeHeaps terms.now book.now notes.old.items }
+    ensures { IfOk result (λ made. HeapsServe (basis_of terms.now) book.now.journal.table made.items) }
 {
     let mut shared = Vec::new(alloc);
-    for s in 0..terms.setup.shared {
+    for s in 0..book.shared_heaps() {
         let note = take_note(notes);
         shared.push(make_heap(alloc, terms, SharedId(s), note)?)?;
     }
@@ -141,7 +140,7 @@ pub(crate) fn make_book(
 ) -> Result<Book, OpenError>
     requires can { CanMake terms.now }
     requires empty { seat ≡ empty_journal tie }
-    ensures { IfOk result (λ b. BookServes (basis_of terms.now) b × (b.journal ≡ seat)) }
+    ensures { IfOk result (λ b. HasMadeBook terms.now seat b) }
 {
     match Book::make(alloc, &terms.setup, terms.events, terms.events, tie, seat) {
         Ok(book) => Ok(book),

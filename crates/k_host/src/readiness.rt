@@ -55,13 +55,35 @@ fn is_plain(op: &Op) -> bool
 }
 
 /// Whether no collection is open.
-fn is_idle(phase: CellPhase) -> bool
+pub(crate) fn is_idle(phase: CellPhase) -> bool
     ensures { IsTrue result → phase ≡ CellPhase.Idle }
 {
     match phase {
         CellPhase::Idle => true,
         CellPhase::Begun => false,
         CellPhase::Marked => false,
+    }
+}
+
+/// Whether a collection has begun and is not marked.
+pub(crate) fn is_begun(phase: CellPhase) -> bool
+    ensures { IsTrue result → phase ≡ CellPhase.Begun }
+{
+    match phase {
+        CellPhase::Idle => false,
+        CellPhase::Begun => true,
+        CellPhase::Marked => false,
+    }
+}
+
+/// Whether a collection is marked.
+pub(crate) fn is_marked(phase: CellPhase) -> bool
+    ensures { IsTrue result → phase ≡ CellPhase.Marked }
+{
+    match phase {
+        CellPhase::Idle => false,
+        CellPhase::Begun => false,
+        CellPhase::Marked => true,
     }
 }
 
@@ -86,7 +108,7 @@ pub(crate) fn has_events_left(terms: &Terms, guest: &Guest, book: &Book) -> bool
 }
 
 /// Whether the process can have one exit item more, and do one operation more.
-fn has_item_room(terms: &Terms, guest: &Guest) -> bool
+pub(crate) fn has_item_room(terms: &Terms, guest: &Guest) -> bool
     ensures { IsTrue result → HasItemRoom (basis_of terms.now) guest.now }
 {
     guest.cell.exit_count() < terms.events && guest.cell.done() < u32::MAX

@@ -3,7 +3,7 @@ ghost use Rattle.std.specs.Prelude.{◌≡◌, IfErr, IfOk};
 ghost use Rattle.k_host.specs.Doing.{CanOperate, HasOperated};
 ghost use Rattle.k_host.specs.Serving.{basis_of};
 
-use crate::doing::{do_alone, do_inside, do_with_kernel, do_with_shared};
+use crate::doing::{do_alone, do_inside, do_with_kernel, do_with_shared, reached};
 use crate::errors::HostError;
 use crate::guest::Guest;
 use crate::readiness::{has_events_left, kernel_ready, ready};
@@ -11,7 +11,7 @@ use crate::terms::Terms;
 use k_book::Book;
 use k_kernel::KernelCell;
 use k_shared::SharedCell;
-use k_steps::{Reach, reach};
+use k_steps::Reach;
 use k_types::{Event, Op};
 
 /// Does the operation with whatever it touches, if it is ready and there is room.
@@ -31,7 +31,7 @@ pub(crate) fn operate_with(
     if !has_events_left(terms, guest, book) {
         return Err(HostError::Full);
     }
-    if let Some(reply) = do_inside(guest, op) {
+    if let Some(reply) = do_inside(terms, guest, op) {
         let pid = guest.cell.pid();
         return Ok(Event::Done {
             pid,
@@ -39,18 +39,18 @@ pub(crate) fn operate_with(
             reply,
         });
     }
-    match reach(&guest.cell, book, op) {
-        Reach::Own => Ok(do_alone(guest, book, op)),
+    match reached(terms, guest, book, op) {
+        Reach::Own => Ok(do_alone(terms, guest, book, op)),
         Reach::Kernel => {
             kernel_ready(terms, kernel)?;
-            Ok(do_with_kernel(guest, kernel, book, op))
+            Ok(do_with_kernel(terms, guest, kernel, book, op))
         }
         Reach::Shared(id) => {
             let heap = &mut shared[id.0 as usize];
             if heap.exit_count() >= terms.events {
                 return Err(HostError::Full);
             }
-            Ok(do_with_shared(guest, heap, book, op))
+            Ok(do_with_shared(terms, guest, heap, book, op))
         }
     }
 }

@@ -1,4 +1,5 @@
-use Rattle.std.proofs.Common.{[], refl}
+use Rattle.std.proofs.Common.{[], ◌-◌, refl, sym, subst}
+use Rattle.k_host.specs.Doing.{HasDoneAlone}
 use Rattle.k_host.proofs.Due.{can_alone, can_publish_first, done_alone}
 use Rattle.k_host.proofs.doing.do_alone.Goals as goal
 
@@ -11,4 +12,5 @@ step_own-event-requires g c =
 
 pub returns : goal.returns
 returns g c =
-    done_alone g.basis c.args.guest.now c.args.book.now c.args.op.now [] c.requires c.publish.new.cell c.publish.new.book c.publish.ensures c.step_own-event.new.cell c.step_own-event.new.book c.step_own-event.result c.step_own-event.ensures
+    subst (λ k. HasDoneAlone g.basis c.args.op.now c.args.guest.now (record { cell = c.step_own-event.new.cell; bodies = c.args.guest.now.bodies - k }) c.args.book.now c.step_own-event.new.book c.step_own-event.result) (sym c.bodies_taken.ensures)
+    (done_alone g.basis c.args.guest.now c.args.book.now c.args.op.now [] c.requires c.publish.new.cell c.publish.new.book c.publish.ensures c.step_own-event.new.cell c.step_own-event.new.book c.step_own-event.result c.step_own-event.ensures)

@@ -3,7 +3,7 @@ use Rattle.k_host.proofs.Inside.{done_inside, not_inside, tail_left}
 use Rattle.k_host.proofs.doing.do_inside.Goals as goal
 
 pub local-requires-clause-registers : goal.local-requires-clause-registers
-local-requires-clause-registers g c = registers_there g.basis.trace c.args.op.now c.requires.ready.in_range
+local-requires-clause-registers g c = registers_there g.basis.trace c.args.op.now c.requires.in_range
 
 pub local-requires-clause-room : goal.local-requires-clause-room
 local-requires-clause-room g c = tail_left g.basis c.args.guest.now c.args.op.now c.requires

@@ -1,4 +1,4 @@
-use Rattle.k_host.specs.Serving.{basis_of, open_trace}
+use Rattle.k_host.specs.Serving.{basis_of}
 use Rattle.k_host.proofs.stepping.operate_with.Given as goal
 
 abbrev pub ghost-do_inside : goal.ghost-do_inside
@@ -13,5 +13,5 @@ ghost-do_with_kernel a = basis_of a.terms.now
 abbrev pub ghost-do_with_shared : goal.ghost-do_with_shared
 ghost-do_with_shared a = basis_of a.terms.now
 
-abbrev pub ghost-reach : goal.ghost-reach
-ghost-reach a = open_trace a.terms.now.setup
+abbrev pub ghost-reached : goal.ghost-reached
+ghost-reached a = basis_of a.terms.now
