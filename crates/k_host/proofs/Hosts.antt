@@ -1,9 +1,10 @@
 -- A host of which one process, one shared heap or the kernel has changed serves still.
-use Rattle.std.proofs.Common.{◌≡◌, ℕ, refl, sym, ap, ◌∙◌, subst, List, set, length-set, Some, slice_get, slice_set, inl, inr, Result, Ok, Err, IfErr, OnErr, OnOk, ◌<◌, length, ◌++◌, arith}
+use Rattle.std.proofs.Common.{◌≡◌, ℕ, refl, sym, ap, ◌∙◌, subst, List, set, length-set, Option, Some, None, slice_get, slice_set, IfNone, IfSome, inl, inr, Result, Ok, Err, IfErr, OnErr, OnOk, ◌<◌, length, ◌++◌, arith}
 use Rattle.std.specs.Prelude.{IfOk}
 use Rattle.atomic_table.specs.Seated.{TableId}
 use Rattle.k_types.specs.declared.event.Event.{Event}
 use Rattle.k_types.specs.declared.event.Event.TheVariants.{Done}
+use Rattle.k_types.specs.declared.event.Reply.{Reply}
 use Rattle.k_types.specs.declared.op.Op.{Op}
 use Rattle.k_types.specs.declared.names.Pid.{Pid}
 use Rattle.k_types.specs.declared.names.SharedId.{SharedId}
@@ -12,7 +13,8 @@ use Rattle.k_cell.specs.Holdings.{HoldingsValue}
 use Rattle.k_shared.specs.SharedHeaps.{SharedRecord}
 use Rattle.k_process.proofs.Written.{get_set_cases}
 use Rattle.k_host.specs.declared.guest.Guest.{Guest}
-use Rattle.k_host.specs.Doing.{CanOperate, HasOperated}
+use Rattle.k_host.specs.Collecting.{HasAbsorbedNow, HasMarkedGuest}
+use Rattle.k_host.specs.Doing.{CanOperate, HasDoneInside, HasOperated}
 use Rattle.k_host.specs.Hosts.{HasOperatedAs, HostServes}
 use Rattle.k_host.specs.Serving.{Basis, BookServes, GuestServes, GuestsServe, HeapsServe, KeepsPair, KernelServes, SharedServes}
 
@@ -134,3 +136,47 @@ module _ (basis : Basis) (gs : List Guest) (k : HoldingsValue) (ss : List Shared
     event_is = done.event_is ∙ ap (λ n. Done (record { 0 = n }) op done.said) (serves.all.placed pid.0 g at);
     recorded = done.recorded;
   }
+
+-- whatever a call on a process alone answers
+module _ (basis : Basis) (g h : Guest) (b : BookRecord) (guest : GuestServes basis b.journal.table g) (book : BookServes basis b) where
+  pub marked_kept : {A E : Type 0} (r : Result A E) → OnOk r (HasMarkedGuest basis g h) → OnErr r (h ≡ g) → KeepsPair basis g h b b
+  marked_kept (Ok x) done same = alone_kept basis g h b guest book done.serves (ap (λ (x : Guest). x.cell.pid) done.guest_is)
+  marked_kept (Err why) done same = pair_same basis g h b b guest book same refl
+
+  pub local_kept : {E : Type 0} (op : Op) (r : Result (Option Reply) E) → IfOk r (λ answer. IfSome answer (λ said. HasDoneInside basis op g h said)) → IfOk r (λ answer. IfNone answer (h ≡ g)) →
+      IfErr r (λ why. h ≡ g) → KeepsPair basis g h b b
+  local_kept op (Ok (Some said)) done none same = alone_kept basis g h b guest book done.serves (ap (λ (x : Guest). x.cell.pid) done.guest_is)
+  local_kept op (Ok None) done none same = pair_same basis g h b b guest book none refl
+  local_kept op (Err why) done none same = pair_same basis g h b b guest book same refl
+
+-- whatever a call on a process and the kernel answers
+module _ (basis : Basis) (g h : Guest) (k x : HoldingsValue) (b l : BookRecord) (guest : GuestServes basis b.journal.table g) (kernel : KernelServes basis b.journal.table k) (book : BookServes basis b) where
+  pub both_kept : {E : Type 0} (P : Event → Type 0) → ((event : Event) → P event → KeepsPair basis g h b l) → ((event : Event) → P event → KernelServes basis l.journal.table x) → (r : Result Event E) → IfOk r P →
+      IfErr r (λ why. (h ≡ g) × (x ≡ k) × (l ≡ b)) → KeepsPair basis g h b l × KernelServes basis l.journal.table x
+  both_kept P f q (Ok event) done same = (f event done, q event done)
+  both_kept P f q (Err why) done same = (
+    pair_same basis g h b l guest book same.0 same.2,
+    subst (λ (y : BookRecord). KernelServes basis y.journal.table x) (sym same.2) (subst (KernelServes basis b.journal.table) (sym same.1) kernel),
+  )
+
+-- a host of which a shared heap may have been absorbed
+module _ (basis : Basis) (gs : List Guest) (k : HoldingsValue) (ss : List SharedRecord) (b : BookRecord) (serves : HostServes (record { basis = basis; guests = gs; kernel = k; shared = ss; book = b })) where
+  pub found_heap : (n : ℕ) (s : SharedRecord) → slice_get ss n ≡ Some s → SharedServes basis b.journal.table s
+  found_heap n s at = serves.rest.heaps.each n s at
+
+  absorbed_host : (n : ℕ) (s t : SharedRecord) (x : HoldingsValue) (l : BookRecord) → slice_get ss n ≡ Some s → SharedServes basis l.journal.table t → t.id ≡ s.id → KernelServes basis l.journal.table x → BookServes basis l →
+      l.journal.table ≡ b.journal.table → HostServes (record { basis = basis; guests = gs; kernel = x; shared = slice_set ss n t; book = l })
+  absorbed_host n s t x l at shared id kernel book same = record {
+    all = guests_stay basis b.journal.table l.journal.table same gs serves.all;
+    rest = record { kernel = kernel; heaps = heaps_set basis b.journal.table l.journal.table same ss n s t serves.rest.heaps at shared id; book = book };
+  }
+
+  pub absorbed_kept : {E : Type 0} (n : ℕ) (s t : SharedRecord) (x : HoldingsValue) (l : BookRecord) → slice_get ss n ≡ Some s → (r : Result Event E) → IfOk r (λ event. HasAbsorbedNow basis s t x b l event) →
+      IfErr r (λ why. (t ≡ s) × (x ≡ k) × (l ≡ b)) → HostServes (record { basis = basis; guests = gs; kernel = x; shared = slice_set ss n t; book = l })
+  absorbed_kept n s t x l at (Ok event) done same = absorbed_host n s t x l at done.shared done.same done.own.kernel done.own.book done.own.same_table
+  absorbed_kept n s t x l at (Err why) done same =
+      absorbed_host n s t x l at
+      (subst (λ (y : BookRecord). SharedServes basis y.journal.table t) (sym same.2) (subst (SharedServes basis b.journal.table) (sym same.0) (found_heap n s at)))
+      (ap (λ (y : SharedRecord). y.id) same.0)
+      (subst (λ (y : BookRecord). KernelServes basis y.journal.table x) (sym same.2) (subst (KernelServes basis b.journal.table) (sym same.1) serves.rest.kernel))
+      (subst (BookServes basis) (sym same.2) serves.rest.book) (ap (λ (y : BookRecord). y.journal.table) same.2)

@@ -7,3 +7,4 @@ pub mod Collected
 pub mod Hosts
 pub mod Opened
 pub mod Twined
+pub mod Operated

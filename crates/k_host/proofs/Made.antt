@@ -56,6 +56,29 @@ first_note tie first (suc more) notes rest note are taken =
 pub notes_many : (tie : TableId) (first left : ℕ) (notes : List NoteValue) → AreNotes tie first left notes → length notes ≡ left
 notes_many tie first left notes are = ap length are ∙ length-map (numbers_from first left) (blank_note tie) ∙ numbers_length first left
 
+-- the notes of all cells, when the kernel's is taken
+module _ (tie table : TableId) (same : table ≡ tie) (n procs heaps : ℕ) (count : n ≡ 1 + procs + heaps) (notes : List NoteValue) (is : notes ≡ map (blank_note tie) (numbers_below n)) where
+  all_notes : AreNotes tie 0 (procs + heaps + 1) notes
+  all_notes = is ∙ ap (λ k. map (blank_note tie) (numbers_from 0 k)) (omega (arith, count))
+
+  pub some_note : 0 < length notes
+  some_note = let many = notes_many tie 0 (procs + heaps + 1) notes all_notes in omega (arith, many)
+
+  module _ (note : NoteValue) (rest : List NoteValue) (taken : notes ≡ note ∷ rest) where
+    abbrev first : (note ≡ blank_note tie 0) × (more : ℕ) × (procs + heaps + 1 ≡ more + 1) × AreNotes tie (0 + 1) more rest
+    first = first_note tie 0 (procs + heaps + 1) notes rest note all_notes taken
+
+    pub kernel_blank : note ≡ blank_note note.table 0
+    kernel_blank = first.0 ∙ ap (λ (x : NoteValue). blank_note x.table 0) (sym first.0)
+
+    pub kernel_table : note.table ≡ table
+    kernel_table = ap (λ (x : NoteValue). x.table) first.0 ∙ sym same
+
+    pub others_left : AreNotes table 1 (procs + heaps) rest
+    others_left =
+        first.3 ∙ ap (λ k. map (blank_note tie) (numbers_from 1 k)) (let fewer = first.2 in omega (arith, fewer))
+        ∙ ap (λ t. map (blank_note t) (numbers_from 1 (procs + heaps))) (sym same)
+
 module _ (terms : Terms) (can : CanMake terms) where
   abbrev trace : Trace
   trace = open_trace terms.setup
@@ -130,6 +153,7 @@ module _ (terms : Terms) (can : CanMake terms) where
 
   pub book_made : (b : BookRecord) (seat : JournalValue) (table : TableId) → seat ≡ empty_journal table → b ≡ opened terms.setup terms.events terms.events seat → HasMadeBook terms seat b
   book_made b seat table empty is = record {
+    can = can;
     serves =
         subst (λ (x : BookRecord). BookServes basis x) (sym is)
         (subst (λ (j : JournalValue). BookServes basis (opened terms.setup terms.events terms.events j)) (sym empty)

@@ -43,6 +43,7 @@ pub record CanMakeShared (terms : Terms) (id : SharedId) (note : NoteValue) : Ty
 
 -- the book serves with the seat's journal, and counts the processes and the shared heaps of the setup
 pub record HasMadeBook (terms : Terms) (seat : JournalValue) (b : BookRecord) : Type 0 where
+  pub can : CanMake terms
   pub serves : BookServes (basis_of terms) b
   pub journal : b.journal ≡ seat
   pub procs : length b.procs ≡ length terms.setup.procs.items

@@ -107,6 +107,16 @@ pub(crate) fn has_events_left(terms: &Terms, guest: &Guest, book: &Book) -> bool
     u64::from(book.len()) + u64::from(guest.cell.tail_len()) < u64::from(terms.events)
 }
 
+/// Tells that the journal has room for what the process has unpublished and one event more.
+pub(crate) fn room_left(terms: &Terms, guest: &Guest, book: &Book) -> Result<(), HostError>
+    ensures { OnOk result (HasEventsLeft (basis_of terms.now) guest.now book.now) }
+{
+    if !has_events_left(terms, guest, book) {
+        return Err(HostError::Full);
+    }
+    Ok(())
+}
+
 /// Whether the process can have one exit item more, and do one operation more.
 pub(crate) fn has_item_room(terms: &Terms, guest: &Guest) -> bool
     ensures { IsTrue result → HasItemRoom (basis_of terms.now) guest.now }

@@ -6,7 +6,7 @@ ghost use Rattle.k_host.specs.Serving.{basis_of};
 use crate::doing::{do_alone, do_inside, do_with_kernel, do_with_shared, reached};
 use crate::errors::HostError;
 use crate::guest::Guest;
-use crate::readiness::{has_events_left, kernel_ready, ready};
+use crate::readiness::{kernel_ready, ready, room_left};
 use crate::terms::Terms;
 use k_book::Book;
 use k_kernel::KernelCell;
@@ -25,12 +25,10 @@ pub(crate) fn operate_with(
 ) -> Result<Event, HostError>
     requires { CanOperate (basis_of terms.now) guest.old kernel.old shared.old.items book.old }
     ensures done { IfOk result (λ event. HasOperated (basis_of terms.now) op.now guest.old guest.new kernel.new shared.new.items book.old book.new event) }
-    ensures same { IfErr result (λ why. (guest.new ≡ guest.old) × (kernel.new ≡ kernel.old) × (shared.new ≡ shared.old) × (book.new ≡ book.old)) }
+    ensures same { IfErr result (λ why. (guest.new ≡ guest.old) × (kernel.new ≡ kernel.old) × (shared.new.items ≡ shared.old.items) × (book.new ≡ book.old)) }
 {
     ready(terms, guest, op)?;
-    if !has_events_left(terms, guest, book) {
-        return Err(HostError::Full);
-    }
+    room_left(terms, guest, book)?;
     if let Some(reply) = do_inside(terms, guest, op) {
         let pid = guest.cell.pid();
         return Ok(Event::Done {
