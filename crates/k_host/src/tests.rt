@@ -4,8 +4,8 @@ mod collections;
 mod inside;
 mod made_up;
 
-use crate::{Host, HostError, OpenError};
-use k_types::{Event, Name, Op, Pid, Reg, Reply, Seg, Serial, TypeId};
+use crate::{Host, OpenError};
+use k_types::{Name, Op, Pid, Reg, Seg, Serial, TypeId};
 use std::alloc::Global;
 
 /// A ceiling, a type with two references and a number, a hard and a soft limit under the root, two processes and a shared heap.
@@ -60,10 +60,4 @@ fn load(reg: u8, base: u8, field: u32) -> Op {
         base: Reg(base),
         field,
     }
-}
-
-/// Whether the process does the operation with that reply.
-fn does(host: &mut Host, pid: Pid, op: Op, reply: Reply) -> Result<bool, HostError> {
-    let event = host.operate(pid, &op)?;
-    Ok(event == Event::Done { pid, op, reply })
 }

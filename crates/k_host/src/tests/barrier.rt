@@ -24,10 +24,9 @@ fn a_foreign_object_is_held_and_not_stored(rt: HostRuntime) -> Result<(), Fail> 
         assert_eq!(rt; event, Event::Done { pid, op, reply });
     }
     assert_eq!(rt; host.len(), 8);
-    let mut number = 0;
-    for (pid, op, reply) in steps {
+    for number in 0..8u32 {
+        let (pid, op, reply) = steps[number as usize];
         assert_eq!(rt; host.event(number), Some(Event::Done { pid, op, reply }));
-        number += 1;
     }
     assert_eq!(rt; host.entries(name(1, 1)), 1);
     assert_eq!(rt; host.pins(name(1, 1)), 1);
