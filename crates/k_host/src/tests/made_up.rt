@@ -7,6 +7,7 @@ use std::test::Fail;
 const S: SharedId = SharedId(0);
 
 /// Numbers that look like chance, from a seed.
+#[derive(Drop)]
 struct Chance(u64);
 
 impl Chance {
