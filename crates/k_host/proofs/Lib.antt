@@ -1,0 +1,10 @@
+pub mod Rooms
+pub mod Going
+pub mod Due
+pub mod Inside
+pub mod Made
+pub mod Collected
+pub mod Hosts
+pub mod Opened
+pub mod Twined
+pub mod Operated

@@ -1,0 +1,33 @@
+use Rattle.std.proofs.Common.{◌<◌, ◌∙◌, refl, sym, ap, subst, length, set, arith}
+use Rattle.std.proofs.lemmas.List.{set-get_or}
+use Rattle.k_process.proofs.Looped.{found_at}
+use Rattle.k_host.specs.Serving.{basis_of}
+use Rattle.k_host.proofs.Operated.{can_shared, heap_there, shared_operated}
+use Rattle.k_host.proofs.stepping.operate_with.Goals as goal
+
+pub index_mut-heap-requires : goal.index_mut-heap-requires
+index_mut-heap-requires c =
+    subst (λ n. c.in-Shared.id.0 < n) (sym c.args.shared.now.ok.0)
+    (heap_there (basis_of c.args.terms.now) c.args.guest.now c.args.kernel.now c.args.shared.now.items c.args.book.now c.args.op.now c.requires c.in_ok-ready.ensures c.in_ok-room_left.ensures c.do_inside.new.guest c.in_default.ensures.none c.in_default.ensures.outside c.in-Shared.id (sym c.in-Shared.ensures))
+
+pub returns-then-exit_count-terms-clause-same : goal.returns-then-exit_count-terms-clause-same
+returns-then-exit_count-terms-clause-same c = (
+  c.in_default.ensures.none,
+  refl,
+  ap (λ y. set c.args.shared.now.items c.in-Shared.id.0 y) c.index_mut-heap.ensures.value ∙ set-get_or c.args.shared.now.items c.in-Shared.id.0 c.index_mut-heap.result.now,
+  refl,
+)
+
+pub do_with_shared-requires : goal.do_with_shared-requires
+do_with_shared-requires c =
+    can_shared (basis_of c.args.terms.now) c.args.guest.now c.args.kernel.now c.args.shared.now.items c.args.book.now c.args.op.now c.requires c.in_ok-ready.ensures c.in_ok-room_left.ensures c.do_inside.new.guest c.in_default.ensures.none c.in_default.ensures.outside c.in-Shared.id c.index_mut-heap.result.now
+    (found_at c.args.shared.now.items (length c.args.shared.now.items) c.in-Shared.id.0 c.in-Shared.id.0 c.index_mut-heap.result.now c.index_mut-heap.result.now refl
+    (heap_there (basis_of c.args.terms.now) c.args.guest.now c.args.kernel.now c.args.shared.now.items c.args.book.now c.args.op.now c.requires c.in_ok-ready.ensures c.in_ok-room_left.ensures c.do_inside.new.guest c.in_default.ensures.none c.in_default.ensures.outside c.in-Shared.id (sym c.in-Shared.ensures)) refl c.index_mut-heap.ensures.value refl)
+    (omega (arith, c.if-exit_count-terms.false, c.exit_count.ensures.len)) (sym c.in-Shared.ensures)
+
+pub returns-else-exit_count-terms-clause-done : goal.returns-else-exit_count-terms-clause-done
+returns-else-exit_count-terms-clause-done c =
+    shared_operated (basis_of c.args.terms.now) c.args.guest.now c.args.kernel.now c.args.shared.now.items c.args.book.now c.args.op.now c.requires c.in_ok-ready.ensures c.in_ok-room_left.ensures c.do_inside.new.guest c.in_default.ensures.none c.in_default.ensures.outside c.in-Shared.id c.index_mut-heap.result.now
+    (found_at c.args.shared.now.items (length c.args.shared.now.items) c.in-Shared.id.0 c.in-Shared.id.0 c.index_mut-heap.result.now c.index_mut-heap.result.now refl
+    (heap_there (basis_of c.args.terms.now) c.args.guest.now c.args.kernel.now c.args.shared.now.items c.args.book.now c.args.op.now c.requires c.in_ok-ready.ensures c.in_ok-room_left.ensures c.do_inside.new.guest c.in_default.ensures.none c.in_default.ensures.outside c.in-Shared.id (sym c.in-Shared.ensures)) refl c.index_mut-heap.ensures.value refl)
+    c.do_with_shared.new.guest c.do_with_shared.new.shared c.do_with_shared.new.book c.do_with_shared.result c.do_with_shared.ensures

@@ -1,0 +1,7 @@
+pub mod Serving
+pub mod Hosts
+pub mod Doing
+pub mod Making
+pub mod Collecting
+pub mod Calls
+pub mod Twins

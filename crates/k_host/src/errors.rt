@@ -1,0 +1,45 @@
+//! Why a host does not do what it is called for.
+ghost use Rattle.std.specs.Prelude.{◌≡◌};
+
+use k_io::NoMemory;
+use k_trace::TraceError;
+
+/// Why a call of a host changes nothing.
+#[derive(Clone, Copy, Debug, PartialEq, Eq)]
+pub enum HostError {
+    /// No such process or shared heap, or the operation names what the setup does not declare.
+    Unknown,
+    /// The operation has a call of its own.
+    OwnCall,
+    /// The process has ended.
+    Ended,
+    /// A collection of a heap that is touched is open, or not as far as the call asks.
+    Phase,
+    /// There may be no room for the event, or for what it adds to a table.
+    Full,
+    /// There is no body for the allocation, or only one of another type.
+    NoBody,
+    /// A shared heap is an orphan, or the one to be absorbed is none.
+    Orphan,
+}
+
+/// Why no host is made.
+#[derive(Debug, Drop)]
+pub enum OpenError {
+    /// Memory ran out.
+    NoMemory(NoMemory),
+    /// The text spells no trace.
+    Text(TraceError),
+    /// The setup has no such type, it reserves more than its limits have, or there are too many events or bodies.
+    Terms,
+}
+
+impl From<NoMemory> for OpenError {
+    ghost use Rattle.k_host.specs.declared.errors.OpenError.TheVariants as open_errors;
+
+    ghost from_gives = { λ refused e. e ≡ open_errors.NoMemory refused };
+
+    fn from(refused: NoMemory) -> OpenError {
+        OpenError::NoMemory(refused)
+    }
+}

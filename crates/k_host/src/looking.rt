@@ -1,0 +1,72 @@
+//! What a host shows.
+ghost use Rattle.std.specs.Prelude.{◌≡◌, length, slice_get};
+ghost use Rattle.k_types.specs.Counted.{counted};
+
+use crate::host::Host;
+use crate::twin::Twin;
+use k_io::NoMemory;
+use k_types::{CellPhase, Event, Name, Pid, SharedId};
+use std::alloc::Global;
+
+impl Host {
+    /// The number of events in the journal. Constant time.
+    pub fn len(&self) -> u32
+        ensures { result ≡ length self.now.book.journal.list }
+    {
+        self.book.len()
+    }
+
+    /// The event of that number in the journal, from 0; `None` past the last. Constant time.
+    pub fn event(&self, number: u32) -> Option<Event>
+        ensures { result ≡ slice_get self.now.book.journal.list number }
+    {
+        if number >= self.book.len() {
+            return None;
+        }
+        Some(*self.book.event(number))
+    }
+
+    /// How many heaps have an exit item to the object. Constant time where the hash spreads the names.
+    pub fn entries(&self, target: Name) -> u32
+        ensures { result ≡ counted self.now.book.value.entries target }
+    {
+        self.book.entries(target)
+    }
+
+    /// How many registers of other processes than its owner hold the object. Constant time where the hash spreads the names.
+    pub fn pins(&self, target: Name) -> u32
+        ensures { result ≡ counted self.now.book.value.pins target }
+    {
+        self.book.pins(target)
+    }
+
+    /// The number of unpublished events of the process; `None` where there is no such process. Constant time.
+    pub fn unpublished(&self, pid: Pid) -> Option<u32> {
+        let guest = self.guests.get(pid.0 as usize)?;
+        Some(guest.cell.tail_len())
+    }
+
+    /// How far the collection of the process's heap has come; `None` where there is no such process. Constant time.
+    pub fn phase(&self, pid: Pid) -> Option<CellPhase> {
+        let guest = self.guests.get(pid.0 as usize)?;
+        Some(guest.cell.phase())
+    }
+
+    /// How far the collection of the kernel's heap has come. Constant time.
+    pub fn kernel_phase(&self) -> CellPhase
+        ensures { result ≡ self.now.kernel.value.collection }
+    {
+        self.kernel.phase()
+    }
+
+    /// The machine on one thread before the first event, with the setup of the host. `NoMemory` comes where its lists find no memory.
+    pub fn twin(&self, alloc: Global) -> Result<Twin, NoMemory> {
+        let _book = &self.book;
+        Twin::make(alloc, &self.terms.setup)
+    }
+
+    /// The shared heap of the lowest number that was made, isn't absorbed and has no sharer. The cost is in proportion to the shares.
+    pub fn first_orphan(&self) -> Option<SharedId> {
+        self.book.first_orphan()
+    }
+}

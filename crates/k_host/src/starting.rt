@@ -1,0 +1,270 @@
+//! Calls on the collections of a host, tested before they are done.
+ghost use Rattle.std.specs.Prelude.{◌≡◌, ◌<◌, ◌≤◌, ◌+◌, IfErr, IfNone, IfOk, IfSome, IsTrue, None, OnErr, OnOk, length};
+ghost use Rattle.k_types.specs.declared.names.CellPhase.TheVariants.{Begun, Idle, Marked};
+ghost use Rattle.k_shares.specs.Sharers.{is_orphan_by};
+ghost use Rattle.k_host.specs.Collecting.{HasAbsorbedNow, HasBegun, HasBegunKernel, HasEnded, HasExitedNow, HasMarkedGuest, HasMarkedKernel, HasSettled, HasSettledKernel, KernelHasGoneOn};
+ghost use Rattle.k_host.specs.Doing.{HasDoneInside, HasPublishedAll};
+ghost use Rattle.k_host.specs.Serving.{BookServes, GuestServes, KernelServes, SharedServes, basis_of};
+
+use crate::collecting::{
+    do_absorb, do_begin, do_begin_kernel, do_end, do_end_kernel, do_exit, do_mark, do_mark_kernel,
+    do_settle, do_settle_kernel,
+};
+use crate::doing::{do_inside, publish_all};
+use crate::errors::HostError;
+use crate::guest::Guest;
+use crate::ranges::is_in_range;
+use crate::readiness::{awake, has_events_left, has_item_room, is_begun, is_idle, is_marked};
+use crate::terms::Terms;
+use k_book::Book;
+use k_kernel::KernelCell;
+use k_shared::SharedCell;
+use k_types::{Event, Op, Reply, SharedId};
+
+/// Does the operation inside the process's own heap, if it needs that heap alone and there is room.
+pub(crate) fn try_inside(
+    terms: &Terms,
+    guest: &mut Guest,
+    op: &Op,
+) -> Result<Option<Reply>, HostError>
+    requires { GuestServes (basis_of terms.now) guest.old.cell.note.table guest.old }
+    ensures done { IfOk result (λ answer. IfSome answer (λ said. HasDoneInside (basis_of terms.now) op.now guest.old guest.new said)) }
+    ensures none { IfOk result (λ answer. IfNone answer (guest.new ≡ guest.old)) }
+    ensures same { IfErr result (λ why. guest.new ≡ guest.old) }
+{
+    if !is_in_range(&terms.setup, op) {
+        return Err(HostError::Unknown);
+    }
+    awake(guest)?;
+    if !has_item_room(terms, guest) || guest.cell.tail_len() >= terms.events {
+        return Err(HostError::Full);
+    }
+    Ok(do_inside(terms, guest, op))
+}
+
+/// Publishes what the process did inside its heap, if there is room.
+pub(crate) fn try_publish(
+    terms: &Terms,
+    guest: &mut Guest,
+    book: &mut Book,
+) -> Result<(), HostError>
+    requires guest { GuestServes (basis_of terms.now) book.old.journal.table guest.old }
+    requires book { BookServes (basis_of terms.now) book.old }
+    ensures done { OnOk result (HasPublishedAll (basis_of terms.now) guest.old guest.new book.old book.new) }
+    ensures same { OnErr result ((guest.new ≡ guest.old) × (book.new ≡ book.old)) }
+{
+    if !has_events_left(terms, guest, book) {
+        return Err(HostError::Full);
+    }
+    publish_all(terms, guest, book);
+    Ok(())
+}
+
+/// Begins the collection of the process's heap, if none is open and there is room.
+pub(crate) fn try_begin(
+    terms: &Terms,
+    guest: &mut Guest,
+    book: &mut Book,
+) -> Result<Event, HostError>
+    requires guest { GuestServes (basis_of terms.now) book.old.journal.table guest.old }
+    requires book { BookServes (basis_of terms.now) book.old }
+    ensures done { IfOk result (λ event. HasBegun (basis_of terms.now) guest.old guest.new book.old book.new event) }
+    ensures same { IfErr result (λ why. (guest.new ≡ guest.old) × (book.new ≡ book.old)) }
+{
+    awake(guest)?;
+    if !has_events_left(terms, guest, book) {
+        return Err(HostError::Full);
+    }
+    Ok(do_begin(terms, guest, book))
+}
+
+/// Marks the process's heap, if its collection has begun.
+pub(crate) fn try_mark(terms: &Terms, guest: &mut Guest) -> Result<(), HostError>
+    requires { GuestServes (basis_of terms.now) guest.old.cell.note.table guest.old }
+    ensures done { OnOk result (HasMarkedGuest (basis_of terms.now) guest.old guest.new) }
+    ensures same { OnErr result (guest.new ≡ guest.old) }
+{
+    if !is_begun(guest.cell.phase()) {
+        return Err(HostError::Phase);
+    }
+    do_mark(terms, guest);
+    Ok(())
+}
+
+/// Ends the collection of the process's heap, if it is marked and there is room.
+pub(crate) fn try_end(terms: &Terms, guest: &mut Guest, book: &mut Book) -> Result<Event, HostError>
+    requires guest { GuestServes (basis_of terms.now) book.old.journal.table guest.old }
+    requires book { BookServes (basis_of terms.now) book.old }
+    ensures done { IfOk result (λ event. HasEnded (basis_of terms.now) guest.old guest.new book.old book.new event) }
+    ensures same { IfErr result (λ why. (guest.new ≡ guest.old) × (book.new ≡ book.old)) }
+{
+    if !guest.cell.lives() {
+        return Err(HostError::Ended);
+    }
+    if !is_marked(guest.cell.phase()) {
+        return Err(HostError::Phase);
+    }
+    if !has_events_left(terms, guest, book) {
+        return Err(HostError::Full);
+    }
+    Ok(do_end(terms, guest, book))
+}
+
+/// Publishes, and ends what is open of the process's heap, if there is room.
+pub(crate) fn try_settle(terms: &Terms, guest: &mut Guest, book: &mut Book) -> Result<(), HostError>
+    requires guest { GuestServes (basis_of terms.now) book.old.journal.table guest.old }
+    requires book { BookServes (basis_of terms.now) book.old }
+    ensures done { OnOk result (HasSettled (basis_of terms.now) guest.old guest.new book.old book.new) }
+    ensures same { OnErr result ((guest.new ≡ guest.old) × (book.new ≡ book.old)) }
+{
+    if !guest.cell.lives() {
+        return Err(HostError::Ended);
+    }
+    if !has_events_left(terms, guest, book) {
+        return Err(HostError::Full);
+    }
+    do_settle(terms, guest, book);
+    Ok(())
+}
+
+/// Begins the collection of the kernel's heap, if none is open, no shared heap is an orphan and there is room.
+pub(crate) fn try_begin_kernel(
+    terms: &Terms,
+    guest: &mut Guest,
+    kernel: &mut KernelCell,
+    book: &mut Book,
+) -> Result<Event, HostError>
+    requires guest { GuestServes (basis_of terms.now) book.old.journal.table guest.old }
+    requires kernel { KernelServes (basis_of terms.now) book.old.journal.table kernel.old }
+    requires book { BookServes (basis_of terms.now) book.old }
+    ensures done { IfOk result (λ event. HasBegunKernel (basis_of terms.now) guest.old guest.new kernel.new book.old book.new event) }
+    ensures same { IfErr result (λ why. (guest.new ≡ guest.old) × (kernel.new ≡ kernel.old) × (book.new ≡ book.old)) }
+{
+    awake(guest)?;
+    if !is_idle(kernel.phase()) {
+        return Err(HostError::Phase);
+    }
+    if book.first_orphan().is_some() {
+        return Err(HostError::Orphan);
+    }
+    if !has_events_left(terms, guest, book) {
+        return Err(HostError::Full);
+    }
+    Ok(do_begin_kernel(terms, guest, kernel, book))
+}
+
+/// Marks the kernel's heap, if its collection has begun.
+pub(crate) fn try_mark_kernel(terms: &Terms, kernel: &mut KernelCell) -> Result<(), HostError>
+    requires { KernelServes (basis_of terms.now) kernel.old.note.table kernel.old }
+    ensures done { OnOk result (HasMarkedKernel (basis_of terms.now) kernel.old kernel.new) }
+    ensures same { OnErr result (kernel.new ≡ kernel.old) }
+{
+    if !is_begun(kernel.phase()) {
+        return Err(HostError::Phase);
+    }
+    do_mark_kernel(terms, kernel);
+    Ok(())
+}
+
+/// Ends the collection of the kernel's heap, if it is marked and there is room.
+pub(crate) fn try_end_kernel(
+    terms: &Terms,
+    kernel: &mut KernelCell,
+    book: &mut Book,
+) -> Result<Event, HostError>
+    requires kernel { KernelServes (basis_of terms.now) book.old.journal.table kernel.old }
+    requires book { BookServes (basis_of terms.now) book.old }
+    ensures done { IfOk result (λ event. KernelHasGoneOn (basis_of terms.now) kernel.new book.old book.new event Idle) }
+    ensures same { IfErr result (λ why. (kernel.new ≡ kernel.old) × (book.new ≡ book.old)) }
+{
+    if !is_marked(kernel.phase()) {
+        return Err(HostError::Phase);
+    }
+    if book.len() >= terms.events {
+        return Err(HostError::Full);
+    }
+    Ok(do_end_kernel(terms, kernel, book))
+}
+
+/// Ends what is open of the kernel's heap, if there is room.
+pub(crate) fn try_settle_kernel(
+    terms: &Terms,
+    kernel: &mut KernelCell,
+    book: &mut Book,
+) -> Result<(), HostError>
+    requires kernel { KernelServes (basis_of terms.now) book.old.journal.table kernel.old }
+    requires book { BookServes (basis_of terms.now) book.old }
+    ensures done { OnOk result (HasSettledKernel (basis_of terms.now) kernel.old kernel.new book.old book.new) }
+    ensures same { OnErr result ((kernel.new ≡ kernel.old) × (book.new ≡ book.old)) }
+{
+    if book.len() >= terms.events {
+        return Err(HostError::Full);
+    }
+    do_settle_kernel(terms, kernel, book);
+    Ok(())
+}
+
+/// Ends the process, if no collection of its heap or the kernel's is open and there is room.
+pub(crate) fn try_exit(
+    terms: &Terms,
+    guest: &mut Guest,
+    kernel: &mut KernelCell,
+    book: &mut Book,
+) -> Result<Event, HostError>
+    requires guest { GuestServes (basis_of terms.now) book.old.journal.table guest.old }
+    requires kernel { KernelServes (basis_of terms.now) book.old.journal.table kernel.old }
+    requires book { BookServes (basis_of terms.now) book.old }
+    ensures done { IfOk result (λ event. HasExitedNow (basis_of terms.now) guest.old guest.new kernel.new book.old book.new event) }
+    ensures same { IfErr result (λ why. (guest.new ≡ guest.old) × (kernel.new ≡ kernel.old) × (book.new ≡ book.old)) }
+{
+    awake(guest)?;
+    if !is_idle(kernel.phase()) {
+        return Err(HostError::Phase);
+    }
+    if !has_events_left(terms, guest, book) || !can_hand_on(terms, guest, kernel) {
+        return Err(HostError::Full);
+    }
+    Ok(do_exit(terms, guest, kernel, book))
+}
+
+/// Whether the kernel can take the exit items of the process's heap beside its own.
+fn can_hand_on(terms: &Terms, guest: &Guest, kernel: &KernelCell) -> bool
+    ensures { IsTrue result → length guest.now.cell.value.exits + length kernel.now.value.exits ≤ terms.now.events }
+{
+    u64::from(guest.cell.exit_count()) + u64::from(kernel.exit_count()) <= u64::from(terms.events)
+}
+
+/// Whether the shared heap is the orphan of the lowest number.
+fn is_first_orphan(book: &Book, id: SharedId) -> bool
+    ensures { IsTrue result → IsTrue (is_orphan_by book.now.value.phases book.now.value.shares id.0) }
+{
+    match book.first_orphan() {
+        Some(first) => first.0 == id.0,
+        None => false,
+    }
+}
+
+/// Absorbs the shared heap, if it is the first orphan, no collection of the kernel's heap is open and there is room.
+pub(crate) fn try_absorb(
+    terms: &Terms,
+    shared: &mut SharedCell,
+    kernel: &mut KernelCell,
+    book: &mut Book,
+) -> Result<Event, HostError>
+    requires shared { SharedServes (basis_of terms.now) book.old.journal.table shared.old }
+    requires kernel { KernelServes (basis_of terms.now) book.old.journal.table kernel.old }
+    requires book { BookServes (basis_of terms.now) book.old }
+    ensures done { IfOk result (λ event. HasAbsorbedNow (basis_of terms.now) shared.old shared.new kernel.new book.old book.new event) }
+    ensures same { IfErr result (λ why. (shared.new ≡ shared.old) × (kernel.new ≡ kernel.old) × (book.new ≡ book.old)) }
+{
+    if !is_first_orphan(book, shared.id()) {
+        return Err(HostError::Orphan);
+    }
+    if !is_idle(kernel.phase()) {
+        return Err(HostError::Phase);
+    }
+    if book.len() >= terms.events {
+        return Err(HostError::Full);
+    }
+    Ok(do_absorb(terms, shared, kernel, book))
+}
