@@ -18,8 +18,8 @@ fn is_store(op: &Op) -> bool
     matches!(*op, Op::Store { .. })
 }
 
-/// The number of stores among the operations: so many exit items can a process that does them leave in its heap. It passes each
-/// operation once.
+/// The number of stores among the operations: a process that does them leaves at most as many exit items in its heap. It passes
+/// each operation once.
 pub fn stores_in(ops: &[Op]) -> u32
     requires { length ops.now < 2 ^ 32 }
     ensures { result ≡ stores_in ops.now }
@@ -33,7 +33,8 @@ pub fn stores_in(ops: &[Op]) -> u32
     stores
 }
 
-/// The number of stores of all processes: so many exit items can the kernel's heap have to hold. It passes each operation once.
+/// The number of stores of all processes: the kernel's heap, which takes over those of ended processes, has at most as many exit
+/// items. It passes each operation once.
 pub fn all_stores(trace: &Trace) -> u32
     requires { IsTrace (meaning_of trace.now) }
     ensures { result ≡ exit_room (meaning_of trace.now).trace }
