@@ -3,3 +3,4 @@ pub mod Places
 pub mod Gathering
 pub mod Rooms
 pub mod Worlds
+pub mod Runs

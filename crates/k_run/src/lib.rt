@@ -7,7 +7,6 @@
 
 mod collecting;
 mod locked;
-mod outcome;
 mod placing;
 mod rooms;
 mod running;
@@ -16,9 +15,9 @@ mod turning;
 mod world;
 mod worlds;
 
+pub use k_outcome::Outcome;
 pub use k_process::Process;
 pub use locked::{LockedBook, LockedKernel, LockedProcess, LockedShared};
-pub use outcome::Outcome;
 pub use running::run;
 pub use world::{World, finish};
 pub use worlds::WorldName;
