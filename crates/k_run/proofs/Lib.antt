@@ -2,3 +2,5 @@ pub mod Places
 pub mod Gathered
 pub mod Stepped
 pub mod Ended
+pub mod Told
+pub mod Replayed
