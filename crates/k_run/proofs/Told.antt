@@ -2,12 +2,12 @@
 use Rattle.std.proofs.Common.{◌≡◌, ℕ, suc, refl, sym, ap, ap₂, ◌∙◌, List, [], ◌∷◌, map, length, Some, slice_get, slice_index_or, arith}
 use Rattle.k_types.specs.declared.op.Op.{Op}
 use Rattle.k_types.specs.declared.names.Pid.{Pid}
-use Rattle.k_types.specs.Trace.{operations_of, trace_of}
-use Rattle.k_trace.specs.Named.{NamedTrace}
+use Rattle.k_types.specs.Trace.{Trace, operations_of, trace_of}
+use Rattle.k_trace.specs.Named.{DeclaredNames, NamedTrace}
 use Rattle.k_process.specs.declared.process.Process.{Process}
 use Rattle.k_still.specs.declared.first.FirstCells.{FirstCells}
 use Rattle.k_still.specs.Opening.{IsOpened, world_of}
-use Rattle.k_run.specs.Opened.{trace_in, world_in}
+use Rattle.k_run.specs.Opened.{named_in, trace_in, world_in}
 
 -- lists of operations that processes have, each at its place
 told_lists : (lists : List (List Op)) (ps : List Process) → length ps ≡ length lists → ((k : ℕ) (p : Process) → slice_get ps k ≡ Some p → p.ops.items ≡ slice_index_or lists k []) →
@@ -34,5 +34,5 @@ module _ (named : NamedTrace) (first : FirstCells) (o : IsOpened named first) wh
   pub world_told : world_of named first ≡ world_in first
   world_told = ap (λ trace. record { trace = trace; table = first.book.journal.table }) trace_told
 
-  pub named_told : named ≡ record { names = first.names; trace = trace_in first }
-  named_told = ap₂ (λ names trace. record { names = names; trace = trace }) (sym o.names) trace_told
+  pub named_told : named ≡ named_in first
+  named_told = ap₂ (λ (names : DeclaredNames) (trace : Trace). record { names = names; trace = trace }) (sym o.names) trace_told
