@@ -4,3 +4,4 @@ pub mod Gathering
 pub mod Rooms
 pub mod Worlds
 pub mod Runs
+pub mod Stills

@@ -1,16 +1,19 @@
 //! Runs of a trace: each heap and the book behind a lock of its own, workers on threads, and what is left done on one thread.
 //!
-//! [`run`] has workers do what the processes have to do, and [`finish`] ends the run, whatever they did. A lock tells nothing of its value
-//! but the value's type; so the types of all values behind the locks are named by the run's trace and by the table of its journal
-//! ([`WorldName`]).
+//! [`open_still`] makes all that a run of a trace needs, [`open`] puts it behind its locks, [`run`] has workers do what the processes have
+//! to do, and [`finish`] ends the run, whatever they did. A lock tells nothing of its value but the value's type; so the types of all
+//! values behind the locks are named by the run's trace and by the table of its journal ([`WorldName`]).
 #![tactic(auto)]
 
 mod collecting;
 mod locked;
+mod opening;
 mod placing;
+mod reporting;
 mod rooms;
 mod running;
 mod stepping;
+mod still;
 mod turning;
 mod world;
 mod worlds;
@@ -18,6 +21,8 @@ mod worlds;
 pub use k_outcome::Outcome;
 pub use k_process::Process;
 pub use locked::{LockedBook, LockedKernel, LockedProcess, LockedShared};
+pub use opening::open;
 pub use running::run;
+pub use still::{Still, open_still};
 pub use world::{World, finish};
 pub use worlds::WorldName;
