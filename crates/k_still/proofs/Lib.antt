@@ -1,0 +1,9 @@
+pub mod FromTheEnd
+pub mod Tables
+pub mod Serials
+pub mod Raised
+pub mod Passes
+pub mod FirstCells
+pub mod FirstBook
+pub mod Begun
+pub mod Preparation

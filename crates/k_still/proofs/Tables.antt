@@ -1,0 +1,90 @@
+-- Sums over the processes of a trace, and over the first of them.
+use Rattle.std.proofs.Common.{◌≡◌, ◌⊎◌, ℕ, zero, suc, ◌+◌, ◌-◌, ◌*◌, ◌<◌, ◌≤◌, ◌==◌, ◌^◌, ◌&&◌, ◌||◌, nat_lt, cond, Bool, true, false, refl, sym, ap, ◌∙◌, subst, inl, inr, List, [], ◌∷◌, ◌++◌, length, map, take, set, get_or, slice_get, min, Option, Some, None, arith, eq-eqb, ne_eqb, ltb-true, IsTrue}
+use Rattle.std.specs.Prelude.{IfSome}
+use Rattle.std.specs.List.{AllByRecursion, list_all, list_any}
+use Rattle.std.proofs.Math.Nat.{le-min, min-le_left}
+use Rattle.std.proofs.Math.Seq.{take-length}
+use Rattle.std.proofs.lemmas.Bool.{and_parts, cases_Bool, cases_eq, eqb-true}
+use Rattle.std.proofs.lemmas.Grind.{get_or-set_at}
+use Rattle.std.proofs.lemmas.List.{get_or-set_other, length-set, take_more}
+use Rattle.std.proofs.lemmas.Option.{get_or_from_slice_get, slice_get_within}
+use Rattle.k_types.specs.declared.op.Op.{Op}
+use Rattle.k_types.specs.declared.op.Op.TheVariants.{New, KNew, SNew, Store, Load, Move, Clear, Dir, Put, Get, Collect, KCollect, Share, Freeze, Attach, Exit}
+use Rattle.k_types.specs.Bounds.{most_operations, register_count}
+use Rattle.k_types.specs.Numbers.{numbers_below, numbers_from}
+use Rattle.k_types.specs.Steps.{in_range}
+use Rattle.k_types.specs.Totals.{total}
+use Rattle.k_types.specs.Trace.{Trace, operations_of, process_count, segment_count}
+use Rattle.k_types.specs.TraceRules.{KeepsRules}
+use Rattle.k_base.proofs.Lists.{numbers_push}
+use Rattle.k_base.proofs.Sums.{total_push, total_at_most}
+use Rattle.k_bounds.specs.Counts.{allocates_in, is_share_of, is_store, one_if, stores_in}
+use Rattle.k_bounds.proofs.Counting.{count_low, one_if_low}
+use Rattle.k_agree.specs.Rooms.{event_room, exit_room, over_processes, serial_room}
+use Rattle.k_known.proofs.Counted.{all_ordered}
+use Rattle.k_locked.specs.Rooms.{shared_exit_room}
+use Rattle.k_still.specs.Opening.{AreSerialRooms, AreSharedRooms, CanCount, CanRaise, counted, heap_made, raised, segment_given, with_more, with_one_more}
+
+shifted : (f : ℕ → ℕ) (first n : ℕ) → total f (numbers_from (suc first) n) ≡ total (λ p. f (suc p)) (numbers_from first n)
+shifted f first zero = refl
+shifted f first (suc n) = ap (λ m. f (suc first) + m) (shifted f (suc first) n)
+
+rows : (g : List Op → ℕ) (xs : List (List Op)) → total (λ p. g (get_or xs p [])) (numbers_below (length xs)) ≡ total g xs
+rows g [] = refl
+rows g (x ∷ xs) = ap (λ m. g x + m) (shifted (λ p. g (get_or (x ∷ xs) p [])) 0 (length xs) ∙ rows g xs)
+
+-- a sum over some of the first and one more is at most that over all
+pub front_low : {A : Type 0} (f : A → ℕ) (xs : List A) (k : ℕ) (d : A) → k < length xs → total f (take k xs) + f (get_or xs k d) ≤ total f xs
+front_low f [] k d inside = absurd (omega (arith, inside))
+front_low f (x ∷ xs) zero d inside = omega arith
+front_low f (x ∷ xs) (suc k) d inside = omega (arith, front_low f xs k d (omega (arith, inside)))
+
+pub front_next : {A : Type 0} (f : A → ℕ) (xs : List A) (k : ℕ) (d : A) → k < length xs → total f (take (k + 1) xs) ≡ total f (take k xs) + f (get_or xs k d)
+front_next f xs k d inside = ap (total f) (take_more xs k d inside) ∙ total_push f (take k xs) (get_or xs k d)
+
+from_low : (f : ℕ → ℕ) (first k n : ℕ) → k < n → total f (numbers_from first k) + f (first + k) ≤ total f (numbers_from first n)
+from_low f first k zero inside = absurd (omega arith)
+from_low f first zero (suc n) inside = let e : f (first + 0) ≡ f first = ap f (let z : first + 0 ≡ first = omega arith in z) in omega (arith, e)
+from_low f first (suc k) (suc n) inside =
+    let e : f (first + suc k) ≡ f (suc first + k) = ap f (let z : first + suc k ≡ suc first + k = omega arith in z) in
+    omega (arith, e, from_low f (suc first) k n (omega (arith, inside)))
+
+pub below_low : (f : ℕ → ℕ) (k n : ℕ) → k < n → total f (numbers_below k) + f k ≤ total f (numbers_below n)
+below_low f k n inside = let e : f (0 + k) ≡ f k = ap f (let z : 0 + k ≡ k = omega arith in z) in omega (arith, e, from_low f 0 k n inside)
+
+pub below_next : (f : ℕ → ℕ) (k : ℕ) → total f (numbers_below (k + 1)) ≡ total f (numbers_below k) + f k
+below_next f k =
+    let e : f (0 + k) ≡ f k = ap f (let z : 0 + k ≡ k = omega arith in z) in
+    let more : numbers_below (k + 1) ≡ numbers_below k ++ (0 + k) ∷ [] = ap numbers_below (let z : k + 1 ≡ suc k = omega arith in z) ∙ numbers_push 0 k in
+    ap (total f) more ∙ total_push f (numbers_below k) (0 + k) ∙ ap (λ m. total f (numbers_below k) + m) e
+
+module _ (trace : Trace) (rules : KeepsRules trace) where
+  pub over_lists : (g : List Op → ℕ) → over_processes trace (λ p. g (operations_of trace p)) ≡ total g trace.operations
+  over_lists g = ap (λ n. total (λ p. g (operations_of trace p)) (numbers_below n)) (sym rules.operations.each) ∙ rows g trace.operations
+
+  pub all_few : over_processes trace (λ p. length (operations_of trace p)) ≡ length trace.order
+  all_few = all_ordered trace rules.operations
+
+  pub event_room_is : event_room trace ≡ 2 * length trace.order + trace.shared_heaps + 2
+  event_room_is = ap (λ n. 2 * n + trace.shared_heaps + 2) all_few
+
+  stores_low : (ops : List Op) → stores_in ops ≤ length ops
+  stores_low ops = count_low _ ops
+
+  pub exit_room_low : exit_room trace ≤ 200000
+  exit_room_low =
+      let low = total_at_most (λ p. stores_in (operations_of trace p)) (λ p. length (operations_of trace p)) (λ p. stores_low (operations_of trace p)) (numbers_below (process_count trace)) in
+      omega (arith, low, all_few, rules.operations.room)
+
+  -- one process's operations
+  pub own_few : (p : ℕ) → p < process_count trace → length (operations_of trace p) ≤ 200000
+  own_few p known = omega (arith, below_low (λ q. length (operations_of trace q)) p (process_count trace) known, all_few, rules.operations.room)
+
+  -- the stores of the first processes and of one more
+  pub stores_next : (k : ℕ) (own : List Op) → k < length trace.operations → get_or trace.operations k [] ≡ own → total stores_in (take (k + 1) trace.operations) ≡ total stores_in (take k trace.operations) + stores_in own
+  stores_next k own inside is = front_next stores_in trace.operations k [] inside ∙ ap (λ ops. total stores_in (take k trace.operations) + stores_in ops) is
+
+  pub stores_few : (k : ℕ) (own : List Op) → k < length trace.operations → get_or trace.operations k [] ≡ own → total stores_in (take k trace.operations) + stores_in own ≤ 200000
+  stores_few k own inside is =
+      let e : stores_in (get_or trace.operations k []) ≡ stores_in own = ap stores_in is in
+      omega (arith, front_low stores_in trace.operations k [] inside, e, over_lists stores_in, exit_room_low)

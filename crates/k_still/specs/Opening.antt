@@ -1,0 +1,263 @@
+-- All cells of a run and its book before the first event, and how large their tables are made.
+use Rattle.std.specs.Prelude.{◌≡◌, ℕ, ◌+◌, ◌<◌, ◌≤◌, ◌^◌, IsTrue, IfSome, List, [], ◌∷◌, Option, Some, None, length, map, min, set, slice_get, slice_index_or, Vec}
+use Rattle.std.specs.List.{AllByRecursion}
+use Rattle.std.specs.Global.{Global}
+use Rattle.std.specs.declared.collections.VecDeque.{VecDeque}
+use Rattle.atomic_table.specs.Seated.{TableId}
+use Rattle.k_types.specs.declared.op.Op.{Op}
+use Rattle.k_types.specs.declared.op.Op.TheVariants.{New, KNew, SNew, Share}
+use Rattle.k_types.specs.declared.names.Heap.TheVariants.{Shared}
+use Rattle.k_types.specs.declared.names.Pid.{Pid}
+use Rattle.k_types.specs.declared.names.SharedId.{SharedId}
+use Rattle.k_types.specs.declared.setup.Setup.{Setup}
+use Rattle.k_types.specs.Numbers.{numbers_below}
+use Rattle.k_types.specs.Trace.{Trace, operations_of, process_count, segment_count, segment_of, trace_of}
+use Rattle.k_types.specs.TraceRules.{KeepsRules}
+use Rattle.k_agree.specs.Rooms.{event_room, exit_room, serial_room}
+use Rattle.k_space.specs.Objects.{BodyValue}
+use Rattle.k_bodies.specs.Bodies.{bodies_of}
+use Rattle.k_tie.specs.Values.{JournalValue, NoteValue, blank_note, empty_journal}
+use Rattle.k_book.specs.Books.{BookRecord}
+use Rattle.k_locked.specs.Keeping.{BookKeeps, KernelKeeps, SharedKeeps}
+use Rattle.k_locked.specs.Rooms.{shared_exit_room}
+use Rattle.k_trace.specs.declared.trace.Trace.{Trace as TraceRead}
+use Rattle.k_trace.specs.Meaning.{meaning_of}
+use Rattle.k_trace.specs.Named.{NamedTrace}
+use Rattle.k_trace.specs.Rules.{IsTrace}
+use Rattle.k_shared.specs.SharedHeaps.{SharedRecord}
+use Rattle.k_still.specs.declared.beginning.Beginnings.{Beginnings}
+use Rattle.k_still.specs.declared.beginning.Cells.{Cells}
+use Rattle.k_process.specs.declared.process.Process.{Process}
+use Rattle.k_still.specs.declared.prepared.Prepared.{Prepared}
+use Rattle.k_still.specs.declared.first.FirstCells.{FirstCells}
+use Rattle.k_process.specs.Standing.{HeapsStand, ProcessStands, ProcessesStand, RestStands}
+use Rattle.k_process.specs.Worlds.{WorldValue}
+
+-- it holds of each element at its place
+abbrev pub Each : {A : Type 0} → (ℕ → A → Type 0) → List A → Type 0
+Each P xs = (k : ℕ) (x : _) → slice_get xs k ≡ Some x → P k x
+
+-- the segment in which an operation of the process allocates, where there are so many processes
+abbrev pub segment_given : ℕ → ℕ → Op → Option ℕ
+segment_given procs p (New r ty) = Some (p + 1)
+segment_given procs p (KNew r ty) = Some 0
+segment_given procs p (SNew r s ty) = Some (1 + procs + s.0)
+segment_given procs p _ = None
+
+-- one more at that place
+abbrev pub with_one_more : Option ℕ → List ℕ → List ℕ
+with_one_more None counts = counts
+with_one_more (Some at) counts = set counts at (slice_index_or counts at 0 + 1)
+
+-- the counts of the segments, after the operations of the process
+abbrev pub counted : ℕ → ℕ → List Op → List ℕ → List ℕ
+counted procs p [] counts = counts
+counted procs p (op ∷ ops) counts = counted procs p ops (with_one_more (segment_given procs p op) counts)
+
+-- each operation allocates in a segment that has a count, and no count gets too large
+pub record CanCount (procs p : ℕ) (ops : List Op) (counts : List ℕ) : Type 0 where
+  pub few_procs : procs < 2 ^ 32
+  pub few : p < 2 ^ 32
+  pub known : AllByRecursion (λ op. IfSome (segment_given procs p op) (λ seg. seg < length counts)) ops
+  pub room : (seg : ℕ) → seg < length counts → slice_index_or counts seg 0 + length ops < 2 ^ 32
+
+-- for each segment of the trace the room for its serials
+pub record AreSerialRooms (trace : Trace) (rooms : List ℕ) : Type 0 where
+  pub count : length rooms ≡ segment_count trace
+  pub each : Each (λ seg room. room ≡ serial_room trace seg) rooms
+
+-- the shared heap that the operation makes
+abbrev pub heap_made : Op → Option ℕ
+heap_made (Share s) = Some s.0
+heap_made _ = None
+
+-- so many more at that place, as far as the most
+abbrev pub with_more : ℕ → ℕ → Option ℕ → List ℕ → List ℕ
+with_more most n None rooms = rooms
+with_more most n (Some at) rooms = set rooms at (min most (slice_index_or rooms at 0 + n))
+
+-- the rooms of the shared heaps, after the operations of a process that does so many stores
+abbrev pub raised : ℕ → ℕ → List Op → List ℕ → List ℕ
+raised most n [] rooms = rooms
+raised most n (op ∷ ops) rooms = raised most n ops (with_more most n (heap_made op) rooms)
+
+-- each shared heap has a room, and none is above the most
+pub record CanRaise (most n : ℕ) (ops : List Op) (rooms : List ℕ) : Type 0 where
+  pub known : AllByRecursion (λ op. IfSome (heap_made op) (λ s. s < length rooms)) ops
+  pub low : (s : ℕ) → s < length rooms → slice_index_or rooms s 0 ≤ most
+  pub fits : most + n < 2 ^ 32
+
+-- for each shared heap of the trace enough room for its exit items
+pub record AreSharedRooms (trace : Trace) (rooms : List ℕ) : Type 0 where
+  pub count : length rooms ≡ trace.shared_heaps
+  pub each : Each (λ s room. shared_exit_room trace s ≤ room) rooms
+
+-- the trace of the world is of that setup, and keeps the rules
+pub record IsSetupOf (setup : Setup) (world : WorldValue) : Type 0 where
+  pub is : world.trace ≡ trace_of setup world.trace.operations world.trace.order
+  pub rules : KeepsRules world.trace
+
+-- for each segment that is left its blank note, and enough room for its serials
+pub record AreBeginnings (world : WorldValue) (b : Beginnings) : Type 0 where
+  pub same : length b.serials.items ≡ length b.notes.items
+  pub notes : Each (λ seg note. note ≡ blank_note world.table seg) b.notes.items
+  pub serials : Each (λ seg room. serial_room world.trace seg ≤ room) b.serials.items
+
+-- there is one to be taken
+pub record CanBegin (world : WorldValue) (b : Beginnings) : Type 0 where
+  pub are : AreBeginnings world b
+  pub some : 0 < length b.notes.items
+
+-- the last one was taken
+pub record HasBegun (world : WorldValue) (old new : Beginnings) (note : NoteValue) (objects : ℕ) : Type 0 where
+  pub are : AreBeginnings world new
+  pub fewer : length old.notes.items ≡ length new.notes.items + 1
+  pub is_note : note ≡ blank_note world.table (length new.notes.items)
+  pub enough : serial_room world.trace (length new.notes.items) ≤ objects
+
+-- a process of the world can be made of these operations, bodies, room for serials and note
+pub record CanOpenProcess (world : WorldValue) (setup : Setup) (pid : Pid) (ops : List Op) (bodies : List BodyValue) (objects : ℕ) (note : NoteValue) : Type 0 where
+  pub of : IsSetupOf setup world
+  pub known : pid.0 < process_count world.trace
+  pub operations : ops ≡ operations_of world.trace pid.0
+  pub made : bodies ≡ bodies_of world.trace.types (operations_of world.trace pid.0)
+  pub enough : serial_room world.trace (pid.0 + 1) ≤ objects
+  pub is_note : note ≡ blank_note world.table (pid.0 + 1)
+
+-- the process stands, and nothing of it is unpublished
+pub record ProcessBegins (world : WorldValue) (p : Process) : Type 0 where
+  pub stands : ProcessStands world p
+  pub published : p.cell.value.tail ≡ []
+
+-- nothing of any of these processes is unpublished
+abbrev pub AllPublished : List Process → Type 0
+AllPublished processes = (k : ℕ) (p : Process) → slice_get processes k ≡ Some p → p.cell.value.tail ≡ []
+
+-- the last processes are made, from the last down; the operations, bodies and beginnings of the others are left
+pub record ArePending (world : WorldValue) (setup : Setup) (ops : List (Vec Op Global)) (bodies : List (VecDeque BodyValue Global)) (b : Beginnings) (made : List Process) : Type 0 where
+  pub of : IsSetupOf setup world
+  pub own_operations : Each (λ p own. own.items ≡ operations_of world.trace p) ops
+  pub same : length bodies ≡ length ops
+  pub own_bodies : Each (λ p own. own.items ≡ bodies_of world.trace.types (operations_of world.trace p)) bodies
+  pub beginnings : AreBeginnings world b
+  pub left : length b.notes.items ≡ length ops + 1
+  pub count : length ops + length made ≡ process_count world.trace
+  pub processes : Each (λ k p. ProcessBegins world p × (p.cell.pid.0 + k + 1 ≡ process_count world.trace)) made
+
+-- all processes stand, nothing of them is unpublished, and one beginning is left
+pub record HaveOpened (world : WorldValue) (b : Beginnings) (made : List Process) : Type 0 where
+  pub processes : ProcessesStand world made
+  pub published : AllPublished made
+  pub beginnings : AreBeginnings world b
+  pub left : length b.notes.items ≡ 1
+
+-- a shared heap of the world can be made with the last beginning that is left
+pub record CanOpenHeap (world : WorldValue) (setup : Setup) (id : SharedId) (exits : ℕ) (b : Beginnings) : Type 0 where
+  pub of : IsSetupOf setup world
+  pub known : id.0 < world.trace.shared_heaps
+  pub enough : shared_exit_room world.trace id.0 ≤ exits
+  pub beginnings : AreBeginnings world b
+  pub left : length b.notes.items ≡ segment_of world.trace (Shared id) + 1
+
+-- the cell stands, and one beginning less is left
+pub record HasOpenedHeap (world : WorldValue) (id : SharedId) (made : SharedRecord) (old new : Beginnings) : Type 0 where
+  pub keeps : SharedKeeps world.trace world.table made
+  pub same : made.id ≡ id
+  pub beginnings : AreBeginnings world new
+  pub fewer : length old.notes.items ≡ length new.notes.items + 1
+
+-- the last shared heaps are made, from the last down; the rooms and beginnings of the others are left
+pub record ArePendingShared (world : WorldValue) (setup : Setup) (exits : List ℕ) (b : Beginnings) (made : List SharedRecord) : Type 0 where
+  pub of : IsSetupOf setup world
+  pub rooms : Each (λ s room. shared_exit_room world.trace s ≤ room) exits
+  pub beginnings : AreBeginnings world b
+  pub left : length b.notes.items ≡ 1 + process_count world.trace + length exits
+  pub count : length exits + length made ≡ world.trace.shared_heaps
+  pub heaps : Each (λ k s. SharedKeeps world.trace world.table s × (s.id.0 + k + 1 ≡ world.trace.shared_heaps)) made
+
+-- all shared heaps stand, and the beginnings of the kernel and the processes are left
+pub record HaveOpenedShared (world : WorldValue) (b : Beginnings) (made : List SharedRecord) : Type 0 where
+  pub shared : HeapsStand world made
+  pub beginnings : AreBeginnings world b
+  pub left : length b.notes.items ≡ 1 + process_count world.trace
+
+-- the kernel can be made with the one beginning that is left
+pub record CanOpenKernel (world : WorldValue) (setup : Setup) (exits : ℕ) (b : Beginnings) : Type 0 where
+  pub of : IsSetupOf setup world
+  pub enough : exit_room world.trace ≤ exits
+  pub beginnings : AreBeginnings world b
+  pub left : length b.notes.items ≡ 1
+
+-- all cells can be made, the shared heaps first, then the processes with the beginnings that those leave, and then the kernel
+pub record CanOpenCells (world : WorldValue) (setup : Setup) (ops : List (Vec Op Global)) (bodies : List (VecDeque BodyValue Global)) (exits : List ℕ) (stores : ℕ) (b : Beginnings) : Type 0 where
+  pub shared : ArePendingShared world setup exits b []
+  pub processes : (left : Beginnings) → AreBeginnings world left → length left.notes.items ≡ 1 + process_count world.trace → ArePending world setup ops bodies left []
+  pub enough : exit_room world.trace ≤ stores
+
+-- all cells stand, and nothing of the processes is unpublished
+pub record CellsStand (world : WorldValue) (cells : Cells) : Type 0 where
+  pub processes : ProcessesStand world cells.processes.items
+  pub published : AllPublished cells.processes.items
+  pub kernel : KernelKeeps world.trace world.table cells.kernel
+  pub shared : HeapsStand world cells.shared.items
+
+-- the book of the setup can be made with these rooms, and with the seat of an empty journal of the table
+pub record CanOpenBook (world : WorldValue) (setup : Setup) (exits events : ℕ) (tie : TableId) (seat : JournalValue) : Type 0 where
+  pub of : IsSetupOf setup world
+  pub enough_exits : exit_room world.trace ≤ exits
+  pub enough_events : event_room world.trace ≤ events
+  pub table : tie ≡ world.table
+  pub empty : seat ≡ empty_journal world.table
+
+-- the bodies, the rooms and the counts are those of the trace
+pub record IsPrepared (trace : Trace) (p : Prepared) : Type 0 where
+  pub bodies : map (λ made. made.items) p.bodies.items ≡ map (bodies_of trace.types) trace.operations
+  pub serials : AreSerialRooms trace p.serials.items
+  pub shared_exits : AreSharedRooms trace p.shared_exits.items
+  pub stores : p.stores ≡ exit_room trace
+  pub events : p.events ≡ event_room trace
+
+-- all cells and the book can be made: setup and operations are the world's, what is prepared is for its trace, and the journal is
+-- empty, with a blank note for each segment
+pub record CanOpenParts (world : WorldValue) (setup : Setup) (ops : List (Vec Op Global)) (p : Prepared) (tie : TableId) (seat : JournalValue) (notes : List NoteValue) : Type 0 where
+  pub of : IsSetupOf setup world
+  pub own_operations : Each (λ k own. own.items ≡ operations_of world.trace k) ops
+  pub count : length ops ≡ process_count world.trace
+  pub prepared : IsPrepared world.trace p
+  pub table : tie ≡ world.table
+  pub empty : seat ≡ empty_journal world.table
+  pub blank : notes ≡ map (blank_note world.table) (numbers_below (segment_count world.trace))
+
+-- all cells and the book stand, and the journal is empty
+pub record PartsStand (world : WorldValue) (cells : Cells) (book : BookRecord) : Type 0 where
+  pub cells : CellsStand world cells
+  pub book : BookKeeps world.trace world.table book
+  pub empty : book.journal ≡ empty_journal world.table
+
+-- the world is a run of the trace that was read, what is prepared is for it, and the journal is empty, with a blank note for each segment
+pub record CanOpenWith (world : WorldValue) (read : TraceRead) (p : Prepared) (tie : TableId) (seat : JournalValue) (notes : List NoteValue) : Type 0 where
+  pub is_trace : IsTrace (meaning_of read)
+  pub same : world.trace ≡ (meaning_of read).trace
+  pub prepared : IsPrepared world.trace p
+  pub table : tie ≡ world.table
+  pub empty : seat ≡ empty_journal world.table
+  pub blank : notes ≡ map (blank_note world.table) (numbers_below (segment_count world.trace))
+
+-- all processes, the kernel, the shared heaps and the book stand
+pub record FirstCellsStand (world : WorldValue) (first : FirstCells) : Type 0 where
+  pub processes : ProcessesStand world first.processes.items
+  pub rest : RestStands world first.kernel first.shared.items first.book
+
+-- the trace that is run, and the table of the journal
+abbrev pub world_of : NamedTrace → FirstCells → WorldValue
+world_of named first = record { trace = named.trace; table = first.book.journal.table }
+
+-- all stands before the first event; the setup, the names and the order are those of the trace, the journal is empty, and nothing of
+-- any process is unpublished
+pub record IsOpened (named : NamedTrace) (first : FirstCells) : Type 0 where
+  pub stands : FirstCellsStand (world_of named first) first
+  pub setup : IsSetupOf first.setup (world_of named first)
+  pub names : first.names ≡ named.names
+  pub order : map (λ pid. pid.0) first.order.items ≡ named.trace.order
+  pub empty : first.book.journal.list ≡ []
+  pub published : AllPublished first.processes.items

@@ -1,0 +1,135 @@
+//! All cells of a run and its book, before the first event and on one thread.
+ghost use Rattle.std.specs.Prelude.{◌≡◌, IfOk};
+ghost use Rattle.k_locked.specs.Keeping.{BookKeeps};
+ghost use Rattle.k_trace.specs.Meaning.{meaning_of};
+ghost use Rattle.k_trace.specs.Rules.{IsTrace};
+ghost use Rattle.k_still.specs.Opening.{CanOpenBook, CanOpenParts, CanOpenWith, IsOpened, PartsStand};
+ghost use Rattle.k_process.specs.Worlds.{WorldValue};
+
+use crate::beginning::{Beginnings, Cells, open_cells};
+use crate::prepared::{Prepared, prepare};
+use k_book::Book;
+use k_io::NoMemory;
+use k_kernel::KernelCell;
+use k_limits::MakeError;
+use k_process::Process;
+use k_shared::SharedCell;
+use k_tie::{JournalSeat, Note, Tie};
+use k_trace::{Names, Trace};
+use k_types::{Op, Pid, Setup};
+use std::alloc::Global;
+
+/// All cells of a run and its book before the first event, not yet behind locks, with all memory that its steps will need.
+#[derive(Drop)]
+pub struct FirstCells {
+    /// What the trace declares, without names.
+    pub setup: Setup,
+    /// The names that it declares.
+    pub names: Names,
+    /// The process of each operation, in the order of the trace.
+    pub order: Vec<Pid>,
+    /// Each process with its cell, in the place of its number.
+    pub processes: Vec<Process>,
+    /// The kernel's cell.
+    pub kernel: KernelCell,
+    /// The cell of each shared heap, in the place of its number.
+    pub shared: Vec<SharedCell>,
+    /// What stands between the heaps, with the journal, which is empty.
+    pub book: Book,
+}
+
+/// The book before the first event. What the trace reserves fits, so memory alone can fail it.
+fn open_book(
+    alloc: Global,
+    setup: &Setup,
+    exits: u32,
+    events: u32,
+    tie: Tie,
+    seat: JournalSeat,
+) -> Result<Book, NoMemory>
+    ghost world: { WorldValue }
+    requires { CanOpenBook world setup.now exits events tie seat }
+    ensures { IfOk result (λ made. BookKeeps world.trace world.table made × (made.journal ≡ seat)) }
+{
+    match Book::make(alloc, setup, exits, events, tie, seat) {
+        Ok(book) => Ok(book),
+        Err(MakeError::ReserveFull(_)) => unreachable!(),
+        Err(MakeError::NoMemory(refused)) => Err(refused),
+    }
+}
+
+/// All cells and the book, of what was prepared for a trace, over a journal with a note for each cell.
+fn open_parts(
+    alloc: Global,
+    setup: &Setup,
+    ops: Vec<Vec<Op>>,
+    prepared: Prepared,
+    tie: Tie,
+    seat: JournalSeat,
+    notes: Vec<Note>,
+) -> Result<(Cells, Book), NoMemory>
+    ghost world: { WorldValue }
+    requires { CanOpenParts world setup.now ops.items prepared tie seat notes.items }
+    ensures { IfOk result (λ made. PartsStand world made.0 made.1) }
+{
+    let Prepared {
+        bodies,
+        serials,
+        shared_exits,
+        stores,
+        events,
+    } = prepared;
+    let book = open_book(alloc, setup, stores, events, tie, seat)?;
+    let beginnings = Beginnings { notes, serials };
+    let cells = open_cells(alloc, setup, ops, bodies, shared_exits, stores, beginnings)?;
+    Ok((cells, book))
+}
+
+/// The run of a trace, with what was prepared for it, over a journal with a note for each cell.
+fn open_with(
+    alloc: Global,
+    trace: Trace,
+    prepared: Prepared,
+    tie: Tie,
+    seat: JournalSeat,
+    notes: Vec<Note>,
+) -> Result<FirstCells, NoMemory>
+    ghost world: { WorldValue }
+    requires { CanOpenWith world trace prepared tie seat notes.items }
+    ensures { IfOk result (λ first. IsOpened (meaning_of trace) first) }
+{
+    let Trace {
+        setup,
+        names,
+        ops,
+        order,
+    } = trace;
+    let parts = open_parts(alloc, &setup, ops, prepared, tie, seat, notes)?;
+    let (cells, book) = parts;
+    Ok(FirstCells {
+        setup,
+        names,
+        order,
+        processes: cells.processes,
+        kernel: cells.kernel,
+        shared: cells.shared,
+        book,
+    })
+}
+
+/// All cells and the book that a run of the trace needs, made before it begins: the bodies of all objects that operations may
+/// allocate, the journal with a note for each cell, the book, and each cell with room for all that the trace can put into it. It
+/// passes each operation a few times, and takes memory in proportion to the operations and to what they allocate.
+///
+/// # Errors
+///
+/// `NoMemory` where any of this finds no room.
+pub fn first_cells(alloc: Global, trace: Trace) -> Result<FirstCells, NoMemory>
+    requires { IsTrace (meaning_of trace) }
+    ensures { IfOk result (λ first. IsOpened (meaning_of trace) first) }
+{
+    let prepared = prepare(alloc, &trace)?;
+    let journal = Tie::make(alloc, prepared.serials.len() as u32)?;
+    let (tie, seat, notes) = journal;
+    open_with(alloc, trace, prepared, tie, seat, notes)
+}
