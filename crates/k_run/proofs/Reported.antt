@@ -93,8 +93,5 @@ module _ (trace : Trace) (rules : KeepsRules trace) (shared : List ℕ) (enough 
 pub rooms_added : (trace : Trace) → KeepsRules trace → (shared none one two three : List ℕ) (stores : ℕ) → AreSharedRooms trace shared → none ≡ [] → stores ≡ exit_room trace → one ≡ none ++ stores ∷ [] →
     two ≡ one ++ map stores_in trace.operations → three ≡ two ++ shared → AreRoomsFor trace three
 rooms_added trace rules shared none one two three stores enough empty first kernel processes heaps =
-    rooms_for trace rules shared enough three (
-      heaps
-      ∙ ap (λ xs. xs ++ shared) processes
-      ∙ ap (λ xs. (xs ++ map stores_in trace.operations) ++ shared) (kernel ∙ ap (λ xs. xs ++ stores ∷ []) empty ∙ ap (λ (n : ℕ). n ∷ []) first)
-    )
+    let kernel_alone : one ≡ exit_room trace ∷ [] = kernel ∙ ap (λ xs. xs ++ stores ∷ []) empty ∙ ap (λ (n : ℕ). n ∷ []) first in
+    rooms_for trace rules shared enough three (heaps ∙ ap (λ xs. xs ++ shared) processes ∙ ap (λ xs. (xs ++ map stores_in trace.operations) ++ shared) kernel_alone)
