@@ -4,3 +4,6 @@ pub mod Stepped
 pub mod Ended
 pub mod Told
 pub mod Replayed
+pub mod Popped
+pub mod Opened
+pub mod Reported

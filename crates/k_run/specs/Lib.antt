@@ -5,3 +5,4 @@ pub mod Rooms
 pub mod Worlds
 pub mod Runs
 pub mod Opened
+pub mod Stills

@@ -8,11 +8,14 @@
 
 mod collecting;
 mod locked;
+mod opening;
 mod placing;
 mod replaying;
+mod reporting;
 mod rooms;
 mod running;
 mod stepping;
+mod still;
 mod turning;
 mod whole;
 mod world;
@@ -21,8 +24,10 @@ mod worlds;
 pub use k_outcome::Outcome;
 pub use k_process::Process;
 pub use locked::{LockedBook, LockedKernel, LockedProcess, LockedShared};
+pub use opening::open;
 pub use replaying::replay;
 pub use running::run;
+pub use still::{Still, open_still};
 pub use whole::{replay_trace, run_trace};
 pub use world::{World, finish};
 pub use worlds::WorldName;

@@ -1,0 +1,134 @@
+//! A run that is put behind its locks.
+ghost use Rattle.std.specs.Prelude.{◌≡◌, ◌<◌, ◌^◌, IfOk, length};
+ghost use Rattle.k_process.specs.Standing.{HeapsStand, ProcessesStand, RestStands};
+ghost use Rattle.k_still.specs.Opening.{FirstCellsStand, IsSetupOf};
+ghost use Rattle.k_outcome.specs.Listed.{AreRoomsFor};
+ghost use Rattle.k_run.specs.Worlds.{AreFree};
+
+use crate::locked::{LockedBook, LockedKernel, LockedProcess, LockedShared};
+use crate::rooms::end_rooms;
+use crate::running::MOST_WORKERS;
+use crate::still::Still;
+use crate::world::{Locks, World};
+use crate::worlds::WorldName;
+use k_book::Book;
+use k_io::NoMemory;
+use k_kernel::KernelCell;
+use k_process::Process;
+use k_shared::SharedCell;
+use k_still::FirstCells;
+use k_turns::{TurnPass, Turns};
+use std::alloc::Global;
+use std::sync::{Mutex, Wait};
+
+/// Each process behind a lock of its own.
+fn lock_processes<W: WorldName>(
+    alloc: Global,
+    mut processes: Vec<Process>,
+) -> Result<Vec<Mutex<LockedProcess<W>>>, NoMemory>
+    requires { ProcessesStand W.world processes.items }
+    ensures { IfOk result (λ locks. length locks.items ≡ length processes.items) }
+{
+    let mut locks = Vec::with_capacity(alloc, processes.len())?;
+    while let Some(process) = processes.pop() {
+        locks.push(Mutex::new(LockedProcess::of(process)))?;
+    }
+    locks.reverse();
+    Ok(locks)
+}
+
+/// Each cell of a shared heap behind a lock of its own.
+fn lock_shared<W: WorldName>(
+    alloc: Global,
+    mut shared: Vec<SharedCell>,
+) -> Result<Vec<Mutex<LockedShared<W>>>, NoMemory>
+    requires { HeapsStand W.world shared.items }
+    ensures { IfOk result (λ locks. length locks.items ≡ length shared.items) }
+{
+    let mut locks = Vec::with_capacity(alloc, shared.len())?;
+    while let Some(cell) = shared.pop() {
+        locks.push(Mutex::new(LockedShared::of(cell)))?;
+    }
+    locks.reverse();
+    Ok(locks)
+}
+
+/// The queue of the processes, with a pass for each worker: as many as there are processes, at most four.
+fn queue<R: Wait>(
+    rt: &R,
+    alloc: Global,
+    processes: &[Process],
+) -> Result<(Turns, Vec<TurnPass>), NoMemory>
+    requires some { 0 < length processes.now }
+    requires few { length processes.now < 2 ^ 32 }
+    ensures { IfOk result (λ made. AreFree made.0 made.1.items) }
+{
+    let count = processes.len() as u32;
+    Turns::make(rt, alloc, count, count.min(MOST_WORKERS))
+}
+
+/// Each process, the kernel, each shared heap and the book behind a lock of its own.
+fn lock_all<W: WorldName>(
+    alloc: Global,
+    processes: Vec<Process>,
+    kernel: KernelCell,
+    shared: Vec<SharedCell>,
+    book: Book,
+) -> Result<Locks<W>, NoMemory>
+    requires processes { ProcessesStand W.world processes.items }
+    requires rest { RestStands W.world kernel shared.items book }
+    ensures { IfOk result (λ locks. (length locks.processes.items ≡ length processes.items) × (length locks.shared.items ≡ length shared.items)) }
+{
+    let processes = lock_processes(alloc, processes)?;
+    let shared = lock_shared(alloc, shared)?;
+    Ok(Locks {
+        processes,
+        kernel: Mutex::new(LockedKernel::of(kernel)),
+        shared,
+        book: Mutex::new(LockedBook::of(book)),
+    })
+}
+
+/// Puts each process, the kernel, each shared heap and the book behind a lock of its own, as the run that `W` names, and queues the
+/// processes for as many workers as there are processes, at most four. It takes all memory with which the run goes on and is ended. It
+/// waits for the queue, which nobody else has.
+///
+/// # Errors
+///
+/// `NoMemory` where the locks, the queue or the places for the end find no room.
+pub fn open<W: WorldName, R: Wait>(
+    rt: &R,
+    alloc: Global,
+    still: Still,
+) -> Result<World<W>, NoMemory>
+    requires stands { FirstCellsStand W.world still.cells }
+    requires setup { IsSetupOf still.cells.setup W.world }
+    requires rooms { AreRoomsFor W.world.trace still.rooms }
+    ensures { IfOk result (λ world. (world.names ≡ still.cells.names) × (world.setup ≡ still.cells.setup)) }
+{
+    let Still {
+        cells,
+        rooms: report,
+    } = still;
+    let FirstCells {
+        setup,
+        names,
+        order: _,
+        processes,
+        kernel,
+        shared,
+        book,
+    } = cells;
+    let (turns, passes) = queue(rt, alloc, &processes)?;
+    let rooms = end_rooms(alloc, processes.len(), shared.len())?;
+    let locks = lock_all(alloc, processes, kernel, shared, book)?;
+    Ok(World {
+        locks,
+        turns,
+        passes,
+        rooms,
+        names,
+        setup,
+        report,
+    })
+}
