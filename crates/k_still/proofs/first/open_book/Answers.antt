@@ -2,7 +2,7 @@ use Rattle.std.proofs.Common.{◌≡◌, Option, ℕ, None, Some, sym, ap, ◌�
 use Rattle.k_book.specs.Books.{BookRecord}
 use Rattle.k_locked.specs.Keeping.{BookKeeps}
 use Rattle.k_still.proofs.FirstBook.{none_is_refused}
-use Rattle.k_still.proofs.FirstCells.{book_stands}
+use Rattle.k_still.proofs.Stands.{book_stands}
 use Rattle.k_still.proofs.first.open_book.Goals as goal
 
 nothing_is_something : {A : Type 0} (o : Option A) (x : A) → o ≡ None → o ≡ Some x → ⊥
