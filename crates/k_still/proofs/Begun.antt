@@ -1,5 +1,5 @@
 -- Cells that are made from the last down.
-use Rattle.std.proofs.Common.{◌≡◌, ℕ, ◌+◌, ◌<◌, ◌≤◌, refl, sym, ap, ◌∙◌, subst, List, [], ◌∷◌, ◌++◌, length, reverse, Vec, arith, Result, Ok, Err}
+use Rattle.std.proofs.Common.{◌≡◌, ℕ, ◌+◌, ◌≤◌, sym, ap, ◌∙◌, subst, List, [], ◌∷◌, ◌++◌, length, reverse, Vec, arith, Result, Ok, Err}
 use Rattle.std.specs.Prelude.{IfOk}
 use Rattle.std.specs.Global.{Global}
 use Rattle.std.specs.declared.collections.VecDeque.{VecDeque}
@@ -24,7 +24,7 @@ use Rattle.k_space.specs.Objects.{BodyValue}
 use Rattle.k_tie.specs.Values.{NoteValue, blank_note}
 use Rattle.k_still.specs.declared.beginning.Beginnings.{Beginnings}
 use Rattle.k_process.specs.declared.process.Process.{Process}
-use Rattle.k_still.specs.Opening.{ArePending, ArePendingShared, CanBegin, CanOpenHeap, CanOpenKernel, CanOpenProcess, Each, HasBegun, HasOpenedHeap, HaveOpened, HaveOpenedShared, ProcessBegins}
+use Rattle.k_still.specs.Opening.{ArePending, ArePendingShared, CanBegin, CanOpenHeap, CanOpenKernel, CanOpenProcess, HasBegun, HasOpenedHeap, HaveOpened, HaveOpenedShared, ProcessBegins}
 use Rattle.k_process.specs.Worlds.{WorldValue}
 use Rattle.k_still.proofs.Stands.{heap_stands, kernel_stands, shared_stands}
 use Rattle.k_still.proofs.FromTheEnd.{each_last, each_popped, each_pushed, get_reversed}

@@ -1,5 +1,5 @@
 -- Lists that are taken apart and built at their ends, or read from one end to the other.
-use Rattle.std.proofs.Common.{◌≡◌, ◌⊎◌, ℕ, zero, suc, ◌+◌, ◌<◌, refl, sym, ap, ap₂, ◌∙◌, subst, inl, inr, List, [], ◌∷◌, ◌++◌, drop, get_or, length, map, reverse, slice_get, Some, arith, drop-cons}
+use Rattle.std.proofs.Common.{◌≡◌, ◌⊎◌, ℕ, zero, suc, ◌+◌, ◌<◌, refl, sym, ap, ◌∙◌, subst, inl, inr, List, [], ◌∷◌, ◌++◌, drop, get_or, length, map, reverse, slice_get, Some, arith, drop-cons}
 use Rattle.std.proofs.lemmas.List.{get_or-map, length-map, length-reverse, reverse-append}
 use Rattle.std.proofs.lemmas.Option.{get_or_from_slice_get, slice_get_within}
 use Rattle.k_types.specs.Numbers.{numbers_below}

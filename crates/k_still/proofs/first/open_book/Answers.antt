@@ -1,4 +1,4 @@
-use Rattle.std.proofs.Common.{◌≡◌, Option, ℕ, None, Some, sym, ap, ◌∙◌, subst}
+use Rattle.std.proofs.Common.{◌≡◌, Option, None, Some, sym, ap, subst}
 use Rattle.k_book.specs.Books.{BookRecord}
 use Rattle.k_locked.specs.Keeping.{BookKeeps}
 use Rattle.k_still.proofs.FirstBook.{none_is_refused}
@@ -9,7 +9,7 @@ nothing_is_something : {A : Type 0} (o : Option A) (x : A) → o ≡ None → o 
 nothing_is_something o x none some = cc
 
 pub unreachable-requires : goal.unreachable-requires
-unreachable-requires g c = nothing_is_something _ _ (none_is_refused g.world' c.args.setup.now c.requires.of) c.in-Err-ReserveFull.ensures.refused
+unreachable-requires g c = nothing_is_something _ _ (none_is_refused g.world' c.args.setup.now c.requires.of) (rw c.in-Err-ReserveFull.field-0-is at c.in-Err-ReserveFull.ensures.refused)
 
 pub returns-in-Ok : goal.returns-in-Ok
 returns-in-Ok g c = (
