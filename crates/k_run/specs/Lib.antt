@@ -3,3 +3,6 @@ pub mod Places
 pub mod Gathering
 pub mod Rooms
 pub mod Worlds
+pub mod Runs
+pub mod Opened
+pub mod Stills

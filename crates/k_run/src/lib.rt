@@ -1,24 +1,33 @@
 //! Runs of a trace: each heap and the book behind a lock of its own, workers on threads, and what is left done on one thread.
 //!
-//! [`run`] has workers do what the processes have to do, and [`finish`] ends the run, whatever they did. A lock tells nothing of its value
-//! but the value's type; so the types of all values behind the locks are named by the run's trace and by the table of its journal
-//! ([`WorldName`]).
+//! [`run_trace`] runs a whole trace: [`open_still`] makes all that the run needs, [`open`] puts it behind its locks, [`run`] has workers do
+//! what the processes have to do, and [`finish`] ends the run, whatever they did. [`replay_trace`] does the operations in the order of the
+//! file instead, with no lock. A lock tells nothing of its value but the value's type; so the types of all values behind the locks are named
+//! by the run's trace and by the table of its journal ([`WorldName`]).
 #![tactic(auto)]
 
 mod collecting;
 mod locked;
-mod outcome;
+mod opening;
 mod placing;
+mod replaying;
+mod reporting;
 mod rooms;
 mod running;
 mod stepping;
+mod still;
 mod turning;
+mod whole;
 mod world;
 mod worlds;
 
+pub use k_outcome::Outcome;
 pub use k_process::Process;
 pub use locked::{LockedBook, LockedKernel, LockedProcess, LockedShared};
-pub use outcome::Outcome;
+pub use opening::open;
+pub use replaying::replay;
 pub use running::run;
+pub use still::{Still, open_still};
+pub use whole::{replay_trace, run_trace};
 pub use world::{World, finish};
 pub use worlds::WorldName;

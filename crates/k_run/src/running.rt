@@ -17,7 +17,7 @@ use std::thread::Threads;
 const OPERATIONS_A_TURN: u32 = 64;
 
 /// The most workers of a run.
-const MOST_WORKERS: u32 = 4;
+pub(crate) const MOST_WORKERS: u32 = 4;
 
 /// What workers share. Contracts see the queue.
 #[derive(Drop)]

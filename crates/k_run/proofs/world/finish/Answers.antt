@@ -1,17 +1,23 @@
-use Rattle.std.proofs.Common.{sym, ◌∙◌, subst}
-use Rattle.k_locked.specs.Keeping.{BookKeeps}
-use Rattle.k_complete.proofs.Over.{outcome}
+use Rattle.std.proofs.Common.{[], ap, sym, subst}
+use Rattle.k_types.specs.Trace.{trace_of}
+use Rattle.k_trace.specs.Named.{NamedTrace}
+use Rattle.k_complete.specs.Ended.{IsOutcome}
+use Rattle.k_outcome.specs.Ends.{EndValue}
+use Rattle.k_run.specs.Runs.{IsRunOf}
+use Rattle.k_run.specs.Worlds.{RunValue}
+use Rattle.k_run.proofs.Ended.{can_end, ended_run, setup_same}
 use Rattle.k_run.proofs.world.finish.Goals as goal
 
-pub end_all-requires : goal.end_all-requires
-end_all-requires g c = record {
-  processes = c.gather-processes.ensures.processes;
-  rest = record {
-    kernel = c.into_kernel-kernel.ensures.stands;
-    shared = c.gather_shared-shared.ensures.shared;
-    book = subst (BookKeeps g.W.WorldName.world.trace g.W.WorldName.world.table) (sym (c.gather_shared-shared.ensures.book ∙ c.gather-processes.ensures.book)) c.into_book-book.ensures.stands;
-  };
-}
+pub outcome_of-requires : goal.outcome_of-requires
+outcome_of-requires g c =
+    can_end g.W.WorldName.world.trace c.world.inside.setup c.end_cells-cells.result c.world.inside.report c.world.invariant.setup_is c.end_cells-cells.ensures c.world.invariant.report
 
-pub returns : goal.returns
-returns g c = outcome g.W.WorldName.world c.end_all.new.processes.items c.end_all.new.kernel c.end_all.new.shared.items c.end_all.new.book c.end_all.ensures
+pub returns-clause-outcome : goal.returns-clause-outcome
+returns-clause-outcome g c = subst (λ (e : EndValue). IsOutcome g.W.WorldName.world.trace e.cells) (sym c.outcome_of.ensures) c.end_cells-cells.ensures.outcome
+
+pub returns-clause-run : goal.returns-clause-run
+returns-clause-run g c =
+    let named : NamedTrace = record { names = c.args.world.names; trace = g.W.WorldName.world.trace } in
+    subst (IsRunOf named) (sym c.outcome_of.ensures)
+    (ended_run named c.world.inside.names (trace_of c.world.inside.setup [] []) c.end_cells-cells.result c.end_cells-cells.ensures (ap (λ (v : RunValue). v.names) c.world.view_is)
+    (setup_same c.world.inside.setup g.W.WorldName.world.trace c.world.invariant.setup_is))

@@ -1,4 +1,4 @@
 use Rattle.k_run.proofs.world.finish.Given as goal
 
-abbrev pub ghost-end_all : goal.ghost-end_all
-ghost-end_all g a = g.W.WorldName.world
+abbrev pub ghost-outcome_of : goal.ghost-outcome_of
+ghost-outcome_of g a = g.W.WorldName.world.trace

@@ -1,0 +1,39 @@
+//! The operations of a trace, done in the order of the file on the caller's thread.
+ghost use Rattle.std.specs.Prelude.{◌≡◌};
+ghost use Rattle.k_outcome.specs.Ends.{journal_of};
+ghost use Rattle.k_run.specs.Runs.{IsRunOf};
+ghost use Rattle.k_run.specs.Stills.{IsOpenedStill};
+ghost use Rattle.k_trace.specs.Named.{NamedTrace};
+ghost use Rattle.k_types.specs.FileOrder.{file_order};
+
+use crate::still::Still;
+use k_outcome::{Cells, Outcome, outcome_of};
+use k_still::FirstCells;
+
+/// Does the operations of the trace in the order of the file, each with all its events, then what comes last where every process has
+/// ended, and shows the end. There are no locks, and it takes no memory.
+pub fn replay(still: Still) -> Outcome
+    ghost named: { NamedTrace }
+    requires { IsOpenedStill named still }
+    ensures run { IsRunOf named result }
+    ensures journal { journal_of result ≡ file_order named.trace }
+{
+    let Still { cells, rooms } = still;
+    let FirstCells {
+        setup,
+        names,
+        order,
+        mut processes,
+        mut kernel,
+        mut shared,
+        mut book,
+    } = cells;
+    k_complete::replay(&mut processes, &mut kernel, &mut shared, &mut book, &order);
+    let cells = Cells {
+        processes,
+        kernel,
+        shared,
+        book,
+    };
+    outcome_of(names, setup, cells, rooms)
+}
