@@ -5,6 +5,7 @@ use Rattle.k_io.proofs.Takings.{takes_nothing}
 use Rattle.k_words.specs.Words.{Text}
 use Rattle.k_trace.specs.Named.{NamedTrace}
 use Rattle.k_trace.specs.Rules.{Spells}
+use Rattle.kaffe.specs.declared.running.Order.{Order}
 use Rattle.kaffe.specs.declared.status.Status.{Status}
 use Rattle.kaffe.specs.declared.status.Status.TheVariants.{Good, BadTrace, Usage, WantOfMemory, ReadFault, WriteFault, Refused}
 use Rattle.kaffe.specs.Answers.{WasRead}
@@ -29,14 +30,14 @@ pub answered_more : (less more : Status → Text → Type 0) (output : Output) (
 answered_more less more output answer h a = record { status = a.status; text = a.text; told = h a.status a.text a.told; written = a.written }
 
 -- What the trace tells, the bytes that spell it tell.
-pub bytes_tell : (bytes : Text) (t : NamedTrace) → Spells bytes t → (status : Status) (text : Text) → TellsOfTrace t status text → TellsOfBytes bytes status text
-bytes_tell bytes t spells Good text h = (t, spells, h)
-bytes_tell bytes t spells WantOfMemory text h = h
-bytes_tell bytes t spells BadTrace text h = absurd h
-bytes_tell bytes t spells Usage text h = absurd h
-bytes_tell bytes t spells ReadFault text h = absurd h
-bytes_tell bytes t spells WriteFault text h = absurd h
-bytes_tell bytes t spells Refused text h = absurd h
+pub bytes_tell : (order : Order) (bytes : Text) (t : NamedTrace) → Spells bytes t → (status : Status) (text : Text) → TellsOfTrace order t status text → TellsOfBytes order bytes status text
+bytes_tell order bytes t spells Good text h = (t, spells, h)
+bytes_tell order bytes t spells WantOfMemory text h = h
+bytes_tell order bytes t spells BadTrace text h = absurd h
+bytes_tell order bytes t spells Usage text h = absurd h
+bytes_tell order bytes t spells ReadFault text h = absurd h
+bytes_tell order bytes t spells WriteFault text h = absurd h
+bytes_tell order bytes t spells Refused text h = absurd h
 
 -- What the report tells, the bytes tell that are its trace and the report.
 pub check_tells : (bytes : Text) (t : NamedTrace) (report : Text) → AreTraceAndReport bytes t report → (status : Status) (text : Text) → TellsOfReport t report status text → TellsOfCheck bytes status text
@@ -58,15 +59,15 @@ was_read limit input bytes items n same long given few ended = record {
 }
 
 -- What the bytes tell of a trace, the source that gave them tells.
-pub source_tells : (limit : ℕ) (input : Input) (bytes : Text) → WasRead limit input bytes
-    → (status : Status) (text : Text) → TellsOfBytes bytes status text → TellsOfSource limit TellsOfBytes input status text
-source_tells limit input bytes read Good text h = (bytes, read, h)
-source_tells limit input bytes read BadTrace text h = (bytes, read, h)
-source_tells limit input bytes read WantOfMemory text h = h
-source_tells limit input bytes read Usage text h = absurd h
-source_tells limit input bytes read ReadFault text h = absurd h
-source_tells limit input bytes read WriteFault text h = absurd h
-source_tells limit input bytes read Refused text h = absurd h
+pub source_tells : (limit : ℕ) (order : Order) (input : Input) (bytes : Text) → WasRead limit input bytes
+    → (status : Status) (text : Text) → TellsOfBytes order bytes status text → TellsOfSource limit (TellsOfBytes order) input status text
+source_tells limit order input bytes read Good text h = (bytes, read, h)
+source_tells limit order input bytes read BadTrace text h = (bytes, read, h)
+source_tells limit order input bytes read WantOfMemory text h = h
+source_tells limit order input bytes read Usage text h = absurd h
+source_tells limit order input bytes read ReadFault text h = absurd h
+source_tells limit order input bytes read WriteFault text h = absurd h
+source_tells limit order input bytes read Refused text h = absurd h
 
 -- And so it does what they tell of a trace and a report.
 pub checked_source_tells : (limit : ℕ) (input : Input) (bytes : Text) → WasRead limit input bytes

@@ -1,7 +1,9 @@
 -- What each status means, from what a command tells of its source.
 use Rattle.std.proofs.Common.{◌≡◌, ℕ, List, Some, inl, inr, refl, subst, sym}
 use Rattle.k_types.specs.Bounds.{most_trace_bytes, most_check_bytes}
+use Rattle.k_types.specs.declared.event.Event.{Event}
 use Rattle.k_types.specs.FileOrder.{file_order}
+use Rattle.k_types.specs.Trace.{Trace}
 use Rattle.k_words.specs.Words.{Text}
 use Rattle.k_trace.specs.Judgement.{IsBad}
 use Rattle.k_trace.specs.Named.{NamedTrace}
@@ -15,7 +17,9 @@ use Rattle.kaffe.specs.Answers.{IsChecked, IsDone, WasRead}
 use Rattle.kaffe.specs.Commands.{command_of, RunsTrace}
 use Rattle.kaffe.specs.Ends.{Input}
 use Rattle.kaffe.specs.Inputs.{most_bytes, IsBadFor}
-use Rattle.kaffe.specs.Parts.{Means, TellsOfBytes, TellsOfCheck, TellsOfSource}
+use Rattle.kaffe.specs.declared.running.Order.{Order}
+use Rattle.kaffe.specs.declared.running.Order.TheVariants.{OfTheFile, OfThreads}
+use Rattle.kaffe.specs.Parts.{IsInOrder, Means, TellsOfBytes, TellsOfCheck, TellsOfSource}
 use Rattle.kaffe.specs.Reports.{IsReportOf}
 use Rattle.kaffe.proofs.Reports.{report_is}
 
@@ -32,7 +36,16 @@ bad_for Run bytes line reason runs bad = bad
 bad_for Replay bytes line reason runs bad = bad
 bad_for Check bytes line reason runs bad = absurd runs
 
-done_by_run : (words : List Text) (input : Input) (command : Command) (text : Text) → command_of words ≡ Some command → RunsTrace command → TellsOfSource most_trace_bytes TellsOfBytes input Good text → IsDone words input text
+-- The order in which a command has a trace run.
+abbrev pub order_of : Command → Order
+order_of Run = OfThreads
+order_of Replay = OfTheFile
+order_of Check = OfTheFile
+
+in_file_order : (command : Command) (trace : Trace) (history : List Event) → IsInOrder (order_of command) trace history → command ≡ Replay → history ≡ file_order trace
+in_file_order command trace history is replay = subst (λ (c : Command). IsInOrder (order_of c) trace history) replay is
+
+done_by_run : (words : List Text) (input : Input) (command : Command) (text : Text) → command_of words ≡ Some command → RunsTrace command → TellsOfSource most_trace_bytes (TellsOfBytes (order_of command)) input Good text → IsDone words input text
 done_by_run words input command text said runs h = record {
   command = command;
   said = said;
@@ -41,13 +54,13 @@ done_by_run words input command text said runs h = record {
   read = read_for command input h.0 runs h.1;
   trace = h.2.0;
   spelled = h.2.1;
-  history = file_order h.2.0.trace;
-  report = h.2.2;
-  in_order = λ replay. refl;
+  history = h.2.2.history;
+  report = h.2.2.report;
+  in_order = in_file_order command h.2.0.trace h.2.2.history h.2.2.in_order;
 }
 
 pub run_means : (words : List Text) (input : Input) (command : Command) → command_of words ≡ Some command → RunsTrace command
-    → (status : Status) (text : Text) → TellsOfSource most_trace_bytes TellsOfBytes input status text → Means words input status text
+    → (status : Status) (text : Text) → TellsOfSource most_trace_bytes (TellsOfBytes (order_of command)) input status text → Means words input status text
 run_means words input command said runs Good text h = inl (done_by_run words input command text said runs h)
 run_means words input command said runs BadTrace text h =
     record { command = command; said = said; bytes = h.0; read = read_for command input h.0 runs h.1; line = h.2.0; reason = h.2.1; bad = bad_for command h.0 h.2.0 h.2.1 runs h.2.2; says = h.2.3 }

@@ -5,11 +5,13 @@ ghost use Rattle.kaffe.specs.Commands.{IsNoCommand};
 
 use crate::checking::check_file;
 use crate::commands::{Command, command_of};
-use crate::file_order::run_file;
+use crate::running::{Order, run_file};
 use crate::status::Status;
 use crate::texts::write_usage;
 use k_io::{Gate, Sink, Source};
 use std::alloc::Global;
+use std::sync::Wait;
+use std::thread::Threads;
 
 /// Does what the words say, and writes the text of its status.
 ///
@@ -17,16 +19,17 @@ use std::alloc::Global;
 /// report checked, and then the text is written. So the source is not read where the words are no command,
 /// and nothing is written before the run or the check has ended.
 ///
-/// `rt` and `gate` are what a run on threads needs; the one-thread run does not use them. It takes
+/// `run` does the processes on threads, `replay` the operations in the order of the file on the caller's
+/// thread. A run on threads waits for its locks, and tells the gate where it stands. It takes
 /// memory for the bytes of the input, for the trace, and for the journal and the machine's state, each
 /// in proportion to the input; docs/PERFORMANCE.md has what it costs in time.
-pub fn kaffe<S: Source, K: Sink, G: Gate, R: Sync>(
-    _rt: &R,
+pub fn kaffe<S: Source, K: Sink, G: Gate, R: Threads + Wait + Sync>(
+    rt: &R,
     alloc: Global,
     words: &[String],
     src: &mut S,
     out: &mut K,
-    _gate: &G,
+    gate: &G,
 ) -> Status
     ensures answered { IsAnswered (map string_bytes words.now)
         (record { left = S.left src.old; rest = S.left src.new; failed_before = S.faults src.old; failed_after = S.faults src.new })
@@ -36,8 +39,8 @@ pub fn kaffe<S: Source, K: Sink, G: Gate, R: Sync>(
     ensures unwritten { IsUnwritten result → out.new ≡ out.old }
 {
     match command_of(words) {
-        Some(Command::Run) => run_file(alloc, src, out),
-        Some(Command::Replay) => run_file(alloc, src, out),
+        Some(Command::Run) => run_file(rt, alloc, Order::OfThreads, src, out, gate),
+        Some(Command::Replay) => run_file(rt, alloc, Order::OfTheFile, src, out, gate),
         Some(Command::Check) => check_file(alloc, src, out),
         None => write_usage(out),
     }

@@ -12,9 +12,9 @@ mod checked;
 mod checking;
 mod command_line;
 mod commands;
-mod file_order;
 #[cfg(test)]
 mod ranges;
+mod running;
 #[cfg(test)]
 mod server;
 mod status;
