@@ -5,4 +5,5 @@ pub mod Lines
 pub mod Lists
 pub mod Meanings
 pub mod Reports
+pub mod Runs
 pub mod Written

@@ -3,7 +3,6 @@ use Rattle.std.proofs.Common.{◌≡◌, ℕ, List, Some, inl, inr, refl, subst,
 use Rattle.k_types.specs.Bounds.{most_trace_bytes, most_check_bytes}
 use Rattle.k_types.specs.declared.event.Event.{Event}
 use Rattle.k_types.specs.FileOrder.{file_order}
-use Rattle.k_types.specs.Trace.{Trace}
 use Rattle.k_words.specs.Words.{Text}
 use Rattle.k_trace.specs.Judgement.{IsBad}
 use Rattle.k_trace.specs.Named.{NamedTrace}
@@ -17,10 +16,8 @@ use Rattle.kaffe.specs.Answers.{IsChecked, IsDone, WasRead}
 use Rattle.kaffe.specs.Commands.{command_of, RunsTrace}
 use Rattle.kaffe.specs.Ends.{Input}
 use Rattle.kaffe.specs.Inputs.{most_bytes, IsBadFor}
-use Rattle.kaffe.specs.declared.running.Order.{Order}
-use Rattle.kaffe.specs.declared.running.Order.TheVariants.{OfTheFile, OfThreads}
-use Rattle.kaffe.specs.Parts.{IsInOrder, Means, TellsOfBytes, TellsOfCheck, TellsOfSource}
-use Rattle.kaffe.specs.Reports.{IsReportOf}
+use Rattle.kaffe.specs.Parts.{Means, TellsOfBytes, TellsOfCheck, TellsOfSource}
+use Rattle.kaffe.specs.Reports.{IsFileReport, IsReportOf, IsSomeReport}
 use Rattle.kaffe.proofs.Reports.{report_is}
 
 -- ---- the commands that run a trace
@@ -36,31 +33,40 @@ bad_for Run bytes line reason runs bad = bad
 bad_for Replay bytes line reason runs bad = bad
 bad_for Check bytes line reason runs bad = absurd runs
 
--- The order in which a command has a trace run.
-abbrev pub order_of : Command → Order
-order_of Run = OfThreads
-order_of Replay = OfTheFile
-order_of Check = OfTheFile
+-- Which texts such a command writes of a trace: by `replay` the report of the order of the file, else that of some history.
+abbrev pub reports_of : Command → NamedTrace → Text → Type 0
+reports_of Replay = IsFileReport
+reports_of _ = IsSomeReport
 
-in_file_order : (command : Command) (trace : Trace) (history : List Event) → IsInOrder (order_of command) trace history → command ≡ Replay → history ≡ file_order trace
-in_file_order command trace history is replay = subst (λ (c : Command). IsInOrder (order_of c) trace history) replay is
+-- A history of which the command wrote the report; by `replay` it is the one in the order of the file.
+record IsTold (command : Command) (t : NamedTrace) (text : Text) : Type 0 where
+  history : List Event
+  report : IsReportOf t history text
+  in_order : command ≡ Replay → history ≡ file_order t.trace
 
-done_by_run : (words : List Text) (input : Input) (command : Command) (text : Text) → command_of words ≡ Some command → RunsTrace command → TellsOfSource most_trace_bytes (TellsOfBytes (order_of command)) input Good text → IsDone words input text
-done_by_run words input command text said runs h = record {
-  command = command;
-  said = said;
-  runs = runs;
-  bytes = h.0;
-  read = read_for command input h.0 runs h.1;
-  trace = h.2.0;
-  spelled = h.2.1;
-  history = h.2.2.history;
-  report = h.2.2.report;
-  in_order = in_file_order command h.2.0.trace h.2.2.history h.2.2.in_order;
-}
+told_history : (command : Command) (t : NamedTrace) (text : Text) → RunsTrace command → reports_of command t text → IsTold command t text
+told_history Run t text runs h = record { history = h.0; report = h.1; in_order = λ (clash : Run ≡ Replay). absurd cc }
+told_history Replay t text runs h = record { history = file_order t.trace; report = h; in_order = λ same. refl }
+told_history Check t text runs h = absurd runs
+
+done_by_run : (words : List Text) (input : Input) (command : Command) (text : Text) → command_of words ≡ Some command → RunsTrace command → TellsOfSource most_trace_bytes (TellsOfBytes (reports_of command)) input Good text → IsDone words input text
+done_by_run words input command text said runs h =
+    let told = told_history command h.2.0 text runs h.2.2 in
+    record {
+      command = command;
+      said = said;
+      runs = runs;
+      bytes = h.0;
+      read = read_for command input h.0 runs h.1;
+      trace = h.2.0;
+      spelled = h.2.1;
+      history = told.history;
+      report = told.report;
+      in_order = told.in_order;
+    }
 
 pub run_means : (words : List Text) (input : Input) (command : Command) → command_of words ≡ Some command → RunsTrace command
-    → (status : Status) (text : Text) → TellsOfSource most_trace_bytes (TellsOfBytes (order_of command)) input status text → Means words input status text
+    → (status : Status) (text : Text) → TellsOfSource most_trace_bytes (TellsOfBytes (reports_of command)) input status text → Means words input status text
 run_means words input command said runs Good text h = inl (done_by_run words input command text said runs h)
 run_means words input command said runs BadTrace text h =
     record { command = command; said = said; bytes = h.0; read = read_for command input h.0 runs h.1; line = h.2.0; reason = h.2.1; bad = bad_for command h.0 h.2.0 h.2.1 runs h.2.2; says = h.2.3 }

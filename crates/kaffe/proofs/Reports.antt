@@ -1,5 +1,5 @@
 -- What is written of a run of a trace.
-use Rattle.std.proofs.Common.{◌≡◌, ◌∙◌, List, [], ap, refl, subst}
+use Rattle.std.proofs.Common.{◌≡◌, ◌∙◌, List, [], ap, refl, subst, sym}
 use Rattle.k_types.specs.declared.event.Event.{Event}
 use Rattle.k_types.specs.Steps.{state_after}
 use Rattle.k_types.specs.Trace.{Trace}
@@ -14,6 +14,7 @@ use Rattle.k_history.proofs.Refusals.{proper}
 use Rattle.k_history.proofs.ReportLines.{history_of_text}
 use Rattle.k_reports.proofs.Spelled.{all_spelled}
 use Rattle.k_laws.proofs.Laws.{collections_free_nothing_live}
+use Rattle.k_order.proofs.Laws.{ended_histories_leave_what_the_directory_reaches}
 use Rattle.k_outcome.specs.Ends.{EndValue, journal_of, last_state}
 use Rattle.k_outcome.proofs.Setups.{report_over_setup}
 use Rattle.k_run.specs.Runs.{IsRunOf}
@@ -39,4 +40,9 @@ report_is t history is legal complete = record {
   complete = complete;
   safe = λ before rest h objects bytes exits shares parted n live.
       collections_free_nothing_live t.trace before rest h objects bytes exits shares is.rules.limits (subst (IsLegalHistory t.trace) parted legal) n live;
+  reclaimed = ended_histories_leave_what_the_directory_reaches t.trace history is.rules.limits legal complete;
 }
+
+-- What is written of a run that is over is a report of its journal.
+pub report_by_run : (t : NamedTrace) (end : EndValue) → IsTrace t → IsRunOf t end → IsReportOf t (journal_of end) (text_over end.names end.setup (journal_of end) (last_state end))
+report_by_run t end is run = subst (IsReportOf t (journal_of end)) (sym (report_of_run t end run)) (report_is t (journal_of end) is run.legal run.complete)

@@ -1,23 +1,17 @@
 -- What the parts of a call tell: the writing of a text, the run of a trace, the check of a report, the judgement of an input.
 use Rattle.std.specs.Prelude.{◌≡◌, ◌⊎◌, ℕ, List, [], Result, Ok, Err}
-use Rattle.k_types.specs.declared.event.Event.{Event}
-use Rattle.k_types.specs.FileOrder.{file_order}
-use Rattle.k_types.specs.Trace.{Trace}
 use Rattle.k_words.specs.Words.{Text}
 use Rattle.k_trace.specs.Named.{NamedTrace}
 use Rattle.k_trace.specs.Judgement.{IsBad}
 use Rattle.k_trace.specs.Rules.{Spells}
 use Rattle.k_reports.specs.Verdicts.{IsAccepted, IsRefused}
 use Rattle.kaffe.specs.declared.commands.Command.TheVariants.{Check}
-use Rattle.kaffe.specs.declared.running.Order.{Order}
-use Rattle.kaffe.specs.declared.running.Order.TheVariants.{OfTheFile, OfThreads}
 use Rattle.kaffe.specs.declared.status.Status.{Status}
 use Rattle.kaffe.specs.declared.status.Status.TheVariants.{Good, BadTrace, Usage, WantOfMemory, ReadFault, WriteFault, Refused}
 use Rattle.kaffe.specs.Answers.{IsBadInput, IsChecked, IsDone, IsMisused, IsRefusedReport, IsUnwritten, WasRead}
 use Rattle.kaffe.specs.Commands.{IsCommand}
 use Rattle.kaffe.specs.Ends.{Input, Output, SourceFailed, Took, TookFront}
 use Rattle.kaffe.specs.Inputs.{AreTraceAndReport, IsBadFor}
-use Rattle.kaffe.specs.Reports.{IsReportOf}
 use Rattle.kaffe.specs.Texts.{bad_trace_text, good_text, refused_text}
 
 -- The status after its text was handed to the sink.
@@ -37,29 +31,12 @@ pub record Answers (tells : Status → Text → Type 0) (output : Output) (answe
   pub told : tells status text
   pub written : IsWritten output status text answer
 
--- The history is in the order of the file, where the trace is run in that order.
-abbrev pub IsInOrder : Order → Trace → List Event → Type 0
-IsInOrder OfTheFile trace history = history ≡ file_order trace
-IsInOrder OfThreads trace history = Unit {0}
-
--- The text is the report of a history of the trace in that order.
-pub record IsReportBy (order : Order) (t : NamedTrace) (text : Text) : Type 0 where
-  pub history : List Event
-  pub report : IsReportOf t history text
-  pub in_order : IsInOrder order t.trace history
-
--- What each status tells of a trace that is run in that order, and of the text to be written.
-abbrev pub TellsOfTrace : Order → NamedTrace → Status → Text → Type 0
-TellsOfTrace order t Good text = IsReportBy order t text
-TellsOfTrace order t WantOfMemory text = text ≡ []
-TellsOfTrace order t _ text = ⊥
-
--- What each status tells of the bytes that were read as a trace to be run in that order, and of the text to be written.
-abbrev pub TellsOfBytes : Order → Text → Status → Text → Type 0
-TellsOfBytes order bytes Good text = (t : NamedTrace) × Spells bytes t × IsReportBy order t text
-TellsOfBytes order bytes BadTrace text = (line : ℕ) × (reason : ℕ) × IsBad bytes line reason × (text ≡ bad_trace_text line reason)
-TellsOfBytes order bytes WantOfMemory text = text ≡ []
-TellsOfBytes order bytes _ text = ⊥
+-- What each status tells of the bytes that were read as a trace, and of the text to be written, where those are the reports of a trace.
+abbrev pub TellsOfBytes : (NamedTrace → Text → Type 0) → Text → Status → Text → Type 0
+TellsOfBytes reports bytes Good text = (t : NamedTrace) × Spells bytes t × reports t text
+TellsOfBytes reports bytes BadTrace text = (line : ℕ) × (reason : ℕ) × IsBad bytes line reason × (text ≡ bad_trace_text line reason)
+TellsOfBytes reports bytes WantOfMemory text = text ≡ []
+TellsOfBytes reports bytes _ text = ⊥
 
 -- What each status tells of a report that is checked against its trace, and of the text to be written.
 abbrev pub TellsOfReport : NamedTrace → Text → Status → Text → Type 0

@@ -5,7 +5,7 @@ ghost use Rattle.kaffe.specs.Commands.{IsNoCommand};
 
 use crate::checking::check_file;
 use crate::commands::{Command, command_of};
-use crate::running::{Order, run_file};
+use crate::running::{replay_file, run_file};
 use crate::status::Status;
 use crate::texts::write_usage;
 use k_io::{Gate, Sink, Source};
@@ -19,10 +19,13 @@ use std::thread::Threads;
 /// report checked, and then the text is written. So the source is not read where the words are no command,
 /// and nothing is written before the run or the check has ended.
 ///
-/// `run` does the processes on threads, `replay` the operations in the order of the file on the caller's
-/// thread. A run on threads waits for its locks, and tells the gate where it stands. It takes
-/// memory for the bytes of the input, for the trace, and for the journal and the machine's state, each
-/// in proportion to the input; docs/PERFORMANCE.md has what it costs in time.
+/// `run` has at most four threads do what the processes have to do, and tells the gate where they stand; `replay` does the operations
+/// in the order of the file, on the caller's thread. `run` waits for the locks of the heaps: it returns if it gets them. Whatever the
+/// threads and the gate do, the report is that of a legal and complete history. No other command waits, and none calls the gate.
+///
+/// Memory is taken for the bytes of the input and for the trace; then, before the first operation, for all that the operations can come
+/// to need: the journal, the objects, the tables, the locks and the places for the report. Each goes with the input. `check` takes memory
+/// for its machine as it goes. docs/PERFORMANCE.md has what it costs in time.
 pub fn kaffe<S: Source, K: Sink, G: Gate, R: Threads + Wait + Sync>(
     rt: &R,
     alloc: Global,
@@ -39,8 +42,8 @@ pub fn kaffe<S: Source, K: Sink, G: Gate, R: Threads + Wait + Sync>(
     ensures unwritten { IsUnwritten result → out.new ≡ out.old }
 {
     match command_of(words) {
-        Some(Command::Run) => run_file(rt, alloc, Order::OfThreads, src, out, gate),
-        Some(Command::Replay) => run_file(rt, alloc, Order::OfTheFile, src, out, gate),
+        Some(Command::Run) => run_file(rt, alloc, src, out, gate),
+        Some(Command::Replay) => replay_file(alloc, src, out),
         Some(Command::Check) => check_file(alloc, src, out),
         None => write_usage(out),
     }

@@ -60,7 +60,7 @@ shared s
 ";
 
 /// Calls the program with these words and this input. The read of that number fails; none where it is 0.
-pub fn call<K: Sink, R: Sync>(
+pub fn call<K: Sink, R: Threads + Wait + Sync>(
     rt: &R,
     alloc: Global,
     words: &str,
@@ -83,7 +83,7 @@ pub fn sink(alloc: Global, failing_write: u32) -> Result<MemSink, Fail> {
 }
 
 /// Calls the program without a fault, and compares the status and what was written.
-pub fn check_call<R: Abort + Sync>(
+pub fn check_call<R: Abort + Threads + Wait + Sync>(
     rt: &R,
     alloc: Global,
     words: &str,

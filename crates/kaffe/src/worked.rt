@@ -181,7 +181,7 @@ p2 new r1 Node = fault LimitFull b
 ];
 
 /// Replays the operations of the events behind the header, and compares the report up to the line `graph`.
-fn check_events<R: Abort + Sync>(
+fn check_events<R: Abort + Threads + Wait + Sync>(
     rt: &R,
     alloc: Global,
     header: &str,

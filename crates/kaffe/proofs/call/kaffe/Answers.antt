@@ -12,7 +12,7 @@ returns-in-Some-Run-clause-answered g c =
 
 pub returns-in-Some-Replay-clause-answered : goal.returns-in-Some-Replay-clause-answered
 returns-in-Some-Replay-clause-answered g c =
-    contract _ _ _ _ (answered_more _ _ _ _ (run_means _ _ Replay (sym c.command_of.ensures ∙ c.in-Some-Replay.is ∙ ap (λ (command : Command). Some command) c.in-Some-Replay.field-0-is) tt) c.run_file-in-Some-Replay.ensures.answered)
+    contract _ _ _ _ (answered_more _ _ _ _ (run_means _ _ Replay (sym c.command_of.ensures ∙ c.in-Some-Replay.is ∙ ap (λ (command : Command). Some command) c.in-Some-Replay.field-0-is) tt) c.replay_file.ensures.answered)
 
 pub returns-in-Some-Check-clause-answered : goal.returns-in-Some-Check-clause-answered
 returns-in-Some-Check-clause-answered g c =
