@@ -6,4 +6,5 @@ pub mod Lists
 pub mod Meanings
 pub mod Reports
 pub mod Runs
+pub mod Summaries
 pub mod Written

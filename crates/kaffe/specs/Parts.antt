@@ -1,4 +1,5 @@
--- What the parts of a call tell: the writing of a text, the run of a trace, the check of a report, the judgement of an input.
+-- What the parts of a call tell: the writing of a text, the run of a trace or of the workload, the check of a report, the judgement of an
+-- input.
 use Rattle.std.specs.Prelude.{◌≡◌, ◌⊎◌, ℕ, List, [], Result, Ok, Err}
 use Rattle.k_words.specs.Words.{Text}
 use Rattle.k_trace.specs.Named.{NamedTrace}
@@ -8,10 +9,11 @@ use Rattle.k_reports.specs.Verdicts.{IsAccepted, IsRefused}
 use Rattle.kaffe.specs.declared.commands.Command.TheVariants.{Check}
 use Rattle.kaffe.specs.declared.status.Status.{Status}
 use Rattle.kaffe.specs.declared.status.Status.TheVariants.{Good, BadTrace, Usage, WantOfMemory, ReadFault, WriteFault, Refused}
-use Rattle.kaffe.specs.Answers.{IsBadInput, IsChecked, IsDone, IsMisused, IsRefusedReport, IsUnwritten, WasRead}
-use Rattle.kaffe.specs.Commands.{IsCommand}
+use Rattle.kaffe.specs.Answers.{IsBadInput, IsChecked, IsDone, IsMisused, IsRefusedReport, IsSummed, IsUnwritten, WasRead}
+use Rattle.kaffe.specs.Commands.{IsCommand, IsReading}
 use Rattle.kaffe.specs.Ends.{Input, Output, SourceFailed, Took, TookFront}
 use Rattle.kaffe.specs.Inputs.{AreTraceAndReport, IsBadFor}
+use Rattle.kaffe.specs.Reports.{IsSummaryOf}
 use Rattle.kaffe.specs.Texts.{bad_trace_text, good_text, refused_text}
 
 -- The status after its text was handed to the sink.
@@ -59,12 +61,18 @@ TellsOfSource limit tells input ReadFault text = SourceFailed input × (text ≡
 TellsOfSource limit tells input WantOfMemory text = text ≡ []
 TellsOfSource limit tells input status text = (bytes : Text) × WasRead limit input bytes × tells bytes status text
 
+-- What each status tells of the workload, where each process makes so many objects, and of the text to be written.
+abbrev pub TellsOfBig : ℕ → Status → Text → Type 0
+TellsOfBig objects Good text = IsSummaryOf objects text
+TellsOfBig objects WantOfMemory text = text ≡ []
+TellsOfBig objects _ text = ⊥
+
 -- What each status means of the words and the source, and of the text to be written.
 abbrev pub Means : List Text → Input → Status → Text → Type 0
-Means words input Good text = IsDone words input text ⊎ IsChecked words input text
+Means words input Good text = IsDone words input text ⊎ IsChecked words input text ⊎ IsSummed words text
 Means words input BadTrace text = IsBadInput words input text
 Means words input Usage text = IsMisused words text
 Means words input WantOfMemory text = IsCommand words × (text ≡ [])
-Means words input ReadFault text = IsCommand words × SourceFailed input × (text ≡ [])
+Means words input ReadFault text = IsReading words × SourceFailed input × (text ≡ [])
 Means words input WriteFault text = ⊥
 Means words input Refused text = IsRefusedReport words input text

@@ -1,4 +1,4 @@
--- Which texts are reports of a trace.
+-- Which texts are reports of a trace, and which are summaries of the workload.
 use Rattle.std.specs.Prelude.{◌≡◌, ℕ, List, ◌∷◌, ◌++◌, IsTrue, Ok}
 use Rattle.k_types.specs.declared.event.Event.{Event}
 use Rattle.k_types.specs.declared.event.Event.TheVariants.{Ended}
@@ -16,6 +16,8 @@ use Rattle.k_words.specs.Words.{Text}
 use Rattle.k_trace.specs.Named.{NamedTrace}
 use Rattle.k_text.specs.Report.{report_text}
 use Rattle.k_history.specs.Histories.{history_of}
+use Rattle.k_big.specs.Summary.{summary_text}
+use Rattle.k_big.specs.Workload.{big_trace}
 
 -- No end of a collection in the history frees an object that a living process's register, the directory or a live shared heap
 -- reaches just before it.
@@ -42,3 +44,10 @@ IsSomeReport t text = (history : List Event) × IsReportOf t history text
 -- The text is the report of the history of the trace in the order of the file.
 abbrev pub IsFileReport : NamedTrace → Text → Type 0
 IsFileReport t text = IsReportOf t (file_order t.trace) text
+
+-- The text is the summary of a history of the trace where each process makes so many objects, and the history is legal and complete.
+pub record IsSummaryOf (objects : ℕ) (text : Text) : Type 0 where
+  pub history : List Event
+  pub legal : IsLegalHistory (big_trace objects).trace history
+  pub complete : IsComplete (big_trace objects).trace history
+  pub says : text ≡ summary_text objects history

@@ -24,6 +24,7 @@ mod tests;
 mod texts;
 #[cfg(test)]
 mod worked;
+mod workload;
 
 use crate::command_line::program;
 use k_io::{NoGate, StdSink, StdSource};

@@ -1,0 +1,16 @@
+use Rattle.std.proofs.Common.{refl}
+use Rattle.kaffe.specs.declared.status.Status.TheVariants.{WantOfMemory}
+use Rattle.kaffe.proofs.Answered.{answered_unwritten, answered_written}
+use Rattle.kaffe.proofs.Summaries.{has_limits, has_small_charges, summary_of_run}
+use Rattle.kaffe.proofs.Written.{written_by}
+use Rattle.kaffe.proofs.workload.run_workload.Goals as goal
+
+pub summary-requires : goal.summary-requires
+summary-requires g c = record { limits = has_limits c.args.objects _ c.in-Ok.ensures; charges = has_small_charges c.args.objects _ c.requires c.in-Ok.ensures }
+
+pub returns-in-Ok-clause-answered : goal.returns-in-Ok-clause-answered
+returns-in-Ok-clause-answered g c =
+    answered_written _ _ _ _ _ (summary_of_run c.args.objects _ c.in-Ok.ensures) (written_by _ _ _ _ _ _ _ _ (λ none. none) c.after_writing.ensures c.summary.ensures)
+
+pub returns-in-Err-clause-answered : goal.returns-in-Err-clause-answered
+returns-in-Err-clause-answered g c = answered_unwritten _ _ _ WantOfMemory _ c.want_of_memory.ensures refl
