@@ -1,11 +1,11 @@
 -- Lists of one word or two, which command they are, and how many objects a command asks for.
-use Rattle.std.proofs.Common.{◌≡◌, ◌∙◌, ℕ, ◌+◌, ◌<◌, ◌≤◌, nat_lt, List, [], ◌∷◌, length, get_or, map, ap, sym, refl, arith, Bool, true, false, ◌&&◌, Option, option_map, Some, None}
+use Rattle.std.proofs.Common.{◌≡◌, ◌∙◌, ℕ, ◌+◌, ◌<◌, ◌≤◌, nat_lt, ◌&&◌, List, [], ◌∷◌, length, get_or, map, ap, sym, refl, arith, Bool, true, false, Option, option_map, Some, None}
 use Rattle.std.specs.Prelude.{codes, if◌then◌else◌}
 use Rattle.std.specs.Str.{bytes_eq}
 use Rattle.std.proofs.lemmas.Slice.Eq.{bytes_eq-Decides}
 use Rattle.k_words.specs.Numbers.{is_below, value}
 use Rattle.k_words.specs.Words.{Text}
-use Rattle.k_words.proofs.Spelled.{number_word}
+use Rattle.k_words.proofs.Spelled.{both, number_word}
 use Rattle.k_big.specs.Words.{objects_of}
 use Rattle.k_big.specs.Workload.{most_objects}
 use Rattle.kaffe.specs.declared.commands.Command.{Command}
@@ -46,10 +46,6 @@ pub of_other_pair : (word number : Text) → (word ≡ codes "big" → ⊥) → 
 of_other_pair word number f = no_number (bytes_eq word (codes "big")) (option_map (λ objects. Big objects) (objects_of number)) (λ t. f ((bytes_eq-Decides word (codes "big")).0 t))
 
 -- ---- how many objects
-
-both : (a b : Bool) → (a && b) ≡ true → (a ≡ true) × (b ≡ true)
-both true b e = (refl, e)
-both false b e = let clash : false ≡ true = e in absurd cc
 
 number_read : (b : Bool) (v n : ℕ) → (if b then Some v else None) ≡ Some n → (b ≡ true) × (v ≡ n)
 number_read true v n e = let same : Some v ≡ Some n = e in (refl, cc)
