@@ -40,7 +40,11 @@ run_told input (Err error) h e = error_told IsSomeReport input error e
 -- What is told of a run in the order of the file is the report of that order.
 pub replay_told : (input : Input) (r : Result EndValue RunError) → IfOk r (HasReplayed input) → IfErr r (HasCause input)
     → TellsOfSource most_trace_bytes (TellsOfBytes IsFileReport) input (status_of r) (text_of r)
-replay_told input (Ok end) h e =
-    (h.gave.bytes, h.gave.read, h.trace, h.gave.spelled,
-    subst (λ (history : List Event). IsReportOf h.trace history (text_of (Ok end))) h.in_order (report_by_run h.trace end h.gave.spelled.is_trace h.run))
+replay_told input (Ok end) h e = (
+  h.gave.bytes,
+  h.gave.read,
+  h.trace,
+  h.gave.spelled,
+  subst (λ (history : List Event). IsReportOf h.trace history (text_of (Ok end))) h.in_order (report_by_run h.trace end h.gave.spelled.is_trace h.run),
+)
 replay_told input (Err error) h e = error_told IsFileReport input error e

@@ -20,9 +20,11 @@ fn trace_of(alloc: Global, operations: u32) -> Result<String, Fail> {
 #[test]
 fn runs_the_most_operations(rt: HostRuntime) -> Result<(), Fail> {
     let most = trace_of(rt.alloc(), 200_000)?;
-    let mut out = MemSink::make(rt.alloc(), 4_000_000, Vec::new(rt.alloc()))?;
-    let status = call(&rt, rt.alloc(), "replay", &most, 0, &mut out)?;
-    assert_eq!(rt; status, Status::Good);
+    for words in ["replay", "run"] {
+        let mut out = MemSink::make(rt.alloc(), 4_000_000, Vec::new(rt.alloc()))?;
+        let status = call(&rt, rt.alloc(), words, &most, 0, &mut out)?;
+        assert_eq!(rt; status, Status::Good, "{words}");
+    }
     let more = trace_of(rt.alloc(), 200_001)?;
     let text = "bad trace: line 200006 reason 9\n";
     check_call(&rt, rt.alloc(), "replay", &more, Status::BadTrace, text)

@@ -4,7 +4,9 @@ use crate::status::Status;
 use k_io::{DripSink, DripSource, MemSink, MemSource, NoGate, Sink};
 use std::alloc::Global;
 use std::process::Abort;
+use std::sync::Wait;
 use std::test::Fail;
+use std::thread::Threads;
 
 const TRACE: &str = "kaffe 1
 kernel 32 2
