@@ -20,6 +20,8 @@ mod running;
 mod server;
 mod status;
 #[cfg(test)]
+mod summaries;
+#[cfg(test)]
 mod tests;
 mod texts;
 #[cfg(test)]

@@ -61,6 +61,15 @@ proc p2 b
 shared s
 ";
 
+/// The words of a line.
+pub fn words_of(alloc: Global, line: &str) -> Result<Vec<String>, Fail> {
+    let mut words = Vec::new(alloc);
+    for word in line.split_whitespace() {
+        words.push(String::from_str(alloc, word)?)?;
+    }
+    Ok(words)
+}
+
 /// Calls the program with these words and this input. The read of that number fails; none where it is 0.
 pub fn call<K: Sink, R: Threads + Wait + Sync>(
     rt: &R,
@@ -70,10 +79,7 @@ pub fn call<K: Sink, R: Threads + Wait + Sync>(
     failing_read: u32,
     sink: &mut K,
 ) -> Result<Status, Fail> {
-    let mut given = Vec::new(alloc);
-    for word in words.split_whitespace() {
-        given.push(String::from_str(alloc, word)?)?;
-    }
+    let given = words_of(alloc, words)?;
     let bytes = Vec::from_slice(alloc, input.as_bytes())?;
     let mut source = MemSource::of(bytes, vec![in alloc; failing_read]?);
     Ok(kaffe(rt, alloc, &given, &mut source, sink, &NoGate))
@@ -113,7 +119,8 @@ fn reports_the_first_trace(rt: HostRuntime) -> Result<(), Fail> {
 #[test]
 fn refuses_other_words(rt: HostRuntime) -> Result<(), Fail> {
     for words in [
-        "", "run x", "x run", "runs", "Replay", "checks", "big 0", "big 007", "big 10",
+        "", "run x", "x run", "runs", "Replay", "checks", "big", "big 0", "big 007", "big 5001",
+        "big 1 1", "Big 10", "10 big",
     ] {
         let mut out = sink(rt.alloc(), 0)?;
         let status = call(&rt, rt.alloc(), words, TRACE, 1, &mut out)?;
