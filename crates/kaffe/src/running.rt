@@ -55,7 +55,7 @@ pub fn replay_file<S: Source, K: Sink>(alloc: Global, src: &mut S, out: &mut K) 
 }
 
 /// Runs the trace that the source gives, on threads.
-fn run_source<S: Source, G: Gate, R: Threads + Wait + Sync>(
+fn run_source<G: Gate, R: Threads + Wait + Sync, S: Source>(
     rt: &R,
     alloc: Global,
     src: &mut S,

@@ -1,5 +1,4 @@
-use Rattle.kaffe.proofs.Runs.{has_replayed}
 use Rattle.kaffe.proofs.running.replay_source.Goals as goal
 
 pub replay_trace-requires : goal.replay_trace-requires
-replay_trace-requires g c = c.in_ok-trace_of-trace.ensures.ok.spelled.is_trace
+replay_trace-requires g c = c.in_ok-trace.ensures.ok.spelled.is_trace
