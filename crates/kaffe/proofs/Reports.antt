@@ -1,9 +1,8 @@
 -- What is written of a run of a trace.
-use Rattle.std.proofs.Common.{◌≡◌, ◌∙◌, List, [], ap, refl, subst, sym}
+use Rattle.std.proofs.Common.{◌≡◌, ◌∙◌, List, ap, refl, subst, sym}
 use Rattle.k_types.specs.declared.event.Event.{Event}
 use Rattle.k_types.specs.Steps.{state_after}
 use Rattle.k_types.specs.Trace.{Trace}
-use Rattle.k_state.specs.Machines.{setup_of}
 use Rattle.k_trace.specs.Named.{DeclaredNames, NamedTrace}
 use Rattle.k_trace.specs.Rules.{IsTrace}
 use Rattle.k_text.specs.Named.{AreNamed}

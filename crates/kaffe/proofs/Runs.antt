@@ -13,7 +13,7 @@ use Rattle.kaffe.specs.declared.status.Status.TheVariants.{Good}
 use Rattle.kaffe.specs.Ends.{Input, Output}
 use Rattle.kaffe.specs.Parts.{IsWritten, TellsOfBytes, TellsOfSource}
 use Rattle.kaffe.specs.Reports.{IsFileReport, IsReportOf, IsSomeReport}
-use Rattle.kaffe.specs.Runs.{GaveTrace, HasCause, HasReplayed, HasRun, IsNamedEnd, status_of, text_of}
+use Rattle.kaffe.specs.Runs.{HasCause, HasReplayed, HasRun, IsNamedEnd, status_of, text_of}
 use Rattle.kaffe.proofs.Reports.{named_in_run, report_by_run}
 
 -- What the end of a run shows has a name.
