@@ -1,4 +1,4 @@
-use Rattle.std.proofs.Common.{sym, ◌∙◌, ap, refl, Some}
+use Rattle.std.proofs.Common.{rules, sym, ◌∙◌, ap, refl, Some}
 use Rattle.kaffe.specs.declared.commands.Command.{Command}
 use Rattle.kaffe.specs.declared.commands.Command.TheVariants.{Run, Replay, Check, Big}
 use Rattle.kaffe.proofs.Answered.{answered_more, answered_written}
@@ -20,7 +20,8 @@ returns-in-Some-Check-clause-answered g c =
     contract _ _ _ _ (answered_more _ _ _ _ (check_means _ _ (sym c.command_of.ensures ∙ c.in-Some-Check.is ∙ ap (λ (command : Command). Some command) c.in-Some-Check.field-0-is)) c.check_file.ensures.answered)
 
 pub run_workload-requires : goal.run_workload-requires
-run_workload-requires g c = few_objects _ _ (sym c.command_of.ensures ∙ c.in-Some-Big.is ∙ ap (λ (command : Command). Some command) c.in-Some-Big.field-0-is)
+run_workload-requires g c =
+    (search rules, (search rules, few_objects _ _ (sym c.command_of.ensures ∙ c.in-Some-Big.is ∙ ap (λ (command : Command). Some command) c.in-Some-Big.field-0-is)))
 
 pub returns-in-Some-Big-clause-answered : goal.returns-in-Some-Big-clause-answered
 returns-in-Some-Big-clause-answered g c =
