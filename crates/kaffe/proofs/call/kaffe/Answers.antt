@@ -1,4 +1,5 @@
 use Rattle.std.proofs.Common.{rules, sym, ◌∙◌, ap, refl, Some}
+use Rattle.std.specs.Prelude.{map, string_bytes}
 use Rattle.kaffe.specs.declared.commands.Command.{Command}
 use Rattle.kaffe.specs.declared.commands.Command.TheVariants.{Run, Replay, Check, Big}
 use Rattle.kaffe.proofs.Answered.{answered_more, answered_written}
@@ -21,7 +22,7 @@ returns-in-Some-Check-clause-answered g c =
 
 pub run_workload-requires : goal.run_workload-requires
 run_workload-requires g c =
-    (search rules, (search rules, few_objects _ _ (sym c.command_of.ensures ∙ c.in-Some-Big.is ∙ ap (λ (command : Command). Some command) c.in-Some-Big.field-0-is)))
+    (search rules, (search rules, few_objects (map string_bytes c.args.words.now) _ (sym c.command_of.ensures ∙ c.in-Some-Big.is ∙ ap (λ (command : Command). Some command) c.in-Some-Big.field-0-is)))
 
 pub returns-in-Some-Big-clause-answered : goal.returns-in-Some-Big-clause-answered
 returns-in-Some-Big-clause-answered g c =
