@@ -1,9 +1,8 @@
 -- What is written of a run of the workload.
-use Rattle.std.proofs.Common.{◌≡◌, ◌∙◌, ℕ, ◌<◌, ◌≤◌, length, ap, subst, sym, arith}
+use Rattle.std.proofs.Common.{◌∙◌, ℕ, ◌<◌, ◌≤◌, length, ap, subst, sym, arith}
 use Rattle.k_types.specs.State.{State}
 use Rattle.k_types.specs.Steps.{state_after}
 use Rattle.k_types.specs.Trace.{Trace}
-use Rattle.k_state.specs.Machines.{setup_of}
 use Rattle.k_outcome.specs.Ends.{EndValue, journal_of, last_state}
 use Rattle.k_outcome.proofs.Setups.{same_state}
 use Rattle.k_big.specs.Summary.{HasSmallCharges, summary_over}

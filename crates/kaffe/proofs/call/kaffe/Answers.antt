@@ -1,7 +1,7 @@
 use Rattle.std.proofs.Common.{rules, sym, ◌∙◌, ap, refl, Some}
 use Rattle.std.specs.Prelude.{map, string_bytes}
 use Rattle.kaffe.specs.declared.commands.Command.{Command}
-use Rattle.kaffe.specs.declared.commands.Command.TheVariants.{Run, Replay, Check, Big}
+use Rattle.kaffe.specs.declared.commands.Command.TheVariants.{Run, Replay, Check}
 use Rattle.kaffe.proofs.Answered.{answered_more, answered_written}
 use Rattle.kaffe.proofs.Contract.{contract}
 use Rattle.kaffe.proofs.Lists.{few_objects}
