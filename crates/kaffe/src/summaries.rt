@@ -29,14 +29,17 @@ fn summaries_are_those_worked_out(rt: HostRuntime) -> Result<(), Fail> {
             "big 25",
             "big 25\noperations 900\nevents 916\nfaults 0\nfreed 64\nkernel 2800\nlive 2720\nroot 8000\n",
         ),
-        (
-            "big 5000",
-            "big 5000\noperations 180012\nevents 184012\nfaults 0\nfreed 16000\nkernel 480080\nlive 480000\nroot 1600000\n",
-        ),
     ] {
         check_call(&rt, rt.alloc(), words, "", Status::Good, text)?;
     }
     Ok(())
+}
+
+#[test]
+fn the_greatest_summary_is_the_one_worked_out(rt: HostRuntime) -> Result<(), Fail> {
+    let text =
+        "big 5000\noperations 180012\nevents 184012\nfaults 0\nfreed 16000\nkernel 480080\nlive 480000\nroot 1600000\n";
+    check_call(&rt, rt.alloc(), "big 5000", "", Status::Good, text)
 }
 
 #[test]
