@@ -6,5 +6,5 @@ pub mod Lists
 pub mod Meanings
 pub mod Reports
 pub mod Runs
-pub mod Summaries
+pub mod Workloads
 pub mod Written

@@ -2,7 +2,7 @@ use Rattle.std.proofs.Common.{refl}
 use Rattle.k_io.specs.declared.errors.WriteFailed.{WriteFailed}
 use Rattle.kaffe.specs.declared.status.Status.TheVariants.{Good, WantOfMemory}
 use Rattle.kaffe.proofs.Answered.{answered_unwritten, answered_written}
-use Rattle.kaffe.proofs.Summaries.{has_limits, has_small_charges, summary_of_run}
+use Rattle.kaffe.proofs.Workloads.{has_limits, has_small_charges, summary_of_run}
 use Rattle.kaffe.proofs.Written.{never_unwritten, written_by}
 use Rattle.kaffe.proofs.workload.run_workload.Goals as goal
 
