@@ -4,13 +4,12 @@ use Rattle.std.specs.Io.KnownBytes.{Consumes, IsAtEnd}
 use Rattle.k_io.proofs.Takings.{takes_nothing}
 use Rattle.k_words.specs.Words.{Text}
 use Rattle.k_trace.specs.Named.{NamedTrace}
-use Rattle.k_trace.specs.Rules.{Spells}
 use Rattle.kaffe.specs.declared.status.Status.{Status}
 use Rattle.kaffe.specs.declared.status.Status.TheVariants.{Good, BadTrace, Usage, WantOfMemory, ReadFault, WriteFault, Refused}
 use Rattle.kaffe.specs.Answers.{WasRead}
 use Rattle.kaffe.specs.Ends.{Input, Output}
 use Rattle.kaffe.specs.Inputs.{AreTraceAndReport}
-use Rattle.kaffe.specs.Parts.{Answers, IsWritten, TellsOfTrace, TellsOfBytes, TellsOfReport, TellsOfCheck, TellsOfSource}
+use Rattle.kaffe.specs.Parts.{Answers, IsWritten, TellsOfReport, TellsOfCheck, TellsOfSource}
 
 -- An answer with no text: nothing was written.
 pub answered_unwritten : (tells : Status → Text → Type 0) (old : List ℕ → List ℕ → Type 0) (count : ℕ) (status answer : Status) → answer ≡ status → tells status []
@@ -27,16 +26,6 @@ answered_written tells output status answer text h w = record { status = status;
 pub answered_more : (less more : Status → Text → Type 0) (output : Output) (answer : Status)
     → ((status : Status) (text : Text) → less status text → more status text) → Answers less output answer → Answers more output answer
 answered_more less more output answer h a = record { status = a.status; text = a.text; told = h a.status a.text a.told; written = a.written }
-
--- What the trace tells, the bytes that spell it tell.
-pub bytes_tell : (bytes : Text) (t : NamedTrace) → Spells bytes t → (status : Status) (text : Text) → TellsOfTrace t status text → TellsOfBytes bytes status text
-bytes_tell bytes t spells Good text h = (t, spells, h)
-bytes_tell bytes t spells WantOfMemory text h = h
-bytes_tell bytes t spells BadTrace text h = absurd h
-bytes_tell bytes t spells Usage text h = absurd h
-bytes_tell bytes t spells ReadFault text h = absurd h
-bytes_tell bytes t spells WriteFault text h = absurd h
-bytes_tell bytes t spells Refused text h = absurd h
 
 -- What the report tells, the bytes tell that are its trace and the report.
 pub check_tells : (bytes : Text) (t : NamedTrace) (report : Text) → AreTraceAndReport bytes t report → (status : Status) (text : Text) → TellsOfReport t report status text → TellsOfCheck bytes status text
@@ -57,18 +46,7 @@ was_read limit input bytes items n same long given few ended = record {
   ended = λ short. ended (omega (arith, long, short));
 }
 
--- What the bytes tell of a trace, the source that gave them tells.
-pub source_tells : (limit : ℕ) (input : Input) (bytes : Text) → WasRead limit input bytes
-    → (status : Status) (text : Text) → TellsOfBytes bytes status text → TellsOfSource limit TellsOfBytes input status text
-source_tells limit input bytes read Good text h = (bytes, read, h)
-source_tells limit input bytes read BadTrace text h = (bytes, read, h)
-source_tells limit input bytes read WantOfMemory text h = h
-source_tells limit input bytes read Usage text h = absurd h
-source_tells limit input bytes read ReadFault text h = absurd h
-source_tells limit input bytes read WriteFault text h = absurd h
-source_tells limit input bytes read Refused text h = absurd h
-
--- And so it does what they tell of a trace and a report.
+-- What the bytes tell of a trace and a report, the source that gave them tells.
 pub checked_source_tells : (limit : ℕ) (input : Input) (bytes : Text) → WasRead limit input bytes
     → (status : Status) (text : Text) → TellsOfCheck bytes status text → TellsOfSource limit TellsOfCheck input status text
 checked_source_tells limit input bytes read Good text h = (bytes, read, h)

@@ -7,7 +7,7 @@ use Rattle.kaffe.specs.declared.status.Status.TheVariants.{Good, BadTrace, Usage
 use Rattle.kaffe.specs.Answers.{IsDecided, IsDue, IsAnswered, IsUnwritten}
 use Rattle.kaffe.specs.Ends.{Input, Output, SinkFailed, Took, TookFront, TookNothing}
 use Rattle.kaffe.specs.Parts.{Answers, IsWritten, Means}
-use Rattle.kaffe.proofs.Decided.{of_no_command, of_trace, of_good_report, of_wrong_report, of_bad_input}
+use Rattle.kaffe.proofs.Decided.{of_no_command, of_trace, of_big, of_good_report, of_wrong_report, of_bad_input}
 
 -- ---- the answer and the status whose text was written
 
@@ -31,10 +31,11 @@ meant_as words input output status answer text told written this other e =
 -- A text that a status means to be written is due.
 due_of : (words : List Text) (input : Input) (status : Status) (text : Text) → Means words input status text → ¬ IsUnwritten status → IsDue words input text
 due_of words input Good text (inl h) some = inl h
-due_of words input Good text (inr h) some = inr (inl h)
-due_of words input Refused text h some = inr (inr (inl h))
-due_of words input BadTrace text h some = inr (inr (inr (inl h)))
-due_of words input Usage text h some = inr (inr (inr (inr h)))
+due_of words input Good text (inr (inl h)) some = inr (inl h)
+due_of words input Good text (inr (inr h)) some = inr (inr (inl h))
+due_of words input Refused text h some = inr (inr (inr (inl h)))
+due_of words input BadTrace text h some = inr (inr (inr (inr (inl h))))
+due_of words input Usage text h some = inr (inr (inr (inr (inr h))))
 due_of words input WantOfMemory text h some = absurd (some tt)
 due_of words input ReadFault text h some = absurd (some tt)
 due_of words input WriteFault text h some = absurd h
@@ -57,6 +58,9 @@ decided words input output status answer text told written = record {
   of_trace = λ command bytes t said runs known spells steady kept.
       subst (λ (s : Status). (s ≡ Good) ⊎ (s ≡ WantOfMemory)) (sym (settled output status answer text written kept))
       (of_trace words input command bytes t said runs known spells steady status text told);
+  of_big = λ objects said kept.
+      subst (λ (s : Status). (s ≡ Good) ⊎ (s ≡ WantOfMemory)) (sym (settled output status answer text written kept))
+      (of_big words input objects said status text told);
   of_good_report = λ bytes t report said known parts good steady kept.
       subst (λ (s : Status). (s ≡ Good) ⊎ (s ≡ WantOfMemory)) (sym (settled output status answer text written kept))
       (of_good_report words input bytes t report said known parts good steady status text told);

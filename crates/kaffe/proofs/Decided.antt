@@ -10,11 +10,11 @@ use Rattle.k_trace.proofs.Exact.{apart, one}
 use Rattle.k_history.specs.Good.{IsGoodReport, IsRefusedAt}
 use Rattle.k_check.proofs.Splits.{one_split}
 use Rattle.kaffe.specs.declared.commands.Command.{Command}
-use Rattle.kaffe.specs.declared.commands.Command.TheVariants.{Run, Replay, Check}
+use Rattle.kaffe.specs.declared.commands.Command.TheVariants.{Run, Replay, Check, Big}
 use Rattle.kaffe.specs.declared.status.Status.{Status}
 use Rattle.kaffe.specs.declared.status.Status.TheVariants.{Good, BadTrace, Usage, WantOfMemory, ReadFault, WriteFault, Refused}
-use Rattle.kaffe.specs.Answers.{IsBadInput, IsChecked, IsDone, IsRefusedReport, WasRead}
-use Rattle.kaffe.specs.Commands.{command_of, IsNoCommand, RunsTrace}
+use Rattle.kaffe.specs.Answers.{IsBadInput, IsChecked, IsDone, IsRefusedReport, IsSummed, WasRead}
+use Rattle.kaffe.specs.Commands.{command_of, IsNoCommand, ReadsSource, RunsTrace}
 use Rattle.kaffe.specs.Ends.{Input, SourceFailed}
 use Rattle.kaffe.specs.Inputs.{most_bytes, AreParts, AreTraceAndReport, IsBadFor}
 use Rattle.kaffe.specs.Parts.{Means}
@@ -32,6 +32,17 @@ is_command words command said none = let clash : (let c : Option Command = None 
 -- The command that checks runs no trace.
 runs_not : (words : List Text) (command : Command) → command_of words ≡ Some command → RunsTrace command → command_of words ≡ Some Check → ⊥
 runs_not words command said runs check = subst RunsTrace (one_command words Check command check said) runs
+
+-- The command of the workload runs no trace that is read, and does not check.
+big_not : (words : List Text) (command : Command) (objects : ℕ) → command_of words ≡ Some command → ReadsSource command → command_of words ≡ Some (Big objects) → ⊥
+big_not words command objects said reads big = subst ReadsSource (one_command words (Big objects) command big said) reads
+
+-- A command whose input is bad reads the source.
+reads_bad : (command : Command) (bytes : Text) (line reason : ℕ) → IsBadFor command bytes line reason → ReadsSource command
+reads_bad Run bytes line reason bad = tt
+reads_bad Replay bytes line reason bad = tt
+reads_bad Check bytes line reason bad = tt
+reads_bad (Big objects) bytes line reason bad = absurd bad
 
 -- ---- bytes
 
@@ -60,6 +71,7 @@ few_for : (command : Command) (bytes : Text) (t : NamedTrace) → RunsTrace comm
 few_for Run bytes t runs spells = spells.few
 few_for Replay bytes t runs spells = spells.few
 few_for Check bytes t runs spells = absurd runs
+few_for (Big objects) bytes t runs spells = absurd runs
 
 -- ---- what is a trace is no bad input
 
@@ -67,6 +79,7 @@ spelled_not_bad : (command : Command) (bytes : Text) (t : NamedTrace) (line reas
 spelled_not_bad Run bytes t line reason runs spells bad = apart bytes t line reason spells bad
 spelled_not_bad Replay bytes t line reason runs spells bad = apart bytes t line reason spells bad
 spelled_not_bad Check bytes t line reason runs spells bad = absurd runs
+spelled_not_bad (Big objects) bytes t line reason runs spells bad = absurd runs
 
 -- The bytes have one trace part and one report.
 same_front : (bytes front report other behind : Text) → AreParts bytes front report → AreParts bytes other behind → (front ≡ other) × (report ≡ behind)
@@ -88,22 +101,24 @@ same_parts bytes t u report behind parts more =
 
 -- What is shown of a status from what it means, where the words are a command and the source did not fail.
 by_status : (wanted : Status → Type 0) (words : List Text) (input : Input) (command : Command) → command_of words ≡ Some command → ¬ SourceFailed input → wanted WantOfMemory
-    → ((text : Text) → IsDone words input text → wanted Good) → ((text : Text) → IsChecked words input text → wanted Good)
+    → ((text : Text) → IsDone words input text → wanted Good) → ((text : Text) → IsChecked words input text → wanted Good) → ((text : Text) → IsSummed words text → wanted Good)
     → ((text : Text) → IsRefusedReport words input text → wanted Refused) → ((text : Text) → IsBadInput words input text → wanted BadTrace)
     → (status : Status) (text : Text) → Means words input status text → wanted status
-by_status wanted words input command said steady memory done checked refused bad Good text (inl h) = done text h
-by_status wanted words input command said steady memory done checked refused bad Good text (inr h) = checked text h
-by_status wanted words input command said steady memory done checked refused bad Refused text h = refused text h
-by_status wanted words input command said steady memory done checked refused bad BadTrace text h = bad text h
-by_status wanted words input command said steady memory done checked refused bad WantOfMemory text h = memory
-by_status wanted words input command said steady memory done checked refused bad ReadFault text h = absurd (steady h.1)
-by_status wanted words input command said steady memory done checked refused bad Usage text h = absurd (is_command words command said h.no_command)
-by_status wanted words input command said steady memory done checked refused bad WriteFault text h = absurd h
+by_status wanted words input command said steady memory done checked summed refused bad Good text (inl h) = done text h
+by_status wanted words input command said steady memory done checked summed refused bad Good text (inr (inl h)) = checked text h
+by_status wanted words input command said steady memory done checked summed refused bad Good text (inr (inr h)) = summed text h
+by_status wanted words input command said steady memory done checked summed refused bad Refused text h = refused text h
+by_status wanted words input command said steady memory done checked summed refused bad BadTrace text h = bad text h
+by_status wanted words input command said steady memory done checked summed refused bad WantOfMemory text h = memory
+by_status wanted words input command said steady memory done checked summed refused bad ReadFault text h = absurd (steady h.1)
+by_status wanted words input command said steady memory done checked summed refused bad Usage text h = absurd (is_command words command said h.no_command)
+by_status wanted words input command said steady memory done checked summed refused bad WriteFault text h = absurd h
 
 pub of_no_command : (words : List Text) (input : Input) → IsNoCommand words → (status : Status) (text : Text) → Means words input status text → status ≡ Usage
 of_no_command words input none Usage text h = refl
 of_no_command words input none Good text (inl h) = absurd (is_command words h.command h.said none)
-of_no_command words input none Good text (inr h) = absurd (is_command words Check h.said none)
+of_no_command words input none Good text (inr (inl h)) = absurd (is_command words Check h.said none)
+of_no_command words input none Good text (inr (inr h)) = absurd (is_command words (Big h.objects) h.said none)
 of_no_command words input none Refused text h = absurd (is_command words Check h.said none)
 of_no_command words input none BadTrace text h = absurd (is_command words h.command h.said none)
 of_no_command words input none WantOfMemory text h = absurd (is_command words h.0.0 h.0.1 none)
@@ -122,6 +137,7 @@ pub of_trace : (words : List Text) (input : Input) (command : Command) (bytes : 
     → (status : Status) (text : Text) → Means words input status text → (status ≡ Good) ⊎ (status ≡ WantOfMemory)
 of_trace words input command bytes t said runs known spells steady =
     by_status (λ (s : Status). (s ≡ Good) ⊎ (s ≡ WantOfMemory)) words input command said steady (inr refl)
+    (λ text h. inl refl)
     (λ text h. inl refl)
     (λ text h. inl refl)
     (λ text h. absurd (runs_not words command said runs h.said))
@@ -151,6 +167,7 @@ of_good_report words input bytes t report said known parts good steady =
     by_status (λ (s : Status). (s ≡ Good) ⊎ (s ≡ WantOfMemory)) words input Check said steady (inr refl)
     (λ text h. inl refl)
     (λ text h. inl refl)
+    (λ text h. inl refl)
     (λ text h. absurd (good_not_refused words input bytes t report text known parts good h))
     (λ text h. absurd (report_not_bad words input bytes t report text said known parts h))
 
@@ -166,6 +183,7 @@ of_wrong_report words input bytes t report n said known parts refused steady =
     by_status (λ (s : Status). (s ≡ Refused) ⊎ (s ≡ WantOfMemory)) words input Check said steady (inr refl)
     (λ text h. absurd (runs_not words h.command h.said h.runs said))
     (λ text h. absurd (refused_not_good words input bytes t report text n known parts refused h))
+    (λ text h. absurd (big_not words Check h.objects said tt h.said))
     (λ text h. inl refl)
     (λ text h. absurd (report_not_bad words input bytes t report text said known parts h))
 
@@ -189,5 +207,19 @@ of_bad_input words input command bytes line reason said known bad steady =
     by_status (λ (s : Status). (s ≡ BadTrace) ⊎ (s ≡ WantOfMemory)) words input command said steady (inr refl)
     (λ text h. absurd (bad_not_done words input command bytes line reason text said known bad h))
     (λ text h. absurd (bad_not_parts words input command bytes h.bytes line reason h.trace h.report said known bad h.said h.read h.parts))
+    (λ text h. absurd (big_not words command h.objects said (reads_bad command bytes line reason bad) h.said))
     (λ text h. absurd (bad_not_parts words input command bytes h.bytes line reason h.trace h.report said known bad h.said h.read h.parts))
     (λ text h. inl refl)
+
+-- What is read of a bad input is not that of the workload, which has none.
+big_not_bad : (words : List Text) (input : Input) (objects : ℕ) (text : Text) → command_of words ≡ Some (Big objects) → IsBadInput words input text → ⊥
+big_not_bad words input objects text said h = big_not words h.command objects h.said (reads_bad h.command h.bytes h.line h.reason h.bad) said
+
+pub of_big : (words : List Text) (input : Input) (objects : ℕ) → command_of words ≡ Some (Big objects) → (status : Status) (text : Text) → Means words input status text → (status ≡ Good) ⊎ (status ≡ WantOfMemory)
+of_big words input objects said Good text h = inl refl
+of_big words input objects said WantOfMemory text h = inr refl
+of_big words input objects said Refused text h = absurd (big_not words Check objects h.said tt said)
+of_big words input objects said BadTrace text h = absurd (big_not_bad words input objects text said h)
+of_big words input objects said ReadFault text h = absurd (big_not words h.0.0 objects h.0.1 h.0.2 said)
+of_big words input objects said Usage text h = absurd (is_command words (Big objects) said h.no_command)
+of_big words input objects said WriteFault text h = absurd h

@@ -5,4 +5,6 @@ pub mod Lines
 pub mod Lists
 pub mod Meanings
 pub mod Reports
+pub mod Runs
+pub mod Workloads
 pub mod Written

@@ -17,3 +17,8 @@ pub written_by : {E : Type 0} (old new : List ℕ → List ℕ → Type 0) (befo
     → IsWritten (record { agreed = old; agrees = new; failed_before = before; failed_after = now }) status text answer
 written_by old new before now r text status answer some e w =
     subst (λ (a : Status). IsWritten (record { agreed = old; agrees = new; failed_before = before; failed_after = now }) status text a) (sym e) (written old new before now r text status some w)
+
+-- A text was handed to the sink, so the answer is none of those that nothing is written for.
+pub never_unwritten : {E : Type 0} (r : Result (Unit {0}) E) (status answer : Status) → ¬ IsUnwritten status → answer ≡ status_after status r → ¬ IsUnwritten answer
+never_unwritten (Ok v) status answer some e = subst (λ (s : Status). ¬ IsUnwritten s) (sym e) some
+never_unwritten (Err e) status answer some f = subst (λ (s : Status). ¬ IsUnwritten s) (sym f) (λ none. none)

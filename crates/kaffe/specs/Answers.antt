@@ -9,13 +9,13 @@ use Rattle.k_trace.specs.Rules.{Spells}
 use Rattle.k_history.specs.Good.{IsGoodReport, IsRefusedAt}
 use Rattle.k_reports.specs.Verdicts.{IsRefused}
 use Rattle.kaffe.specs.declared.commands.Command.{Command}
-use Rattle.kaffe.specs.declared.commands.Command.TheVariants.{Replay, Check}
+use Rattle.kaffe.specs.declared.commands.Command.TheVariants.{Replay, Check, Big}
 use Rattle.kaffe.specs.declared.status.Status.{Status}
 use Rattle.kaffe.specs.declared.status.Status.TheVariants.{Good, BadTrace, Usage, WantOfMemory, ReadFault, WriteFault, Refused}
-use Rattle.kaffe.specs.Commands.{command_of, IsCommand, IsNoCommand, RunsTrace}
+use Rattle.kaffe.specs.Commands.{command_of, IsCommand, IsNoCommand, IsReading, RunsTrace}
 use Rattle.kaffe.specs.Ends.{Input, Output, SourceFailed, SinkFailed, Took, TookFront, TookNothing}
 use Rattle.kaffe.specs.Inputs.{most_bytes, AreTraceAndReport, IsBadFor}
-use Rattle.kaffe.specs.Reports.{IsReportOf}
+use Rattle.kaffe.specs.Reports.{IsReportOf, IsSummaryOf}
 use Rattle.kaffe.specs.Texts.{usage_text, bad_trace_text, good_text, refused_text}
 
 -- The source gave these bytes: all to the end of input, or one more than the limit where there are more.
@@ -50,6 +50,12 @@ pub record IsChecked (words : List Text) (input : Input) (text : Text) : Type 0 
   pub nowhere_refused : (n : ℕ) → ¬ IsRefusedAt trace report n
   pub says : text ≡ good_text
 
+-- By `big` the text is the summary of a run of the trace where each process makes so many objects.
+pub record IsSummed (words : List Text) (text : Text) : Type 0 where
+  pub objects : ℕ
+  pub said : command_of words ≡ Some (Big objects)
+  pub summary : IsSummaryOf objects text
+
 -- By `check` a trace and a report were read, the report is refused, and the text tells its first wrong line.
 pub record IsRefusedReport (words : List Text) (input : Input) (text : Text) : Type 0 where
   pub said : command_of words ≡ Some Check
@@ -80,13 +86,16 @@ pub record IsMisused (words : List Text) (text : Text) : Type 0 where
 
 -- The text is what a call without a fault of the sink would have written.
 abbrev pub IsDue : List Text → Input → Text → Type 0
-IsDue words input text = IsDone words input text ⊎ IsChecked words input text ⊎ IsRefusedReport words input text ⊎ IsBadInput words input text ⊎ IsMisused words text
+IsDue words input text =
+    IsDone words input text ⊎ IsChecked words input text ⊎ IsSummed words text ⊎ IsRefusedReport words input text ⊎ IsBadInput words input text ⊎ IsMisused words text
 
--- Where neither source nor sink fails, the words and the bytes decide the answer, up to want of memory.
+-- Where neither source nor sink fails, the words and the bytes decide the answer, up to want of memory. `big` and words that are no command
+-- do not go by the source.
 pub record IsDecided (words : List Text) (input : Input) (output : Output) (answer : Status) : Type 0 where
   pub of_no_command : IsNoCommand words → ¬ SinkFailed output → answer ≡ Usage
   pub of_trace : (command : Command) (bytes : Text) (t : NamedTrace) → command_of words ≡ Some command → RunsTrace command → input.left ≡ Some bytes → Spells bytes t
       → ¬ SourceFailed input → ¬ SinkFailed output → (answer ≡ Good) ⊎ (answer ≡ WantOfMemory)
+  pub of_big : (objects : ℕ) → command_of words ≡ Some (Big objects) → ¬ SinkFailed output → (answer ≡ Good) ⊎ (answer ≡ WantOfMemory)
   pub of_good_report : (bytes : Text) (t : NamedTrace) (report : Text) → command_of words ≡ Some Check → input.left ≡ Some bytes → AreTraceAndReport bytes t report → IsGoodReport t report
       → ¬ SourceFailed input → ¬ SinkFailed output → (answer ≡ Good) ⊎ (answer ≡ WantOfMemory)
   pub of_wrong_report : (bytes : Text) (t : NamedTrace) (report : Text) (n : ℕ) → command_of words ≡ Some Check → input.left ≡ Some bytes → AreTraceAndReport bytes t report → IsRefusedAt t report n
@@ -96,11 +105,11 @@ pub record IsDecided (words : List Text) (input : Input) (output : Output) (answ
 
 -- What each status means where it is the answer, and which answer comes.
 pub record IsAnswered (words : List Text) (input : Input) (output : Output) (answer : Status) : Type 0 where
-  pub good : answer ≡ Good → (text : Text) × (IsDone words input text ⊎ IsChecked words input text) × Took output text
+  pub good : answer ≡ Good → (text : Text) × (IsDone words input text ⊎ IsChecked words input text ⊎ IsSummed words text) × Took output text
   pub bad_trace : answer ≡ BadTrace → (text : Text) × IsBadInput words input text × Took output text
   pub usage : answer ≡ Usage → IsNoCommand words × Took output usage_text
   pub want_of_memory : answer ≡ WantOfMemory → IsCommand words × TookNothing output
-  pub read_fault : answer ≡ ReadFault → IsCommand words × SourceFailed input × TookNothing output
+  pub read_fault : answer ≡ ReadFault → IsReading words × SourceFailed input × TookNothing output
   pub write_fault : answer ≡ WriteFault → (text : Text) × IsDue words input text × TookFront output text
   pub refused : answer ≡ Refused → (text : Text) × IsRefusedReport words input text × Took output text
   pub complete : IsDecided words input output answer

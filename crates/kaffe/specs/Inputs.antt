@@ -8,11 +8,12 @@ use Rattle.k_trace.specs.Named.{NamedTrace}
 use Rattle.k_trace.specs.Reasons.{reason_number}
 use Rattle.k_trace.specs.Rules.{Spells}
 use Rattle.kaffe.specs.declared.commands.Command.{Command}
-use Rattle.kaffe.specs.declared.commands.Command.TheVariants.{Check}
+use Rattle.kaffe.specs.declared.commands.Command.TheVariants.{Big, Check}
 
--- The most bytes of the command's input. It reads at most one byte more.
+-- The most bytes of the command's input. It reads at most one byte more, but for `big`, which reads nothing.
 abbrev pub most_bytes : Command → ℕ
 most_bytes Check = most_check_bytes
+most_bytes (Big objects) = 0
 most_bytes _ = most_trace_bytes
 
 -- The bytes are few enough for `check`, and are the trace part and the report, which begins at the first line `report 1`; where
@@ -40,7 +41,8 @@ pub record IsBadFront (bytes : Text) (line reason : ℕ) : Type 0 where
   pub parts : AreParts bytes front report
   pub bad : IsBad front line reason
 
--- The command's input is bad, and that is its first bad line and the lowest reason that applies to it.
+-- The command's input is bad, and that is its first bad line and the lowest reason that applies to it. `big` has no input.
 abbrev pub IsBadFor : Command → Text → ℕ → ℕ → Type 0
 IsBadFor Check bytes line reason = AreTooMany bytes line reason ⊎ IsBadFront bytes line reason
+IsBadFor (Big objects) bytes line reason = ⊥
 IsBadFor _ bytes line reason = IsBad bytes line reason

@@ -4,6 +4,7 @@ pub mod Ends
 pub mod Inputs
 pub mod Reports
 pub mod Answers
+pub mod Runs
 pub mod Parts
 pub mod Numbers
 pub mod Endings

@@ -1,6 +1,6 @@
--- What the parts of a call tell: the writing of a text, the run of a trace, the check of a report, the judgement of an input.
+-- What the parts of a call tell: the writing of a text, the run of a trace or of the workload, the check of a report, the judgement of an
+-- input.
 use Rattle.std.specs.Prelude.{◌≡◌, ◌⊎◌, ℕ, List, [], Result, Ok, Err}
-use Rattle.k_types.specs.FileOrder.{file_order}
 use Rattle.k_words.specs.Words.{Text}
 use Rattle.k_trace.specs.Named.{NamedTrace}
 use Rattle.k_trace.specs.Judgement.{IsBad}
@@ -9,11 +9,11 @@ use Rattle.k_reports.specs.Verdicts.{IsAccepted, IsRefused}
 use Rattle.kaffe.specs.declared.commands.Command.TheVariants.{Check}
 use Rattle.kaffe.specs.declared.status.Status.{Status}
 use Rattle.kaffe.specs.declared.status.Status.TheVariants.{Good, BadTrace, Usage, WantOfMemory, ReadFault, WriteFault, Refused}
-use Rattle.kaffe.specs.Answers.{IsBadInput, IsChecked, IsDone, IsMisused, IsRefusedReport, IsUnwritten, WasRead}
-use Rattle.kaffe.specs.Commands.{IsCommand}
+use Rattle.kaffe.specs.Answers.{IsBadInput, IsChecked, IsDone, IsMisused, IsRefusedReport, IsSummed, IsUnwritten, WasRead}
+use Rattle.kaffe.specs.Commands.{IsCommand, IsReading}
 use Rattle.kaffe.specs.Ends.{Input, Output, SourceFailed, Took, TookFront}
 use Rattle.kaffe.specs.Inputs.{AreTraceAndReport, IsBadFor}
-use Rattle.kaffe.specs.Reports.{IsReportOf}
+use Rattle.kaffe.specs.Reports.{IsSummaryOf}
 use Rattle.kaffe.specs.Texts.{bad_trace_text, good_text, refused_text}
 
 -- The status after its text was handed to the sink.
@@ -33,18 +33,12 @@ pub record Answers (tells : Status → Text → Type 0) (output : Output) (answe
   pub told : tells status text
   pub written : IsWritten output status text answer
 
--- What each status tells of a trace that is run, and of the text to be written.
-abbrev pub TellsOfTrace : NamedTrace → Status → Text → Type 0
-TellsOfTrace t Good text = IsReportOf t (file_order t.trace) text
-TellsOfTrace t WantOfMemory text = text ≡ []
-TellsOfTrace t _ text = ⊥
-
--- What each status tells of the bytes that were read as a trace, and of the text to be written.
-abbrev pub TellsOfBytes : Text → Status → Text → Type 0
-TellsOfBytes bytes Good text = (t : NamedTrace) × Spells bytes t × IsReportOf t (file_order t.trace) text
-TellsOfBytes bytes BadTrace text = (line : ℕ) × (reason : ℕ) × IsBad bytes line reason × (text ≡ bad_trace_text line reason)
-TellsOfBytes bytes WantOfMemory text = text ≡ []
-TellsOfBytes bytes _ text = ⊥
+-- What each status tells of the bytes that were read as a trace, and of the text to be written, where those are the reports of a trace.
+abbrev pub TellsOfBytes : (NamedTrace → Text → Type 0) → Text → Status → Text → Type 0
+TellsOfBytes reports bytes Good text = (t : NamedTrace) × Spells bytes t × reports t text
+TellsOfBytes reports bytes BadTrace text = (line : ℕ) × (reason : ℕ) × IsBad bytes line reason × (text ≡ bad_trace_text line reason)
+TellsOfBytes reports bytes WantOfMemory text = text ≡ []
+TellsOfBytes reports bytes _ text = ⊥
 
 -- What each status tells of a report that is checked against its trace, and of the text to be written.
 abbrev pub TellsOfReport : NamedTrace → Text → Status → Text → Type 0
@@ -67,12 +61,18 @@ TellsOfSource limit tells input ReadFault text = SourceFailed input × (text ≡
 TellsOfSource limit tells input WantOfMemory text = text ≡ []
 TellsOfSource limit tells input status text = (bytes : Text) × WasRead limit input bytes × tells bytes status text
 
+-- What each status tells of the workload, where each process makes so many objects, and of the text to be written.
+abbrev pub TellsOfBig : ℕ → Status → Text → Type 0
+TellsOfBig objects Good text = IsSummaryOf objects text
+TellsOfBig objects WantOfMemory text = text ≡ []
+TellsOfBig objects _ text = ⊥
+
 -- What each status means of the words and the source, and of the text to be written.
 abbrev pub Means : List Text → Input → Status → Text → Type 0
-Means words input Good text = IsDone words input text ⊎ IsChecked words input text
+Means words input Good text = IsDone words input text ⊎ IsChecked words input text ⊎ IsSummed words text
 Means words input BadTrace text = IsBadInput words input text
 Means words input Usage text = IsMisused words text
 Means words input WantOfMemory text = IsCommand words × (text ≡ [])
-Means words input ReadFault text = IsCommand words × SourceFailed input × (text ≡ [])
+Means words input ReadFault text = IsReading words × SourceFailed input × (text ≡ [])
 Means words input WriteFault text = ⊥
 Means words input Refused text = IsRefusedReport words input text

@@ -10,6 +10,8 @@ use std::alloc::Global;
 use std::env::Args;
 use std::io;
 use std::process::ExitCode;
+use std::sync::Wait;
+use std::thread::Threads;
 
 /// The words after the program's name; none where an argument is not UTF-8, which is no command.
 fn words_after_name(alloc: Global, args: io::Result<Args>) -> Result<Vec<String>, NoMemory>
@@ -35,7 +37,7 @@ fn words_after_name(alloc: Global, args: io::Result<Args>) -> Result<Vec<String>
 /// Does what the arguments say, and gives the exit status of the program, the number of its answer.
 ///
 /// The first argument is the program's name. Arguments that are not UTF-8 are no command.
-pub fn program<S: Source, K: Sink, G: Gate, R: Sync>(
+pub fn program<S: Source, K: Sink, G: Gate, R: Threads + Wait + Sync>(
     rt: &R,
     alloc: Global,
     args: io::Result<Args>,

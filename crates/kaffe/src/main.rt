@@ -1,5 +1,5 @@
-//! The program: reads a trace from standard input, runs it and writes its report to standard
-//! output, or checks a report, or does what else its words say. Its exit status says how that ended.
+//! The program: reads a trace from standard input, runs it on threads or in the order of the file and writes its report to
+//! standard output, or checks a report, or does what else its words say. Its exit status says how that ended.
 //!
 //! The contract of `kaffe` promises, for any source and sink, which status comes and what was
 //! written, and that of `program` that the exit status is the number of this status. `main` gives it
@@ -12,17 +12,21 @@ mod checked;
 mod checking;
 mod command_line;
 mod commands;
-mod file_order;
 #[cfg(test)]
 mod ranges;
+mod run_error;
+mod running;
 #[cfg(test)]
 mod server;
 mod status;
+#[cfg(test)]
+mod summaries;
 #[cfg(test)]
 mod tests;
 mod texts;
 #[cfg(test)]
 mod worked;
+mod workload;
 
 use crate::command_line::program;
 use k_io::{NoGate, StdSink, StdSource};

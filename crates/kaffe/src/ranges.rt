@@ -3,7 +3,10 @@ use crate::status::Status;
 use crate::tests::{HEADER, call, check_call, sink};
 use k_io::MemSink;
 use std::alloc::Global;
+use std::process::Abort;
+use std::sync::Wait;
 use std::test::Fail;
+use std::thread::Threads;
 
 /// A trace of so many operations of one process, each of which lets go of a register.
 fn trace_of(alloc: Global, operations: u32) -> Result<String, Fail> {
@@ -17,12 +20,31 @@ fn trace_of(alloc: Global, operations: u32) -> Result<String, Fail> {
     Ok(trace)
 }
 
+/// Calls the program with the most operations that a trace has.
+fn check_most<R: Abort + Threads + Wait + Sync>(
+    rt: &R,
+    alloc: Global,
+    words: &str,
+) -> Result<(), Fail> {
+    let most = trace_of(alloc, 200_000)?;
+    let mut out = MemSink::make(alloc, 4_000_000, Vec::new(alloc))?;
+    let status = call(rt, alloc, words, &most, 0, &mut out)?;
+    assert_eq!(rt; status, Status::Good);
+    Ok(())
+}
+
+#[test]
+fn replays_the_most_operations(rt: HostRuntime) -> Result<(), Fail> {
+    check_most(&rt, rt.alloc(), "replay")
+}
+
 #[test]
 fn runs_the_most_operations(rt: HostRuntime) -> Result<(), Fail> {
-    let most = trace_of(rt.alloc(), 200_000)?;
-    let mut out = MemSink::make(rt.alloc(), 4_000_000, Vec::new(rt.alloc()))?;
-    let status = call(&rt, rt.alloc(), "replay", &most, 0, &mut out)?;
-    assert_eq!(rt; status, Status::Good);
+    check_most(&rt, rt.alloc(), "run")
+}
+
+#[test]
+fn refuses_more_operations(rt: HostRuntime) -> Result<(), Fail> {
     let more = trace_of(rt.alloc(), 200_001)?;
     let text = "bad trace: line 200006 reason 9\n";
     check_call(&rt, rt.alloc(), "replay", &more, Status::BadTrace, text)

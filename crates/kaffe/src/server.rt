@@ -3,7 +3,10 @@ use crate::status::Status;
 use crate::tests::{call, check_call};
 use k_io::MemSink;
 use std::alloc::Global;
+use std::process::Abort;
+use std::sync::Wait;
 use std::test::Fail;
+use std::thread::Threads;
 
 const HEADER: &str = "kaffe 1
 kernel 4096 4
@@ -107,19 +110,59 @@ fn count_events(report: &str) -> (u32, u32) {
     (events, collections)
 }
 
+/// The lines of a report behind its events, but for those that count faults.
+fn without_faults(alloc: Global, report: &str) -> Result<String, Fail> {
+    let mut kept = String::new(alloc);
+    let mut behind_events = false;
+    let mut counts_faults = false;
+    for line in report.lines() {
+        match line {
+            "graph" => behind_events = true,
+            "faults" => counts_faults = true,
+            "charges" => counts_faults = false,
+            _ => {}
+        }
+        if behind_events && !counts_faults {
+            kept.push_str(line)?;
+            kept.push_str("\n")?;
+        }
+    }
+    Ok(kept)
+}
+
+/// The report of the trace by that command.
+fn report_by<R: Abort + Threads + Wait + Sync>(
+    rt: &R,
+    alloc: Global,
+    words: &str,
+    trace: &str,
+) -> Result<String, Fail> {
+    let mut out = MemSink::make(alloc, 200_000, Vec::new(alloc))?;
+    let status = call(rt, alloc, words, trace, 0, &mut out)?;
+    assert_eq!(rt; status, Status::Good, "{words}");
+    Ok(String::from_str(alloc, str::from_utf8(out.bytes())?)?)
+}
+
 #[test]
 fn serves_a_shared_table(rt: HostRuntime) -> Result<(), Fail> {
     let mut input = server_trace(rt.alloc())?;
-    for words in ["run", "replay"] {
-        let mut out = MemSink::make(rt.alloc(), 100_000, Vec::new(rt.alloc()))?;
-        let status = call(&rt, rt.alloc(), words, &input, 0, &mut out)?;
-        assert_eq!(rt; status, Status::Good, "{words}");
-        assert!(rt; out.bytes().ends_with(END.as_bytes()), "{words}");
+    let report = report_by(&rt, rt.alloc(), "replay", &input)?;
+    assert!(rt; report.ends_with(END));
+    assert_eq!(rt; count_events(&report), (1702, 12));
+    input.push_str(&report)?;
+    check_call(&rt, rt.alloc(), "check", &input, Status::Good, "good\n")
+}
+
+/// A worker may attach before the table is frozen, and is refused then; what is left at the end is the same.
+#[test]
+fn serves_a_shared_table_by_threads(rt: HostRuntime) -> Result<(), Fail> {
+    let mut input = server_trace(rt.alloc())?;
+    let left = without_faults(rt.alloc(), END)?;
+    for _ in 0..4 {
+        let report = report_by(&rt, rt.alloc(), "run", &input)?;
+        assert_eq!(rt; without_faults(rt.alloc(), &report)?, left);
     }
-    let mut out = MemSink::make(rt.alloc(), 100_000, Vec::new(rt.alloc()))?;
-    call(&rt, rt.alloc(), "replay", &input, 0, &mut out)?;
-    let report = str::from_utf8(out.bytes())?;
-    assert_eq!(rt; count_events(report), (1702, 12));
-    input.push_str(report)?;
+    let report = report_by(&rt, rt.alloc(), "run", &input)?;
+    input.push_str(&report)?;
     check_call(&rt, rt.alloc(), "check", &input, Status::Good, "good\n")
 }

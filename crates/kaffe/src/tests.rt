@@ -4,7 +4,9 @@ use crate::status::Status;
 use k_io::{DripSink, DripSource, MemSink, MemSource, NoGate, Sink};
 use std::alloc::Global;
 use std::process::Abort;
+use std::sync::Wait;
 use std::test::Fail;
+use std::thread::Threads;
 
 const TRACE: &str = "kaffe 1
 kernel 32 2
@@ -59,8 +61,17 @@ proc p2 b
 shared s
 ";
 
+/// The words of a line.
+pub fn words_of(alloc: Global, line: &str) -> Result<Vec<String>, Fail> {
+    let mut words = Vec::new(alloc);
+    for word in line.split_whitespace() {
+        words.push(String::from_str(alloc, word)?)?;
+    }
+    Ok(words)
+}
+
 /// Calls the program with these words and this input. The read of that number fails; none where it is 0.
-pub fn call<K: Sink, R: Sync>(
+pub fn call<K: Sink, R: Threads + Wait + Sync>(
     rt: &R,
     alloc: Global,
     words: &str,
@@ -68,10 +79,7 @@ pub fn call<K: Sink, R: Sync>(
     failing_read: u32,
     sink: &mut K,
 ) -> Result<Status, Fail> {
-    let mut given = Vec::new(alloc);
-    for word in words.split_whitespace() {
-        given.push(String::from_str(alloc, word)?)?;
-    }
+    let given = words_of(alloc, words)?;
     let bytes = Vec::from_slice(alloc, input.as_bytes())?;
     let mut source = MemSource::of(bytes, vec![in alloc; failing_read]?);
     Ok(kaffe(rt, alloc, &given, &mut source, sink, &NoGate))
@@ -83,7 +91,7 @@ pub fn sink(alloc: Global, failing_write: u32) -> Result<MemSink, Fail> {
 }
 
 /// Calls the program without a fault, and compares the status and what was written.
-pub fn check_call<R: Abort + Sync>(
+pub fn check_call<R: Abort + Threads + Wait + Sync>(
     rt: &R,
     alloc: Global,
     words: &str,
@@ -111,7 +119,8 @@ fn reports_the_first_trace(rt: HostRuntime) -> Result<(), Fail> {
 #[test]
 fn refuses_other_words(rt: HostRuntime) -> Result<(), Fail> {
     for words in [
-        "", "run x", "x run", "runs", "Replay", "checks", "big 0", "big 007", "big 10",
+        "", "run x", "x run", "runs", "Replay", "checks", "big", "big 0", "big 007", "big 5001",
+        "big 1 1", "Big 10", "10 big",
     ] {
         let mut out = sink(rt.alloc(), 0)?;
         let status = call(&rt, rt.alloc(), words, TRACE, 1, &mut out)?;

@@ -1,9 +1,11 @@
-//! Worked traces, replayed: the lines of their events, which were worked out by hand.
+//! Worked traces, replayed: the lines of their events, which were worked out by hand; and run on threads.
 use crate::status::Status;
-use crate::tests::{HEADER, call, sink};
+use crate::tests::{HEADER, call, check_call, sink};
 use std::alloc::Global;
 use std::process::Abort;
+use std::sync::Wait;
 use std::test::Fail;
+use std::thread::Threads;
 
 /// The events of each trace behind the header. An operation's line of the trace is the part before ` = `.
 const WORKED: [&str; 12] = [
@@ -180,28 +182,56 @@ p2 new r1 Node = fault LimitFull b
     ),
 ];
 
+/// The operations of the events behind the header.
+fn trace_of(alloc: Global, header: &str, events: &str) -> Result<String, Fail> {
+    let mut trace = String::from_str(alloc, header)?;
+    for line in events.lines() {
+        if let Some((operation, _)) = line.split_once(" = ") {
+            trace.push_str(operation)?;
+            trace.push_str("\n")?;
+        }
+    }
+    Ok(trace)
+}
+
 /// Replays the operations of the events behind the header, and compares the report up to the line `graph`.
-fn check_events<R: Abort + Sync>(
+fn check_events<R: Abort + Threads + Wait + Sync>(
     rt: &R,
     alloc: Global,
     header: &str,
     events: &str,
 ) -> Result<(), Fail> {
-    let mut input = String::from_str(alloc, header)?;
-    for line in events.lines() {
-        if let Some((operation, _)) = line.split_once(" = ") {
-            input.push_str(operation)?;
-            input.push_str("\n")?;
-        }
-    }
+    let trace = trace_of(alloc, header, events)?;
     let mut want = String::from_str(alloc, "report 1\n")?;
     want.push_str(events)?;
     want.push_str("graph\n")?;
     let mut out = sink(alloc, 0)?;
-    let status = call(rt, alloc, "replay", &input, 0, &mut out)?;
+    let status = call(rt, alloc, "replay", &trace, 0, &mut out)?;
     assert_eq!(rt; status, Status::Good, "{events}");
     assert!(rt; out.bytes().starts_with(want.as_bytes()), "{events}");
     Ok(())
+}
+
+/// Runs the operations of the events behind the header on threads, in whichever order, and has the report checked.
+fn check_run<R: Abort + Threads + Wait + Sync>(
+    rt: &R,
+    alloc: Global,
+    header: &str,
+    events: &str,
+) -> Result<(), Fail> {
+    let mut input = trace_of(alloc, header, events)?;
+    let mut out = sink(alloc, 0)?;
+    let status = call(rt, alloc, "run", &input, 0, &mut out)?;
+    assert_eq!(rt; status, Status::Good, "{events}");
+    input.push_str(str::from_utf8(out.bytes())?)?;
+    check_call(rt, alloc, "check", &input, Status::Good, "good\n")
+}
+
+/// The first lines of a header with those behind them.
+fn header_of(alloc: Global, rest: &str) -> Result<String, Fail> {
+    let mut header = String::from_str(alloc, FRONT)?;
+    header.push_str(rest)?;
+    Ok(header)
 }
 
 #[test]
@@ -210,9 +240,20 @@ fn replays_worked_traces(rt: HostRuntime) -> Result<(), Fail> {
         check_events(&rt, rt.alloc(), HEADER, events)?;
     }
     for (rest, events) in OTHERS {
-        let mut header = String::from_str(rt.alloc(), FRONT)?;
-        header.push_str(rest)?;
+        let header = header_of(rt.alloc(), rest)?;
         check_events(&rt, rt.alloc(), &header, events)?;
+    }
+    Ok(())
+}
+
+#[test]
+fn runs_worked_traces(rt: HostRuntime) -> Result<(), Fail> {
+    for events in WORKED {
+        check_run(&rt, rt.alloc(), HEADER, events)?;
+    }
+    for (rest, events) in OTHERS {
+        let header = header_of(rt.alloc(), rest)?;
+        check_run(&rt, rt.alloc(), &header, events)?;
     }
     Ok(())
 }

@@ -1,0 +1,18 @@
+use Rattle.std.proofs.Common.{ap}
+use Rattle.k_io.specs.declared.errors.WriteFailed.{WriteFailed}
+use Rattle.k_io.proofs.Writings.{writes_same}
+use Rattle.k_outcome.specs.Ends.{EndValue, journal_of, last_state}
+use Rattle.k_text.specs.Report.{text_over}
+use Rattle.kaffe.specs.declared.status.Status.TheVariants.{Good}
+use Rattle.kaffe.proofs.Runs.{end_written}
+use Rattle.kaffe.proofs.Written.{never_unwritten, written_by}
+use Rattle.kaffe.proofs.running.tell_end.Goals as goal
+
+pub returns-in-Ok-clause-written : goal.returns-in-Ok-clause-written
+returns-in-Ok-clause-written g c =
+    let end = c.in-Ok.outcome in
+    let same = ap (λ (e : EndValue). text_over e.names end.setup (journal_of end) (last_state end)) c.outcome.view_is in
+    end_written _ _ _ _ c.in-Ok.is (written_by _ _ _ _ _ _ _ _ (λ none. none) c.after_writing.ensures (writes_same _ _ _ _ _ _ _ same c.report.ensures))
+
+pub returns-in-Ok-clause-unwritten : goal.returns-in-Ok-clause-unwritten
+returns-in-Ok-clause-unwritten g c none = absurd (never_unwritten {E = WriteFailed} c.report.result Good _ (λ no. no) c.after_writing.ensures none)
