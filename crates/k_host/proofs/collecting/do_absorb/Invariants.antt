@@ -1,4 +1,0 @@
-use Rattle.k_host.proofs.collecting.do_absorb.Given as goal
-
-abbrev pub ghost-absorb : goal.ghost-absorb
-ghost-absorb g a = g.basis.trace

@@ -1,4 +1,0 @@
-use Rattle.k_host.proofs.collecting.do_settle_kernel.Given as goal
-
-abbrev pub ghost-settle_kernel : goal.ghost-settle_kernel
-ghost-settle_kernel g a = g.basis.trace

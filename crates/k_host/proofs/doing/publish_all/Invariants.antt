@@ -1,4 +1,0 @@
-use Rattle.k_host.proofs.doing.publish_all.Given as goal
-
-abbrev pub ghost-publish : goal.ghost-publish
-ghost-publish g a = g.basis.trace

@@ -1,4 +1,0 @@
-use Rattle.k_host.proofs.doing.reached.Given as goal
-
-abbrev pub ghost-reach : goal.ghost-reach
-ghost-reach g a = g.basis.trace

@@ -1,5 +1,0 @@
-use Rattle.k_host.specs.Making.{AreHeapsSoFar}
-use Rattle.k_host.proofs.making.make_heaps.Given as goal
-
-abbrev pub invariant-loop-s : goal.invariant-loop-s
-invariant-loop-s l = AreHeapsSoFar l.terms l.book.journal.table l.s l.shared.items l.notes.items

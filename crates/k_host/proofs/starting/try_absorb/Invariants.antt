@@ -1,5 +1,0 @@
-use Rattle.k_host.specs.Serving.{basis_of}
-use Rattle.k_host.proofs.starting.try_absorb.Given as goal
-
-abbrev pub ghost-do_absorb : goal.ghost-do_absorb
-ghost-do_absorb a = basis_of a.terms.now

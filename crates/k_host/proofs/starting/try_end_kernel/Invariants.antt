@@ -1,5 +1,0 @@
-use Rattle.k_host.specs.Serving.{basis_of}
-use Rattle.k_host.proofs.starting.try_end_kernel.Given as goal
-
-abbrev pub ghost-do_end_kernel : goal.ghost-do_end_kernel
-ghost-do_end_kernel a = basis_of a.terms.now

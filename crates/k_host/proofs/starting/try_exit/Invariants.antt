@@ -1,5 +1,0 @@
-use Rattle.k_host.specs.Serving.{basis_of}
-use Rattle.k_host.proofs.starting.try_exit.Given as goal
-
-abbrev pub ghost-do_exit : goal.ghost-do_exit
-ghost-do_exit a = basis_of a.terms.now

@@ -1,5 +1,0 @@
-use Rattle.k_host.specs.Serving.{basis_of}
-use Rattle.k_host.proofs.starting.try_inside.Given as goal
-
-abbrev pub ghost-do_inside : goal.ghost-do_inside
-ghost-do_inside a = basis_of a.terms.now
