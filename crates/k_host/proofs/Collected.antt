@@ -29,7 +29,7 @@ use Rattle.k_collect.specs.Settling.{CanSettleHeap, CanSettleKernel, HasSettledH
 use Rattle.k_depart.specs.Absorbing.{CanAbsorb, HasAbsorbedHeap}
 use Rattle.k_depart.specs.Exiting.{CanExit, HasExited}
 use Rattle.k_host.specs.declared.guest.Guest.{Guest}
-use Rattle.k_host.specs.Collecting.{CanAbsorbNow, CanBegin, CanBeginKernel, CanEnd, CanExitNow, CanGoOn, CanMarkGuest, CanMarkKernel, HasAbsorbedNow, HasBegun, HasBegunKernel, HasEnded, HasExitedNow, HasGoneOn, HasMarkedGuest, HasMarkedKernel, HasSettled, HasSettledKernel, KernelCanGoOn, KernelHasGoneOn}
+use Rattle.k_host.specs.Collecting.{CanAbsorbNow, CanBegin, CanBeginKernel, CanEnd, CanExitNow, CanGoOn, CanMarkGuest, CanMarkKernel, HasAbsorbedNow, HasBegun, HasBegunKernel, HasEnded, HasExitedNow, HasGoneOn, HasMarkedGuest, HasMarkedKernel, HasSettled, HasSettledKernel, KernelCanGoOn, KernelHasEnded}
 use Rattle.k_host.specs.Serving.{Basis, BookServes, GivesSerials, GuestServes, KernelServes, SharedServes}
 use Rattle.k_host.proofs.Due.{book_published, can_publish, guest_published, longer_published}
 use Rattle.k_host.proofs.Going.{book_goes_on, guest_goes_on, kernel_goes_on}
@@ -280,14 +280,17 @@ module _ (basis : Basis) (k : HoldingsValue) (b : BookRecord) (kernel : KernelSe
     room = λ fits. event_left basis b book room;
   }
 
-  pub ended_kernel : (x : HoldingsValue) (m : BookRecord) (event : Event) → HasEndedKernel basis.trace k x b m event → KernelHasGoneOn basis x b m event Idle
+  pub ended_kernel : (x : HoldingsValue) (m : BookRecord) (event : Event) → HasEndedKernel basis.trace k x b m event → KernelHasEnded basis x b m event
   ended_kernel x m event d = record {
-    kernel = kernel_goes_on basis b.journal.table m.journal.table k x kernel d.kernel_goes_on.kernel_is d.kernel_goes_on.agrees d.kernel_goes_on.table;
-    book = book_goes_on basis b m book d.appended.book_is d.appended.agrees;
-    same_table = d.appended.same_table;
-    in_phase = d.kernel_goes_on.in_phase;
-    journal = d.appended.journal;
-    possible = d.appended.possible;
+    goes_on = record {
+      kernel = kernel_goes_on basis b.journal.table m.journal.table k x kernel d.kernel_goes_on.kernel_is d.kernel_goes_on.agrees d.kernel_goes_on.table;
+      book = book_goes_on basis b m book d.appended.book_is d.appended.agrees;
+      same_table = d.appended.same_table;
+      in_phase = d.kernel_goes_on.in_phase;
+      journal = d.appended.journal;
+      possible = d.appended.possible;
+    };
+    is_end = record { objects = d.objects; bytes = d.bytes; exits = d.exits; shares = 0; is = ap (λ (e : Event). e ∷ []) d.event_is };
   }
 
 -- an absorption

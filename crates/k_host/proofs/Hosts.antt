@@ -124,16 +124,16 @@ module _ (basis : Basis) (gs : List Guest) (k : HoldingsValue) (ss : List Shared
       (host_pair n g h l at (pair_same basis g h b l (found_guest n g at) serves.rest.book same.0 same.3)))
 
   -- what an operation of the process of that number leaves of the host
-  pub operated_as : {E : Type 0} (pid : Pid) (g h : Guest) (x : HoldingsValue) (ts : List SharedRecord) (l : BookRecord) (op : Op) → slice_get gs pid.0 ≡ Some g → (r : Result Event E) →
+  pub operated_as : {E : Type 0} (pid : Pid) (i : ℕ) (same : i ≡ pid.0) (g h : Guest) (x : HoldingsValue) (ts : List SharedRecord) (l : BookRecord) (op : Op) → slice_get gs i ≡ Some g → (r : Result Event E) →
       IfOk r (λ event. HasOperated basis op g h x ts b l event) →
-      IfOk r (λ event. HasOperatedAs (record { basis = basis; guests = gs; kernel = k; shared = ss; book = b }) (record { basis = basis; guests = slice_set gs pid.0 h; kernel = x; shared = ts; book = l }) pid op event)
-  operated_as pid g h x ts l op at (Err why) done = tt
-  operated_as pid g h x ts l op at (Ok event) done = record {
+      IfOk r (λ event. HasOperatedAs (record { basis = basis; guests = gs; kernel = k; shared = ss; book = b }) (record { basis = basis; guests = slice_set gs i h; kernel = x; shared = ts; book = l }) pid op event)
+  operated_as pid i same g h x ts l op at (Err why) done = tt
+  operated_as pid i same g h x ts l op at (Ok event) done = record {
     before = g;
     after = h;
-    changes = record { basis = refl; there = at; guests = refl };
+    changes = record { basis = refl; there = ap (slice_get gs) (sym same) ∙ at; guests = ap (λ n. slice_set gs n h) same };
     said = done.said;
-    event_is = done.event_is ∙ ap (λ n. Done (record { 0 = n }) op done.said) (serves.all.placed pid.0 g at);
+    event_is = done.event_is ∙ ap (λ n. Done (record { 0 = n }) op done.said) (serves.all.placed i g at ∙ same);
     recorded = done.recorded;
   }
 

@@ -8,3 +8,5 @@ pub mod Hosts
 pub mod Opened
 pub mod Twined
 pub mod Operated
+pub mod Refused
+pub mod Called

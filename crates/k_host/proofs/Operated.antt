@@ -22,6 +22,11 @@ use Rattle.k_host.specs.Doing.{CanDoInside, CanDoWithKernel, CanDoWithShared, Ca
 use Rattle.k_host.specs.Serving.{Basis, GuestServes, HeapsServe, KernelServes, SharedServes}
 use Rattle.k_host.proofs.Hosts.{heaps_set, heaps_stay, kernel_stays}
 
+-- what an operation touches, where trying it inside has changed nothing
+pub touched_before : (basis : Basis) (g h : Guest) (b : BookRecord) (op : Op) → h ≡ g → (cells : List Cell) → other_cells_in basis.trace (book_shown_by b.value) (idle_part h.cell.value) h.cell.pid.0 op ≡ cells →
+    other_cells_in basis.trace (book_shown_by b.value) (idle_part g.cell.value) g.cell.pid.0 op ≡ cells
+touched_before basis g h b op same cells touches = ap (λ (x : Guest). other_cells_in basis.trace (book_shown_by b.value) (idle_part x.cell.value) x.cell.pid.0 op) (sym same) ∙ touches
+
 module _ (basis : Basis) (g : Guest) (k : HoldingsValue) (ss : List SharedRecord) (b : BookRecord) (op : Op) (can : CanOperate basis g k ss b) (ready : IsReady basis g op) (room : HasEventsLeft basis g b) where
   pub can_inside : CanDoInside basis g op
   can_inside = record {

@@ -101,6 +101,11 @@ pub record KernelHasGoneOn (basis : Basis) (k : HoldingsValue) (old_b b : BookRe
   pub journal : b.journal.list ≡ old_b.journal.list ++ event ∷ []
   pub possible : IsPossible basis.trace (state_after basis.trace old_b.journal.list) event
 
+-- the collection of the kernel's heap has ended
+pub record KernelHasEnded (basis : Basis) (k : HoldingsValue) (old_b b : BookRecord) (event : Event) : Type 0 where
+  pub goes_on : KernelHasGoneOn basis k old_b b event Idle
+  pub is_end : IsTheEnd Kernel (event ∷ [])
+
 -- the kernel serves and its collection has begun
 pub record CanMarkKernel (basis : Basis) (k : HoldingsValue) : Type 0 where
   pub serves : KernelServes basis k.note.table k

@@ -1,5 +1,5 @@
 -- What an operation of a host asks and leaves.
-use Rattle.std.specs.Prelude.{◌≡◌, ◌⊎◌, ℕ, ◌+◌, ◌-◌, ◌^◌, ◌<◌, IsFalse, IsTrue, List, [], ◌∷◌, ◌++◌, length}
+use Rattle.std.specs.Prelude.{◌≡◌, ◌⊎◌, ℕ, ◌+◌, ◌-◌, ◌^◌, ◌<◌, ◌≤◌, IsFalse, IsTrue, List, [], ◌∷◌, ◌++◌, length}
 use Rattle.k_types.specs.declared.event.Event.{Event}
 use Rattle.k_types.specs.declared.event.Event.TheVariants.{Done}
 use Rattle.k_types.specs.declared.event.Reply.{Reply}
@@ -56,6 +56,10 @@ pub record HasItemRoom (basis : Basis) (g : Guest) : Type 0 where
 -- the journal has room for the unpublished events of the process, and for one more
 abbrev pub HasEventsLeft : Basis → Guest → BookRecord → Type 0
 HasEventsLeft basis g b = length b.journal.list + length g.cell.value.tail < basis.events
+
+-- the journal has room for the unpublished events of the process
+abbrev pub HasRoomToPublish : Basis → Guest → BookRecord → Type 0
+HasRoomToPublish basis g b = length b.journal.list + length g.cell.value.tail ≤ basis.events
 
 -- the process is awake, and the operation names what the setup declares, begins no collection, ends no process, and has what it needs
 pub record IsReady (basis : Basis) (g : Guest) (op : Op) : Type 0 where

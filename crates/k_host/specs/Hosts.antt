@@ -1,8 +1,9 @@
 -- What is seen of a host, and what its calls leave.
-use Rattle.std.specs.Prelude.{◌≡◌, ◌⊎◌, List, Some, [], slice_get, slice_set}
+use Rattle.std.specs.Prelude.{◌≡◌, ◌⊎◌, ℕ, List, Some, [], length, slice_get, slice_set}
 use Rattle.k_types.specs.declared.event.Event.{Event}
 use Rattle.k_types.specs.declared.event.Event.TheVariants.{Done}
 use Rattle.k_types.specs.declared.event.Reply.{Reply}
+use Rattle.k_types.specs.declared.names.CellPhase.{CellPhase}
 use Rattle.k_types.specs.declared.names.Pid.{Pid}
 use Rattle.k_types.specs.declared.op.Op.{Op}
 use Rattle.k_book.specs.Books.{BookRecord}
@@ -39,6 +40,14 @@ pub record HasOperatedAs (old new : HostValue) (pid : Pid) (op : Op) (event : Ev
   pub said : Reply
   pub event_is : event ≡ Done pid op said
   pub recorded : IsAppended old.basis before old.book new.book event ⊎ IsKept old.basis before after old.book new.book event
+
+-- how many events of the process the journal lacks
+abbrev pub unpublished_of : Guest → ℕ
+unpublished_of g = length g.cell.value.tail
+
+-- how far the collection of the process's heap has come
+abbrev pub collection_of : Guest → CellPhase
+collection_of g = g.cell.value.collection
 
 -- nothing has happened yet
 abbrev pub IsFresh : Basis → HostValue → Type 0

@@ -5,3 +5,4 @@ pub mod Making
 pub mod Collecting
 pub mod Calls
 pub mod Twins
+pub mod Refusals

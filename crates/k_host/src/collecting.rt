@@ -1,6 +1,6 @@
 //! Collections of a host from their beginning to their end, absorptions, and the ends of processes.
-ghost use Rattle.k_types.specs.declared.names.CellPhase.TheVariants.{Begun, Idle, Marked};
-ghost use Rattle.k_host.specs.Collecting.{CanAbsorbNow, CanBegin, CanBeginKernel, CanEnd, CanExitNow, CanGoOn, CanMarkGuest, CanMarkKernel, HasAbsorbedNow, HasBegun, HasBegunKernel, HasEnded, HasExitedNow, HasMarkedGuest, HasMarkedKernel, HasSettled, HasSettledKernel, KernelCanGoOn, KernelHasGoneOn};
+ghost use Rattle.k_types.specs.declared.names.CellPhase.TheVariants.{Marked};
+ghost use Rattle.k_host.specs.Collecting.{CanAbsorbNow, CanBegin, CanBeginKernel, CanEnd, CanExitNow, CanGoOn, CanMarkGuest, CanMarkKernel, HasAbsorbedNow, HasBegun, HasBegunKernel, HasEnded, HasExitedNow, HasMarkedGuest, HasMarkedKernel, HasSettled, HasSettledKernel, KernelCanGoOn, KernelHasEnded};
 ghost use Rattle.k_host.specs.Serving.{Basis, BookServes, KernelServes};
 ghost use Rattle.std.specs.Prelude.{◌≡◌, ◌<◌, length};
 
@@ -88,7 +88,7 @@ pub(crate) fn do_mark_kernel(terms: &Terms, kernel: &mut KernelCell)
 pub(crate) fn do_end_kernel(terms: &Terms, kernel: &mut KernelCell, book: &mut Book) -> Event
     ghost basis: { Basis }
     requires { KernelCanGoOn basis kernel.old book.old Marked }
-    ensures { KernelHasGoneOn basis kernel.new book.old book.new result Idle }
+    ensures { KernelHasEnded basis kernel.new book.old book.new result }
 {
     let _setup = &terms.setup;
     end_kernel(kernel, book)

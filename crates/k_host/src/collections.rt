@@ -1,8 +1,10 @@
 //! Collections, absorptions and ends of processes, called on a host.
-ghost use Rattle.std.specs.Prelude.{◌≡◌, IfErr, IfOk, OnErr, OnOk};
-ghost use Rattle.k_host.specs.Calls.{HasEndedKernelIn, HasMarkedKernelIn, HasSettledKernelIn};
+ghost use Rattle.std.specs.Prelude.{◌≡◌, IfErr, IfOk, MatchOption, OnErr, OnOk};
+ghost use Rattle.k_host.specs.Calls.{HasAbsorbedIn, HasBegunIn, HasBegunKernelIn, HasDoneInsideIn, HasEndedIn, HasEndedKernelIn, HasExitedIn, HasLeftOutside, HasMarkedIn, HasMarkedKernelIn, HasPublishedIn, HasSettledIn, HasSettledKernelIn};
+ghost use Rattle.k_host.specs.Refusals.{CanNotBegin, CanNotBeginKernel, CanNotDoInside, CanNotEnd, CanNotEndKernel, CanNotExit, CanNotMark, CanNotMarkKernel, CanNotPublish, CanNotSettle, CanNotSettleKernel, MayRefuse, MayRefuseAbsorption};
 
 use crate::errors::HostError;
+use crate::guest::place_of;
 use crate::host::Host;
 use crate::starting::{
     try_absorb, try_begin, try_begin_kernel, try_end, try_end_kernel, try_exit, try_inside,
@@ -17,11 +19,12 @@ impl Host {
     /// # Errors
     ///
     /// Each changes nothing: `Unknown`, `Ended`, `Phase` where a collection of the heap is open, and `Full`.
-    pub fn local(&mut self, pid: Pid, op: &Op) -> Result<Option<Reply>, HostError> {
-        let at = pid.0 as usize;
-        if at >= self.guests.len() {
-            return Err(HostError::Unknown);
-        }
+    pub fn local(&mut self, pid: Pid, op: &Op) -> Result<Option<Reply>, HostError>
+        ensures done { IfOk result (λ answer. MatchOption answer (HasLeftOutside self.old self.new pid op.now) (λ said. HasDoneInsideIn self.old self.new pid op.now said)) }
+        ensures same { OnErr result (self.new ≡ self.old) }
+        ensures why { IfErr result (λ why. MayRefuse self.old pid (CanNotDoInside self.old.basis op.now) why) }
+    {
+        let at = place_of(&self.guests, pid)?;
         let guest = &mut self.guests[at];
         try_inside(&self.terms, guest, op)
     }
@@ -31,11 +34,12 @@ impl Host {
     /// # Errors
     ///
     /// Each changes nothing: `Unknown` and `Full`.
-    pub fn publish(&mut self, pid: Pid) -> Result<(), HostError> {
-        let at = pid.0 as usize;
-        if at >= self.guests.len() {
-            return Err(HostError::Unknown);
-        }
+    pub fn publish(&mut self, pid: Pid) -> Result<(), HostError>
+        ensures done { OnOk result (HasPublishedIn self.old self.new pid) }
+        ensures same { OnErr result (self.new ≡ self.old) }
+        ensures why { IfErr result (λ why. MayRefuse self.old pid (CanNotPublish self.old.basis self.old.book) why) }
+    {
+        let at = place_of(&self.guests, pid)?;
         let guest = &mut self.guests[at];
         try_publish(&self.terms, guest, &mut self.book)
     }
@@ -45,11 +49,12 @@ impl Host {
     /// # Errors
     ///
     /// Each changes nothing: `Unknown`, `Ended`, `Phase` where a collection of the heap is open, and `Full`.
-    pub fn begin_heap(&mut self, pid: Pid) -> Result<Event, HostError> {
-        let at = pid.0 as usize;
-        if at >= self.guests.len() {
-            return Err(HostError::Unknown);
-        }
+    pub fn begin_heap(&mut self, pid: Pid) -> Result<Event, HostError>
+        ensures done { IfOk result (λ event. HasBegunIn self.old self.new pid event) }
+        ensures same { OnErr result (self.new ≡ self.old) }
+        ensures why { IfErr result (λ why. MayRefuse self.old pid (CanNotBegin self.old.basis self.old.book) why) }
+    {
+        let at = place_of(&self.guests, pid)?;
         let guest = &mut self.guests[at];
         try_begin(&self.terms, guest, &mut self.book)
     }
@@ -59,11 +64,12 @@ impl Host {
     /// # Errors
     ///
     /// Each changes nothing: `Unknown`, and `Phase` where no collection of the heap has begun or it is marked.
-    pub fn mark_heap(&mut self, pid: Pid) -> Result<(), HostError> {
-        let at = pid.0 as usize;
-        if at >= self.guests.len() {
-            return Err(HostError::Unknown);
-        }
+    pub fn mark_heap(&mut self, pid: Pid) -> Result<(), HostError>
+        ensures done { OnOk result (HasMarkedIn self.old self.new pid) }
+        ensures same { OnErr result (self.new ≡ self.old) }
+        ensures why { IfErr result (λ why. MayRefuse self.old pid CanNotMark why) }
+    {
+        let at = place_of(&self.guests, pid)?;
         let guest = &mut self.guests[at];
         try_mark(&self.terms, guest)
     }
@@ -73,11 +79,12 @@ impl Host {
     /// # Errors
     ///
     /// Each changes nothing: `Unknown`, `Ended`, `Phase` where the heap is not marked, and `Full`.
-    pub fn end_heap(&mut self, pid: Pid) -> Result<Event, HostError> {
-        let at = pid.0 as usize;
-        if at >= self.guests.len() {
-            return Err(HostError::Unknown);
-        }
+    pub fn end_heap(&mut self, pid: Pid) -> Result<Event, HostError>
+        ensures done { IfOk result (λ event. HasEndedIn self.old self.new pid event) }
+        ensures same { OnErr result (self.new ≡ self.old) }
+        ensures why { IfErr result (λ why. MayRefuse self.old pid (CanNotEnd self.old.basis self.old.book) why) }
+    {
+        let at = place_of(&self.guests, pid)?;
         let guest = &mut self.guests[at];
         try_end(&self.terms, guest, &mut self.book)
     }
@@ -87,11 +94,12 @@ impl Host {
     /// # Errors
     ///
     /// Each changes nothing: `Unknown`, `Ended` and `Full`.
-    pub fn settle_heap(&mut self, pid: Pid) -> Result<(), HostError> {
-        let at = pid.0 as usize;
-        if at >= self.guests.len() {
-            return Err(HostError::Unknown);
-        }
+    pub fn settle_heap(&mut self, pid: Pid) -> Result<(), HostError>
+        ensures done { OnOk result (HasSettledIn self.old self.new pid) }
+        ensures same { OnErr result (self.new ≡ self.old) }
+        ensures why { IfErr result (λ why. MayRefuse self.old pid (CanNotSettle self.old.basis self.old.book) why) }
+    {
+        let at = place_of(&self.guests, pid)?;
         let guest = &mut self.guests[at];
         try_settle(&self.terms, guest, &mut self.book)
     }
@@ -102,11 +110,12 @@ impl Host {
     ///
     /// Each changes nothing: `Unknown`, `Ended`, `Phase` where a collection of either heap is open, `Orphan` where a shared heap has
     /// to be absorbed first, and `Full`.
-    pub fn begin_kernel(&mut self, pid: Pid) -> Result<Event, HostError> {
-        let at = pid.0 as usize;
-        if at >= self.guests.len() {
-            return Err(HostError::Unknown);
-        }
+    pub fn begin_kernel(&mut self, pid: Pid) -> Result<Event, HostError>
+        ensures done { IfOk result (λ event. HasBegunKernelIn self.old self.new pid event) }
+        ensures same { OnErr result (self.new ≡ self.old) }
+        ensures why { IfErr result (λ why. MayRefuse self.old pid (CanNotBeginKernel self.old.basis self.old.kernel self.old.book) why) }
+    {
+        let at = place_of(&self.guests, pid)?;
         let guest = &mut self.guests[at];
         try_begin_kernel(&self.terms, guest, &mut self.kernel, &mut self.book)
     }
@@ -119,6 +128,7 @@ impl Host {
     pub fn mark_kernel(&mut self) -> Result<(), HostError>
         ensures done { OnOk result (HasMarkedKernelIn self.old self.new) }
         ensures same { OnErr result (self.new ≡ self.old) }
+        ensures why { IfErr result (λ why. CanNotMarkKernel self.old.kernel why) }
     {
         try_mark_kernel(&self.terms, &mut self.kernel)
     }
@@ -130,7 +140,8 @@ impl Host {
     /// Each changes nothing: `Phase` where the heap is not marked, and `Full`.
     pub fn end_kernel(&mut self) -> Result<Event, HostError>
         ensures done { IfOk result (λ event. HasEndedKernelIn self.old self.new event) }
-        ensures same { IfErr result (λ why. self.new ≡ self.old) }
+        ensures same { OnErr result (self.new ≡ self.old) }
+        ensures why { IfErr result (λ why. CanNotEndKernel self.old.basis self.old.kernel self.old.book why) }
     {
         try_end_kernel(&self.terms, &mut self.kernel, &mut self.book)
     }
@@ -143,6 +154,7 @@ impl Host {
     pub fn settle_kernel(&mut self) -> Result<(), HostError>
         ensures done { OnOk result (HasSettledKernelIn self.old self.new) }
         ensures same { OnErr result (self.new ≡ self.old) }
+        ensures why { IfErr result (λ why. CanNotSettleKernel self.old.basis self.old.book why) }
     {
         try_settle_kernel(&self.terms, &mut self.kernel, &mut self.book)
     }
@@ -152,11 +164,12 @@ impl Host {
     /// # Errors
     ///
     /// Each changes nothing: `Unknown`, `Ended`, `Phase` where a collection of either heap is open, and `Full`.
-    pub fn exit(&mut self, pid: Pid) -> Result<Event, HostError> {
-        let at = pid.0 as usize;
-        if at >= self.guests.len() {
-            return Err(HostError::Unknown);
-        }
+    pub fn exit(&mut self, pid: Pid) -> Result<Event, HostError>
+        ensures done { IfOk result (λ event. HasExitedIn self.old self.new pid event) }
+        ensures same { OnErr result (self.new ≡ self.old) }
+        ensures why { IfErr result (λ why. MayRefuse self.old pid (CanNotExit self.old.basis self.old.kernel self.old.book) why) }
+    {
+        let at = place_of(&self.guests, pid)?;
         let guest = &mut self.guests[at];
         try_exit(&self.terms, guest, &mut self.kernel, &mut self.book)
     }
@@ -167,7 +180,11 @@ impl Host {
     ///
     /// Each changes nothing: `Unknown`, `Orphan` where another shared heap is the first orphan or none is, `Phase` where a collection
     /// of the kernel's heap is open, and `Full`.
-    pub fn absorb(&mut self, id: SharedId) -> Result<Event, HostError> {
+    pub fn absorb(&mut self, id: SharedId) -> Result<Event, HostError>
+        ensures done { IfOk result (λ event. HasAbsorbedIn self.old self.new id event) }
+        ensures same { OnErr result (self.new ≡ self.old) }
+        ensures why { IfErr result (λ why. MayRefuseAbsorption self.old id why) }
+    {
         let at = id.0 as usize;
         if at >= self.shared.len() {
             return Err(HostError::Unknown);

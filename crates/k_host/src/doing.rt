@@ -1,5 +1,5 @@
 //! One operation of a process, with the cells that it touches and the book.
-ghost use Rattle.std.specs.Prelude.{◌≡◌, IfNone, IfSome, IsFalse, [], ◌∷◌};
+ghost use Rattle.std.specs.Prelude.{◌≡◌, IfNone, IfSome, IsFalse, [], ◌∷◌, is_some};
 ghost use Rattle.k_book.specs.Books.{book_entries};
 ghost use Rattle.k_bounds.specs.Counts.{is_allocation, one_if};
 ghost use Rattle.k_entry.specs.Entries.{AreEntries};
@@ -8,7 +8,7 @@ ghost use Rattle.k_squares.specs.Locals.{is_local_in};
 ghost use Rattle.k_squares.specs.Touches.{other_cells_in};
 ghost use Rattle.k_steps.specs.Reaching.{CanReach, cells_of};
 ghost use Rattle.k_types.specs.Agree.{book_shown_by};
-ghost use Rattle.k_host.specs.Doing.{CanDoInside, CanDoWithKernel, CanDoWithShared, HasDoneAlone, HasDoneInside, HasDoneWithKernel, HasDoneWithShared, HasEventsLeft, HasPublishedAll, IsDueWith};
+ghost use Rattle.k_host.specs.Doing.{CanDoInside, CanDoWithKernel, CanDoWithShared, HasDoneAlone, HasDoneInside, HasDoneWithKernel, HasDoneWithShared, HasPublishedAll, HasRoomToPublish, IsDueWith};
 ghost use Rattle.k_host.specs.Serving.{Basis, BookServes, GuestServes};
 
 use crate::guest::Guest;
@@ -27,6 +27,7 @@ pub(crate) fn do_inside(terms: &Terms, guest: &mut Guest, op: &Op) -> Option<Rep
     ensures some { IfSome result (λ said. HasDoneInside basis op.now guest.old guest.new said) }
     ensures none { IfNone result (guest.new ≡ guest.old) }
     ensures outside { IfNone result (IsFalse (is_local_in (idle_part guest.old.cell.value) guest.old.cell.pid.0 op.now)) }
+    ensures told { is_some result ≡ is_local_in (idle_part guest.old.cell.value) guest.old.cell.pid.0 op.now }
 {
     let _setup = &terms.setup;
     local(&mut guest.cell, op)
@@ -37,7 +38,7 @@ pub(crate) fn publish_all(terms: &Terms, guest: &mut Guest, book: &mut Book)
     ghost basis: { Basis }
     requires guest { GuestServes basis book.old.journal.table guest.old }
     requires book { BookServes basis book.old }
-    requires room { HasEventsLeft basis guest.old book.old }
+    requires room { HasRoomToPublish basis guest.old book.old }
     ensures { HasPublishedAll basis guest.old guest.new book.old book.new }
 {
     let _setup = &terms.setup;

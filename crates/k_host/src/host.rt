@@ -1,12 +1,13 @@
 //! A host of processes.
-ghost use Rattle.std.specs.Prelude.{◌≡◌, IfErr, IfOk, length};
+ghost use Rattle.std.specs.Prelude.{◌≡◌, IfErr, IfOk, OnErr, length};
 ghost use Rattle.k_types.specs.Counted.{counted};
 ghost use Rattle.k_types.specs.TraceRules.{KeepsRules};
 ghost use Rattle.k_host.specs.Hosts.{HasOperatedAs, IsFresh};
+ghost use Rattle.k_host.specs.Refusals.{CanNotOperate, MayRefuse};
 ghost use Rattle.k_host.specs.Serving.{basis_of, open_trace};
 
 use crate::errors::{HostError, OpenError};
-use crate::guest::Guest;
+use crate::guest::{Guest, place_of};
 use crate::making::{are_fit, make_book, make_guests, make_heaps, make_kernel, take_note};
 use crate::stepping::operate_with;
 use crate::terms::Terms;
@@ -113,12 +114,10 @@ impl Host {
     /// Each changes nothing. `Unknown`, `OwnCall`, `Ended`, `Phase`, `Full` and `NoBody` as they say.
     pub fn operate(&mut self, pid: Pid, op: &Op) -> Result<Event, HostError>
         ensures done { IfOk result (λ event. HasOperatedAs self.old self.new pid op.now event) }
-        ensures same { IfErr result (λ why. self.new ≡ self.old) }
+        ensures same { OnErr result (self.new ≡ self.old) }
+        ensures why { IfErr result (λ why. MayRefuse self.old pid (CanNotOperate self.old.basis self.old.kernel self.old.shared self.old.book op.now) why) }
     {
-        let at = pid.0 as usize;
-        if at >= self.guests.len() {
-            return Err(HostError::Unknown);
-        }
+        let at = place_of(&self.guests, pid)?;
         let guest = &mut self.guests[at];
         operate_with(
             &self.terms,

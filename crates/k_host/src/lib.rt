@@ -20,6 +20,8 @@ mod readiness;
 mod starting;
 mod stepping;
 mod terms;
+#[cfg(test)]
+mod tests;
 mod twin;
 
 pub use errors::{HostError, OpenError};

@@ -1,6 +1,9 @@
 //! What a host shows.
-ghost use Rattle.std.specs.Prelude.{◌≡◌, length, slice_get};
+ghost use Rattle.std.specs.Prelude.{◌≡◌, IfOk, length, option_map, slice_get};
+ghost use Rattle.k_shares.specs.Sharers.{heap_number, lowest_orphan};
 ghost use Rattle.k_types.specs.Counted.{counted};
+ghost use Rattle.k_host.specs.Hosts.{collection_of, unpublished_of};
+ghost use Rattle.k_host.specs.Twins.{machine_of};
 
 use crate::host::Host;
 use crate::twin::Twin;
@@ -41,13 +44,17 @@ impl Host {
     }
 
     /// The number of unpublished events of the process; `None` where there is no such process. Constant time.
-    pub fn unpublished(&self, pid: Pid) -> Option<u32> {
+    pub fn unpublished(&self, pid: Pid) -> Option<u32>
+        ensures { result ≡ option_map unpublished_of (slice_get self.now.guests pid.0) }
+    {
         let guest = self.guests.get(pid.0 as usize)?;
         Some(guest.cell.tail_len())
     }
 
     /// How far the collection of the process's heap has come; `None` where there is no such process. Constant time.
-    pub fn phase(&self, pid: Pid) -> Option<CellPhase> {
+    pub fn phase(&self, pid: Pid) -> Option<CellPhase>
+        ensures { result ≡ option_map collection_of (slice_get self.now.guests pid.0) }
+    {
         let guest = self.guests.get(pid.0 as usize)?;
         Some(guest.cell.phase())
     }
@@ -60,13 +67,17 @@ impl Host {
     }
 
     /// The machine on one thread before the first event, with the setup of the host. `NoMemory` comes where its lists find no memory.
-    pub fn twin(&self, alloc: Global) -> Result<Twin, NoMemory> {
+    pub fn twin(&self, alloc: Global) -> Result<Twin, NoMemory>
+        ensures { IfOk result (λ twin. twin ≡ machine_of self.now.basis.trace) }
+    {
         let _book = &self.book;
         Twin::make(alloc, &self.terms.setup)
     }
 
     /// The shared heap of the lowest number that was made, isn't absorbed and has no sharer. The cost is in proportion to the shares.
-    pub fn first_orphan(&self) -> Option<SharedId> {
+    pub fn first_orphan(&self) -> Option<SharedId>
+        ensures { option_map heap_number result ≡ lowest_orphan self.now.book.value.phases self.now.book.value.shares }
+    {
         self.book.first_orphan()
     }
 }

@@ -1,8 +1,7 @@
 //! What an operation asks beyond what a host keeps, tested when it is called.
-ghost use Rattle.std.specs.Prelude.{◌≡◌, ◌<◌, IsFalse, IsTrue, OnOk, length};
-ghost use Rattle.k_own.specs.Own.{is_collect};
-ghost use Rattle.k_pair.specs.Operating.{collects_or_exits};
-ghost use Rattle.k_host.specs.Doing.{HasEventsLeft, HasItemRoom, HasItsBody, IsAwake, IsKernelReady, IsReady};
+ghost use Rattle.std.specs.Prelude.{◌≡◌, ◌<◌, ◌↔◌, IfErr, IsTrue, OnOk, length};
+ghost use Rattle.k_host.specs.Doing.{HasEventsLeft, HasItemRoom, HasItsBody, HasRoomToPublish, IsAwake, IsKernelReady, IsReady};
+ghost use Rattle.k_host.specs.Refusals.{IsKernelNotReady, IsNotAwake, IsNotReady, IsPlain, Lacks};
 ghost use Rattle.k_host.specs.Serving.{basis_of};
 
 use crate::errors::HostError;
@@ -15,8 +14,7 @@ use k_types::{CellPhase, Op, TypeId};
 
 /// Whether the operation has no call of its own.
 fn is_plain(op: &Op) -> bool
-    ensures own { IsTrue result → IsFalse (is_collect op.now) }
-    ensures pair { IsTrue result → IsFalse (collects_or_exits op.now) }
+    ensures { IsTrue result ↔ IsPlain op.now }
 {
     match *op {
         Op::Collect => false,
@@ -56,7 +54,7 @@ fn is_plain(op: &Op) -> bool
 
 /// Whether no collection is open.
 pub(crate) fn is_idle(phase: CellPhase) -> bool
-    ensures { IsTrue result → phase ≡ CellPhase.Idle }
+    ensures { IsTrue result ↔ (phase ≡ CellPhase.Idle) }
 {
     match phase {
         CellPhase::Idle => true,
@@ -67,7 +65,7 @@ pub(crate) fn is_idle(phase: CellPhase) -> bool
 
 /// Whether a collection has begun and is not marked.
 pub(crate) fn is_begun(phase: CellPhase) -> bool
-    ensures { IsTrue result → phase ≡ CellPhase.Begun }
+    ensures { IsTrue result ↔ (phase ≡ CellPhase.Begun) }
 {
     match phase {
         CellPhase::Idle => false,
@@ -78,7 +76,7 @@ pub(crate) fn is_begun(phase: CellPhase) -> bool
 
 /// Whether a collection is marked.
 pub(crate) fn is_marked(phase: CellPhase) -> bool
-    ensures { IsTrue result → phase ≡ CellPhase.Marked }
+    ensures { IsTrue result ↔ (phase ≡ CellPhase.Marked) }
 {
     match phase {
         CellPhase::Idle => false,
@@ -89,7 +87,8 @@ pub(crate) fn is_marked(phase: CellPhase) -> bool
 
 /// Whether the process lives and its heap is not collected.
 pub(crate) fn awake(guest: &Guest) -> Result<(), HostError>
-    ensures { OnOk result (IsAwake guest.now) }
+    ensures ok { OnOk result (IsAwake guest.now) }
+    ensures why { IfErr result (λ why. IsNotAwake guest.now why) }
 {
     if !guest.cell.lives() {
         return Err(HostError::Ended);
@@ -102,14 +101,22 @@ pub(crate) fn awake(guest: &Guest) -> Result<(), HostError>
 
 /// Whether the journal has room for what the process has unpublished and one event more.
 pub(crate) fn has_events_left(terms: &Terms, guest: &Guest, book: &Book) -> bool
-    ensures { IsTrue result → HasEventsLeft (basis_of terms.now) guest.now book.now }
+    ensures { IsTrue result ↔ HasEventsLeft (basis_of terms.now) guest.now book.now }
 {
     u64::from(book.len()) + u64::from(guest.cell.tail_len()) < u64::from(terms.events)
 }
 
+/// Whether the journal has room for what the process has unpublished.
+pub(crate) fn has_room_to_publish(terms: &Terms, guest: &Guest, book: &Book) -> bool
+    ensures { IsTrue result ↔ HasRoomToPublish (basis_of terms.now) guest.now book.now }
+{
+    u64::from(book.len()) + u64::from(guest.cell.tail_len()) <= u64::from(terms.events)
+}
+
 /// Tells that the journal has room for what the process has unpublished and one event more.
 pub(crate) fn room_left(terms: &Terms, guest: &Guest, book: &Book) -> Result<(), HostError>
-    ensures { OnOk result (HasEventsLeft (basis_of terms.now) guest.now book.now) }
+    ensures ok { OnOk result (HasEventsLeft (basis_of terms.now) guest.now book.now) }
+    ensures why { IfErr result (λ why. Lacks HostError.Full (HasEventsLeft (basis_of terms.now) guest.now book.now) why) }
 {
     if !has_events_left(terms, guest, book) {
         return Err(HostError::Full);
@@ -119,21 +126,21 @@ pub(crate) fn room_left(terms: &Terms, guest: &Guest, book: &Book) -> Result<(),
 
 /// Whether the process can have one exit item more, and do one operation more.
 pub(crate) fn has_item_room(terms: &Terms, guest: &Guest) -> bool
-    ensures { IsTrue result → HasItemRoom (basis_of terms.now) guest.now }
+    ensures { IsTrue result ↔ HasItemRoom (basis_of terms.now) guest.now }
 {
     guest.cell.exit_count() < terms.events && guest.cell.done() < u32::MAX
 }
 
 /// Whether a body of the type is left.
 fn has_body_of(terms: &Terms, guest: &Guest, ty: TypeId) -> bool
-    ensures { IsTrue result → (ty.0 ≡ terms.now.ty.0) × (0 < guest.now.bodies) }
+    ensures { IsTrue result ↔ ((ty.0 ≡ terms.now.ty.0) × (0 < guest.now.bodies)) }
 {
     ty.0 == terms.ty.0 && 0 < guest.bodies
 }
 
 /// Whether the operation finds its body, if it needs one.
 fn has_its_body(terms: &Terms, guest: &Guest, op: &Op) -> bool
-    ensures { IsTrue result → HasItsBody (basis_of terms.now) guest.now.bodies op.now }
+    ensures { IsTrue result ↔ HasItsBody (basis_of terms.now) guest.now.bodies op.now }
 {
     match *op {
         Op::New { reg: _, ty } => has_body_of(terms, guest, ty),
@@ -173,7 +180,8 @@ fn has_its_body(terms: &Terms, guest: &Guest, op: &Op) -> bool
 
 /// Whether the process can try the operation now.
 pub(crate) fn ready(terms: &Terms, guest: &Guest, op: &Op) -> Result<(), HostError>
-    ensures { OnOk result (IsReady (basis_of terms.now) guest.now op.now) }
+    ensures ok { OnOk result (IsReady (basis_of terms.now) guest.now op.now) }
+    ensures why { IfErr result (λ why. IsNotReady (basis_of terms.now) guest.now op.now why) }
 {
     if !is_in_range(&terms.setup, op) {
         return Err(HostError::Unknown);
@@ -193,7 +201,8 @@ pub(crate) fn ready(terms: &Terms, guest: &Guest, op: &Op) -> Result<(), HostErr
 
 /// Whether the kernel's heap is not collected and can have one exit item more.
 pub(crate) fn kernel_ready(terms: &Terms, kernel: &KernelCell) -> Result<(), HostError>
-    ensures { OnOk result (IsKernelReady (basis_of terms.now) kernel.now) }
+    ensures ok { OnOk result (IsKernelReady (basis_of terms.now) kernel.now) }
+    ensures why { IfErr result (λ why. IsKernelNotReady (basis_of terms.now) kernel.now why) }
 {
     if !is_idle(kernel.phase()) {
         return Err(HostError::Phase);

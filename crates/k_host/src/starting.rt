@@ -1,9 +1,11 @@
 //! Calls on the collections of a host, tested before they are done.
-ghost use Rattle.std.specs.Prelude.{◌≡◌, ◌<◌, ◌≤◌, ◌+◌, IfErr, IfNone, IfOk, IfSome, IsTrue, None, OnErr, OnOk, length};
-ghost use Rattle.k_types.specs.declared.names.CellPhase.TheVariants.{Begun, Idle, Marked};
-ghost use Rattle.k_shares.specs.Sharers.{is_orphan_by};
-ghost use Rattle.k_host.specs.Collecting.{HasAbsorbedNow, HasBegun, HasBegunKernel, HasEnded, HasExitedNow, HasMarkedGuest, HasMarkedKernel, HasSettled, HasSettledKernel, KernelHasGoneOn};
+ghost use Rattle.std.specs.Prelude.{◌≡◌, ◌<◌, ◌≤◌, ◌+◌, ◌↔◌, IfErr, IfNone, IfOk, IfSome, IsTrue, OnErr, OnOk, is_some, length};
+ghost use Rattle.k_moves.specs.Shown.{idle_part};
+ghost use Rattle.k_shares.specs.Sharers.{lowest_orphan};
+ghost use Rattle.k_squares.specs.Locals.{is_local_in};
+ghost use Rattle.k_host.specs.Collecting.{HasAbsorbedNow, HasBegun, HasBegunKernel, HasEnded, HasExitedNow, HasMarkedGuest, HasMarkedKernel, HasSettled, HasSettledKernel, KernelHasEnded};
 ghost use Rattle.k_host.specs.Doing.{HasDoneInside, HasPublishedAll};
+ghost use Rattle.k_host.specs.Refusals.{CanNotAbsorb, CanNotBegin, CanNotBeginKernel, CanNotDoInside, CanNotEnd, CanNotEndKernel, CanNotExit, CanNotMark, CanNotMarkKernel, CanNotPublish, CanNotSettle, CanNotSettleKernel};
 ghost use Rattle.k_host.specs.Serving.{BookServes, GuestServes, KernelServes, SharedServes, basis_of};
 
 use crate::collecting::{
@@ -14,7 +16,9 @@ use crate::doing::{do_inside, publish_all};
 use crate::errors::HostError;
 use crate::guest::Guest;
 use crate::ranges::is_in_range;
-use crate::readiness::{awake, has_events_left, has_item_room, is_begun, is_idle, is_marked};
+use crate::readiness::{
+    awake, has_events_left, has_item_room, has_room_to_publish, is_begun, is_idle, is_marked,
+};
 use crate::terms::Terms;
 use k_book::Book;
 use k_kernel::KernelCell;
@@ -31,6 +35,8 @@ pub(crate) fn try_inside(
     ensures done { IfOk result (λ answer. IfSome answer (λ said. HasDoneInside (basis_of terms.now) op.now guest.old guest.new said)) }
     ensures none { IfOk result (λ answer. IfNone answer (guest.new ≡ guest.old)) }
     ensures same { IfErr result (λ why. guest.new ≡ guest.old) }
+    ensures told { IfOk result (λ answer. is_some answer ≡ is_local_in (idle_part guest.old.cell.value) guest.old.cell.pid.0 op.now) }
+    ensures why { IfErr result (λ why. CanNotDoInside (basis_of terms.now) op.now guest.old why) }
 {
     if !is_in_range(&terms.setup, op) {
         return Err(HostError::Unknown);
@@ -52,8 +58,9 @@ pub(crate) fn try_publish(
     requires book { BookServes (basis_of terms.now) book.old }
     ensures done { OnOk result (HasPublishedAll (basis_of terms.now) guest.old guest.new book.old book.new) }
     ensures same { OnErr result ((guest.new ≡ guest.old) × (book.new ≡ book.old)) }
+    ensures why { IfErr result (λ why. CanNotPublish (basis_of terms.now) book.old guest.old why) }
 {
-    if !has_events_left(terms, guest, book) {
+    if !has_room_to_publish(terms, guest, book) {
         return Err(HostError::Full);
     }
     publish_all(terms, guest, book);
@@ -70,6 +77,7 @@ pub(crate) fn try_begin(
     requires book { BookServes (basis_of terms.now) book.old }
     ensures done { IfOk result (λ event. HasBegun (basis_of terms.now) guest.old guest.new book.old book.new event) }
     ensures same { IfErr result (λ why. (guest.new ≡ guest.old) × (book.new ≡ book.old)) }
+    ensures why { IfErr result (λ why. CanNotBegin (basis_of terms.now) book.old guest.old why) }
 {
     awake(guest)?;
     if !has_events_left(terms, guest, book) {
@@ -83,6 +91,7 @@ pub(crate) fn try_mark(terms: &Terms, guest: &mut Guest) -> Result<(), HostError
     requires { GuestServes (basis_of terms.now) guest.old.cell.note.table guest.old }
     ensures done { OnOk result (HasMarkedGuest (basis_of terms.now) guest.old guest.new) }
     ensures same { OnErr result (guest.new ≡ guest.old) }
+    ensures why { IfErr result (λ why. CanNotMark guest.old why) }
 {
     if !is_begun(guest.cell.phase()) {
         return Err(HostError::Phase);
@@ -97,6 +106,7 @@ pub(crate) fn try_end(terms: &Terms, guest: &mut Guest, book: &mut Book) -> Resu
     requires book { BookServes (basis_of terms.now) book.old }
     ensures done { IfOk result (λ event. HasEnded (basis_of terms.now) guest.old guest.new book.old book.new event) }
     ensures same { IfErr result (λ why. (guest.new ≡ guest.old) × (book.new ≡ book.old)) }
+    ensures why { IfErr result (λ why. CanNotEnd (basis_of terms.now) book.old guest.old why) }
 {
     if !guest.cell.lives() {
         return Err(HostError::Ended);
@@ -116,6 +126,7 @@ pub(crate) fn try_settle(terms: &Terms, guest: &mut Guest, book: &mut Book) -> R
     requires book { BookServes (basis_of terms.now) book.old }
     ensures done { OnOk result (HasSettled (basis_of terms.now) guest.old guest.new book.old book.new) }
     ensures same { OnErr result ((guest.new ≡ guest.old) × (book.new ≡ book.old)) }
+    ensures why { IfErr result (λ why. CanNotSettle (basis_of terms.now) book.old guest.old why) }
 {
     if !guest.cell.lives() {
         return Err(HostError::Ended);
@@ -139,6 +150,7 @@ pub(crate) fn try_begin_kernel(
     requires book { BookServes (basis_of terms.now) book.old }
     ensures done { IfOk result (λ event. HasBegunKernel (basis_of terms.now) guest.old guest.new kernel.new book.old book.new event) }
     ensures same { IfErr result (λ why. (guest.new ≡ guest.old) × (kernel.new ≡ kernel.old) × (book.new ≡ book.old)) }
+    ensures why { IfErr result (λ why. CanNotBeginKernel (basis_of terms.now) kernel.old book.old guest.old why) }
 {
     awake(guest)?;
     if !is_idle(kernel.phase()) {
@@ -158,6 +170,7 @@ pub(crate) fn try_mark_kernel(terms: &Terms, kernel: &mut KernelCell) -> Result<
     requires { KernelServes (basis_of terms.now) kernel.old.note.table kernel.old }
     ensures done { OnOk result (HasMarkedKernel (basis_of terms.now) kernel.old kernel.new) }
     ensures same { OnErr result (kernel.new ≡ kernel.old) }
+    ensures why { IfErr result (λ why. CanNotMarkKernel kernel.old why) }
 {
     if !is_begun(kernel.phase()) {
         return Err(HostError::Phase);
@@ -174,8 +187,9 @@ pub(crate) fn try_end_kernel(
 ) -> Result<Event, HostError>
     requires kernel { KernelServes (basis_of terms.now) book.old.journal.table kernel.old }
     requires book { BookServes (basis_of terms.now) book.old }
-    ensures done { IfOk result (λ event. KernelHasGoneOn (basis_of terms.now) kernel.new book.old book.new event Idle) }
+    ensures done { IfOk result (λ event. KernelHasEnded (basis_of terms.now) kernel.new book.old book.new event) }
     ensures same { IfErr result (λ why. (kernel.new ≡ kernel.old) × (book.new ≡ book.old)) }
+    ensures why { IfErr result (λ why. CanNotEndKernel (basis_of terms.now) kernel.old book.old why) }
 {
     if !is_marked(kernel.phase()) {
         return Err(HostError::Phase);
@@ -196,6 +210,7 @@ pub(crate) fn try_settle_kernel(
     requires book { BookServes (basis_of terms.now) book.old }
     ensures done { OnOk result (HasSettledKernel (basis_of terms.now) kernel.old kernel.new book.old book.new) }
     ensures same { OnErr result ((kernel.new ≡ kernel.old) × (book.new ≡ book.old)) }
+    ensures why { IfErr result (λ why. CanNotSettleKernel (basis_of terms.now) book.old why) }
 {
     if book.len() >= terms.events {
         return Err(HostError::Full);
@@ -216,6 +231,7 @@ pub(crate) fn try_exit(
     requires book { BookServes (basis_of terms.now) book.old }
     ensures done { IfOk result (λ event. HasExitedNow (basis_of terms.now) guest.old guest.new kernel.new book.old book.new event) }
     ensures same { IfErr result (λ why. (guest.new ≡ guest.old) × (kernel.new ≡ kernel.old) × (book.new ≡ book.old)) }
+    ensures why { IfErr result (λ why. CanNotExit (basis_of terms.now) kernel.old book.old guest.old why) }
 {
     awake(guest)?;
     if !is_idle(kernel.phase()) {
@@ -229,14 +245,14 @@ pub(crate) fn try_exit(
 
 /// Whether the kernel can take the exit items of the process's heap beside its own.
 fn can_hand_on(terms: &Terms, guest: &Guest, kernel: &KernelCell) -> bool
-    ensures { IsTrue result → length guest.now.cell.value.exits + length kernel.now.value.exits ≤ terms.now.events }
+    ensures { IsTrue result ↔ (length guest.now.cell.value.exits + length kernel.now.value.exits ≤ terms.now.events) }
 {
     u64::from(guest.cell.exit_count()) + u64::from(kernel.exit_count()) <= u64::from(terms.events)
 }
 
 /// Whether the shared heap is the orphan of the lowest number.
 fn is_first_orphan(book: &Book, id: SharedId) -> bool
-    ensures { IsTrue result → IsTrue (is_orphan_by book.now.value.phases book.now.value.shares id.0) }
+    ensures { IsTrue result ↔ (lowest_orphan book.now.value.phases book.now.value.shares ≡ Some id.0) }
 {
     match book.first_orphan() {
         Some(first) => first.0 == id.0,
@@ -256,6 +272,7 @@ pub(crate) fn try_absorb(
     requires book { BookServes (basis_of terms.now) book.old }
     ensures done { IfOk result (λ event. HasAbsorbedNow (basis_of terms.now) shared.old shared.new kernel.new book.old book.new event) }
     ensures same { IfErr result (λ why. (shared.new ≡ shared.old) × (kernel.new ≡ kernel.old) × (book.new ≡ book.old)) }
+    ensures why { IfErr result (λ why. CanNotAbsorb (basis_of terms.now) kernel.old book.old shared.old.id why) }
 {
     if !is_first_orphan(book, shared.id()) {
         return Err(HostError::Orphan);

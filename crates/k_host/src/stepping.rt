@@ -1,6 +1,7 @@
 //! An operation that is made up, with whatever it touches.
 ghost use Rattle.std.specs.Prelude.{◌≡◌, IfErr, IfOk};
 ghost use Rattle.k_host.specs.Doing.{CanOperate, HasOperated};
+ghost use Rattle.k_host.specs.Refusals.{CanNotOperate};
 ghost use Rattle.k_host.specs.Serving.{basis_of};
 
 use crate::doing::{do_alone, do_inside, do_with_kernel, do_with_shared, reached};
@@ -26,6 +27,7 @@ pub(crate) fn operate_with(
     requires { CanOperate (basis_of terms.now) guest.old kernel.old shared.old.items book.old }
     ensures done { IfOk result (λ event. HasOperated (basis_of terms.now) op.now guest.old guest.new kernel.new shared.new.items book.old book.new event) }
     ensures same { IfErr result (λ why. (guest.new ≡ guest.old) × (kernel.new ≡ kernel.old) × (shared.new.items ≡ shared.old.items) × (book.new ≡ book.old)) }
+    ensures why { IfErr result (λ why. CanNotOperate (basis_of terms.now) kernel.old shared.old.items book.old op.now guest.old why) }
 {
     ready(terms, guest, op)?;
     room_left(terms, guest, book)?;

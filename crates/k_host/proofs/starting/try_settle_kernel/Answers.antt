@@ -1,0 +1,4 @@
+use Rattle.k_host.proofs.starting.try_settle_kernel.Goals as goal
+
+pub returns-then-len-terms-clause-why : goal.returns-then-len-terms-clause-why
+returns-then-len-terms-clause-why c = ?
