@@ -1,6 +1,6 @@
 -- Collections, absorptions and ends of processes can be done by what serves, which serves afterwards.
-use Rattle.std.proofs.Common.{◌≡◌, ◌≢◌, ℕ, zero, suc, ◌+◌, ◌<◌, ◌≤◌, refl, sym, ap, ◌∙◌, subst, Bool, true, false, cond, List, [], ◌∷◌, ◌++◌, append_assoc, length, get_or, set, arith, Option, Some, None, IsFalse, IsTrue}
-use Rattle.std.proofs.lemmas.Bool.{false≢true}
+use Rattle.std.proofs.Common.{◌≡◌, ◌≢◌, ◌↔◌, ◌==◌, ℕ, zero, suc, ◌+◌, ◌<◌, ◌≤◌, refl, sym, ap, ◌∙◌, subst, Bool, true, false, cond, List, [], ◌∷◌, ◌++◌, append_assoc, length, get_or, set, arith, Option, Some, None, IsFalse, IsTrue, eqb-true}
+use Rattle.std.proofs.lemmas.Bool.{eq-eqb, false≢true}
 use Rattle.std.proofs.lemmas.List.{get_or-set_other}
 use Rattle.std.specs.List.{find}
 use Rattle.k_types.specs.declared.event.Event.{Event}
@@ -11,7 +11,10 @@ use Rattle.k_types.specs.declared.names.CellPhase.TheVariants.{Begun, Idle, Mark
 use Rattle.k_types.specs.declared.names.Heap.TheVariants.{Kernel, Shared, User}
 use Rattle.k_types.specs.declared.names.Pid.{Pid}
 use Rattle.k_types.specs.declared.op.Op.TheVariants.{Collect, Exit, KCollect}
+use Rattle.k_types.specs.declared.names.Phase.{Phase}
 use Rattle.k_types.specs.Agree.{CellValue}
+use Rattle.k_types.specs.Numbers.{numbers_below}
+use Rattle.k_types.specs.State.{Sharing}
 use Rattle.k_types.specs.Steps.{IsPossible, state_after}
 use Rattle.k_types.specs.Trace.{process_count, segment_count, segment_of}
 use Rattle.k_agree.specs.Marking.{marked}
@@ -19,6 +22,7 @@ use Rattle.k_book.specs.Books.{BookRecord}
 use Rattle.k_cell.specs.Holdings.{HoldingsValue}
 use Rattle.k_heap.specs.Heaps.{HeapRecord, has_ended_in, own_segment}
 use Rattle.k_shared.specs.SharedHeaps.{SharedRecord}
+use Rattle.k_shares.specs.Sharers.{is_orphan_by, lowest_orphan}
 use Rattle.k_commit.specs.Published.{CanPublish, HasPublished}
 use Rattle.k_commit.specs.Standing.{HeapStands, KernelStands}
 use Rattle.k_collect.specs.Begun.{HasBegunHeap, HasBegunKernel as HasBegunKernelStep}
@@ -347,3 +351,14 @@ found_passes f (y ∷ xs) x is = go (f y) refl is (found_passes f xs x)
     go : (t : Bool) → f y ≡ t → cond t (Some y) (find f xs) ≡ Some x → (find f xs ≡ Some x → f x ≡ true) → f x ≡ true
     go true e found later = let same : y ≡ x = cc in ap f (sym same) ∙ e
     go false e found later = later found
+
+-- the first orphan is one
+pub orphan_first : (phases : List Phase) (shares : List Sharing) (n : ℕ) → lowest_orphan phases shares ≡ Some n → IsTrue (is_orphan_by phases shares n)
+orphan_first phases shares n first = found_passes (is_orphan_by phases shares) (numbers_below (length phases)) n first
+
+-- what was found is compared by its number
+pub found_same : (found : Option ℕ) (n m : ℕ) → found ≡ Some n → IsTrue (n == m) ↔ (found ≡ Some m)
+found_same found n m is = (λ same. is ∙ ap (λ k. Some k) (eqb-true n m same), λ there. let same : n ≡ m = cc in eq-eqb n m same)
+
+pub found_none : (found : Option ℕ) (m : ℕ) → found ≡ None → IsTrue false ↔ (found ≡ Some m)
+found_none found m is = (λ same. absurd (false≢true same), λ there. absurd (cc))

@@ -1,12 +1,13 @@
 -- Why a call is refused: what it asks for was tested, and does not hold.
-use Rattle.std.proofs.Common.{◌≡◌, ℕ, ◌+◌, ◌<◌, ◌≤◌, refl, sym, ap, ◌∙◌, subst, Bool, true, false, not, ◌||◌, List, Option, Some, None, slice_get, Result, Ok, Err, IfErr, IsTrue, IsFalse, ◌↔◌, inl, inr}
+use Rattle.std.proofs.Common.{◌≡◌, ℕ, ◌+◌, ◌<◌, ◌≤◌, refl, sym, ap, ◌∙◌, subst, Bool, true, false, not, ◌||◌, List, Option, Some, None, is_some, option_map, slice_get, Result, Ok, Err, IfErr, IsTrue, IsFalse, ◌↔◌, inl, inr}
 use Rattle.std.specs.Prelude.{MatchOption}
 use Rattle.std.proofs.lemmas.Bool.{false≢true}
 use Rattle.k_types.specs.declared.names.Pid.{Pid}
 use Rattle.k_types.specs.declared.names.SharedId.{SharedId}
 use Rattle.k_shared.specs.SharedHeaps.{SharedRecord}
+use Rattle.k_shares.specs.Sharers.{heap_number}
 use Rattle.k_host.specs.declared.errors.HostError.{HostError}
-use Rattle.k_host.specs.declared.errors.HostError.TheVariants.{Unknown}
+use Rattle.k_host.specs.declared.errors.HostError.TheVariants.{Orphan, Unknown}
 use Rattle.k_host.specs.declared.guest.Guest.{Guest}
 use Rattle.k_host.specs.Hosts.{HostValue}
 use Rattle.k_host.specs.Refusals.{CanNotAbsorb, Lacks, MayRefuse, MayRefuseAbsorption}
@@ -23,6 +24,17 @@ lacks_test error asked test same fails = record { error_is = refl; fails = λ ho
 pub lacks_lives : (error : HostError) (ended lives : Bool) → lives ≡ not ended → lives ≡ false → Lacks error (IsFalse ended) error
 lacks_lives error true lives same fails = record { error_is = refl; fails = λ stands. false≢true (sym stands) }
 lacks_lives error false lives same fails = absurd (false≢true (sym fails ∙ same))
+
+-- an operation with no call of its own begins no collection and ends no process
+pub plain_both : (collects others : Bool) → not (collects || others) ≡ true → (collects ≡ false) × (others ≡ false)
+plain_both true others plain = absurd (false≢true plain)
+plain_both false true plain = absurd (false≢true plain)
+plain_both false false plain = (refl, refl)
+
+-- an orphan that was found is there
+pub orphan_there : (found : Option SharedId) (lowest : Option ℕ) (some : Bool) → option_map heap_number found ≡ lowest → some ≡ is_some found → some ≡ true → Lacks Orphan (lowest ≡ None) Orphan
+orphan_there None lowest some same told there = absurd (false≢true (sym told ∙ there))
+orphan_there (Some id) lowest some same told there = record { error_is = refl; fails = λ none. absurd (let gone : Some (heap_number id) ≡ None = same ∙ none in cc) }
 
 -- a call on a process that is there is refused for its reason
 pub refused : {T : Type 0} (h : HostValue) (pid : Pid) (g : Guest) (reason : Guest → HostError → Type 0) (r : Result T HostError) → slice_get h.guests pid.0 ≡ Some g → IfErr r (reason g) →

@@ -1,5 +1,5 @@
 -- When the calls of a host are refused, and with which errors: a refused call changes nothing, and its error names what is lacking.
-use Rattle.std.specs.Prelude.{◌≡◌, ◌⊎◌, ◌+◌, ◌<◌, ◌≤◌, IsFalse, IsTrue, List, MatchOption, Some, None, [], ◌∷◌, length, slice_get}
+use Rattle.std.specs.Prelude.{◌≡◌, ◌⊎◌, ◌||◌, ◌+◌, ◌<◌, ◌≤◌, Bool, not, IsFalse, IsTrue, List, MatchOption, Some, None, [], ◌∷◌, length, slice_get}
 use Rattle.k_types.specs.declared.names.CellPhase.TheVariants.{Begun, Idle, Marked}
 use Rattle.k_types.specs.declared.names.Heap.TheVariants.{Kernel, Shared}
 use Rattle.k_types.specs.declared.names.Pid.{Pid}
@@ -37,15 +37,15 @@ abbrev pub IsNotAwake : Guest → HostError → Type 0
 IsNotAwake g why = Lacks Ended (IsFalse (has_ended_in g.cell.value.process)) why ⊎ Lacks Phase (g.cell.value.collection ≡ Idle) why
 
 -- the operation has no call of its own: it begins no collection and ends no process
-abbrev pub IsPlain : Op → Type 0
-IsPlain op = IsFalse (is_collect op) × IsFalse (collects_or_exits op)
+abbrev pub is_plain : Op → Bool
+is_plain op = not (is_collect op || collects_or_exits op)
 
 -- an operation is not ready: it names what the setup does not declare, has a call of its own or no body, or its process is not awake
 -- or has no room for what the operation may add to its tables
 abbrev pub IsNotReady : Basis → Guest → Op → HostError → Type 0
 IsNotReady basis g op why =
     Lacks Unknown (IsTrue (in_range basis.trace op)) why
-    ⊎ Lacks OwnCall (IsPlain op) why
+    ⊎ Lacks OwnCall (IsTrue (is_plain op)) why
     ⊎ IsNotAwake g why
     ⊎ Lacks Full (HasItemRoom basis g) why
     ⊎ Lacks NoBody (HasItsBody basis g.bodies op) why

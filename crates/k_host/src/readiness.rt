@@ -1,7 +1,7 @@
 //! What an operation asks beyond what a host keeps, tested when it is called.
 ghost use Rattle.std.specs.Prelude.{◌≡◌, ◌<◌, ◌↔◌, IfErr, IsTrue, OnOk, length};
 ghost use Rattle.k_host.specs.Doing.{HasEventsLeft, HasItemRoom, HasItsBody, HasRoomToPublish, IsAwake, IsKernelReady, IsReady};
-ghost use Rattle.k_host.specs.Refusals.{IsKernelNotReady, IsNotAwake, IsNotReady, IsPlain, Lacks};
+ghost use Rattle.k_host.specs.Refusals.{IsKernelNotReady, IsNotAwake, IsNotReady, Lacks, is_plain};
 ghost use Rattle.k_host.specs.Serving.{basis_of};
 
 use crate::errors::HostError;
@@ -14,7 +14,7 @@ use k_types::{CellPhase, Op, TypeId};
 
 /// Whether the operation has no call of its own.
 fn is_plain(op: &Op) -> bool
-    ensures { IsTrue result ↔ IsPlain op.now }
+    ensures { result ≡ is_plain op.now }
 {
     match *op {
         Op::Collect => false,

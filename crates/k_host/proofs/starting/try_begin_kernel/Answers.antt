@@ -2,7 +2,8 @@ use Rattle.std.proofs.Common.{IsTrue, inl, inr, subst, ◌↔◌, ◌≡◌}
 use Rattle.k_types.specs.declared.names.CellPhase.{CellPhase}
 use Rattle.k_types.specs.declared.names.CellPhase.TheVariants.{Idle}
 use Rattle.k_limits.proofs.Making.{handed_on}
-use Rattle.k_host.proofs.Refused.{lacks}
+use Rattle.k_shares.specs.Sharers.{lowest_orphan}
+use Rattle.k_host.proofs.Refused.{lacks, orphan_there}
 use Rattle.k_host.specs.Doing.{HasEventsLeft}
 use Rattle.k_host.specs.Refusals.{CanNotBeginKernel}
 use Rattle.k_host.specs.Serving.{basis_of}
@@ -16,7 +17,7 @@ pub returns-then-not-is_idle-clause-why : goal.returns-then-not-is_idle-clause-w
 returns-then-not-is_idle-clause-why c = inr (inl (lacks Phase (c.args.kernel.now.value.collection ≡ Idle) c.is_idle.result (subst (λ (phase : CellPhase). IsTrue c.is_idle.result ↔ (phase ≡ Idle)) c.phase.ensures c.is_idle.ensures) c.if-not-is_idle.true))
 
 pub returns-then-is_some-clause-why : goal.returns-then-is_some-clause-why
-returns-then-is_some-clause-why c = inr (inr (inl (?)))
+returns-then-is_some-clause-why c = inr (inr (inl (orphan_there c.first_orphan.result (lowest_orphan c.args.book.now.value.phases c.args.book.now.value.shares) c.is_some.result c.first_orphan.ensures c.is_some.ensures c.if-is_some.true)))
 
 pub returns-then-not-has_events_left-clause-why : goal.returns-then-not-has_events_left-clause-why
 returns-then-not-has_events_left-clause-why c = inr (inr (inr (lacks Full (HasEventsLeft (basis_of c.args.terms.now) c.args.guest.now c.args.book.now) c.has_events_left.result c.has_events_left.ensures c.if-not-has_events_left.true)))
