@@ -31,10 +31,10 @@ returns-in_err-room_left-clause-why c =
     handed_on (CanNotOperate (basis_of c.args.terms.now) c.args.kernel.now c.args.shared.now.items c.args.book.now c.args.op.now c.args.guest.now) c.from_residual-in_err-room_left.result c.in_err-room_left.field-0.0 c.from_residual-in_err-room_left.ensures.1
     (inr (inl c.in_err-room_left.ensures.why))
 
-pub returns-in_err-kernel_ready-clause-why : goal.returns-in_err-kernel_ready-clause-why
-returns-in_err-kernel_ready-clause-why c =
-    handed_on (CanNotOperate (basis_of c.args.terms.now) c.args.kernel.now c.args.shared.now.items c.args.book.now c.args.op.now c.args.guest.now) c.from_residual-in_err-kernel_ready.result c.in_err-kernel_ready.field-0.0 c.from_residual-in_err-kernel_ready.ensures.1
-    (inr (inr (inl (record { touches = touched_before (basis_of c.args.terms.now) c.args.guest.now c.do_inside.new.guest c.args.book.now c.args.op.now c.in_default.ensures.none (Kernel ∷ []) (sym c.in-Kernel.ensures); barred = c.in_err-kernel_ready.ensures.why }))))
+pub returns-in_err-kernel_ready-in-Kernel-clause-why : goal.returns-in_err-kernel_ready-in-Kernel-clause-why
+returns-in_err-kernel_ready-in-Kernel-clause-why c =
+    handed_on (CanNotOperate (basis_of c.args.terms.now) c.args.kernel.now c.args.shared.now.items c.args.book.now c.args.op.now c.args.guest.now) c.from_residual-in_err-kernel_ready-in-Kernel.result c.in_err-kernel_ready-in-Kernel.field-0.0 c.from_residual-in_err-kernel_ready-in-Kernel.ensures.1
+    (inr (inr (inl (record { touches = touched_before (basis_of c.args.terms.now) c.args.guest.now c.do_inside.new.guest c.args.book.now c.args.op.now c.in_default.ensures.none (Kernel ∷ []) (sym c.in-Kernel.ensures); barred = c.in_err-kernel_ready-in-Kernel.ensures.why }))))
 
 pub returns-then-exit_count-terms-clause-why : goal.returns-then-exit_count-terms-clause-why
 returns-then-exit_count-terms-clause-why c =

@@ -14,8 +14,8 @@ operate_with-requires c =
     let at : slice_get c.self.inside.guests.items c.in_ok-at.at ≡ Some c.index_mut-guest.result.now = found_there c.self.inside.guests.items c.deref.result.now c.args.pid.0 c.in_ok-at.at c.index_mut-guest.result.now c.deref.ensures.value c.in_ok-at.ensures.place c.index_mut-guest.ensures.value in
     record { guest = found_guest (basis_of c.self.inside.terms) c.self.inside.guests.items c.self.inside.kernel c.self.inside.shared.items c.self.inside.book c.self.invariant c.in_ok-at.at c.index_mut-guest.result.now at; rest = c.self.invariant.rest }
 
-pub invariant_of-self-2 : goal.invariant_of-self-2
-invariant_of-self-2 c =
+pub invariant_of-self : goal.invariant_of-self
+invariant_of-self c =
     let at : slice_get c.self.inside.guests.items c.in_ok-at.at ≡ Some c.index_mut-guest.result.now = found_there c.self.inside.guests.items c.deref.result.now c.args.pid.0 c.in_ok-at.at c.index_mut-guest.result.now c.deref.ensures.value c.in_ok-at.ensures.place c.index_mut-guest.ensures.value in
     operated_kept (basis_of c.self.inside.terms) c.self.inside.guests.items c.self.inside.kernel c.self.inside.shared.items c.self.inside.book c.self.invariant c.in_ok-at.at c.index_mut-guest.result.now c.operate_with.new.guest c.operate_with.new.kernel c.operate_with.new.shared.items c.operate_with.new.book c.args.op.now at c.operate_with.result c.operate_with.ensures.done c.operate_with.ensures.same
 
