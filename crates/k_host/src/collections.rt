@@ -18,7 +18,8 @@ impl Host {
     ///
     /// # Errors
     ///
-    /// Each changes nothing: `Unknown`, `Ended`, `Phase` where a collection of the heap is open, and `Full`.
+    /// Each changes nothing: `Unknown`, `Ended`, `Phase` where a collection of the heap is open, and `Full` where the process's tables may
+    /// not have room for what an operation adds, or its unpublished events are as many as the host has room for.
     pub fn local(&mut self, pid: Pid, op: &Op) -> Result<Option<Reply>, HostError>
         ensures done { IfOk result (λ answer. MatchOption answer (HasLeftOutside self.old self.new pid op.now) (λ said. HasDoneInsideIn self.old self.new pid op.now said)) }
         ensures same { OnErr result (self.new ≡ self.old) }
@@ -33,7 +34,7 @@ impl Host {
     ///
     /// # Errors
     ///
-    /// Each changes nothing: `Unknown` and `Full`.
+    /// Each changes nothing: `Unknown`, and `Full` where the journal has no room for them.
     pub fn publish(&mut self, pid: Pid) -> Result<(), HostError>
         ensures done { OnOk result (HasPublishedIn self.old self.new pid) }
         ensures same { OnErr result (self.new ≡ self.old) }
@@ -48,7 +49,8 @@ impl Host {
     ///
     /// # Errors
     ///
-    /// Each changes nothing: `Unknown`, `Ended`, `Phase` where a collection of the heap is open, and `Full`.
+    /// Each changes nothing: `Unknown`, `Ended`, `Phase` where a collection of the heap is open, and `Full` where the
+    /// journal has no room for what is unpublished and one event more.
     pub fn begin_heap(&mut self, pid: Pid) -> Result<Event, HostError>
         ensures done { IfOk result (λ event. HasBegunIn self.old self.new pid event) }
         ensures same { OnErr result (self.new ≡ self.old) }
@@ -78,7 +80,8 @@ impl Host {
     ///
     /// # Errors
     ///
-    /// Each changes nothing: `Unknown`, `Ended`, `Phase` where the heap is not marked, and `Full`.
+    /// Each changes nothing: `Unknown`, `Ended`, `Phase` where the heap is not marked, and `Full` where the journal has no room
+    /// for what is unpublished and one event more.
     pub fn end_heap(&mut self, pid: Pid) -> Result<Event, HostError>
         ensures done { IfOk result (λ event. HasEndedIn self.old self.new pid event) }
         ensures same { OnErr result (self.new ≡ self.old) }
@@ -93,7 +96,7 @@ impl Host {
     ///
     /// # Errors
     ///
-    /// Each changes nothing: `Unknown`, `Ended` and `Full`.
+    /// Each changes nothing: `Unknown`, `Ended`, and `Full` where the journal has no room for what is unpublished and one event more.
     pub fn settle_heap(&mut self, pid: Pid) -> Result<(), HostError>
         ensures done { OnOk result (HasSettledIn self.old self.new pid) }
         ensures same { OnErr result (self.new ≡ self.old) }
@@ -109,7 +112,7 @@ impl Host {
     /// # Errors
     ///
     /// Each changes nothing: `Unknown`, `Ended`, `Phase` where a collection of either heap is open, `Orphan` where a shared heap has
-    /// to be absorbed first, and `Full`.
+    /// to be absorbed first, and `Full` where the journal has no room for what is unpublished and one event more.
     pub fn begin_kernel(&mut self, pid: Pid) -> Result<Event, HostError>
         ensures done { IfOk result (λ event. HasBegunKernelIn self.old self.new pid event) }
         ensures same { OnErr result (self.new ≡ self.old) }
@@ -163,7 +166,8 @@ impl Host {
     ///
     /// # Errors
     ///
-    /// Each changes nothing: `Unknown`, `Ended`, `Phase` where a collection of either heap is open, and `Full`.
+    /// Each changes nothing: `Unknown`, `Ended`, `Phase` where a collection of either heap is open, and `Full` where the
+    /// journal has no room for what is unpublished and one event more, or the kernel's table may have none for the exit items of the heap.
     pub fn exit(&mut self, pid: Pid) -> Result<Event, HostError>
         ensures done { IfOk result (λ event. HasExitedIn self.old self.new pid event) }
         ensures same { OnErr result (self.new ≡ self.old) }

@@ -111,7 +111,9 @@ impl Host {
     ///
     /// # Errors
     ///
-    /// Each changes nothing. `Unknown`, `OwnCall`, `Ended`, `Phase`, `Full` and `NoBody` as they say.
+    /// Each changes nothing: `Unknown`, `OwnCall`, `Ended` and `NoBody` as they say, `Phase` where a collection is open of the process's
+    /// heap, or of the kernel's where the operation touches that, and `Full` where the journal has no room for what is unpublished and
+    /// one event more, or the tables of a heap that is touched may have none for what the operation adds.
     pub fn operate(&mut self, pid: Pid, op: &Op) -> Result<Event, HostError>
         ensures done { IfOk result (λ event. HasOperatedAs self.old self.new pid op.now event) }
         ensures same { OnErr result (self.new ≡ self.old) }
