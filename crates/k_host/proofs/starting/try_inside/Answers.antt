@@ -11,4 +11,4 @@ pub returns-then-not-is_in_range-clause-why : goal.returns-then-not-is_in_range-
 returns-then-not-is_in_range-clause-why c = inl (lacks_test Unknown (in_range (open_trace c.args.terms.now.setup) c.args.op.now) c.is_in_range.result c.is_in_range.ensures c.if-not-is_in_range.true)
 
 pub returns-in_err-awake-clause-why : goal.returns-in_err-awake-clause-why
-returns-in_err-awake-clause-why c = handed_on (CanNotDoInside (basis_of c.args.terms.now) c.args.op.now c.args.guest.now) c.from_residual.result c.in_err-awake.field-0.0 c.from_residual.ensures.1 (λ h. inr (inl h) c.in_err-awake.ensures.why)
+returns-in_err-awake-clause-why c = handed_on (CanNotDoInside (basis_of c.args.terms.now) c.args.op.now c.args.guest.now) c.from_residual.result c.in_err-awake.field-0.0 c.from_residual.ensures.1 (inr (inl c.in_err-awake.ensures.why))
