@@ -24,14 +24,14 @@ few_processes world setup ps stand of = omega (arith, stand.count, of.rules.proc
 pub made_free : (turns : TurnsValue) (n : ℕ) (passes : List PassValue) → passes ≡ replicate n (fresh_pass turns n) → AreFree turns passes
 made_free turns n passes is = subst (AreFree turns) (sym is) (All-replicate (IsFree turns) n (fresh_pass turns n) ((refl, refl), refl))
 
--- as many locks as cells, rooms for the end and for its report, and free passes are what a run holds
-pub holds_run : (world : WorldValue) (setup : Setup) (ps : List Process) (ss : List SharedRecord) (locks shared_locks : ℕ) (rooms : EndRooms) (report : List ℕ) (turns : TurnsValue) (passes : List PassValue) →
-    ProcessesStand world ps → HeapsStand world ss → IsSetupOf setup world → locks ≡ length ps → shared_locks ≡ length ss → AreEndRooms (length ps) (length ss) rooms → AreRoomsFor world.trace report →
-    AreFree turns passes → HoldsRun world locks shared_locks rooms report turns passes setup
-holds_run world setup ps ss locks shared_locks rooms report turns passes stand heaps of locks_are shared_are room listed free = record {
+-- as many locks and places as cells, rooms for the report, and free passes are what a run holds
+pub holds_run : (world : WorldValue) (setup : Setup) (ps : List Process) (ss : List SharedRecord) (locks shared_locks places shared_places : ℕ) (rooms : EndRooms) (report : List ℕ) (turns : TurnsValue) (passes : List PassValue) →
+    ProcessesStand world ps → HeapsStand world ss → IsSetupOf setup world → locks ≡ length ps → shared_locks ≡ length ss → places ≡ length ps → shared_places ≡ length ss → AreEndRooms places shared_places rooms →
+    AreRoomsFor world.trace report → AreFree turns passes → HoldsRun world locks shared_locks rooms report turns passes setup
+holds_run world setup ps ss locks shared_locks places shared_places rooms report turns passes stand heaps of locks_are shared_are places_are shared_places_are room listed free = record {
   processes = locks_are ∙ stand.count;
   shared = shared_are ∙ heaps.count;
-  have_rooms = subst (λ k. AreEndRooms k world.trace.shared_heaps rooms) stand.count (subst (λ k. AreEndRooms (length ps) k rooms) heaps.count room);
+  have_rooms = subst (λ k. AreEndRooms k world.trace.shared_heaps rooms) (places_are ∙ stand.count) (subst (λ k. AreEndRooms places k rooms) (shared_places_are ∙ heaps.count) room);
   report = listed;
   are_free = free;
   setup_is = of.is;
