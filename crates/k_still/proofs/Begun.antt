@@ -26,7 +26,7 @@ use Rattle.k_still.specs.declared.beginning.Beginnings.{Beginnings}
 use Rattle.k_process.specs.declared.process.Process.{Process}
 use Rattle.k_still.specs.Opening.{ArePending, ArePendingShared, CanBegin, CanOpenHeap, CanOpenKernel, CanOpenProcess, Each, HasBegun, HasOpenedHeap, HaveOpened, HaveOpenedShared, ProcessBegins}
 use Rattle.k_process.specs.Worlds.{WorldValue}
-use Rattle.k_still.proofs.FirstCells.{heap_stands, kernel_stands, shared_stands}
+use Rattle.k_still.proofs.Stands.{heap_stands, kernel_stands, shared_stands}
 use Rattle.k_still.proofs.FromTheEnd.{each_last, each_popped, each_pushed, get_reversed}
 
 -- what follows from what holds of a success holds of it

@@ -7,7 +7,7 @@ use Rattle.k_limits.specs.Rows.{AreRows, first_refused}
 use Rattle.k_limits.proofs.Fits.{none_refused}
 use Rattle.k_process.specs.Worlds.{WorldValue}
 use Rattle.k_still.specs.Opening.{IsSetupOf}
-use Rattle.k_still.proofs.FirstCells.{setup_directory, setup_limits, setup_procs, setup_shared}
+use Rattle.k_still.proofs.Stands.{setup_directory, setup_limits, setup_procs, setup_shared}
 
 module _ (world : WorldValue) (setup : Setup) (w : IsSetupOf setup world) where
   pub rows_stand : AreRows setup.limits.items

@@ -3,7 +3,7 @@ pub mod Tables
 pub mod Serials
 pub mod Raised
 pub mod Passes
-pub mod FirstCells
+pub mod Stands
 pub mod FirstBook
 pub mod Begun
 pub mod Preparation

@@ -6,6 +6,7 @@ use Rattle.std.proofs.lemmas.Option.{get_or_from_slice_get, slice_get_within}
 use Rattle.atomic_table.specs.Seated.{TableId}
 use Rattle.k_types.specs.declared.names.Pid.{Pid}
 use Rattle.k_types.specs.declared.op.Op.{Op}
+use Rattle.k_types.specs.declared.setup.Setup.{Setup}
 use Rattle.k_types.specs.Numbers.{numbers_below}
 use Rattle.k_types.specs.Trace.{Trace, operations_of, process_count, segment_count, trace_of}
 use Rattle.k_types.specs.TraceRules.{KeepsRules}

@@ -229,10 +229,10 @@ pub record CanOpenParts (world : WorldValue) (setup : Setup) (ops : List (Vec Op
   pub blank : notes ≡ map (blank_note world.table) (numbers_below (segment_count world.trace))
 
 -- all cells and the book stand, and the journal is empty
-pub record PartsStand (world : WorldValue) (cells : Cells) (book : BookRecord) : Type 0 where
-  pub cells : CellsStand world cells
-  pub book : BookKeeps world.trace world.table book
-  pub empty : book.journal ≡ empty_journal world.table
+pub record PartsStand (world : WorldValue) (made : Cells) (b : BookRecord) : Type 0 where
+  pub cells : CellsStand world made
+  pub book : BookKeeps world.trace world.table b
+  pub empty : b.journal ≡ empty_journal world.table
 
 -- the world is a run of the trace that was read, what is prepared is for it, and the journal is empty, with a blank note for each segment
 pub record CanOpenWith (world : WorldValue) (read : TraceRead) (p : Prepared) (tie : TableId) (seat : JournalValue) (notes : List NoteValue) : Type 0 where

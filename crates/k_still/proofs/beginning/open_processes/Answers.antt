@@ -1,6 +1,7 @@
-use Rattle.std.proofs.Common.{◌≡◌, ◌∷◌, [], rules, sym, ap, ◌∙◌, subst, length, arith}
+use Rattle.std.proofs.Common.{◌≡◌, ◌∷◌, [], rules, sym, ap, ◌∙◌, subst, length, arith, List}
 use Rattle.std.proofs.lemmas.List.{length-append}
 use Rattle.k_types.specs.declared.names.Pid.{Pid}
+use Rattle.k_process.specs.declared.process.Process.{Process}
 use Rattle.k_still.specs.Opening.{ArePending, HaveOpened}
 use Rattle.k_still.proofs.Begun.{process_can_open, processes_go_on, processes_opened}
 use Rattle.k_still.proofs.beginning.open_processes.Goals as goal
@@ -17,7 +18,7 @@ open_process-requires g c =
 pub loop-own-preserved : goal.loop-own-preserved
 loop-own-preserved g c =
     let at : c.len-in-Some.result ≡ length c.pop.new.self.items = omega (arith, c.len-in-Some.ensures) in
-    subst (ArePending g.world' c.args.setup.now c.pop.new.self.items c.pop-in-Some.new.self.items c.take_last-note.new.beginnings) (sym c.in_ok-push.ensures.items)
+    subst (ArePending g.world' c.args.setup.now c.pop.new.self.items c.pop-in-Some.new.self.items c.take_last-note.new.beginnings) (sym {A = List Process} c.in_ok-push.ensures.items)
     (processes_go_on g.world' c.args.setup.now c.loop-own.ops.items c.pop.new.self.items c.in-Some.own c.loop-own.bodies.items c.pop-in-Some.new.self.items c.in-Some-pop.made c.loop-own.beginnings c.take_last-note.new.beginnings
     c.loop-own.processes.items c.take_last-note.result.0 c.take_last-note.result.1 c.in_ok-open_process.field-0 c.loop-own.invariant c.in-Some.ensures.items c.in-Some-pop.ensures.items c.take_last-note.ensures
     c.in_ok-open_process.ensures.0 (ap (λ (pid : Pid). pid.0) c.in_ok-open_process.ensures.1 ∙ at))
