@@ -1,8 +1,12 @@
 //! A gate that counts what a run tells of each process.
 use k_io::{Gate, GatePlace};
 use std::alloc::Global;
+use std::hint::spin_loop;
 use std::sync::atomic::{AtomicBool, AtomicU32, Ordering};
 use std::test::Fail;
+
+/// The turns for which a step is held, so that another one can come beside it if the book's lock lets it.
+const TURNS_OF_A_STEP: u32 = 1_000;
 
 /// How often one process was told.
 #[derive(Drop)]
@@ -60,6 +64,9 @@ impl Counts {
             self.astray.store(true, Ordering::SeqCst);
         }
         count.steps.fetch_add(1, Ordering::SeqCst);
+        for _ in 0..TURNS_OF_A_STEP {
+            spin_loop();
+        }
         self.in_book.store(false, Ordering::SeqCst);
     }
 }
