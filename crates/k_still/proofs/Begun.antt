@@ -1,5 +1,5 @@
 -- Cells that are made from the last down.
-use Rattle.std.proofs.Common.{◌≡◌, ℕ, ◌+◌, ◌<◌, ◌≤◌, refl, sym, ap, ◌∙◌, subst, List, [], ◌∷◌, ◌++◌, length, reverse, Vec, arith, Result, Ok, Err}
+use Rattle.std.proofs.Common.{◌≡◌, ℕ, ◌+◌, ◌≤◌, sym, ap, ◌∙◌, subst, List, [], ◌∷◌, ◌++◌, length, reverse, Vec, arith, Result, Ok, Err}
 use Rattle.std.specs.Prelude.{IfOk}
 use Rattle.std.specs.Global.{Global}
 use Rattle.std.specs.declared.collections.VecDeque.{VecDeque}
@@ -24,7 +24,7 @@ use Rattle.k_space.specs.Objects.{BodyValue}
 use Rattle.k_tie.specs.Values.{NoteValue, blank_note}
 use Rattle.k_still.specs.declared.beginning.Beginnings.{Beginnings}
 use Rattle.k_process.specs.declared.process.Process.{Process}
-use Rattle.k_still.specs.Opening.{ArePending, ArePendingShared, CanBegin, CanOpenHeap, CanOpenKernel, CanOpenProcess, Each, HasBegun, HasOpenedHeap, HaveOpened, HaveOpenedShared, ProcessBegins}
+use Rattle.k_still.specs.Opening.{ArePending, ArePendingShared, CanOpenHeap, CanOpenKernel, CanOpenProcess, HasBegun, HasOpenedHeap, HaveOpened, HaveOpenedShared, ProcessBegins}
 use Rattle.k_process.specs.Worlds.{WorldValue}
 use Rattle.k_still.proofs.Stands.{heap_stands, kernel_stands, shared_stands}
 use Rattle.k_still.proofs.FromTheEnd.{each_last, each_popped, each_pushed, get_reversed}
@@ -33,26 +33,6 @@ use Rattle.k_still.proofs.FromTheEnd.{each_last, each_popped, each_pushed, get_r
 pub ok_weaker : {A E : Type 0} (P Q : A → Type 0) → ((a : A) → P a → Q a) → (r : Result A E) → IfOk r P → IfOk r Q
 ok_weaker P Q f (Ok a) h = f a h
 ok_weaker P Q f (Err e) h = tt
-
--- the last note and the last room belong together
-pub last_taken : (world : WorldValue) (old new : Beginnings) (note : NoteValue) (objects : ℕ) → CanBegin world old → old.notes.items ≡ new.notes.items ++ note ∷ [] → old.serials.items ≡ new.serials.items ++ objects ∷ [] →
-    HasBegun world old new note objects
-last_taken world old new note objects can notes serials =
-    let fewer : length old.notes.items ≡ length new.notes.items + 1 = ap length notes ∙ length-append new.notes.items (note ∷ []) in
-    let fewer_serials : length old.serials.items ≡ length new.serials.items + 1 = ap length serials ∙ length-append new.serials.items (objects ∷ []) in
-    let same : length new.serials.items ≡ length new.notes.items = omega (arith, can.are.same, fewer, fewer_serials) in
-    record {
-      are = record {
-        same = same;
-        notes = each_popped (λ seg one. one ≡ blank_note world.table seg) old.notes.items new.notes.items note notes can.are.notes;
-        serials = each_popped (λ seg room. serial_room world.trace seg ≤ room) old.serials.items new.serials.items objects serials can.are.serials;
-      };
-      fewer = fewer;
-      is_note = each_last (λ seg one. one ≡ blank_note world.table seg) old.notes.items new.notes.items note notes can.are.notes;
-      enough =
-          subst (λ seg. serial_room world.trace seg ≤ objects) same
-          (each_last (λ seg room. serial_room world.trace seg ≤ room) old.serials.items new.serials.items objects serials can.are.serials);
-    }
 
 module _ (world : WorldValue) (setup : Setup) where
   pub process_begins : (pid : Pid) (ops : Vec Op Global) (bodies : List BodyValue) (objects : ℕ) (note : NoteValue) (rooms : CellRooms) (cell : HeapRecord) →

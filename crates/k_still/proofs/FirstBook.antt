@@ -1,5 +1,5 @@
 -- The book of a trace that keeps its rules can be made.
-use Rattle.std.proofs.Common.{◌≡◌, ◌+◌, ◌<◌, ◌≤◌, ◌^◌, sym, ap, ◌∙◌, subst, length, None, arith}
+use Rattle.std.proofs.Common.{◌≡◌, ◌<◌, ◌≤◌, ◌^◌, sym, ap, ◌∙◌, subst, length, None, arith}
 use Rattle.k_types.specs.declared.setup.Setup.{Setup}
 use Rattle.k_book.specs.Books.{HasFewSegments}
 use Rattle.k_heap.specs.Heaps.{segments_of}

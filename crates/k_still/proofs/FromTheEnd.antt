@@ -1,5 +1,5 @@
 -- Lists that are taken apart and built at their ends, or read from one end to the other.
-use Rattle.std.proofs.Common.{◌≡◌, ◌⊎◌, ℕ, zero, suc, ◌+◌, ◌<◌, refl, sym, ap, ap₂, ◌∙◌, subst, inl, inr, List, [], ◌∷◌, ◌++◌, drop, get_or, length, map, reverse, slice_get, Some, arith, drop-cons}
+use Rattle.std.proofs.Common.{◌≡◌, ◌⊎◌, ℕ, zero, suc, ◌+◌, ◌<◌, refl, sym, ap, ◌∙◌, subst, inl, inr, List, [], ◌∷◌, ◌++◌, drop, get_or, length, map, reverse, slice_get, Some, arith, drop-cons}
 use Rattle.std.proofs.lemmas.List.{get_or-map, length-map, length-reverse, reverse-append}
 use Rattle.std.proofs.lemmas.Option.{get_or_from_slice_get, slice_get_within}
 use Rattle.k_types.specs.Numbers.{numbers_below}
@@ -33,12 +33,14 @@ each_pushed P xs y each one k x found = elim (get_snoc xs y k x found) [
   | inr here ↦ subst (P k) here.1 (subst (λ n. P n y) (sym here.0) one)
 ]
 
-get_front : {A : Type 0} (xs : List A) (y : A) (k : ℕ) (x : A) → slice_get xs k ≡ Some x → slice_get (xs ++ y ∷ []) k ≡ Some x
+-- what is found in a list is found there too where one element more stands behind it
+pub get_front : {A : Type 0} (xs : List A) (y : A) (k : ℕ) (x : A) → slice_get xs k ≡ Some x → slice_get (xs ++ y ∷ []) k ≡ Some x
 get_front [] y k x e = absurd (cc)
 get_front (z ∷ xs) y zero x e = e
 get_front (z ∷ xs) y (suc k) x e = get_front xs y k x e
 
-get_last : {A : Type 0} (xs : List A) (y : A) → slice_get (xs ++ y ∷ []) (length xs) ≡ Some y
+-- the element behind a list stands where the list ends
+pub get_last : {A : Type 0} (xs : List A) (y : A) → slice_get (xs ++ y ∷ []) (length xs) ≡ Some y
 get_last [] y = refl
 get_last (z ∷ xs) y = get_last xs y
 

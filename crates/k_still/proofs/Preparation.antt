@@ -1,21 +1,19 @@
 -- What is made of a trace is what the cells and the book begin with.
-use Rattle.std.proofs.Common.{◌≡◌, ℕ, ◌+◌, ◌<◌, ◌≤◌, refl, sym, ap, ap₂, ◌∙◌, subst, List, [], length, map, slice_get, Vec, Global, arith}
+use Rattle.std.proofs.Common.{◌≡◌, ℕ, ◌+◌, refl, sym, ap, ap₂, ◌∙◌, subst, List, [], length, map, Vec, Global, arith}
 use Rattle.std.specs.declared.collections.VecDeque.{VecDeque}
 use Rattle.std.proofs.lemmas.List.{length-map}
 use Rattle.std.proofs.lemmas.Option.{get_or_from_slice_get, slice_get_within}
 use Rattle.atomic_table.specs.Seated.{TableId}
-use Rattle.k_types.specs.declared.names.Pid.{Pid}
 use Rattle.k_types.specs.declared.op.Op.{Op}
 use Rattle.k_types.specs.declared.setup.Setup.{Setup}
 use Rattle.k_types.specs.Numbers.{numbers_below}
 use Rattle.k_types.specs.Trace.{Trace, operations_of, process_count, segment_count, trace_of}
 use Rattle.k_types.specs.TraceRules.{KeepsRules}
 use Rattle.k_base.proofs.Lists.{numbers_length}
-use Rattle.k_agree.specs.Rooms.{event_room, exit_room}
 use Rattle.k_bodies.specs.Bodies.{bodies_of}
 use Rattle.k_bodies.proofs.Operations.{own_operations}
 use Rattle.k_book.specs.Books.{BookRecord}
-use Rattle.k_locked.specs.Keeping.{BookKeeps, KernelKeeps, SharedKeeps}
+use Rattle.k_locked.specs.Keeping.{BookKeeps, SharedKeeps}
 use Rattle.k_shared.specs.SharedHeaps.{SharedRecord}
 use Rattle.k_space.specs.Objects.{BodyValue}
 use Rattle.k_tie.specs.Values.{JournalValue, NoteValue, blank_note, empty_journal}
@@ -23,7 +21,6 @@ use Rattle.k_trace.specs.declared.trace.Trace.{Trace as TraceRead}
 use Rattle.k_trace.specs.Meaning.{meaning_of}
 use Rattle.k_trace.specs.Rules.{IsTrace}
 use Rattle.k_process.specs.declared.process.Process.{Process}
-use Rattle.k_process.specs.Standing.{HeapsStand, ProcessesStand}
 use Rattle.k_process.specs.Worlds.{WorldValue}
 use Rattle.k_still.specs.declared.beginning.Beginnings.{Beginnings}
 use Rattle.k_still.specs.declared.beginning.Cells.{Cells}

@@ -1,32 +1,27 @@
 -- The rooms of shared heaps are raised as far as the trace may need.
-use Rattle.std.proofs.Common.{◌≡◌, ◌⊎◌, ℕ, zero, suc, ◌+◌, ◌-◌, ◌*◌, ◌<◌, ◌≤◌, ◌==◌, ◌^◌, ◌&&◌, ◌||◌, nat_lt, cond, Bool, true, false, refl, sym, ap, ◌∙◌, subst, inl, inr, List, [], ◌∷◌, ◌++◌, length, map, take, drop, replicate, set, get_or, slice_get, min, Option, Some, None, arith, eq-eqb, ne_eqb, ltb-true, IsTrue}
+use Rattle.std.proofs.Common.{◌≡◌, ℕ, ◌+◌, ◌<◌, ◌≤◌, ◌^◌, ◌||◌, cond, true, refl, sym, ap, ◌∙◌, subst, inl, inr, List, [], ◌∷◌, length, take, drop, replicate, get_or, min, Option, Some, None, arith, ltb-true, IsTrue}
 use Rattle.std.specs.Prelude.{IfSome}
 use Rattle.std.specs.List.{AllByRecursion, list_all, list_any}
 use Rattle.std.proofs.Math.Nat.{le-min, min-le_left}
 use Rattle.std.proofs.Math.Seq.{take-length}
 use Rattle.std.proofs.lemmas.Bool.{and_parts, cases_Bool, cases_eq, eqb-true}
 use Rattle.std.proofs.lemmas.Grind.{get_or-set_at}
-use Rattle.std.proofs.lemmas.List.{get_or-replicate, get_or-set_other, length-replicate, length-set, take_more}
+use Rattle.std.proofs.lemmas.List.{get_or-replicate, get_or-set_other, length-replicate, length-set}
 use Rattle.std.proofs.lemmas.Option.{get_or_from_slice_get, slice_get_within}
 use Rattle.k_types.specs.declared.op.Op.{Op}
 use Rattle.k_types.specs.declared.op.Op.TheVariants.{New, KNew, SNew, Store, Load, Move, Clear, Dir, Put, Get, Collect, KCollect, Share, Freeze, Attach, Exit}
-use Rattle.k_types.specs.Bounds.{most_operations, register_count}
-use Rattle.k_types.specs.Numbers.{numbers_below, numbers_from}
 use Rattle.k_types.specs.Steps.{in_range}
 use Rattle.k_types.specs.Totals.{total}
-use Rattle.k_types.specs.Trace.{Trace, operations_of, process_count, segment_count}
+use Rattle.k_types.specs.Trace.{Trace, operations_of, process_count}
 use Rattle.k_types.specs.TraceRules.{KeepsRules}
-use Rattle.k_base.proofs.Lists.{numbers_push}
 use Rattle.k_base.proofs.Numbered.{drop_all}
-use Rattle.k_base.proofs.Sums.{total_push, total_at_most}
-use Rattle.k_bounds.specs.Counts.{allocates_in, is_share_of, is_store, one_if, stores_in}
-use Rattle.k_bounds.proofs.Counting.{count_low, one_if_low}
-use Rattle.k_agree.specs.Rooms.{event_room, exit_room, over_processes, serial_room}
-use Rattle.k_known.proofs.Counted.{all_ordered}
-use Rattle.k_locked.specs.Rooms.{shared_exit_room}
+use Rattle.k_base.proofs.Sums.{total_at_most}
+use Rattle.k_bounds.specs.Counts.{is_share_of, is_store, stores_in}
+use Rattle.k_bounds.proofs.Counting.{count_low}
+use Rattle.k_agree.specs.Rooms.{exit_room}
 use Rattle.k_still.proofs.FromTheEnd.{drop_read}
 use Rattle.k_still.proofs.Tables.{exit_room_low, front_low, front_next, over_lists, own_few}
-use Rattle.k_still.specs.Opening.{AreSerialRooms, AreSharedRooms, CanCount, CanRaise, counted, heap_made, raised, segment_given, with_more, with_one_more}
+use Rattle.k_still.specs.Opening.{AreSharedRooms, CanRaise, heap_made, raised, with_more}
 
 more_length : (most n : ℕ) (o : Option ℕ) (xs : List ℕ) → length (with_more most n o xs) ≡ length xs
 more_length most n None xs = refl

@@ -1,4 +1,4 @@
-use Rattle.std.proofs.Common.{◌≡◌, ◌∷◌, [], rules, sym, ap, ◌∙◌, subst, length, arith, List}
+use Rattle.std.proofs.Common.{◌≡◌, ◌∷◌, [], rules, sym, ap, subst, length, arith, List}
 use Rattle.std.proofs.lemmas.List.{length-append}
 use Rattle.k_shared.specs.SharedHeaps.{SharedRecord}
 use Rattle.k_still.specs.Opening.{ArePendingShared, HaveOpenedShared}

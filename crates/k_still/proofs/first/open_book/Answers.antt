@@ -1,4 +1,4 @@
-use Rattle.std.proofs.Common.{◌≡◌, Option, ℕ, None, Some, sym, ap, ◌∙◌, subst}
+use Rattle.std.proofs.Common.{◌≡◌, Option, None, Some, sym, ap, subst}
 use Rattle.k_book.specs.Books.{BookRecord}
 use Rattle.k_locked.specs.Keeping.{BookKeeps}
 use Rattle.k_still.proofs.FirstBook.{none_is_refused}
