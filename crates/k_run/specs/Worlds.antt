@@ -25,10 +25,10 @@ AreFree turns passes = All (IsFree turns) passes
 
 -- there is a lock for each process and each shared heap of the trace, there are rooms to end the run and for what a report lists of it,
 -- the passes are free, and the setup is the trace's
-pub record HoldsRun (world : WorldValue) (process_locks shared_locks : ℕ) (rooms : EndRooms) (report : List ℕ) (turns : TurnsValue) (passes : List PassValue) (setup : Setup) : Type 0 where
+pub record HoldsRun (world : WorldValue) (process_locks shared_locks : ℕ) (rooms : EndRooms) (report_rooms : List ℕ) (turns : TurnsValue) (passes : List PassValue) (setup : Setup) : Type 0 where
   pub processes : process_locks ≡ process_count world.trace
   pub shared : shared_locks ≡ world.trace.shared_heaps
   pub have_rooms : AreEndRooms (process_count world.trace) world.trace.shared_heaps rooms
-  pub report : AreRoomsFor world.trace report
+  pub report : AreRoomsFor world.trace report_rooms
   pub are_free : AreFree turns passes
   pub setup_is : world.trace ≡ trace_of setup world.trace.operations world.trace.order
