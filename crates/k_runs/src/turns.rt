@@ -77,7 +77,7 @@ impl Gate for FifthComes {
         }
         if done == 0 {
             self.begin(pid);
-        } else if done + 1 == OPERATIONS_OF_A_TURN {
+        } else if done == OPERATIONS_OF_A_TURN - 1 {
             self.turn_over.store(true, Ordering::SeqCst);
         } else if done == OPERATIONS_OF_A_TURN {
             self.begin_again();
