@@ -1,5 +1,5 @@
 -- How many operations there are, and what they all pass.
-use Rattle.std.proofs.Common.{◌≡◌, ◌∙◌, ℕ, zero, suc, ◌+◌, ◌*◌, ◌<◌, ◌≤◌, ◌^◌, ◌==◌, ◌||◌, nat_lt, Bool, true, false, cond, refl, sym, ap, ap₂, List, [], ◌∷◌, ◌++◌, length, map, get_or, replicate, arith, eq-eqb, ne_eqb, add-one, inl, inr}
+use Rattle.std.proofs.Common.{◌≡◌, ◌∙◌, ℕ, zero, suc, ◌+◌, ◌*◌, ◌<◌, ◌≤◌, ◌^◌, ◌==◌, ◌||◌, nat_lt, Bool, true, false, cond, refl, sym, ap, ap₂, List, [], ◌∷◌, ◌++◌, length, replicate, arith, eq-eqb, ne_eqb, add-one, inl, inr}
 use Rattle.std.specs.List.{flat_map, list_all}
 use Rattle.std.proofs.lemmas.Bool.{lt-ltb, cases_eq, false≢true}
 use Rattle.std.proofs.lemmas.List.{length-append}
@@ -13,6 +13,7 @@ use Rattle.k_types.specs.Steps.{in_range}
 use Rattle.k_types.specs.Totals.{total}
 use Rattle.k_types.specs.TraceRules.{EndsWithExit, is_exit, is_spelled}
 use Rattle.k_base.proofs.Sums.{bit, count_is_total, one_counts, sum_same, total_append}
+use Rattle.k_laws.proofs.UsesRaised.{times}
 use Rattle.k_trace.specs.Grown.{has_exit}
 use Rattle.k_trace.proofs.OpLists.{ends_push}
 use Rattle.k_big.specs.Workload.{r, node, round, ending, operations_for, turns, declared_for}
@@ -107,17 +108,13 @@ total_of_pieces f g first (suc n) =
     ∙ total_append f (g first) (flat_map g (numbers_from (suc first) n))
     ∙ ap (λ k. total f (g first) + k) (total_of_pieces f g (suc first) n)
 
-weighed : (b : Bool) (n : ℕ) → n * bit b ≡ cond b n 0
-weighed true n = omega arith
-weighed false n = omega arith
-
 -- each process stands in the order as often as it has operations
 pub turns_counted : (objects p : ℕ) → p < 8 → count_by (λ q. q == p) (flat_map (turns objects) (numbers_below 8)) ≡ length (operations_for objects p)
 turns_counted objects p inside =
     let size : ℕ → ℕ = λ i. length (operations_for objects i) in
     count_is_total (λ q. q == p) (flat_map (turns objects) (numbers_below 8))
     ∙ total_of_pieces (λ q. bit (q == p)) (turns objects) 0 8
-    ∙ sum_same (λ i. total (λ q. bit (q == p)) (turns objects i)) (λ i. cond (i == p) (size i) 0) (λ i. total_of_same (λ q. bit (q == p)) (size i) i ∙ weighed (i == p) (size i)) (numbers_below 8)
+    ∙ sum_same (λ i. total (λ q. bit (q == p)) (turns objects i)) (λ i. cond (i == p) (size i) 0) (λ i. total_of_same (λ q. bit (q == p)) (size i) i ∙ times (i == p) (size i)) (numbers_below 8)
     ∙ one_counts size p 0 8 (omega arith) (omega arith)
 
 same_passes : {A : Type 0} (test : A → Bool) (n : ℕ) (x : A) → test x ≡ true → list_all test (replicate n x) ≡ true
@@ -127,12 +124,6 @@ same_passes test (suc n) x pass = rw (pass, same_passes test n x pass) refl
 -- all in the order are processes
 pub turns_known : (objects : ℕ) → list_all (λ p. nat_lt p 8) (flat_map (turns objects) (numbers_below 8)) ≡ true
 turns_known objects = pieces_pass (λ p. nat_lt p 8) (turns objects) 0 8 (λ j low. same_passes (λ p. nat_lt p 8) (length (operations_for objects j)) j (lt-ltb j 8 (omega (arith, low))))
-
--- what stands at a place
-pub mapped_at : {A : Type 0} (f : ℕ → A) (first n k : ℕ) (d : A) → k < n → get_or (map f (numbers_from first n)) k d ≡ f (first + k)
-mapped_at f first zero k d inside = absurd (omega arith)
-mapped_at f first (suc n) zero d inside = ap f (omega arith)
-mapped_at f first (suc n) (suc k) d inside = mapped_at f (suc first) n k d (omega (arith, inside)) ∙ ap f (omega arith)
 
 -- ---- what each operation passes
 

@@ -1,36 +1,19 @@
 -- The charges of all processes have a small sum.
-use Rattle.std.proofs.Common.{◌≡◌, ◌∙◌, ℕ, zero, suc, ◌+◌, ◌*◌, ◌<◌, ◌≤◌, ◌^◌, ◌==◌, true, ap, List, length, arith}
-use Rattle.std.proofs.lemmas.Bool.Decides.{nat_tests}
+use Rattle.std.proofs.Common.{◌≡◌, ◌∙◌, ℕ, zero, suc, ◌+◌, ◌*◌, ◌<◌, ◌≤◌, ◌^◌, ap, List, arith}
 use Rattle.k_types.specs.declared.event.Event.{Event}
-use Rattle.k_types.specs.declared.setup.LimitRow.{LimitRow}
-use Rattle.k_types.specs.Limits.{direct_by, limits_in, max_of, use_of, use_within, with_maxima}
+use Rattle.k_types.specs.Limits.{limits_in, max_of, with_maxima}
 use Rattle.k_types.specs.Numbers.{numbers_from}
 use Rattle.k_types.specs.Owners.{charge_of}
-use Rattle.k_types.specs.State.{State, opening}
+use Rattle.k_types.specs.State.{opening}
 use Rattle.k_types.specs.Steps.{IsLegalHistory, state_after}
 use Rattle.k_types.specs.Totals.{total}
 use Rattle.k_types.specs.Trace.{Trace, limit_of, process_count}
-use Rattle.k_types.specs.TraceRules.{AreLimits, KeepsRules}
-use Rattle.k_base.proofs.Maxima.{length_in, own_maxima}
-use Rattle.k_base.proofs.Sums.{passing_within}
+use Rattle.k_types.specs.TraceRules.{KeepsRules}
+use Rattle.k_base.proofs.Maxima.{own_maxima}
 use Rattle.k_frame.proofs.Constant.{run_maxima}
 use Rattle.k_laws.proofs.Laws.{uses_fit}
+use Rattle.k_solo.proofs.Known.{charge_at_most}
 use Rattle.k_big.specs.Summary.{HasSmallCharges}
-
-direct_at_most : (rows : List LimitRow) (direct : ℕ → ℕ) (depth m : ℕ) → 0 < depth → direct m ≤ use_within rows direct depth m
-unfolding use_within
-direct_at_most rows direct zero m positive = absurd (omega arith)
-direct_at_most rows direct (suc depth) m positive = omega arith
-
--- a process is charged no more than is used at its limit
-charge_at_most : (trace : Trace) (st : State) (p : ℕ) → p < process_count trace → AreLimits trace → charge_of trace st p ≤ use_of trace st (limit_of trace p)
-charge_at_most trace st p known rules =
-    let limited = rules.limited p known in
-    let long = length_in trace.limits st.maxima in
-    let direct = direct_at_most (limits_in trace st) (direct_by trace (charge_of trace st)) (length (limits_in trace st)) (limit_of trace p) (omega (arith, limited, long)) in
-    let own : (limit_of trace p == limit_of trace p) ≡ true = grind (arith, nat_tests) in
-    let here = passing_within (charge_of trace st) (λ q. limit_of trace q == limit_of trace p) p 0 (process_count trace) own (omega arith) (omega (arith, known)) in
-    omega (arith, here, direct)
 
 -- the limits stay as the trace declares them
 limits_stay : (trace : Trace) (history : List Event) → limits_in trace (state_after trace history) ≡ trace.limits

@@ -10,7 +10,8 @@ use Rattle.k_types.specs.Trace.{no_row, row_of, operations_of}
 use Rattle.k_types.specs.TraceRules.{AreLimits, AreOperations, IsTree, EndsWithExit}
 use Rattle.k_trace.specs.Rules.{IsTrace}
 use Rattle.k_big.specs.Workload.{big_trace, operations_for, processes, root, share, turns}
-use Rattle.k_big.proofs.Bounds.{few_operations, mapped_at, operations_end, operations_ranged, operations_spelled, short_pieces, turns_counted, turns_known}
+use Rattle.k_agree.proofs.Openings.{at_number}
+use Rattle.k_big.proofs.Bounds.{few_operations, operations_end, operations_ranged, operations_spelled, short_pieces, turns_counted, turns_known}
 use Rattle.k_big.proofs.Declared.{bare_is_trace}
 
 -- the rows of the limits
@@ -65,7 +66,7 @@ limits_kept objects few = record {
 
 -- a process's operations in the trace
 own_operations : (objects p : ℕ) → p < 8 → operations_of (big_trace objects).trace p ≡ operations_for objects p
-own_operations objects p inside = let same : 0 + p ≡ p = omega arith in mapped_at (operations_for objects) 0 8 p [] inside ∙ ap (operations_for objects) same
+own_operations objects p inside = let same : 0 + p ≡ p = omega arith in at_number (operations_for objects) 0 8 p [] inside ∙ ap (operations_for objects) same
 
 operations_kept : (objects : ℕ) → objects ≤ 5000 → AreOperations (big_trace objects).trace
 operations_kept objects few = record {
