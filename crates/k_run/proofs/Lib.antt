@@ -4,6 +4,5 @@ pub mod Stepped
 pub mod Ended
 pub mod Told
 pub mod Replayed
-pub mod Popped
 pub mod Opened
 pub mod Reported

@@ -1,5 +1,6 @@
 -- Cells that were opened can be replayed, and what is then left is an end.
-use Rattle.std.proofs.Common.{List, map, refl}
+use Rattle.std.proofs.Common.{◌≡◌, ◌∙◌, ap, List, map, refl}
+use Rattle.k_types.specs.declared.names.Pid.{Pid}
 use Rattle.k_book.specs.Books.{BookRecord}
 use Rattle.k_cell.specs.Holdings.{HoldingsValue}
 use Rattle.k_shared.specs.SharedHeaps.{SharedRecord}
@@ -12,13 +13,14 @@ use Rattle.k_outcome.proofs.OverByMeeting.{met_ends}
 use Rattle.k_still.specs.declared.first.FirstCells.{FirstCells}
 use Rattle.k_still.specs.Opening.{IsOpened, world_of}
 
-pub can_replay : (named : NamedTrace) (first : FirstCells) → IsOpened named first → CanReplay (world_of named first) first.processes.items first.kernel first.shared.items first.book first.order.items
-can_replay named first o = record {
+pub can_replay : (named : NamedTrace) (first : FirstCells) → IsOpened named first → (order : List Pid) → order ≡ first.order.items →
+    CanReplay (world_of named first) first.processes.items first.kernel first.shared.items first.book order
+can_replay named first o order is = record {
   processes = o.stands.processes;
   rest = o.stands.rest;
   published = o.published;
   empty = o.empty;
-  order_is = o.order;
+  order_is = ap (λ (pids : List Pid). map (λ (p : Pid). p.0) pids) is ∙ o.order;
 }
 
 pub replayed_ends : (named : NamedTrace) (first : FirstCells) (ps : List Process) (k : HoldingsValue) (ss : List SharedRecord) (b : BookRecord) → HasReplayed (world_of named first) ps k ss b →

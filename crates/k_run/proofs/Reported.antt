@@ -1,7 +1,7 @@
 -- Rooms for what a report lists, heap after heap.
 use Rattle.std.proofs.Common.{◌≡◌, ℕ, suc, ◌+◌, ◌<◌, ◌≤◌, refl, sym, ap, ◌∙◌, subst, List, [], ◌∷◌, ◌++◌, get_or, length, map, take, Vec, Global, arith}
 use Rattle.std.proofs.Math.Seq.{take-length}
-use Rattle.std.proofs.lemmas.List.{append_assoc, get_or-append-add, get_or-map, get_or_append_left, length-append, length-map, map_more, take_more}
+use Rattle.std.proofs.lemmas.List.{append_assoc, get_or-append-add, get_or-map, get_or_append_left, length-append, length-map, map_more}
 use Rattle.std.proofs.lemmas.Option.{slice_get-get_or}
 use Rattle.k_types.specs.declared.names.Heap.{Heap}
 use Rattle.k_types.specs.declared.names.Heap.TheVariants.{Kernel, Shared, User}
@@ -16,15 +16,6 @@ use Rattle.k_trace.specs.Rules.{IsTrace}
 use Rattle.k_bodies.proofs.Operations.{listed, own_operations}
 use Rattle.k_still.specs.Opening.{AreSharedRooms}
 use Rattle.k_outcome.specs.Listed.{AreRoomsFor, most_exits}
-
--- one element more of a list was put behind what was there
-pub one_added : (first rooms new all : List ℕ) (i : ℕ) (x : ℕ) → i < length all → rooms ≡ first ++ take i all → x ≡ get_or all i x → new ≡ rooms ++ x ∷ [] → new ≡ first ++ take (i + 1) all
-one_added first rooms new all i x inside so_far read is =
-    is
-    ∙ ap (λ xs. xs ++ x ∷ []) so_far
-    ∙ append_assoc first (take i all) (x ∷ [])
-    ∙ ap (λ (y : ℕ). first ++ (take i all ++ y ∷ [])) read
-    ∙ ap (λ xs. first ++ xs) (sym (take_more all i x inside))
 
 -- one process more has its room
 pub one_process_added : (t : TraceRead) (items : List (Vec Op Global)) → items ≡ t.ops.items → (p : ℕ) (v : Vec Op Global) → p < length items → v ≡ get_or items p v → (first rooms new : List ℕ) (room : ℕ) →

@@ -3,10 +3,10 @@ ghost use Rattle.std.specs.Prelude.{◌≡◌, ◌<◌, ◌^◌, IfOk, length};
 ghost use Rattle.k_process.specs.Standing.{HeapsStand, ProcessesStand, RestStands};
 ghost use Rattle.k_still.specs.Opening.{FirstCellsStand, IsSetupOf};
 ghost use Rattle.k_outcome.specs.Listed.{AreRoomsFor};
-ghost use Rattle.k_run.specs.Worlds.{AreFree};
+ghost use Rattle.k_run.specs.Worlds.{AreFree, HoldsRun};
 
 use crate::locked::{LockedBook, LockedKernel, LockedProcess, LockedShared};
-use crate::rooms::end_rooms;
+use crate::rooms::{EndRooms, end_rooms};
 use crate::running::MOST_WORKERS;
 use crate::still::Still;
 use crate::world::{Locks, World};
@@ -14,10 +14,13 @@ use crate::worlds::WorldName;
 use k_book::Book;
 use k_io::NoMemory;
 use k_kernel::KernelCell;
+use k_outcome::ReportRooms;
 use k_process::Process;
 use k_shared::SharedCell;
 use k_still::FirstCells;
+use k_trace::Names;
 use k_turns::{TurnPass, Turns};
+use k_types::Setup;
 use std::alloc::Global;
 use std::sync::{Mutex, Wait};
 
@@ -53,17 +56,17 @@ fn lock_shared<W: WorldName>(
     Ok(locks)
 }
 
-/// The queue of the processes, with a pass for each worker: as many as there are processes, at most four.
+/// The queue of so many processes, with a pass for each worker: as many as there are processes, at most four.
 fn queue<R: Wait>(
     rt: &R,
     alloc: Global,
-    processes: &[Process],
+    processes: usize,
 ) -> Result<(Turns, Vec<TurnPass>), NoMemory>
-    requires some { 0 < length processes.now }
-    requires few { length processes.now < 2 ^ 32 }
+    requires some { 0 < processes }
+    requires few { processes < 2 ^ 32 }
     ensures { IfOk result (λ made. AreFree made.0 made.1.items) }
 {
-    let count = processes.len() as u32;
+    let count = processes as u32;
     Turns::make(rt, alloc, count, count.min(MOST_WORKERS))
 }
 
@@ -87,6 +90,30 @@ fn lock_all<W: WorldName>(
         shared,
         book: Mutex::new(LockedBook::of(book)),
     })
+}
+
+/// The run of what was made for it.
+fn put_together<W: WorldName>(
+    locks: Locks<W>,
+    queued: (Turns, Vec<TurnPass>),
+    rooms: EndRooms,
+    report: ReportRooms,
+    names: Names,
+    setup: Setup,
+) -> World<W>
+    requires { HoldsRun W.world (length locks.processes.items) (length locks.shared.items) rooms report queued.0 queued.1.items setup }
+    ensures { (result.names ≡ names) × (result.setup ≡ setup) }
+{
+    let (turns, passes) = queued;
+    World {
+        locks,
+        turns,
+        passes,
+        rooms,
+        report,
+        names,
+        setup,
+    }
 }
 
 /// Puts each process, the kernel, each shared heap and the book behind a lock of its own, as the run that `W` names, and queues the
@@ -119,16 +146,10 @@ pub fn open<W: WorldName, R: Wait>(
         shared,
         book,
     } = cells;
-    let (turns, passes) = queue(rt, alloc, &processes)?;
-    let rooms = end_rooms(alloc, processes.len(), shared.len())?;
+    let process_count = processes.len();
+    let shared_count = shared.len();
+    let queued = queue(rt, alloc, process_count)?;
+    let rooms = end_rooms(alloc, process_count, shared_count)?;
     let locks = lock_all(alloc, processes, kernel, shared, book)?;
-    Ok(World {
-        locks,
-        turns,
-        passes,
-        rooms,
-        names,
-        setup,
-        report,
-    })
+    Ok(put_together(locks, queued, rooms, report, names, setup))
 }

@@ -1,15 +1,26 @@
+use Rattle.std.proofs.Common.{ap, length, arith}
+use Rattle.std.proofs.lemmas.List.{length_push}
+use Rattle.k_shared.specs.SharedHeaps.{SharedRecord}
 use Rattle.k_locked.specs.Keeping.{SharedKeeps}
-use Rattle.k_run.proofs.Popped.{front_of, last_of, one_moved, shorter}
+use Rattle.k_still.proofs.FromTheEnd.{each_last, each_popped}
 use Rattle.k_run.proofs.opening.lock_shared.Goals as goal
 
 pub of-requires : goal.of-requires
-of-requires g c = last_of (SharedKeeps g.W.WorldName.world.trace g.W.WorldName.world.table) c.loop-cell.shared.items c.pop.new.self.items c.in-Some.cell c.in-Some.ensures.items c.loop-cell.invariant.each
+of-requires g c =
+    each_last (λ k (s : SharedRecord). SharedKeeps g.W.WorldName.world.trace g.W.WorldName.world.table s) c.loop-cell.shared.items c.pop.new.self.items c.in-Some.cell c.in-Some.ensures.items c.loop-cell.invariant.each
 
 pub loop-cell-smaller : goal.loop-cell-smaller
-loop-cell-smaller g c = shorter c.loop-cell.shared.items c.pop.new.self.items c.in-Some.cell c.in-Some.ensures.items
+loop-cell-smaller g c = omega (arith, ap length c.in-Some.ensures.items, length_push c.pop.new.self.items c.in-Some.cell)
 
 pub loop-cell-preserved : goal.loop-cell-preserved
 loop-cell-preserved g c = record {
-  each = front_of (SharedKeeps g.W.WorldName.world.trace g.W.WorldName.world.table) c.loop-cell.shared.items c.pop.new.self.items c.in-Some.cell c.in-Some.ensures.items c.loop-cell.invariant.each;
-  count = one_moved c.loop-cell.shared.items c.pop.new.self.items c.in-Some.cell c.loop-cell.locks.items c.push.new.self.items _ _ c.in-Some.ensures.items c.in_ok-push.ensures.items c.loop-cell.invariant.count;
+  each = each_popped (λ k (s : SharedRecord). SharedKeeps g.W.WorldName.world.trace g.W.WorldName.world.table s) c.loop-cell.shared.items c.pop.new.self.items c.in-Some.cell c.in-Some.ensures.items c.loop-cell.invariant.each;
+  count = omega (
+    arith,
+    ap length c.in-Some.ensures.items,
+    length_push c.pop.new.self.items c.in-Some.cell,
+    ap length c.in_ok-push.ensures.items,
+    length_push c.loop-cell.locks.items c.new.result,
+    c.loop-cell.invariant.count,
+  );
 }

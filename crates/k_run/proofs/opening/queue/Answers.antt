@@ -3,4 +3,4 @@ use Rattle.k_run.proofs.Opened.{made_free}
 use Rattle.k_run.proofs.opening.queue.Goals as goal
 
 pub returns : goal.returns
-returns c = IfOk-weaker c.make.result _ _ (λ made h. made_free made.0 c.min.result made.1.items h) c.make.ensures.passes
+returns g c = IfOk-weaker c.make.result _ _ (λ made h. made_free made.0 c.min.result made.1.items h) c.make.ensures.passes

@@ -8,7 +8,7 @@ use Rattle.k_run.proofs.Replayed.{can_replay, replayed_ends}
 use Rattle.k_run.proofs.replaying.replay.Goals as goal
 
 pub replay-requires : goal.replay-requires
-replay-requires g c = can_replay g.named c.args.still.cells c.requires.cells
+replay-requires g c = can_replay g.named c.args.still.cells c.requires.cells c.deref.result.now c.deref.ensures.value
 
 pub outcome_of-requires : goal.outcome_of-requires
 outcome_of-requires g c =

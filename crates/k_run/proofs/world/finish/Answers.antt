@@ -1,5 +1,6 @@
 use Rattle.std.proofs.Common.{[], ap, sym, subst}
 use Rattle.k_types.specs.Trace.{trace_of}
+use Rattle.k_trace.specs.Named.{NamedTrace}
 use Rattle.k_complete.specs.Ended.{IsOutcome}
 use Rattle.k_outcome.specs.Ends.{EndValue}
 use Rattle.k_run.specs.Runs.{IsRunOf}
@@ -16,7 +17,7 @@ returns-clause-outcome g c = subst (λ (e : EndValue). IsOutcome g.W.WorldName.w
 
 pub returns-clause-run : goal.returns-clause-run
 returns-clause-run g c =
-    let named = record { names = c.args.world.names; trace = g.W.WorldName.world.trace } in
+    let named : NamedTrace = record { names = c.args.world.names; trace = g.W.WorldName.world.trace } in
     subst (IsRunOf named) (sym c.outcome_of.ensures)
     (ended_run named c.world.inside.names (trace_of c.world.inside.setup [] []) c.end_cells-cells.result c.end_cells-cells.ensures (ap (λ (v : RunValue). v.names) c.world.view_is)
     (setup_same c.world.inside.setup g.W.WorldName.world.trace c.world.invariant.setup_is))
