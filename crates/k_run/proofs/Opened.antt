@@ -1,5 +1,5 @@
 -- A run that is put behind its locks.
-use Rattle.std.proofs.Common.{◌≡◌, ◌<◌, ◌^◌, ℕ, refl, sym, ◌∙◌, subst, List, length, min, replicate, arith}
+use Rattle.std.proofs.Common.{◌≡◌, ◌<◌, ◌^◌, ℕ, refl, sym, ◌∙◌, subst, List, length, replicate, arith}
 use Rattle.std.proofs.lemmas.List.Elements.{All-replicate}
 use Rattle.k_types.specs.declared.setup.Setup.{Setup}
 use Rattle.k_turns.specs.Values.{PassValue, TurnsValue, fresh_pass}

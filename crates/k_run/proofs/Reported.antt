@@ -1,5 +1,5 @@
 -- Rooms for what a report lists, heap after heap.
-use Rattle.std.proofs.Common.{◌≡◌, ℕ, suc, ◌+◌, ◌<◌, ◌≤◌, refl, sym, ap, ◌∙◌, subst, List, [], ◌∷◌, ◌++◌, get_or, length, map, take, Vec, Global, arith}
+use Rattle.std.proofs.Common.{◌≡◌, ℕ, suc, ◌+◌, ◌<◌, ◌≤◌, sym, ap, ◌∙◌, subst, List, [], ◌∷◌, ◌++◌, get_or, length, map, take, Vec, Global, arith}
 use Rattle.std.proofs.Math.Seq.{take-length}
 use Rattle.std.proofs.lemmas.List.{append_assoc, get_or-append-add, get_or-map, get_or_append_left, length-append, length-map, map_more}
 use Rattle.std.proofs.lemmas.Option.{slice_get-get_or}
@@ -12,7 +12,6 @@ use Rattle.k_bounds.specs.Counts.{stores_in}
 use Rattle.k_agree.specs.Rooms.{exit_room}
 use Rattle.k_trace.specs.declared.trace.Trace.{Trace as TraceRead}
 use Rattle.k_trace.specs.Meaning.{meaning_of}
-use Rattle.k_trace.specs.Rules.{IsTrace}
 use Rattle.k_bodies.proofs.Operations.{listed, own_operations}
 use Rattle.k_still.specs.Opening.{AreSharedRooms}
 use Rattle.k_outcome.specs.Listed.{AreRoomsFor, most_exits}

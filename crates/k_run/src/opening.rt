@@ -3,6 +3,7 @@ ghost use Rattle.std.specs.Prelude.{◌≡◌, ◌<◌, ◌^◌, IfOk, length};
 ghost use Rattle.k_process.specs.Standing.{HeapsStand, ProcessesStand, RestStands};
 ghost use Rattle.k_still.specs.Opening.{FirstCellsStand, IsSetupOf};
 ghost use Rattle.k_outcome.specs.Listed.{AreRoomsFor};
+ghost use Rattle.k_run.specs.Rooms.{AreEndRooms};
 ghost use Rattle.k_run.specs.Worlds.{AreFree, HoldsRun};
 
 use crate::locked::{LockedBook, LockedKernel, LockedProcess, LockedShared};
@@ -92,19 +93,51 @@ fn lock_all<W: WorldName>(
     })
 }
 
+/// What a run has beside its heaps: the queue of its processes with a pass for each worker, and the places for the end.
+#[derive(Drop)]
+struct Readiness {
+    turns: Turns,
+    passes: Vec<TurnPass>,
+    rooms: EndRooms,
+}
+
+/// What a run of so many processes and shared heaps has beside its heaps.
+fn make_ready<R: Wait>(
+    rt: &R,
+    alloc: Global,
+    processes: usize,
+    shared: usize,
+) -> Result<Readiness, NoMemory>
+    requires some { 0 < processes }
+    requires few { processes < 2 ^ 32 }
+    ensures free { IfOk result (λ ready. AreFree ready.turns ready.passes.items) }
+    ensures rooms { IfOk result (λ ready. AreEndRooms processes shared ready.rooms) }
+{
+    let rooms = end_rooms(alloc, processes, shared)?;
+    let (turns, passes) = queue(rt, alloc, processes)?;
+    Ok(Readiness {
+        turns,
+        passes,
+        rooms,
+    })
+}
+
 /// The run of what was made for it.
 fn put_together<W: WorldName>(
     locks: Locks<W>,
-    queued: (Turns, Vec<TurnPass>),
-    rooms: EndRooms,
+    ready: Readiness,
     report: ReportRooms,
     names: Names,
     setup: Setup,
 ) -> World<W>
-    requires { HoldsRun W.world (length locks.processes.items) (length locks.shared.items) rooms report queued.0 queued.1.items setup }
+    requires { HoldsRun W.world (length locks.processes.items) (length locks.shared.items) ready.rooms report ready.turns ready.passes.items setup }
     ensures { (result.names ≡ names) × (result.setup ≡ setup) }
 {
-    let (turns, passes) = queued;
+    let Readiness {
+        turns,
+        passes,
+        rooms,
+    } = ready;
     World {
         locks,
         turns,
@@ -114,6 +147,33 @@ fn put_together<W: WorldName>(
         names,
         setup,
     }
+}
+
+/// The cells and the book behind locks, with what was made ready beside them.
+fn lock_cells<W: WorldName>(
+    alloc: Global,
+    cells: FirstCells,
+    ready: Readiness,
+    report: ReportRooms,
+) -> Result<World<W>, NoMemory>
+    requires stands { FirstCellsStand W.world cells }
+    requires setup { IsSetupOf cells.setup W.world }
+    requires free { AreFree ready.turns ready.passes.items }
+    requires rooms { AreEndRooms (length cells.processes.items) (length cells.shared.items) ready.rooms }
+    requires report { AreRoomsFor W.world.trace report }
+    ensures { IfOk result (λ world. (world.names ≡ cells.names) × (world.setup ≡ cells.setup)) }
+{
+    let FirstCells {
+        setup,
+        names,
+        order: _,
+        processes,
+        kernel,
+        shared,
+        book,
+    } = cells;
+    let locks = lock_all(alloc, processes, kernel, shared, book)?;
+    Ok(put_together(locks, ready, report, names, setup))
 }
 
 /// Puts each process, the kernel, each shared heap and the book behind a lock of its own, as the run that `W` names, and queues the
@@ -133,23 +193,9 @@ pub fn open<W: WorldName, R: Wait>(
     requires rooms { AreRoomsFor W.world.trace still.rooms }
     ensures { IfOk result (λ world. (world.names ≡ still.cells.names) × (world.setup ≡ still.cells.setup)) }
 {
-    let Still {
-        cells,
-        rooms: report,
-    } = still;
-    let FirstCells {
-        setup,
-        names,
-        order: _,
-        processes,
-        kernel,
-        shared,
-        book,
-    } = cells;
-    let process_count = processes.len();
-    let shared_count = shared.len();
-    let queued = queue(rt, alloc, process_count)?;
-    let rooms = end_rooms(alloc, process_count, shared_count)?;
-    let locks = lock_all(alloc, processes, kernel, shared, book)?;
-    Ok(put_together(locks, queued, rooms, report, names, setup))
+    let Still { cells, rooms } = still;
+    let process_count = cells.processes.len();
+    let shared_count = cells.shared.len();
+    let ready = make_ready(rt, alloc, process_count, shared_count)?;
+    lock_cells(alloc, cells, ready, rooms)
 }
