@@ -1,0 +1,121 @@
+//! A gate that holds each process at its stops until another process has come to one of its own.
+use k_io::{Gate, GatePlace};
+use std::hint::spin_loop;
+use std::sync::atomic::{AtomicBool, Ordering};
+use std::thread::yield_now;
+
+/// The most turns for which a gate holds a process.
+const MOST_TURNS: u32 = 100_000_000;
+
+/// How many turns pass before a thread that waits lets others run.
+const TURNS_OF_ONE_STRETCH: u32 = 1_000;
+
+/// Waits until the flag is set, and says whether it was.
+pub(crate) fn wait_for(flag: &AtomicBool) -> bool {
+    for turn in 0..MOST_TURNS {
+        if flag.load(Ordering::SeqCst) {
+            return true;
+        }
+        if turn % TURNS_OF_ONE_STRETCH == 0 {
+            yield_now();
+        } else {
+            spin_loop();
+        }
+    }
+    false
+}
+
+/// A process at a place of the run.
+#[derive(Drop)]
+pub(crate) struct Stop {
+    pid: u32,
+    // How many operations it has done; any number where none is given.
+    done: Option<u32>,
+    place: GatePlace,
+    // Which stop has to be reached before the process goes on from here.
+    until: Option<usize>,
+    reached: AtomicBool,
+}
+
+impl Stop {
+    /// The process before the operation that comes when it has done so many. It waits there for the stop of that number.
+    pub(crate) fn before(pid: u32, done: u32, until: Option<usize>) -> Stop {
+        Stop {
+            pid,
+            done: Some(done),
+            place: GatePlace::BeforeOp,
+            until,
+            reached: AtomicBool::new(false),
+        }
+    }
+
+    /// The process at that place, whatever it has done. It waits there for the stop of that number.
+    pub(crate) fn at(pid: u32, place: GatePlace, until: usize) -> Stop {
+        Stop {
+            pid,
+            done: None,
+            place,
+            until: Some(until),
+            reached: AtomicBool::new(false),
+        }
+    }
+
+    fn is_here(&self, pid: u32, done: u32, place: GatePlace) -> bool {
+        if self.pid != pid || self.place != place {
+            return false;
+        }
+        match self.done {
+            Some(wanted) => wanted == done,
+            None => true,
+        }
+    }
+}
+
+/// Holds each process at its stops.
+#[derive(Drop)]
+pub(crate) struct Stops<const N: usize> {
+    stops: [Stop; N],
+    missed: AtomicBool,
+}
+
+impl<const N: usize> Stops<N> {
+    pub(crate) fn of(stops: [Stop; N]) -> Stops<N> {
+        Stops {
+            stops,
+            missed: AtomicBool::new(false),
+        }
+    }
+
+    /// Whether all stops were reached, and no process waited in vain.
+    pub(crate) fn all_met(&self) -> bool {
+        let mut met = !self.missed.load(Ordering::SeqCst);
+        for stop in &self.stops {
+            met &= stop.reached.load(Ordering::SeqCst);
+        }
+        met
+    }
+
+    /// Waits until the stop of that number was reached.
+    fn wait(&self, until: usize) {
+        let reached = match self.stops.get(until) {
+            Some(stop) => wait_for(&stop.reached),
+            None => false,
+        };
+        if !reached {
+            self.missed.store(true, Ordering::SeqCst);
+        }
+    }
+}
+
+impl<const N: usize> Gate for Stops<N> {
+    fn pass(&self, pid: u32, done: u32, place: GatePlace) {
+        for stop in &self.stops {
+            if stop.is_here(pid, done, place) {
+                stop.reached.store(true, Ordering::SeqCst);
+                if let Some(until) = stop.until {
+                    self.wait(until);
+                }
+            }
+        }
+    }
+}
