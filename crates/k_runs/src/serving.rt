@@ -24,8 +24,7 @@ shared table
 const LAST_EVENTS: &str = "absorbed table\nclosing\nended kernel 100 3200 0 0\n";
 
 /// What stands from the graph to the shares at the end.
-const HEAPS: &str =
-    "kernel.1 kernel directory null null null null\nroots\nexits\nshares\n";
+const HEAPS: &str = "kernel.1 kernel directory null null null null\nroots\nexits\nshares\n";
 
 /// The charges at the end.
 const CHARGES: &str = "kernel 48 of 4096
