@@ -1,9 +1,10 @@
 -- What a process has done between two locks.
-use Rattle.std.proofs.Common.{◌≡◌, sym, ap, ◌∙◌, subst, [], ◌∷◌, List, Bool, false, true}
+use Rattle.std.proofs.Common.{◌≡◌, ◌≢◌, refl, sym, ap, ◌∙◌, subst, [], ◌∷◌, List, Bool, None, false, true}
 use Rattle.std.proofs.lemmas.Bool.{false≢true}
 use Rattle.k_types.specs.declared.names.Heap.TheVariants.{Kernel, Shared}
 use Rattle.k_types.specs.declared.names.SharedId.{SharedId}
 use Rattle.k_types.specs.declared.op.Op.{Op}
+use Rattle.k_types.specs.declared.op.Op.TheVariants.{Exit, KCollect}
 use Rattle.k_types.specs.Agree.{book_shown_by}
 use Rattle.k_types.specs.Cells.{Cell}
 use Rattle.k_types.specs.Trace.{Trace}
@@ -14,12 +15,13 @@ use Rattle.k_book.specs.Books.{BookRecord}
 use Rattle.k_heap.specs.Heaps.{HeapRecord}
 use Rattle.k_locked.specs.Keeping.{operations_left}
 use Rattle.k_process.specs.declared.process.Process.{Process}
-use Rattle.k_process.specs.Standing.{ComesNext, HasDone}
+use Rattle.k_process.specs.Standing.{ComesNext, HasDone, IsNextOf}
 use Rattle.k_process.specs.Worlds.{WorldValue}
-use Rattle.k_operate.specs.Steps.{HasDoneInside, HasPublishedAll}
+use Rattle.k_operate.specs.Readiness.{begins_or_ends}
+use Rattle.k_operate.specs.Steps.{HasDoneInside, HasPublishedAll, PairStands}
 use Rattle.k_operate.specs.Collecting.{HasSameLeft, IsNextAndSettled}
 use Rattle.k_operate.proofs.Since.{next_since}
-use Rattle.k_run.specs.Running.{HasDoneBeside, HasDoneUnless}
+use Rattle.k_run.specs.Running.{HasDoneBeside, HasDoneUnless, IsLeft}
 
 -- publishing leaves all operations
 pub published_left : (world : WorldValue) (q r : Process) (a b : BookRecord) → HasPublishedAll world q r a b → HasSameLeft world.trace q.cell r.cell
@@ -71,11 +73,51 @@ shared_apart s t apart e = apart (same s t e)
 module _ (trace : Trace) (op : Op) (beside : Cell) (c : HeapRecord) (b : BookRecord) where
   -- the operation is not done: it reaches none, or another cell
   pub not_done : (cells : List Cell) → cells ≡ other_cells_in trace (book_shown_by b.value) (idle_part c.value) c.pid.0 op → (cells ≡ beside ∷ [] → ⊥) → HasDoneBeside trace op beside c c b false
-  not_done cells reached apart = record { done = λ t. absurd (false≢true t); elsewhere = λ no one. apart (reached ∙ one) }
+  not_done cells reached apart = record { done = λ t. absurd (false≢true t); same = λ no. refl; elsewhere = λ no one. apart (reached ∙ one) }
 
   pub was_done : (d : HeapRecord) → HasDone trace op c d → HasDoneBeside trace op beside c d b true
-  was_done d done = record { done = λ t. done; elsewhere = λ no. absurd (false≢true (sym no)) }
+  was_done d done = record { done = λ t. done; same = λ no. absurd (false≢true (sym no)); elsewhere = λ no. absurd (false≢true (sym no)) }
 
 -- what is told of the process before, where nothing had changed
 pub done_same : (trace : Trace) (op : Op) (a b c : HeapRecord) → b ≡ a → HasDone trace op b c → HasDone trace op a c
 done_same trace op a b c same done = subst (λ (x : HeapRecord). HasDone trace op x c) same done
+
+-- an operation that a step does is not the end of the process
+pub steps_stay : (op : Op) → begins_or_ends op ≡ false → op ≢ Exit
+steps_stay op steps is_exit = absurd (false≢true (sym steps ∙ ap begins_or_ends is_exit))
+
+some_touched : (c : Cell) → c ∷ [] ≡ [] → ⊥
+some_touched c e = cc
+
+-- an operation that touches another cell, and does not end its process, may be left
+pub may_be_left : (world : WorldValue) (p : Process) (b : BookRecord) (op : Op) (cell : Cell) → PairStands world p b → ComesNext world.trace p.cell op → op ≢ Exit →
+    cell ∷ [] ≡ other_cells_in world.trace (book_shown_by b.value) (idle_part p.cell.value) p.cell.pid.0 op → IsLeft world p.cell op
+may_be_left world p b op cell pair next stays touched = record {
+  next = next;
+  stays = stays;
+  book = b;
+  keeps = pair.book;
+  touches = λ none. some_touched cell (touched ∙ none);
+}
+
+-- so may `kcollect`, which touches the kernel's cell
+pub may_wait : (world : WorldValue) (p : Process) (b : BookRecord) → PairStands world p b → ComesNext world.trace p.cell KCollect → IsLeft world p.cell KCollect
+unfolding other_cells_in
+may_wait world p b pair next = may_be_left world p b KCollect Kernel pair next kept refl
+  where
+    kept : KCollect ≢ Exit
+    kept e = cc
+
+module _ (trace : Trace) (c : HeapRecord) where
+  -- at most one operation comes next
+  pub one_next : (a b : Op) → ComesNext trace c a → ComesNext trace c b → a ≡ b
+  one_next a b first second = heads (sym first.left ∙ second.left)
+    where
+      heads : {xs ys : List Op} → a ∷ xs ≡ b ∷ ys → a ≡ b
+      heads e = cc
+
+  pub none_next : (op : Op) → IsNextOf trace c None → ComesNext trace c op → ⊥
+  none_next op none next = apart (sym (none next.lives) ∙ next.left)
+    where
+      apart : {xs : List Op} → [] ≡ op ∷ xs → ⊥
+      apart e = cc

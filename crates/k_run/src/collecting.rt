@@ -1,9 +1,9 @@
 //! Collections, absorptions and ends of processes under locks. While a heap is marked its lock is held, and the book is free.
-ghost use Rattle.std.specs.Prelude.{IsTrue, ◌≡◌};
+ghost use Rattle.std.specs.Prelude.{IsFalse, IsTrue, ◌≡◌};
 ghost use Rattle.k_locked.specs.Keeping.{KernelKeeps};
 ghost use Rattle.k_operate.specs.Collecting.{Collects, HasSameLeft, KernelCollects};
 ghost use Rattle.k_process.specs.Standing.{ComesNext, HasDone, ProcessStands};
-ghost use Rattle.k_run.specs.Running.{HasBegunUnless, HasCollectedUnless, IsAbsorbedIfFirst};
+ghost use Rattle.k_run.specs.Running.{HasBegunUnless, HasCollectedUnless, IsAbsorbedIfFirst, IsLeft};
 ghost use Rattle.k_types.specs.declared.names.CellPhase.TheVariants.{Begun, Marked};
 ghost use Rattle.k_types.specs.declared.op.Op.TheVariants.{Collect, Exit, KCollect};
 
@@ -119,7 +119,7 @@ impl<W: WorldName> LockedKernel<W> {
         gate: &impl Gate,
     ) -> Option<SharedId>
         requires { ComesNext W.world.trace process.old KCollect }
-        ensures { HasCollectedUnless result W.world.trace process.old process.new }
+        ensures { HasCollectedUnless result W.world process.old process.new }
     {
         let in_the_way = begin_kernel(process, &mut self.kernel, &mut book.lock(rt), gate);
         match in_the_way {
@@ -169,7 +169,8 @@ pub(crate) fn collect_kernel<W: WorldName>(
     gate: &impl Gate,
 ) -> bool
     requires { ComesNext W.world.trace process.old KCollect }
-    ensures { IsTrue result → HasDone W.world.trace KCollect process.old process.new }
+    ensures done { IsTrue result → HasDone W.world.trace KCollect process.old process.new }
+    ensures left { IsFalse result → IsLeft W.world process.new KCollect }
 {
     let mut kernel = locks.kernel.lock(rt);
     for _ in rt.forever() {

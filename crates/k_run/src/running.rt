@@ -2,7 +2,7 @@
 ghost use Rattle.k_run.specs.Worlds.{AreFree, IsFree};
 ghost use Rattle.std.specs.Prelude.{◌≡◌};
 
-use crate::turning::turn;
+use crate::turning::turn_of;
 use crate::world::{Locks, World};
 use crate::worlds::WorldName;
 use k_io::Gate;
@@ -97,7 +97,7 @@ fn work<W: WorldName, G: Gate>(rt: &impl Wait, hall: &Hall<W, G>, pass: &mut Tur
 /// One turn of the process, and whether it may have more to do.
 fn take_turn<W: WorldName, G: Gate>(rt: &impl Wait, hall: &Hall<W, G>, pid: Pid) -> bool {
     for _ in 0..OPERATIONS_A_TURN {
-        if !turn(rt, hall.locks, pid, hall.gate) {
+        if !turn_of(rt, hall.locks, pid, hall.gate) {
             return false;
         }
     }

@@ -75,7 +75,7 @@ impl<W: WorldName> LockedProcess<W> {
     ) -> Reach
         requires outside { IsOutside W.world.trace self.old op.now }
         requires steps { IsFalse (begins_or_ends op.now) }
-        ensures { IsReadyFor result W.world.trace op.now self.old self.new }
+        ensures { IsReadyFor result W.world op.now self.old self.new }
     {
         publish_all(&mut self.process, &mut book.book);
         let reached = reach(&self.process.cell, &book.book, op);

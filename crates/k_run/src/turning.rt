@@ -3,6 +3,7 @@
 ghost use Rattle.std.specs.Prelude.{IsFalse, IsTrue};
 ghost use Rattle.k_operate.specs.Readiness.{begins_or_ends};
 ghost use Rattle.k_process.specs.Standing.{ComesNext, HasDone};
+ghost use Rattle.k_run.specs.Running.{HasTakenTurn, IsLeft};
 
 use crate::collecting::collect_kernel;
 use crate::locked::LockedProcess;
@@ -39,7 +40,8 @@ fn operate<W: WorldName>(
 ) -> bool
     requires next { ComesNext W.world.trace process.old op.now }
     requires steps { IsFalse (begins_or_ends op.now) }
-    ensures { IsTrue result → HasDone W.world.trace op.now process.old process.new }
+    ensures done { IsTrue result → HasDone W.world.trace op.now process.old process.new }
+    ensures left { IsFalse result → IsLeft W.world process.new op.now }
 {
     if process.do_inside(op) {
         return true;
@@ -70,7 +72,8 @@ fn do_any<W: WorldName>(
     gate: &impl Gate,
 ) -> bool
     requires { ComesNext W.world.trace process.old op.now }
-    ensures { IsTrue result → HasDone W.world.trace op.now process.old process.new }
+    ensures done { IsTrue result → HasDone W.world.trace op.now process.old process.new }
+    ensures left { IsFalse result → IsLeft W.world process.new op.now }
 {
     match *op {
         Op::Collect => {
@@ -87,9 +90,25 @@ fn do_any<W: WorldName>(
     }
 }
 
-/// Does the process's next operation, and says whether it did. There may be none; or it is left for the end, where another cell stands
-/// behind a lock than its place says.
-pub(crate) fn turn<W: WorldName>(
+/// Does the next operation of the process, whose lock is held, and says whether it did. There may be none; or it touches another cell
+/// and is left for the end, where another one stands behind the lock of that cell than its place says.
+fn turn<W: WorldName>(
+    rt: &impl Wait,
+    locks: &Locks<W>,
+    process: &mut LockedProcess<W>,
+    gate: &impl Gate,
+) -> bool
+    ensures { HasTakenTurn W.world process.old process.new result }
+{
+    match process.next() {
+        Some(op) => do_any(rt, locks, process, &op, gate),
+        None => false,
+    }
+}
+
+/// Has the process with the number do its next operation, and says whether it did. It says no, too, where another process stands behind
+/// the lock in the place of the number.
+pub(crate) fn turn_of<W: WorldName>(
     rt: &impl Wait,
     locks: &Locks<W>,
     pid: Pid,
@@ -101,9 +120,5 @@ pub(crate) fn turn<W: WorldName>(
     if !tell_next(rt, lock, pid, gate) {
         return false;
     }
-    let mut process = lock.lock(rt);
-    match process.next() {
-        Some(op) => do_any(rt, locks, &mut process, &op, gate),
-        None => false,
-    }
+    turn(rt, locks, &mut lock.lock(rt), gate)
 }

@@ -4,7 +4,7 @@ use Rattle.k_heap.specs.Heaps.{HeapRecord}
 use Rattle.k_operate.proofs.Since.{next_since}
 use Rattle.k_process.specs.Standing.{ComesNext, HasDone}
 use Rattle.k_run.specs.Running.{WaitsToCollect}
-use Rattle.k_run.proofs.Stepped.{done_after, next_settled, published_left}
+use Rattle.k_run.proofs.Stepped.{done_after, may_wait, next_settled, published_left}
 use Rattle.k_run.proofs.collecting.begin_kernel.Goals as goal
 
 pub begin_kernel_collection-requires : goal.begin_kernel_collection-requires
@@ -20,8 +20,9 @@ pub returns-in-Some : goal.returns-in-Some
 returns-in-Some g c =
     let next = subst (λ (x : HeapRecord). ComesNext g.W.WorldName.world.trace x KCollect) (sym c.process.view_is) c.requires.next in
     let left = published_left g.W.WorldName.world c.process.inside.process c.publish_all.new.process c.book.inside.book c.publish_all.new.book c.publish_all.ensures in (
-      subst (λ (x : HeapRecord). WaitsToCollect g.W.WorldName.world.trace x c.publish_all.new.process.cell) c.process.view_is (record {
-        next = next_since g.W.WorldName.world c.process.inside.process c.publish_all.new.process c.publish_all.new.book KCollect c.publish_all.ensures next;
+      subst (λ (x : HeapRecord). WaitsToCollect g.W.WorldName.world x c.publish_all.new.process.cell) c.process.view_is (record {
+        left = may_wait g.W.WorldName.world c.publish_all.new.process c.publish_all.new.book c.publish_all.ensures.pair
+            (next_since g.W.WorldName.world c.process.inside.process c.publish_all.new.process c.publish_all.new.book KCollect c.publish_all.ensures next);
         same = left;
       }),
       c.requires.kernel,

@@ -1,4 +1,5 @@
 use Rattle.std.proofs.Common.{sym, subst, []}
+use Rattle.k_types.specs.declared.names.Heap.TheVariants.{Kernel, Shared}
 use Rattle.k_heap.specs.Heaps.{HeapRecord}
 use Rattle.k_steps.specs.declared.reached.Reach.{Reach}
 use Rattle.k_operate.specs.Collecting.{HasSameLeft}
@@ -6,7 +7,7 @@ use Rattle.k_operate.specs.Readiness.{IsOutside}
 use Rattle.k_operate.proofs.Since.{can_reach, due, next_since, ready_since}
 use Rattle.k_process.specs.Standing.{HasDone}
 use Rattle.k_run.specs.Running.{IsReadyFor}
-use Rattle.k_run.proofs.Stepped.{done_after, published_left}
+use Rattle.k_run.proofs.Stepped.{done_after, may_be_left, published_left, steps_stay}
 use Rattle.k_run.proofs.locked.LockedProcess.do_under_book.Goals as goal
 
 pub reach-reached-requires : goal.reach-reached-requires
@@ -18,7 +19,7 @@ reach-reached-requires g c =
 pub returns-in-Own : goal.returns-in-Own
 returns-in-Own g c =
     let left = published_left g.W.WorldName.world c.self.inside.process c.publish_all.new.process c.book.inside.book c.publish_all.new.book c.publish_all.ensures in
-    subst (λ (r : Reach). IsReadyFor r g.W.WorldName.world.trace c.args.op.now c.args.self.now c.do_alone.new.process.cell) (sym c.in-Own.is)
+    subst (λ (r : Reach). IsReadyFor r g.W.WorldName.world c.args.op.now c.args.self.now c.do_alone.new.process.cell) (sym c.in-Own.is)
     (subst (λ (x : HeapRecord). HasDone g.W.WorldName.world.trace c.args.op.now x c.do_alone.new.process.cell) c.self.view_is
     (done_after g.W.WorldName.world.trace c.args.op.now c.self.inside.process.cell c.publish_all.new.process.cell c.do_alone.new.process.cell left c.do_alone.ensures.done.done))
 
@@ -26,19 +27,25 @@ pub returns-in-Kernel : goal.returns-in-Kernel
 returns-in-Kernel g c =
     let before = subst (λ (x : HeapRecord). IsOutside g.W.WorldName.world.trace x c.args.op.now) (sym c.self.view_is) c.requires.outside in
     let left = published_left g.W.WorldName.world c.self.inside.process c.publish_all.new.process c.book.inside.book c.publish_all.new.book c.publish_all.ensures in
-    subst (λ (r : Reach). IsReadyFor r g.W.WorldName.world.trace c.args.op.now c.args.self.now c.publish_all.new.process.cell) (sym c.in-Kernel.is) (
-      ready_since g.W.WorldName.world c.self.inside.process c.publish_all.new.process c.publish_all.new.book c.args.op.now c.publish_all.ensures before.next before.outside,
-      subst (λ (x : HeapRecord). HasSameLeft g.W.WorldName.world.trace x c.publish_all.new.process.cell) c.self.view_is left,
-    )
+    subst (λ (r : Reach). IsReadyFor r g.W.WorldName.world c.args.op.now c.args.self.now c.publish_all.new.process.cell) (sym c.in-Kernel.is) (record {
+      ready = ready_since g.W.WorldName.world c.self.inside.process c.publish_all.new.process c.publish_all.new.book c.args.op.now c.publish_all.ensures before.next before.outside;
+      same = subst (λ (x : HeapRecord). HasSameLeft g.W.WorldName.world.trace x c.publish_all.new.process.cell) c.self.view_is left;
+      left = may_be_left g.W.WorldName.world c.publish_all.new.process c.publish_all.new.book c.args.op.now Kernel c.publish_all.ensures.pair
+          (next_since g.W.WorldName.world c.self.inside.process c.publish_all.new.process c.publish_all.new.book c.args.op.now c.publish_all.ensures before.next)
+          (steps_stay c.args.op.now c.requires.steps) c.in-Kernel.ensures;
+    })
 
 pub returns-in-Shared : goal.returns-in-Shared
 returns-in-Shared g c =
     let before = subst (λ (x : HeapRecord). IsOutside g.W.WorldName.world.trace x c.args.op.now) (sym c.self.view_is) c.requires.outside in
     let left = published_left g.W.WorldName.world c.self.inside.process c.publish_all.new.process c.book.inside.book c.publish_all.new.book c.publish_all.ensures in
-    subst (λ (r : Reach). IsReadyFor r g.W.WorldName.world.trace c.args.op.now c.args.self.now c.publish_all.new.process.cell) (sym c.in-Shared.is) (
-      ready_since g.W.WorldName.world c.self.inside.process c.publish_all.new.process c.publish_all.new.book c.args.op.now c.publish_all.ensures before.next before.outside,
-      subst (λ (x : HeapRecord). HasSameLeft g.W.WorldName.world.trace x c.publish_all.new.process.cell) c.self.view_is left,
-    )
+    subst (λ (r : Reach). IsReadyFor r g.W.WorldName.world c.args.op.now c.args.self.now c.publish_all.new.process.cell) (sym c.in-Shared.is) (record {
+      ready = ready_since g.W.WorldName.world c.self.inside.process c.publish_all.new.process c.publish_all.new.book c.args.op.now c.publish_all.ensures before.next before.outside;
+      same = subst (λ (x : HeapRecord). HasSameLeft g.W.WorldName.world.trace x c.publish_all.new.process.cell) c.self.view_is left;
+      left = may_be_left g.W.WorldName.world c.publish_all.new.process c.publish_all.new.book c.args.op.now (Shared c.in-Shared.field-0) c.publish_all.ensures.pair
+          (next_since g.W.WorldName.world c.self.inside.process c.publish_all.new.process c.publish_all.new.book c.args.op.now c.publish_all.ensures before.next)
+          (steps_stay c.args.op.now c.requires.steps) c.in-Shared.ensures;
+    })
 
 pub do_alone-requires : goal.do_alone-requires
 do_alone-requires g c =
