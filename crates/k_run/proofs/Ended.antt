@@ -1,5 +1,5 @@
 -- The end of a run is the run of its trace.
-use Rattle.std.proofs.Common.{◌≡◌, ℕ, sym, ap, ◌∙◌, subst, List, []}
+use Rattle.std.proofs.Common.{◌≡◌, ℕ, sym, ap, subst, List, []}
 use Rattle.k_types.specs.declared.setup.Setup.{Setup}
 use Rattle.k_types.specs.Trace.{Trace, trace_of}
 use Rattle.k_order.proofs.Laws.{ended_histories_leave_what_the_directory_reaches}

@@ -1,7 +1,6 @@
 -- Cells that were opened tell their trace.
 use Rattle.std.proofs.Common.{◌≡◌, ℕ, suc, refl, sym, ap, ap₂, ◌∙◌, List, [], ◌∷◌, map, length, Some, slice_get, slice_index_or, arith}
 use Rattle.k_types.specs.declared.op.Op.{Op}
-use Rattle.k_types.specs.declared.names.Pid.{Pid}
 use Rattle.k_types.specs.Trace.{Trace, operations_of, trace_of}
 use Rattle.k_trace.specs.Named.{DeclaredNames, NamedTrace}
 use Rattle.k_process.specs.declared.process.Process.{Process}

@@ -1,7 +1,6 @@
-use Rattle.std.proofs.Common.{◌≡◌, [], sym, ap, ◌∙◌, subst}
-use Rattle.k_types.specs.FileOrder.{file_order}
+use Rattle.std.proofs.Common.{[], sym, ap, ◌∙◌, subst}
 use Rattle.k_types.specs.Trace.{trace_of}
-use Rattle.k_outcome.specs.Ends.{EndValue, journal_of}
+use Rattle.k_outcome.specs.Ends.{journal_of}
 use Rattle.k_run.specs.Runs.{IsRunOf}
 use Rattle.k_run.proofs.Ended.{can_end, ended_run, setup_same}
 use Rattle.k_run.proofs.Replayed.{can_replay, replayed_ends}

@@ -1,8 +1,8 @@
-use Rattle.std.proofs.Common.{sym, subst, [], ◌∷◌, false, true}
+use Rattle.std.proofs.Common.{sym, subst, [], ◌∷◌, false}
 use Rattle.k_types.specs.declared.names.Heap.TheVariants.{Kernel, Shared}
 use Rattle.k_book.specs.Books.{BookRecord}
 use Rattle.k_run.specs.Running.{HasDoneBeside}
-use Rattle.k_run.proofs.Stepped.{kernel_not_shared, none_reached, not_done, shared_apart, was_done}
+use Rattle.k_run.proofs.Stepped.{kernel_not_shared, none_reached, not_done}
 use Rattle.k_heap.specs.Heaps.{HeapRecord}
 use Rattle.k_process.specs.Standing.{ComesNext}
 use Rattle.k_operate.proofs.Since.{can_reach}
