@@ -2,10 +2,10 @@
 ghost use Rattle.k_run.specs.Worlds.{AreFree, IsFree};
 ghost use Rattle.std.specs.Prelude.{◌≡◌};
 
-use crate::turning::turn_of;
+use crate::turning::{done_behind, turn_behind};
 use crate::world::{Locks, World};
 use crate::worlds::WorldName;
-use k_io::Gate;
+use k_io::{Gate, GatePlace};
 use k_turns::{TurnPass, Turns};
 use k_types::Pid;
 use std::marker::Model;
@@ -94,12 +94,22 @@ fn work<W: WorldName, G: Gate>(rt: &impl Wait, hall: &Hall<W, G>, pass: &mut Tur
     unreachable!()
 }
 
-/// One turn of the process, and whether it may have more to do.
+/// One turn of the process, and whether it may have more to do. Before each operation the gate is told with no lock held; how many are
+/// done by then is seen once before the turn, and then under the hold of the operation before.
 fn take_turn<W: WorldName, G: Gate>(rt: &impl Wait, hall: &Hall<W, G>, pid: Pid) -> bool {
+    let Some(lock) = hall.locks.processes.get(pid.0 as usize) else {
+        return false;
+    };
+    let Some(first) = done_behind(rt, lock, pid) else {
+        return false;
+    };
+    let mut done = first;
     for _ in 0..OPERATIONS_A_TURN {
-        if !turn_of(rt, hall.locks, pid, hall.gate) {
+        hall.gate.pass(pid.0, done, GatePlace::BeforeOp);
+        let Some(next) = turn_behind(rt, hall.locks, lock, pid, hall.gate) else {
             return false;
-        }
+        };
+        done = next;
     }
     true
 }

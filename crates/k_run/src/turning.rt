@@ -9,24 +9,18 @@ use crate::collecting::collect_kernel;
 use crate::locked::LockedProcess;
 use crate::world::Locks;
 use crate::worlds::WorldName;
-use k_io::{Gate, GatePlace};
+use k_io::Gate;
 use k_steps::Reach;
 use k_types::{Op, Pid};
 use std::sync::{Mutex, Wait};
 
-/// Tells the gate, with no lock held, that an operation of the process comes next. It says no where none does, or where another process
-/// stands behind the lock.
-fn tell_next<W: WorldName>(
+/// How many operations the process has done; none where no other one comes next, or where another process stands behind the lock.
+pub(crate) fn done_behind<W: WorldName>(
     rt: &impl Wait,
     lock: &Mutex<LockedProcess<W>>,
     pid: Pid,
-    gate: &impl Gate,
-) -> bool {
-    let Some(done) = lock.lock(rt).done_before_next(pid) else {
-        return false;
-    };
-    gate.pass(pid.0, done, GatePlace::BeforeOp);
-    true
+) -> Option<u32> {
+    lock.lock(rt).done_before_next(pid)
 }
 
 /// Does the operation, which neither collects nor ends its process, and says whether it did. It is left for the end where the cell of
@@ -106,19 +100,18 @@ fn turn<W: WorldName>(
     }
 }
 
-/// Has the process with the number do its next operation, and says whether it did. It says no, too, where another process stands behind
-/// the lock in the place of the number.
-pub(crate) fn turn_of<W: WorldName>(
+/// Has the process behind the lock do its next operation, and says how many it has done then; none where it did not, where no other one
+/// comes next, or where another process stands behind the lock.
+pub(crate) fn turn_behind<W: WorldName>(
     rt: &impl Wait,
     locks: &Locks<W>,
+    lock: &Mutex<LockedProcess<W>>,
     pid: Pid,
     gate: &impl Gate,
-) -> bool {
-    let Some(lock) = locks.processes.get(pid.0 as usize) else {
-        return false;
-    };
-    if !tell_next(rt, lock, pid, gate) {
-        return false;
+) -> Option<u32> {
+    let mut process = lock.lock(rt);
+    if !turn(rt, locks, &mut process, gate) {
+        return None;
     }
-    turn(rt, locks, &mut lock.lock(rt), gate)
+    process.done_before_next(pid)
 }
