@@ -9,6 +9,7 @@ ghost use Rattle.k_types.specs.declared.op.Op.TheVariants.{Collect, Exit, KColle
 
 use crate::locked::{LockedBook, LockedKernel, LockedProcess, LockedShared};
 use crate::stepping::tell;
+use crate::waiting::take;
 use crate::world::Locks;
 use crate::worlds::WorldName;
 use k_io::{Gate, GatePlace};
@@ -49,10 +50,10 @@ impl<W: WorldName> LockedProcess<W> {
         requires { ComesNext W.world.trace self.old Collect }
         ensures { HasDone W.world.trace Collect self.old self.new }
     {
-        begin(&mut self.process, &mut book.lock(rt), gate);
+        begin(&mut self.process, &mut take(rt, book), gate);
         tell(&self.process, gate, GatePlace::Marking);
         mark_collection(&mut self.process);
-        end(&mut self.process, &mut book.lock(rt), gate);
+        end(&mut self.process, &mut take(rt, book), gate);
     }
 
     /// Does `exit`.
@@ -121,12 +122,12 @@ impl<W: WorldName> LockedKernel<W> {
         requires { ComesNext W.world.trace process.old KCollect }
         ensures { HasCollectedUnless result W.world process.old process.new }
     {
-        let in_the_way = begin_kernel(process, &mut self.kernel, &mut book.lock(rt), gate);
+        let in_the_way = begin_kernel(process, &mut self.kernel, &mut take(rt, book), gate);
         match in_the_way {
             Some(orphan) => Some(orphan),
             None => {
                 mark_kernel_collection(&mut self.kernel);
-                end_kernel(process, &mut self.kernel, &mut book.lock(rt), gate);
+                end_kernel(process, &mut self.kernel, &mut take(rt, book), gate);
                 None
             }
         }
@@ -172,7 +173,7 @@ pub(crate) fn collect_kernel<W: WorldName>(
     ensures done { IsTrue result → HasDone W.world.trace KCollect process.old process.new }
     ensures left { IsFalse result → IsLeft W.world process.new KCollect }
 {
-    let mut kernel = locks.kernel.lock(rt);
+    let mut kernel = take(rt, &locks.kernel);
     for _ in rt.forever() {
         let Some(orphan) = kernel.collect(rt, process, &locks.book, gate) else {
             return true;
@@ -180,8 +181,14 @@ pub(crate) fn collect_kernel<W: WorldName>(
         let Some(lock) = locks.shared.get(orphan.0 as usize) else {
             return false;
         };
-        let mut shared = lock.lock(rt);
-        if !shared.leave(&mut kernel, &mut locks.book.lock(rt), orphan, process, gate) {
+        let mut shared = take(rt, lock);
+        if !shared.leave(
+            &mut kernel,
+            &mut take(rt, &locks.book),
+            orphan,
+            process,
+            gate,
+        ) {
             return false;
         }
     }

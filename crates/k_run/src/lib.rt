@@ -17,6 +17,7 @@ mod running;
 mod stepping;
 mod still;
 mod turning;
+mod waiting;
 mod whole;
 mod world;
 mod worlds;

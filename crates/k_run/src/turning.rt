@@ -7,6 +7,7 @@ ghost use Rattle.k_run.specs.Running.{HasTakenTurn, IsLeft};
 
 use crate::collecting::collect_kernel;
 use crate::locked::LockedProcess;
+use crate::waiting::take;
 use crate::world::Locks;
 use crate::worlds::WorldName;
 use k_io::Gate;
@@ -40,17 +41,17 @@ fn operate<W: WorldName>(
     if process.do_inside(op) {
         return true;
     }
-    let reached = process.do_under_book(&mut locks.book.lock(rt), op, gate);
+    let reached = process.do_under_book(&mut take(rt, &locks.book), op, gate);
     match reached {
         Reach::Own => true,
         Reach::Kernel => {
-            let mut kernel = locks.kernel.lock(rt);
-            process.do_under_kernel(&mut kernel, &mut locks.book.lock(rt), op, gate)
+            let mut kernel = take(rt, &locks.kernel);
+            process.do_under_kernel(&mut kernel, &mut take(rt, &locks.book), op, gate)
         }
         Reach::Shared(id) => match locks.shared.get(id.0 as usize) {
             Some(lock) => {
-                let mut shared = lock.lock(rt);
-                process.do_under_shared(&mut shared, &mut locks.book.lock(rt), op, gate)
+                let mut shared = take(rt, lock);
+                process.do_under_shared(&mut shared, &mut take(rt, &locks.book), op, gate)
             }
             None => false,
         },
@@ -76,8 +77,8 @@ fn do_any<W: WorldName>(
         }
         Op::KCollect => collect_kernel(rt, locks, process, gate),
         Op::Exit => {
-            let mut kernel = locks.kernel.lock(rt);
-            process.exit(&mut kernel, &mut locks.book.lock(rt), gate);
+            let mut kernel = take(rt, &locks.kernel);
+            process.exit(&mut kernel, &mut take(rt, &locks.book), gate);
             true
         }
         _ => operate(rt, locks, process, op, gate),
