@@ -35,7 +35,7 @@ pub(crate) fn trace_text(alloc: Global, more: &str, operations: &str) -> Result<
 }
 
 /// The trace that the text spells.
-fn trace_of(alloc: Global, text: &str) -> Result<Trace, Fail>
+pub(crate) fn trace_of(alloc: Global, text: &str) -> Result<Trace, Fail>
     ensures { IfOk result (λ trace. IsTrace (meaning_of trace)) }
 {
     let trace = read_trace(alloc, text.as_bytes())?;
@@ -43,7 +43,7 @@ fn trace_of(alloc: Global, text: &str) -> Result<Trace, Fail>
 }
 
 /// The report of the end of a run.
-fn report_of(alloc: Global, end: &Outcome) -> Result<MemSink, Fail>
+pub(crate) fn report_of(alloc: Global, end: &Outcome) -> Result<MemSink, Fail>
     requires { AreNamed end.now.names end.now.setup }
 {
     let mut out = MemSink::make(alloc, MOST_BYTES, Vec::new(alloc))?;
