@@ -10,7 +10,7 @@ ghost use Rattle.k_trace.specs.Rules.{IsTrace};
 use crate::reporting::{report_of, trace_of, trace_text, verdict_on};
 use crate::serving::server_trace;
 use k_check::Verdict;
-use k_io::NoMemory;
+use k_io::{MemSink, NoMemory};
 use k_outcome::Outcome;
 use k_run::{Still, World, WorldName, finish, open, open_still};
 use k_trace::Trace;
@@ -177,10 +177,15 @@ fn unrun_end<R: Wait>(rt: &R, alloc: Global, text: &str) -> Result<Outcome, Fail
     Ok(end)
 }
 
+/// The report of a run of the trace of which threads do nothing.
+fn unrun_report<R: Wait>(rt: &R, alloc: Global, text: &str) -> Result<MemSink, Fail> {
+    let end = unrun_end(rt, alloc, text)?;
+    report_of(alloc, &end)
+}
+
 /// Compares how the report of the trace ends, and has it checked.
 fn check_unrun<R: Wait + Abort>(rt: &R, alloc: Global, text: &str, want: &str) -> Result<(), Fail> {
-    let end = unrun_end(rt, alloc, text)?;
-    let out = report_of(alloc, &end)?;
+    let out = unrun_report(rt, alloc, text)?;
     assert!(rt; out.bytes().ends_with(want.as_bytes()));
     assert_eq!(rt; verdict_on(alloc, text, &out)?, Verdict::Good);
     Ok(())
