@@ -1,12 +1,12 @@
 -- An operation that is due can be done with the cells that it touches, once the process has published, and all serves afterwards.
-use Rattle.std.proofs.Common.{◌≡◌, ℕ, ◌+◌, ◌-◌, ◌<◌, ◌≤◌, refl, sym, ap, ◌∙◌, subst, List, [], ◌∷◌, ◌++◌, append_assoc, length, replicate, arith, IsFalse}
+use Rattle.std.proofs.Common.{◌≡◌, ◌+◌, ◌-◌, ◌<◌, ◌≤◌, refl, sym, ap, ◌∙◌, subst, List, [], ◌∷◌, ◌++◌, append_assoc, length, arith, IsFalse}
 use Rattle.std.proofs.lemmas.List.{length-append}
 use Rattle.k_types.specs.declared.event.Event.{Event}
 use Rattle.k_types.specs.declared.event.Event.TheVariants.{Done}
 use Rattle.k_types.specs.declared.names.Heap.TheVariants.{Kernel, Shared, User}
 use Rattle.k_types.specs.declared.names.Pid.{Pid}
 use Rattle.k_types.specs.declared.op.Op.{Op}
-use Rattle.k_types.specs.Agree.{BookValue, CellValue, book_shown_by}
+use Rattle.k_types.specs.Agree.{book_shown_by}
 use Rattle.k_types.specs.Cells.{Cell}
 use Rattle.k_types.specs.Steps.{IsPossible, state_after}
 use Rattle.k_bounds.specs.Counts.{is_allocation, one_if}
@@ -23,14 +23,14 @@ use Rattle.k_heap.specs.Heaps.{HeapRecord, holdings_of as heap_holdings, own_seg
 use Rattle.k_shared.specs.SharedHeaps.{SharedRecord, holdings_of as shared_holdings}
 use Rattle.k_commit.specs.Changed.{bodies_after}
 use Rattle.k_commit.specs.Published.{CanPublish, HasPublished}
-use Rattle.k_commit.specs.Rooms.{HasExitRoom, HasRoomFor}
+use Rattle.k_commit.specs.Rooms.{HasRoomFor}
 use Rattle.k_commit.specs.Standing.{HeapStands}
 use Rattle.k_commit.specs.Stepped.{HasStepped, HasSteppedWithKernel, HasSteppedWithShared}
 use Rattle.k_own.specs.Own.{CanStepOwn}
 use Rattle.k_pair.specs.Operating.{CanStepWithKernel}
 use Rattle.k_sharing.specs.Operating.{CanStepWithShared}
 use Rattle.k_guests.specs.declared.guest.Guest.{Guest}
-use Rattle.k_calls.specs.Doing.{CanDoWithKernel, CanDoWithShared, HasDoneAlone, HasDoneWithKernel, HasDoneWithShared, HasPublishedAll, IsDueWith}
+use Rattle.k_calls.specs.Doing.{HasDoneAlone, HasDoneWithKernel, HasDoneWithShared, HasPublishedAll, IsDueWith}
 use Rattle.k_guests.specs.Serving.{Basis, BookServes, GuestServes, KernelServes, SharedServes}
 use Rattle.k_calls.proofs.Going.{body_of, book_goes_on, guest_goes_on, kernel_goes_on, shared_goes_on}
 use Rattle.k_calls.proofs.Rooms.{bodies_left, entry_left, event_left, serial_left, table_room}

@@ -1,5 +1,5 @@
 -- What serves goes on serving after a step.
-use Rattle.std.proofs.Common.{◌≡◌, ℕ, ◌+◌, ◌≤◌, refl, sym, ap, ◌∙◌, subst, List, ◌++◌, append-nil, append_assoc, ap₂, map, replicate, IsFalse, false, true, cond, get_or, Some, None, inl, inr}
+use Rattle.std.proofs.Common.{◌≡◌, ℕ, ◌+◌, ◌≤◌, sym, ap, ◌∙◌, subst, List, ◌++◌, append-nil, map, replicate, IsFalse, false, true, cond, get_or, Some, None, inl, inr}
 use Rattle.std.proofs.lemmas.Bool.{cases_Bool, false≢true}
 use Rattle.atomic_table.specs.Seated.{TableId}
 use Rattle.k_types.specs.declared.event.Event.{Event}
@@ -16,13 +16,11 @@ use Rattle.k_frame.proofs.Constant.{run_maxima}
 use Rattle.k_frame.proofs.OwnerOf.{owner_shared, owner_stands, segment_of_shared}
 use Rattle.k_kept.proofs.Owning.{stays_kernel}
 use Rattle.k_agree.specs.Agreement.{Agrees, BookAgrees, Shows}
-use Rattle.k_agree.specs.Meeting.{Fits, HasMet}
 use Rattle.k_book.specs.Books.{BookRecord, pin_room_of}
 use Rattle.k_cell.specs.Holdings.{HoldingsValue}
 use Rattle.k_heap.specs.Heaps.{HeapRecord, has_ended_in, own_segment}
 use Rattle.k_shared.specs.SharedHeaps.{SharedRecord}
 use Rattle.k_space.specs.Objects.{BodyValue, new_body}
-use Rattle.k_commit.specs.Standing.{BookStands}
 use Rattle.k_locked.proofs.CanDo.{owner_shown}
 use Rattle.k_locked.specs.Keeping.{is_absorbed_in}
 use Rattle.k_guests.specs.declared.guest.Guest.{Guest}

@@ -1,5 +1,5 @@
 -- An operation that is done inside the process's own heap.
-use Rattle.std.proofs.Common.{◌≡◌, ◌<◌, refl, sym, subst, Option, Some, None, IfNone, IfSome, IsFalse, false, is_some, length, arith}
+use Rattle.std.proofs.Common.{◌≡◌, ◌<◌, refl, sym, subst, Option, Some, None, IfNone, IfSome, IsFalse, is_some, length, arith}
 use Rattle.k_types.specs.declared.event.Reply.{Reply}
 use Rattle.k_types.specs.declared.op.Op.{Op}
 use Rattle.k_squares.specs.Locals.{is_local_in}

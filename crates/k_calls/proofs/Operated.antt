@@ -1,5 +1,5 @@
 -- An operation with whatever it touches.
-use Rattle.std.proofs.Common.{◌≡◌, ℕ, ◌+◌, ◌<◌, refl, sym, ap, ◌∙◌, subst, List, [], ◌∷◌, ◌++◌, length, set, Some, slice_get, IsFalse, IsTrue, inl, inr, arith}
+use Rattle.std.proofs.Common.{◌≡◌, ◌<◌, refl, sym, ap, ◌∙◌, subst, List, [], ◌∷◌, length, set, Some, slice_get, IsFalse, IsTrue, inl, inr, arith}
 use Rattle.k_types.specs.declared.event.Event.{Event}
 use Rattle.k_types.specs.declared.event.Event.TheVariants.{Done}
 use Rattle.k_types.specs.declared.event.Reply.{Reply}
@@ -19,7 +19,7 @@ use Rattle.k_steps.specs.Reaching.{CanReach}
 use Rattle.k_operate.proofs.HeapsReached.{heap_reached}
 use Rattle.k_guests.specs.declared.guest.Guest.{Guest}
 use Rattle.k_calls.specs.Doing.{CanDoInside, CanDoWithKernel, CanDoWithShared, CanOperate, HasDoneAlone, HasDoneInside, HasDoneWithKernel, HasDoneWithShared, HasEventsLeft, HasOperated, IsDueWith, IsKernelReady, IsReady, LeavesOthers, touched_by}
-use Rattle.k_guests.specs.Serving.{Basis, GuestServes, HeapsServe, KernelServes, SharedServes}
+use Rattle.k_guests.specs.Serving.{Basis, GuestServes, HeapsServe, KernelServes}
 use Rattle.k_calls.proofs.Staying.{heaps_set, heaps_stay, kernel_stays}
 
 -- what an operation touches, where trying it inside has changed nothing

@@ -1,5 +1,5 @@
 -- Where the journal has room for an event, the tables have room for what it adds.
-use Rattle.std.proofs.Common.{◌≡◌, ℕ, zero, suc, ◌+◌, ◌-◌, ◌<◌, ◌≤◌, ◌==◌, refl, sym, ap, ◌∙◌, List, [], ◌∷◌, length, replicate, get_or, arith, Option, Some, None}
+use Rattle.std.proofs.Common.{◌≡◌, ℕ, zero, suc, ◌+◌, ◌-◌, ◌<◌, ◌≤◌, ◌==◌, sym, ap, ◌∙◌, List, ◌∷◌, length, replicate, get_or, arith, Option, Some, None}
 use Rattle.std.proofs.lemmas.List.{drop-replicate}
 use Rattle.k_types.specs.declared.names.TypeId.{TypeId}
 use Rattle.k_types.specs.declared.op.Op.{Op}

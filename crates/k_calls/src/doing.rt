@@ -1,5 +1,5 @@
 //! One operation of a process, with the cells that it touches and the book.
-ghost use Rattle.std.specs.Prelude.{◌≡◌, IfNone, IfSome, IsFalse, [], ◌∷◌, is_some};
+ghost use Rattle.std.specs.Prelude.{◌≡◌, IfNone, IfSome, IsFalse, [], is_some};
 ghost use Rattle.k_book.specs.Books.{book_entries};
 ghost use Rattle.k_bounds.specs.Counts.{is_allocation, one_if};
 ghost use Rattle.k_entry.specs.Entries.{AreEntries};

@@ -1,5 +1,5 @@
 //! What an operation asks beyond what a host keeps, tested when it is called.
-ghost use Rattle.std.specs.Prelude.{◌≡◌, ◌<◌, ◌↔◌, IfErr, IsTrue, OnOk, length};
+ghost use Rattle.std.specs.Prelude.{◌≡◌, ◌<◌, ◌↔◌, IfErr, IsTrue, OnOk};
 ghost use Rattle.k_calls.specs.Doing.{HasEventsLeft, HasItemRoom, HasItsBody, HasRoomToPublish, IsAwake, IsKernelReady, IsReady};
 ghost use Rattle.k_calls.specs.Refusals.{IsKernelNotReady, IsNotAwake, IsNotReady, Lacks, is_plain};
 ghost use Rattle.k_guests.specs.Serving.{basis_of};

@@ -1,5 +1,5 @@
 -- Collections, absorptions and ends of processes can be done by what serves, which serves afterwards.
-use Rattle.std.proofs.Common.{◌≡◌, ◌≢◌, ◌↔◌, ◌==◌, ℕ, zero, suc, ◌+◌, ◌<◌, ◌≤◌, refl, sym, ap, ◌∙◌, subst, Bool, true, false, cond, List, [], ◌∷◌, ◌++◌, append_assoc, length, get_or, set, arith, Option, Some, None, is_some, option_map, IsFalse, IsTrue, eqb-true}
+use Rattle.std.proofs.Common.{◌≡◌, ◌↔◌, ◌==◌, ℕ, ◌+◌, ◌<◌, ◌≤◌, refl, sym, ap, ◌∙◌, subst, Bool, true, false, cond, List, [], ◌∷◌, ◌++◌, length, get_or, arith, Option, Some, None, is_some, option_map, IsTrue, eqb-true}
 use Rattle.std.proofs.lemmas.Bool.{eq-eqb, false≢true}
 use Rattle.std.proofs.lemmas.List.{get_or-set_other}
 use Rattle.std.specs.List.{find}
@@ -9,7 +9,6 @@ use Rattle.k_types.specs.declared.event.Reply.TheVariants.{Done as DoneReply}
 use Rattle.k_types.specs.declared.names.CellPhase.{CellPhase}
 use Rattle.k_types.specs.declared.names.CellPhase.TheVariants.{Begun, Idle, Marked}
 use Rattle.k_types.specs.declared.names.Heap.TheVariants.{Kernel, Shared, User}
-use Rattle.k_types.specs.declared.names.Pid.{Pid}
 use Rattle.k_types.specs.declared.op.Op.TheVariants.{Collect, Exit, KCollect}
 use Rattle.k_types.specs.declared.names.Phase.{Phase}
 use Rattle.k_types.specs.declared.names.SharedId.{SharedId}
@@ -17,15 +16,14 @@ use Rattle.k_types.specs.Agree.{CellValue}
 use Rattle.k_types.specs.Numbers.{numbers_below}
 use Rattle.k_types.specs.State.{Sharing}
 use Rattle.k_types.specs.Steps.{IsPossible, state_after}
-use Rattle.k_types.specs.Trace.{process_count, segment_count, segment_of}
-use Rattle.k_agree.specs.Marking.{marked}
+use Rattle.k_types.specs.Trace.{segment_count, segment_of}
 use Rattle.k_book.specs.Books.{BookRecord}
 use Rattle.k_cell.specs.Holdings.{HoldingsValue}
 use Rattle.k_heap.specs.Heaps.{HeapRecord, has_ended_in, own_segment}
 use Rattle.k_shared.specs.SharedHeaps.{SharedRecord}
 use Rattle.k_shares.specs.Sharers.{heap_number, is_orphan_by, lowest_orphan}
 use Rattle.k_commit.specs.Published.{CanPublish, HasPublished}
-use Rattle.k_commit.specs.Standing.{HeapStands, KernelStands}
+use Rattle.k_commit.specs.Standing.{HeapStands}
 use Rattle.k_collect.specs.Begun.{HasBegunHeap, HasBegunKernel as HasBegunKernelStep}
 use Rattle.k_collect.specs.Collecting.{CanBeginHeap, CanBeginKernel as CanBeginKernelStep, CanEndHeap, CanEndKernel}
 use Rattle.k_collect.specs.Ended.{HasEndedHeap, HasEndedKernel}
@@ -36,8 +34,8 @@ use Rattle.k_depart.specs.Exiting.{CanExit, HasExited}
 use Rattle.k_guests.specs.declared.guest.Guest.{Guest}
 use Rattle.k_calls.specs.declared.errors.HostError.TheVariants.{Orphan}
 use Rattle.k_calls.specs.Refusals.{Lacks}
-use Rattle.k_ends.specs.Collecting.{CanAbsorbNow, CanBegin, CanBeginKernel, CanEnd, CanExitNow, CanGoOn, CanMarkGuest, CanMarkKernel, HasAbsorbedNow, HasBegun, HasBegunKernel, HasEnded, HasExitedNow, HasGoneOn, HasMarkedGuest, HasMarkedKernel, HasSettled, HasSettledKernel, KernelCanGoOn, KernelHasEnded}
-use Rattle.k_guests.specs.Serving.{Basis, BookServes, GivesSerials, GuestServes, KernelServes, SharedServes}
+use Rattle.k_ends.specs.Collecting.{CanAbsorbNow, CanBeginKernel, CanExitNow, CanGoOn, CanMarkGuest, CanMarkKernel, HasAbsorbedNow, HasBegun, HasBegunKernel, HasEnded, HasExitedNow, HasGoneOn, HasMarkedGuest, HasMarkedKernel, HasSettled, HasSettledKernel, KernelHasEnded}
+use Rattle.k_guests.specs.Serving.{Basis, BookServes, GivesSerials, GuestServes, KernelServes}
 use Rattle.k_calls.proofs.Due.{book_published, can_publish, guest_published, longer_published}
 use Rattle.k_calls.proofs.Going.{book_goes_on, guest_goes_on, kernel_goes_on}
 use Rattle.k_calls.proofs.Rooms.{event_left}

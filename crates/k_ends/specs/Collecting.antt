@@ -15,7 +15,7 @@ use Rattle.k_heap.specs.Heaps.{has_ended_in}
 use Rattle.k_shared.specs.SharedHeaps.{SharedRecord}
 use Rattle.k_shares.specs.Sharers.{is_orphan_by, lowest_orphan}
 use Rattle.k_guests.specs.declared.guest.Guest.{Guest}
-use Rattle.k_calls.specs.Doing.{HasEventsLeft, IsAppended, IsAwake}
+use Rattle.k_calls.specs.Doing.{HasEventsLeft, IsAppended}
 use Rattle.k_guests.specs.Serving.{Basis, BookServes, GuestServes, KeepsPair, KernelServes, SharedServes}
 
 -- process and book serve, the process lives, and the journal has room

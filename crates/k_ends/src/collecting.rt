@@ -2,7 +2,7 @@
 ghost use Rattle.k_types.specs.declared.names.CellPhase.TheVariants.{Marked};
 ghost use Rattle.k_ends.specs.Collecting.{CanAbsorbNow, CanBegin, CanBeginKernel, CanEnd, CanExitNow, CanGoOn, CanMarkGuest, CanMarkKernel, HasAbsorbedNow, HasBegun, HasBegunKernel, HasEnded, HasExitedNow, HasMarkedGuest, HasMarkedKernel, HasSettled, HasSettledKernel, KernelCanGoOn, KernelHasEnded};
 ghost use Rattle.k_guests.specs.Serving.{Basis, BookServes, KernelServes};
-ghost use Rattle.std.specs.Prelude.{◌≡◌, ◌<◌, length};
+ghost use Rattle.std.specs.Prelude.{◌<◌, length};
 
 use k_book::Book;
 use k_collect::{mark_heap, mark_kernel};

@@ -1,5 +1,5 @@
 -- What is made serves.
-use Rattle.std.proofs.Common.{◌≡◌, ◌⊎◌, ℕ, zero, suc, ◌+◌, ◌-◌, ◌<◌, ◌≤◌, ◌==◌, cond, refl, sym, ap, ◌∙◌, subst, inl, inr, List, [], ◌∷◌, ◌++◌, map, length, replicate, slice_get, Some, None, arith, eq-eqb, Result, Ok, Err}
+use Rattle.std.proofs.Common.{◌≡◌, ◌⊎◌, ℕ, zero, suc, ◌+◌, ◌<◌, ◌==◌, cond, refl, sym, ap, ◌∙◌, subst, inl, inr, List, [], ◌∷◌, ◌++◌, map, length, replicate, slice_get, Some, None, arith, eq-eqb, Result, Ok, Err}
 use Rattle.std.specs.Prelude.{IfOk}
 use Rattle.std.proofs.lemmas.List.{length-append, length-map, length-replicate}
 use Rattle.atomic_table.specs.Seated.{TableId}
@@ -9,7 +9,7 @@ use Rattle.k_types.specs.declared.names.Phase.TheVariants.{Unmade}
 use Rattle.k_types.specs.declared.names.Pid.{Pid}
 use Rattle.k_types.specs.declared.names.SharedId.{SharedId}
 use Rattle.k_types.specs.Numbers.{numbers_below, numbers_from}
-use Rattle.k_types.specs.Trace.{Trace, process_count, segment_count, segment_of}
+use Rattle.k_types.specs.Trace.{Trace, segment_count, segment_of}
 use Rattle.k_base.proofs.Lists.{numbers_length}
 use Rattle.k_tie.specs.Values.{JournalValue, NoteValue, blank_note, empty_journal}
 use Rattle.k_agree.proofs.Openings.{at_number, opened_cell}

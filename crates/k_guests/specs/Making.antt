@@ -8,16 +8,16 @@ use Rattle.k_types.specs.declared.names.Pid.{Pid}
 use Rattle.k_types.specs.declared.names.SharedId.{SharedId}
 use Rattle.k_types.specs.declared.names.TypeId.{TypeId}
 use Rattle.k_types.specs.Numbers.{numbers_from}
-use Rattle.k_types.specs.Trace.{process_count, segment_of}
+use Rattle.k_types.specs.Trace.{segment_of}
 use Rattle.k_types.specs.TraceRules.{KeepsRules}
 use Rattle.k_book.specs.Books.{BookRecord}
 use Rattle.k_heap.specs.Heaps.{own_segment}
 use Rattle.k_shared.specs.SharedHeaps.{SharedRecord}
-use Rattle.k_tie.specs.Values.{JournalValue, NoteValue, blank_note, empty_journal}
+use Rattle.k_tie.specs.Values.{JournalValue, NoteValue, blank_note}
 use Rattle.k_guests.specs.declared.guest.Guest.{Guest}
 use Rattle.k_guests.specs.declared.making.Parts.{Parts}
 use Rattle.k_guests.specs.declared.terms.Terms.{Terms}
-use Rattle.k_guests.specs.Serving.{BookServes, GuestServes, GuestsServe, HeapsServe, RestServes, SharedServes, basis_of, open_trace}
+use Rattle.k_guests.specs.Serving.{BookServes, GuestServes, GuestsServe, RestServes, SharedServes, basis_of, open_trace}
 
 -- the type is one of these, and the events are so few that each table can have room for them
 pub record AreFit (types : List (List Field)) (ty : TypeId) (events : ℕ) : Type 0 where

@@ -16,6 +16,10 @@ use Rattle.k_ends.specs.Collecting.{HasAbsorbedNow, HasMarkedGuest}
 use Rattle.k_host.specs.Calls.{HasOperatedAs}
 use Rattle.k_host.specs.Hosts.{HostServes, HostValue}
 
+-- the process of that number
+abbrev numbered : ℕ → Pid
+numbered n = record { 0 = n }
+
 -- the host of these parts
 abbrev whole : Basis → List Guest → HoldingsValue → List SharedRecord → BookRecord → HostValue
 whole basis gs k ss b = record { basis = basis; guests = gs; kernel = k; shared = ss; book = b }
@@ -99,7 +103,7 @@ module _ (basis : Basis) (gs : List Guest) (k : HoldingsValue) (ss : List Shared
     before = g;
     after = h;
     there = ap (slice_get gs) (sym same) ∙ at;
-    named = ap (λ n. record { 0 = n }) (serves.all.placed i g at ∙ same);
+    named = ap numbered (serves.all.placed i g at ∙ same);
     host_is = ap (λ n. whole basis (slice_set gs n h) x ts l) same;
     way = done;
   }

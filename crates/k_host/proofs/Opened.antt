@@ -1,5 +1,5 @@
 -- The rules of a trace that speak of its setup are kept where no process has an operation, and a host is read as it is made.
-use Rattle.std.proofs.Common.{◌≡◌, ◌↔◌, ℕ, false, ◌<◌, refl, sym, ap, ◌∙◌, subst, Bool, List, [], ◌∷◌, ◌++◌, length, replicate, zero-le, Result, Ok, Err, IfErr, IsTrue, OnOk}
+use Rattle.std.proofs.Common.{◌≡◌, ◌↔◌, ℕ, false, ◌<◌, refl, sym, ap, ◌∙◌, subst, Bool, List, [], ◌∷◌, length, zero-le, Result, Ok, Err, IfErr, IsTrue, OnOk}
 use Rattle.std.specs.Prelude.{IfOk}
 use Rattle.std.proofs.lemmas.Bool.{false≢true}
 use Rattle.std.proofs.lemmas.List.{length-replicate}
@@ -7,7 +7,7 @@ use Rattle.k_types.specs.declared.names.TypeId.{TypeId}
 use Rattle.k_types.specs.declared.op.Op.{Op}
 use Rattle.k_types.specs.declared.setup.Setup.{Setup}
 use Rattle.k_types.specs.Trace.{operations_of, trace_of}
-use Rattle.k_types.specs.TraceRules.{EndsWithExit, KeepsRules, is_exit, is_spelled}
+use Rattle.k_types.specs.TraceRules.{EndsWithExit, KeepsRules, is_spelled}
 use Rattle.k_types.specs.Steps.{in_range}
 use Rattle.std.specs.List.{list_all}
 use Rattle.k_frame.proofs.Sizes.{get_or-same}

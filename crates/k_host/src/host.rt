@@ -1,5 +1,5 @@
 //! A host of processes.
-ghost use Rattle.std.specs.Prelude.{◌≡◌, IfErr, IfOk, OnErr, OnOk, length};
+ghost use Rattle.std.specs.Prelude.{◌≡◌, IfErr, IfOk, OnErr, OnOk};
 ghost use Rattle.k_types.specs.TraceRules.{KeepsRules};
 ghost use Rattle.k_guests.specs.Making.{AreFit};
 ghost use Rattle.k_guests.specs.Serving.{basis_of, open_trace};

@@ -1,4 +1,4 @@
-use Rattle.std.proofs.Common.{IsTrue, arith, inl, inr, length, refl, subst, ◌<◌, ◌↔◌, ◌≡◌}
+use Rattle.std.proofs.Common.{IsTrue, arith, inl, inr, refl, subst, ◌↔◌, ◌≡◌}
 use Rattle.k_types.specs.declared.names.CellPhase.{CellPhase}
 use Rattle.k_types.specs.declared.names.CellPhase.TheVariants.{Marked}
 use Rattle.k_calls.proofs.Refused.{lacks}

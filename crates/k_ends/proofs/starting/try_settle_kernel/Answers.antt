@@ -1,4 +1,4 @@
-use Rattle.std.proofs.Common.{arith, length, refl, ◌<◌}
+use Rattle.std.proofs.Common.{arith, refl}
 use Rattle.k_ends.proofs.starting.try_settle_kernel.Goals as goal
 
 pub returns-then-len-terms-clause-why : goal.returns-then-len-terms-clause-why

@@ -1,4 +1,4 @@
-use Rattle.std.proofs.Common.{◌≡◌, ◌≤◌, refl, subst, length, arith, Some, slice_get, slice_set}
+use Rattle.std.proofs.Common.{◌≡◌, refl, subst, length, arith, Some, slice_get, slice_set}
 use Rattle.std.specs.Prelude.{IfErr, IfOk}
 use Rattle.std.proofs.lemmas.Option.{slice_get_past}
 use Rattle.k_process.proofs.Looped.{found_at}
