@@ -5,7 +5,7 @@ use Rattle.k_types.specs.declared.names.Heap.TheVariants.{Kernel, Shared}
 use Rattle.k_limits.proofs.Making.{handed_on}
 use Rattle.k_calls.specs.Refusals.{CanNotOperate}
 use Rattle.k_guests.specs.Serving.{basis_of}
-use Rattle.k_calls.proofs.Operated.{can_shared, heap_there, shared_operated, touched_before}
+use Rattle.k_calls.proofs.Operated.{alone_operated, can_shared, heap_there, inside_operated, kernel_operated, shared_operated, touched_before}
 use Rattle.k_calls.proofs.stepping.operate_with.Goals as goal
 
 pub index_mut-heap-requires : goal.index_mut-heap-requires
@@ -59,4 +59,19 @@ returns-else-exit_count-terms-clause-done c =
     shared_operated (basis_of c.args.terms.now) c.args.guest.now c.args.kernel.now c.args.shared.now.items c.args.book.now c.args.op.now c.requires c.in_ok-ready.ensures.ok c.in_ok-room_left.ensures.ok c.do_inside.new.guest c.in_default.ensures.none c.in_default.ensures.outside c.in-Shared.id c.index_mut-heap.result.now
     (found_at c.args.shared.now.items (length c.args.shared.now.items) c.in-Shared.id.0 c.in-Shared.id.0 c.index_mut-heap.result.now c.index_mut-heap.result.now refl
     (heap_there (basis_of c.args.terms.now) c.args.guest.now c.args.kernel.now c.args.shared.now.items c.args.book.now c.args.op.now c.requires c.in_ok-ready.ensures.ok c.in_ok-room_left.ensures.ok c.do_inside.new.guest c.in_default.ensures.none c.in_default.ensures.outside c.in-Shared.id (sym c.in-Shared.ensures)) refl c.index_mut-heap.ensures.value refl)
-    c.do_with_shared.new.guest c.do_with_shared.new.shared c.do_with_shared.new.book c.do_with_shared.result c.do_with_shared.ensures
+    c.do_with_shared.new.guest c.do_with_shared.new.shared c.do_with_shared.new.book c.do_with_shared.result (sym c.in-Shared.ensures) c.do_with_shared.ensures
+
+pub returns-in-Some-clause-done : goal.returns-in-Some-clause-done
+returns-in-Some-clause-done c =
+    inside_operated (basis_of c.args.terms.now) c.args.guest.now c.args.kernel.now c.args.shared.now.items c.args.book.now c.args.op.now c.requires c.in_ok-ready.ensures.ok c.in_ok-room_left.ensures.ok
+    c.do_inside.new.guest c.pid.result c.in-Some.reply (sym c.in-Some.ensures.told) c.in-Some.ensures.some c.pid.ensures
+
+pub returns-in-Own-clause-done : goal.returns-in-Own-clause-done
+returns-in-Own-clause-done c =
+    alone_operated (basis_of c.args.terms.now) c.args.guest.now c.args.kernel.now c.args.shared.now.items c.args.book.now c.args.op.now c.requires c.in_ok-ready.ensures.ok c.in_ok-room_left.ensures.ok c.do_inside.new.guest c.in_default.ensures.none c.in_default.ensures.outside
+    c.do_alone.new.guest c.do_alone.new.book c.do_alone.result (sym c.in-Own.ensures) c.do_alone.ensures
+
+pub returns-in-Kernel-clause-done : goal.returns-in-Kernel-clause-done
+returns-in-Kernel-clause-done c =
+    kernel_operated (basis_of c.args.terms.now) c.args.guest.now c.args.kernel.now c.args.shared.now.items c.args.book.now c.args.op.now c.requires c.in_ok-ready.ensures.ok c.in_ok-room_left.ensures.ok c.do_inside.new.guest c.in_default.ensures.none c.in_default.ensures.outside
+    c.do_with_kernel.new.guest c.do_with_kernel.new.kernel c.do_with_kernel.new.book c.do_with_kernel.result (sym c.in-Kernel.ensures) c.do_with_kernel.ensures
