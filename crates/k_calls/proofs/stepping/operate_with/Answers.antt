@@ -64,14 +64,14 @@ returns-else-exit_count-terms-clause-done c =
 pub returns-in-Some-clause-done : goal.returns-in-Some-clause-done
 returns-in-Some-clause-done c =
     inside_operated (basis_of c.args.terms.now) c.args.guest.now c.args.kernel.now c.args.shared.now.items c.args.book.now c.args.op.now c.requires c.in_ok-ready.ensures.ok c.in_ok-room_left.ensures.ok
-    c.do_inside.new.guest c.pid.result c.in-Some.reply (sym c.in-Some.ensures.told) c.in-Some.ensures.some c.pid.ensures
+    c.do_inside.new.guest c.pid-pid.result c.in-Some.reply (sym c.in-Some.ensures.told) c.in-Some.ensures.some c.pid-pid.ensures
 
 pub returns-in-Own-clause-done : goal.returns-in-Own-clause-done
 returns-in-Own-clause-done c =
     alone_operated (basis_of c.args.terms.now) c.args.guest.now c.args.kernel.now c.args.shared.now.items c.args.book.now c.args.op.now c.requires c.in_ok-ready.ensures.ok c.in_ok-room_left.ensures.ok c.do_inside.new.guest c.in_default.ensures.none c.in_default.ensures.outside
     c.do_alone.new.guest c.do_alone.new.book c.do_alone.result (sym c.in-Own.ensures) c.do_alone.ensures
 
-pub returns-in-Kernel-clause-done : goal.returns-in-Kernel-clause-done
-returns-in-Kernel-clause-done c =
+pub returns-in_ok-kernel_ready-in-Kernel-clause-done : goal.returns-in_ok-kernel_ready-in-Kernel-clause-done
+returns-in_ok-kernel_ready-in-Kernel-clause-done c =
     kernel_operated (basis_of c.args.terms.now) c.args.guest.now c.args.kernel.now c.args.shared.now.items c.args.book.now c.args.op.now c.requires c.in_ok-ready.ensures.ok c.in_ok-room_left.ensures.ok c.do_inside.new.guest c.in_default.ensures.none c.in_default.ensures.outside
     c.do_with_kernel.new.guest c.do_with_kernel.new.kernel c.do_with_kernel.new.book c.do_with_kernel.result (sym c.in-Kernel.ensures) c.do_with_kernel.ensures
