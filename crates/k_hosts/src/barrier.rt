@@ -1,4 +1,5 @@
 //! The write barrier, with no read barrier.
+use crate::driving::operate;
 use crate::usual::{P1, P2, dir, load, name, new, store, usual};
 use k_types::{Event, Fault, Reply};
 use std::test::Fail;
@@ -20,7 +21,7 @@ fn a_foreign_object_is_held_and_not_stored(rt: HostRuntime) -> Result<(), Fail> 
         (P2, load(3, 2, 0), Reply::Refused(Fault::Foreign)),
     ];
     for (pid, op, reply) in steps {
-        let event = host.operate(pid, &op)?;
+        let event = operate(&mut host, pid, &op)?;
         assert_eq!(rt; event, Event::Done { pid, op, reply });
     }
     assert_eq!(rt; host.len(), 8);

@@ -1,4 +1,8 @@
 //! Collections that are open at once, and collections that are settled.
+use crate::driving::{
+    begin_heap, begin_kernel, end_heap, end_kernel, mark_heap, mark_kernel, operate, settle_heap,
+    settle_kernel,
+};
 use crate::usual::{P1, P2, clear, dir, new, store, usual};
 use k_host::{Host, HostError};
 use k_types::{CellPhase, Event, Heap, Op, Pid, Reply};
@@ -22,36 +26,36 @@ fn newest(host: &Host) -> Option<Event> {
 
 /// An object of the first process is made and dropped, and a collection of its heap begins.
 fn one_dropped(host: &mut Host) -> Result<(), HostError> {
-    host.operate(P1, &new(0))?;
-    host.operate(P1, &clear(0))?;
-    host.begin_heap(P1)?;
+    operate(host, P1, &new(0))?;
+    operate(host, P1, &clear(0))?;
+    begin_heap(host, P1)?;
     Ok(())
 }
 
 /// An object of the first process is stored into the directory, dropped, and its reference there overwritten.
 fn one_overwritten(host: &mut Host) -> Result<(), HostError> {
     for op in [new(0), dir(1), store(1, 0, 0), clear(0), store(1, 0, 0)] {
-        host.operate(P1, &op)?;
+        operate(host, P1, &op)?;
     }
     Ok(())
 }
 
 /// Collections of the first process's heap and of the kernel's begin, and end in the other order.
 fn overlapping(host: &mut Host) -> Result<[Event; 4], HostError> {
-    let begun = host.begin_heap(P1)?;
-    let kernel_begun = host.begin_kernel(P2)?;
-    host.mark_kernel()?;
-    let kernel_ended = host.end_kernel()?;
-    host.mark_heap(P1)?;
-    let heap_ended = host.end_heap(P1)?;
+    let begun = begin_heap(host, P1)?;
+    let kernel_begun = begin_kernel(host, P2)?;
+    mark_kernel(host)?;
+    let kernel_ended = end_kernel(host)?;
+    mark_heap(host, P1)?;
+    let heap_ended = end_heap(host, P1)?;
     Ok([begun, kernel_begun, kernel_ended, heap_ended])
 }
 
 /// A whole collection of the first process's heap.
 fn collected(host: &mut Host) -> Result<Event, HostError> {
-    host.begin_heap(P1)?;
-    host.mark_heap(P1)?;
-    host.end_heap(P1)
+    begin_heap(host, P1)?;
+    mark_heap(host, P1)?;
+    end_heap(host, P1)
 }
 
 /// The first operation of a collection.
@@ -82,13 +86,13 @@ fn an_open_collection_is_settled(rt: HostRuntime) -> Result<(), Fail> {
         let mut host = usual(rt.alloc())?;
         one_dropped(&mut host)?;
         if marks {
-            host.mark_heap(P1)?;
+            mark_heap(&mut host, P1)?;
         }
-        host.settle_heap(P1)?;
+        settle_heap(&mut host, P1)?;
         assert_eq!(rt; newest(&host), Some(ended(Heap::User(P1), 1, 40, 0)));
         assert_eq!(rt; host.phase(P1), Some(CellPhase::Idle));
         let events = host.len();
-        host.settle_heap(P1)?;
+        settle_heap(&mut host, P1)?;
         assert_eq!(rt; host.len(), events);
     }
     Ok(())
@@ -98,12 +102,12 @@ fn an_open_collection_is_settled(rt: HostRuntime) -> Result<(), Fail> {
 #[test]
 fn an_open_collection_of_the_kernel_is_settled(rt: HostRuntime) -> Result<(), Fail> {
     let mut host = usual(rt.alloc())?;
-    host.begin_kernel(P2)?;
-    host.settle_kernel()?;
+    begin_kernel(&mut host, P2)?;
+    settle_kernel(&mut host)?;
     assert_eq!(rt; newest(&host), Some(ended(Heap::Kernel, 0, 0, 0)));
     assert_eq!(rt; host.kernel_phase(), CellPhase::Idle);
     let events = host.len();
-    host.settle_kernel()?;
+    settle_kernel(&mut host)?;
     assert_eq!(rt; host.len(), events);
     Ok(())
 }

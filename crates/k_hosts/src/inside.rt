@@ -1,4 +1,5 @@
 //! Operations inside one heap.
+use crate::driving::{local, operate, publish};
 use crate::usual::{P1, new, usual};
 use k_types::{Op, Reg, Reply};
 use std::test::Fail;
@@ -7,7 +8,7 @@ use std::test::Fail;
 #[test]
 fn events_wait_until_they_are_published(rt: HostRuntime) -> Result<(), Fail> {
     let mut host = usual(rt.alloc())?;
-    host.operate(P1, &new(0))?;
+    operate(&mut host, P1, &new(0))?;
     let moves = Op::Move {
         reg: Reg(1),
         from: Reg(0),
@@ -17,12 +18,12 @@ fn events_wait_until_they_are_published(rt: HostRuntime) -> Result<(), Fail> {
         field: 2,
         number: 5,
     };
-    assert_eq!(rt; host.local(P1, &moves)?, Some(Reply::Done));
-    assert_eq!(rt; host.local(P1, &puts)?, Some(Reply::Done));
+    assert_eq!(rt; local(&mut host, P1, &moves)?, Some(Reply::Done));
+    assert_eq!(rt; local(&mut host, P1, &puts)?, Some(Reply::Done));
     assert_eq!(rt; (host.len(), host.unpublished(P1)), (1, Some(2)));
-    host.publish(P1)?;
+    publish(&mut host, P1)?;
     assert_eq!(rt; (host.len(), host.unpublished(P1)), (3, Some(0)));
-    assert_eq!(rt; host.local(P1, &Op::Collect)?, None);
+    assert_eq!(rt; local(&mut host, P1, &Op::Collect)?, None);
     assert_eq!(rt; (host.len(), host.unpublished(P1)), (3, Some(0)));
     Ok(())
 }

@@ -9,6 +9,8 @@ mod barrier;
 #[cfg(test)]
 mod collections;
 #[cfg(test)]
+mod driving;
+#[cfg(test)]
 mod inside;
 #[cfg(test)]
 mod made_up;

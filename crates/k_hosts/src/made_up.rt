@@ -1,4 +1,7 @@
 //! Operations that are made up as it goes.
+use crate::driving::{
+    begin_heap, begin_kernel, end_heap, end_kernel, mark_heap, mark_kernel, operate,
+};
 use crate::usual::{NODE, P1, P2, S, share, usual};
 use k_host::{Host, HostError};
 use k_types::{Event, Op, Pid, Reg};
@@ -109,19 +112,19 @@ impl Chance {
 fn step(host: &mut Host, chance: &mut Chance) -> Result<Option<Event>, HostError> {
     let pid = chance.process();
     match chance.below(36) {
-        0 => Ok(Some(host.begin_heap(pid)?)),
-        1 => Ok(Some(host.begin_kernel(pid)?)),
+        0 => Ok(Some(begin_heap(host, pid)?)),
+        1 => Ok(Some(begin_kernel(host, pid)?)),
         2 | 3 | 4 => {
-            host.mark_heap(pid)?;
+            mark_heap(host, pid)?;
             Ok(None)
         }
         5 | 6 => {
-            host.mark_kernel()?;
+            mark_kernel(host)?;
             Ok(None)
         }
-        7 | 8 | 9 => Ok(Some(host.end_heap(pid)?)),
-        10 | 11 => Ok(Some(host.end_kernel()?)),
-        _ => Ok(Some(host.operate(pid, &chance.operation())?)),
+        7 | 8 | 9 => Ok(Some(end_heap(host, pid)?)),
+        10 | 11 => Ok(Some(end_kernel(host)?)),
+        _ => Ok(Some(operate(host, pid, &chance.operation())?)),
     }
 }
 

@@ -1,4 +1,8 @@
 //! What a host refuses, and with which errors.
+use crate::driving::{
+    absorb, begin_heap, begin_kernel, end_kernel, exit, mark_kernel, operate, publish, settle_heap,
+    settle_kernel,
+};
 use crate::usual::{NODE, P1, P2, S, USUAL, new, share, usual};
 use k_host::{Host, HostError};
 use k_types::{Event, Heap, Op, Pid, Reg, Reply};
@@ -14,20 +18,29 @@ fn operations_are_refused(rt: HostRuntime) -> Result<(), Fail> {
         (P1, Op::Collect, HostError::OwnCall),
         (P1, Op::Exit, HostError::OwnCall),
     ] {
-        assert_eq!(rt; host.operate(pid, &op).err(), Some(why), "{op:?}");
+        assert_eq!(rt; operate(&mut host, pid, &op).err(), Some(why), "{op:?}");
     }
-    host.begin_heap(P1)?;
-    assert_eq!(rt; host.operate(P1, &new(0)).err(), Some(HostError::Phase));
-    host.settle_heap(P1)?;
-    host.begin_kernel(P2)?;
+    begin_heap(&mut host, P1)?;
+    assert_eq!(rt;
+        operate(&mut host, P1, &new(0)).err(),
+        Some(HostError::Phase)
+    );
+    settle_heap(&mut host, P1)?;
+    begin_kernel(&mut host, P2)?;
     let allocates = Op::KNew {
         reg: Reg(0),
         ty: NODE,
     };
-    assert_eq!(rt; host.operate(P1, &allocates).err(), Some(HostError::Phase));
-    host.settle_kernel()?;
-    host.exit(P1)?;
-    assert_eq!(rt; host.operate(P1, &new(0)).err(), Some(HostError::Ended));
+    assert_eq!(rt;
+        operate(&mut host, P1, &allocates).err(),
+        Some(HostError::Phase)
+    );
+    settle_kernel(&mut host)?;
+    exit(&mut host, P1)?;
+    assert_eq!(rt;
+        operate(&mut host, P1, &new(0)).err(),
+        Some(HostError::Ended)
+    );
     assert_eq!(rt; host.len(), 5);
     Ok(())
 }
@@ -36,14 +49,20 @@ fn operations_are_refused(rt: HostRuntime) -> Result<(), Fail> {
 #[test]
 fn what_runs_out_is_told(rt: HostRuntime) -> Result<(), Fail> {
     let mut host = Host::read(rt.alloc(), USUAL, NODE, 1, 2)?;
-    host.operate(P1, &new(0))?;
-    assert_eq!(rt; host.operate(P1, &new(1)).err(), Some(HostError::NoBody));
-    host.operate(P2, &new(0))?;
+    operate(&mut host, P1, &new(0))?;
+    assert_eq!(rt;
+        operate(&mut host, P1, &new(1)).err(),
+        Some(HostError::NoBody)
+    );
+    operate(&mut host, P2, &new(0))?;
     let clears = Op::Clear { reg: Reg(0) };
-    assert_eq!(rt; host.operate(P2, &clears).err(), Some(HostError::Full));
-    assert_eq!(rt; host.publish(P2).err(), None);
-    assert_eq!(rt; host.begin_heap(P1).err(), Some(HostError::Full));
-    assert_eq!(rt; host.settle_kernel().err(), Some(HostError::Full));
+    assert_eq!(rt;
+        operate(&mut host, P2, &clears).err(),
+        Some(HostError::Full)
+    );
+    assert_eq!(rt; publish(&mut host, P2).err(), None);
+    assert_eq!(rt; begin_heap(&mut host, P1).err(), Some(HostError::Full));
+    assert_eq!(rt; settle_kernel(&mut host).err(), Some(HostError::Full));
     Ok(())
 }
 
@@ -51,7 +70,7 @@ fn what_runs_out_is_told(rt: HostRuntime) -> Result<(), Fail> {
 #[test]
 fn an_orphan_is_absorbed_first(rt: HostRuntime) -> Result<(), Fail> {
     let mut host = usual(rt.alloc())?;
-    host.operate(P1, &share())?;
+    operate(&mut host, P1, &share())?;
     host.operate(
         P1,
         &Op::SNew {
@@ -60,15 +79,15 @@ fn an_orphan_is_absorbed_first(rt: HostRuntime) -> Result<(), Fail> {
             ty: NODE,
         },
     )?;
-    assert_eq!(rt; host.absorb(S).err(), Some(HostError::Orphan));
+    assert_eq!(rt; absorb(&mut host, S).err(), Some(HostError::Orphan));
     let (pid, op, reply) = (P1, Op::Exit, Reply::Done);
-    assert_eq!(rt; host.exit(P1)?, Event::Done { pid, op, reply });
+    assert_eq!(rt; exit(&mut host, P1)?, Event::Done { pid, op, reply });
     assert_eq!(rt; host.first_orphan(), Some(S));
-    assert_eq!(rt; host.begin_kernel(P2).err(), Some(HostError::Orphan));
-    assert_eq!(rt; host.absorb(S)?, Event::Absorbed { shared: S });
+    assert_eq!(rt; begin_kernel(&mut host, P2).err(), Some(HostError::Orphan));
+    assert_eq!(rt; absorb(&mut host, S)?, Event::Absorbed { shared: S });
     assert_eq!(rt; host.first_orphan(), None);
-    host.begin_kernel(P2)?;
-    host.mark_kernel()?;
+    begin_kernel(&mut host, P2)?;
+    mark_kernel(&mut host)?;
     let ended = Event::Ended {
         heap: Heap::Kernel,
         freed_objects: 1,
@@ -76,6 +95,6 @@ fn an_orphan_is_absorbed_first(rt: HostRuntime) -> Result<(), Fail> {
         exits_dropped: 0,
         shares_dropped: 0,
     };
-    assert_eq!(rt; host.end_kernel()?, ended);
+    assert_eq!(rt; end_kernel(&mut host)?, ended);
     Ok(())
 }
