@@ -1,35 +1,27 @@
 //! Collections that are open at once, and collections that are settled.
 use crate::driving::{
-    begin_heap, begin_kernel, end_heap, end_kernel, mark_heap, mark_kernel, operate, settle_heap,
+    Answer, Call, answer, begin_heap, begin_kernel, done, mark_heap, operate, settle_heap,
     settle_kernel,
 };
 use crate::usual::{P1, P2, clear, dir, new, store, usual};
 use k_host::{Host, HostError};
-use k_types::{CellPhase, Event, Heap, Op, Pid, Reply};
+use k_types::{CellPhase, Event, Heap, Op, Reply};
 use std::test::Fail;
 
 /// The end of a collection of that heap.
-fn ended(heap: Heap, freed_objects: u32, freed_bytes: u64, exits_dropped: u32) -> Event {
-    Event::Ended {
+fn ended(heap: Heap, freed_objects: u32, freed_bytes: u64, exits_dropped: u32) -> Answer {
+    Ok(Some(Event::Ended {
         heap,
         freed_objects,
         freed_bytes,
         exits_dropped,
         shares_dropped: 0,
-    }
+    }))
 }
 
 /// The newest event of the journal.
 fn newest(host: &Host) -> Option<Event> {
     host.event(host.len().checked_sub(1)?)
-}
-
-/// An object of the first process is made and dropped, and a collection of its heap begins.
-fn one_dropped(host: &mut Host) -> Result<(), HostError> {
-    operate(host, P1, &new(0))?;
-    operate(host, P1, &clear(0))?;
-    begin_heap(host, P1)?;
-    Ok(())
 }
 
 /// An object of the first process is stored into the directory, dropped, and its reference there overwritten.
@@ -40,43 +32,46 @@ fn one_overwritten(host: &mut Host) -> Result<(), HostError> {
     Ok(())
 }
 
-/// Collections of the first process's heap and of the kernel's begin, and end in the other order.
-fn overlapping(host: &mut Host) -> Result<[Event; 4], HostError> {
-    let begun = begin_heap(host, P1)?;
-    let kernel_begun = begin_kernel(host, P2)?;
-    mark_kernel(host)?;
-    let kernel_ended = end_kernel(host)?;
-    mark_heap(host, P1)?;
-    let heap_ended = end_heap(host, P1)?;
-    Ok([begun, kernel_begun, kernel_ended, heap_ended])
-}
-
-/// A whole collection of the first process's heap.
-fn collected(host: &mut Host) -> Result<Event, HostError> {
-    begin_heap(host, P1)?;
-    mark_heap(host, P1)?;
-    end_heap(host, P1)
-}
-
-/// The first operation of a collection.
-fn begun(pid: Pid, op: Op) -> Event {
-    let reply = Reply::Done;
-    Event::Done { pid, op, reply }
-}
-
 // The end of the kernel's collection drops an item into a heap that is being collected: that collection frees nothing, since its roots
 // were recorded before, and the next one frees the object.
 #[test]
 fn two_collections_are_open(rt: HostRuntime) -> Result<(), Fail> {
     let mut host = usual(rt.alloc())?;
     one_overwritten(&mut host)?;
-    let events = overlapping(&mut host)?;
-    assert_eq!(rt; events[0], begun(P1, Op::Collect));
-    assert_eq!(rt; events[1], begun(P2, Op::KCollect));
-    assert_eq!(rt; events[2], ended(Heap::Kernel, 0, 0, 1));
-    assert_eq!(rt; events[3], ended(Heap::User(P1), 0, 0, 0));
-    assert_eq!(rt; collected(&mut host)?, ended(Heap::User(P1), 1, 40, 0));
+    let begun = done(P1, Op::Collect, Reply::Done);
+    for (call, want) in [
+        (Call::Begin(P1), begun),
+        (Call::BeginKernel(P2), done(P2, Op::KCollect, Reply::Done)),
+        (Call::MarkKernel, Ok(None)),
+        (Call::EndKernel, ended(Heap::Kernel, 0, 0, 1)),
+        (Call::Mark(P1), Ok(None)),
+        (Call::End(P1), ended(Heap::User(P1), 0, 0, 0)),
+        (Call::Begin(P1), begun),
+        (Call::Mark(P1), Ok(None)),
+        (Call::End(P1), ended(Heap::User(P1), 1, 40, 0)),
+    ] {
+        assert_eq!(rt; answer(&mut host, call), want);
+    }
     Ok(())
+}
+
+/// An object of the first process is made and dropped, a collection of its heap begins and is marked or not, and is settled.
+fn one_settled(host: &mut Host, marks: bool) -> Answer {
+    operate(host, P1, &new(0))?;
+    operate(host, P1, &clear(0))?;
+    begin_heap(host, P1)?;
+    if marks {
+        mark_heap(host, P1)?;
+    }
+    settle_heap(host, P1)?;
+    Ok(newest(host))
+}
+
+/// Whether nothing of the first process's heap is open, and so nothing is left to settle.
+fn is_settled(host: &mut Host) -> Result<bool, HostError> {
+    let events = host.len();
+    settle_heap(host, P1)?;
+    Ok(host.phase(P1) == Some(CellPhase::Idle) && host.len() == events)
 }
 
 // What has begun is marked and ended, what is marked is ended, and what is settled stays so.
@@ -84,30 +79,32 @@ fn two_collections_are_open(rt: HostRuntime) -> Result<(), Fail> {
 fn an_open_collection_is_settled(rt: HostRuntime) -> Result<(), Fail> {
     for marks in [false, true] {
         let mut host = usual(rt.alloc())?;
-        one_dropped(&mut host)?;
-        if marks {
-            mark_heap(&mut host, P1)?;
-        }
-        settle_heap(&mut host, P1)?;
-        assert_eq!(rt; newest(&host), Some(ended(Heap::User(P1), 1, 40, 0)));
-        assert_eq!(rt; host.phase(P1), Some(CellPhase::Idle));
-        let events = host.len();
-        settle_heap(&mut host, P1)?;
-        assert_eq!(rt; host.len(), events);
+        let want = ended(Heap::User(P1), 1, 40, 0);
+        assert_eq!(rt; one_settled(&mut host, marks), want);
+        assert!(rt; is_settled(&mut host)?);
     }
     Ok(())
+}
+
+/// A collection of the kernel's heap begins and is settled.
+fn kernel_settled(host: &mut Host) -> Answer {
+    begin_kernel(host, P2)?;
+    settle_kernel(host)?;
+    Ok(newest(host))
+}
+
+/// The same of the kernel's heap.
+fn is_kernel_settled(host: &mut Host) -> Result<bool, HostError> {
+    let events = host.len();
+    settle_kernel(host)?;
+    Ok(host.kernel_phase() == CellPhase::Idle && host.len() == events)
 }
 
 // The same of the kernel's.
 #[test]
 fn an_open_collection_of_the_kernel_is_settled(rt: HostRuntime) -> Result<(), Fail> {
     let mut host = usual(rt.alloc())?;
-    begin_kernel(&mut host, P2)?;
-    settle_kernel(&mut host)?;
-    assert_eq!(rt; newest(&host), Some(ended(Heap::Kernel, 0, 0, 0)));
-    assert_eq!(rt; host.kernel_phase(), CellPhase::Idle);
-    let events = host.len();
-    settle_kernel(&mut host)?;
-    assert_eq!(rt; host.len(), events);
+    assert_eq!(rt; kernel_settled(&mut host), ended(Heap::Kernel, 0, 0, 0));
+    assert!(rt; is_kernel_settled(&mut host)?);
     Ok(())
 }
