@@ -1,0 +1,132 @@
+-- What serves goes on serving after a step.
+use Rattle.std.proofs.Common.{◌≡◌, ℕ, ◌+◌, ◌≤◌, sym, ap, ◌∙◌, subst, List, ◌++◌, append-nil, map, replicate, IsFalse, false, true, cond, get_or, Some, None, inl, inr}
+use Rattle.std.proofs.lemmas.Bool.{cases_Bool, false≢true}
+use Rattle.atomic_table.specs.Seated.{TableId}
+use Rattle.k_types.specs.declared.event.Event.{Event}
+use Rattle.k_types.specs.declared.names.CellPhase.TheVariants.{Idle}
+use Rattle.k_types.specs.declared.names.Heap.TheVariants.{Kernel, Shared, User}
+use Rattle.k_types.specs.declared.names.SharedId.{SharedId}
+use Rattle.k_types.specs.declared.setup.LimitRow.{LimitRow}
+use Rattle.k_types.specs.Cells.{BookPart, ShownPart, book_part, part}
+use Rattle.k_types.specs.Owners.{is_absorbed, owner_of, phase_of, shared}
+use Rattle.k_types.specs.State.{State, opening}
+use Rattle.k_types.specs.Steps.{state_after}
+use Rattle.k_types.specs.Trace.{Trace, process_count, segment_count, segment_of}
+use Rattle.k_frame.proofs.Constant.{run_maxima}
+use Rattle.k_frame.proofs.OwnerOf.{owner_shared, owner_stands, segment_of_shared}
+use Rattle.k_kept.proofs.Owning.{stays_kernel}
+use Rattle.k_agree.specs.Agreement.{Agrees, BookAgrees, Shows}
+use Rattle.k_book.specs.Books.{BookRecord, pin_room_of}
+use Rattle.k_cell.specs.Holdings.{HoldingsValue}
+use Rattle.k_heap.specs.Heaps.{HeapRecord, has_ended_in, own_segment}
+use Rattle.k_shared.specs.SharedHeaps.{SharedRecord}
+use Rattle.k_space.specs.Objects.{BodyValue, new_body}
+use Rattle.k_locked.proofs.CanDo.{owner_shown}
+use Rattle.k_locked.specs.Keeping.{is_absorbed_in}
+use Rattle.k_guests.specs.declared.guest.Guest.{Guest}
+use Rattle.k_guests.specs.Serving.{Basis, BookServes, GivesSerials, GuestServes, KernelServes, SharedServes}
+
+-- the body of which a guest has some
+abbrev pub body_of : Basis → BodyValue
+body_of basis = new_body basis.trace.types basis.ty
+
+module _ (basis : Basis) where
+  -- a process whose cell has changed note, value and bodies
+  pub guest_goes_on : (old tie : TableId) (g : Guest) (w : HeapRecord) (n : ℕ) → GuestServes basis old g → w ≡ record g.cell { note = w.note; value = w.value; bodies = w.bodies } →
+      Agrees basis.trace (User w.pid) w.note w.value → w.note.table ≡ tie → w.bodies ≡ replicate n (body_of basis) →
+      (IsFalse (has_ended_in w.value.process) → IsFalse (has_ended_in g.cell.value.process)) → GuestServes basis tie (record { cell = w; bodies = n })
+  guest_goes_on old tie g w n serves is agrees table stock lives = record {
+    rules = serves.rules;
+    agrees = agrees;
+    table = table;
+    stock = stock;
+    exits = subst (λ (x : HeapRecord). basis.events ≤ x.exit_room) (sym is) serves.exits;
+    serials = λ now. subst (λ (x : HeapRecord). GivesSerials basis.events x.serial_rooms (own_segment x.pid)) (sym is) (serves.serials (lives now));
+    tail = subst (λ (x : HeapRecord). basis.events ≤ x.tail_room) (sym is) serves.tail;
+  }
+
+  -- the kernel's cell that has changed note and value
+  pub kernel_goes_on : (old tie : TableId) (k x : HoldingsValue) → KernelServes basis old k → x ≡ record k { note = x.note; value = x.value } → Agrees basis.trace Kernel x.note x.value → x.note.table ≡ tie →
+      KernelServes basis tie x
+  kernel_goes_on old tie k x serves is agrees table = record {
+    rules = serves.rules;
+    agrees = agrees;
+    table = table;
+    exits = subst (λ (y : HoldingsValue). basis.events ≤ y.exit_room) (sym is) serves.exits;
+    serials = subst (λ (y : HoldingsValue). GivesSerials basis.events y.serial_rooms 0) (sym is) serves.serials;
+    numbers = subst (λ (y : HoldingsValue). segment_count basis.trace ≤ y.bound) (sym is) serves.numbers;
+  }
+
+  maxima_same : (b l : BookRecord) → BookAgrees basis.trace b.journal b.value → BookAgrees basis.trace l.journal l.value → l.value.maxima ≡ b.value.maxima
+  unfolding book_part
+  maxima_same b l before after =
+      ap (λ (p : BookPart). p.maxima) after.shows.part
+      ∙ run_maxima basis.trace (opening basis.trace) l.journal.list
+      ∙ sym (run_maxima basis.trace (opening basis.trace) b.journal.list)
+      ∙ sym (ap (λ (p : BookPart). p.maxima) before.shows.part)
+
+  -- the book that has changed journal and value
+  pub book_goes_on : (b l : BookRecord) → BookServes basis b → l ≡ record b { journal = l.journal; value = l.value } → BookAgrees basis.trace l.journal l.value → BookServes basis l
+  book_goes_on b l serves is agrees = record {
+    stands = record {
+      keeps = serves.stands.keeps;
+      of_trace = record {
+        rows = ap (λ (x : BookRecord). x.rows) is ∙ serves.stands.of_trace.rows;
+        procs = ap (λ (x : BookRecord). x.procs) is ∙ serves.stands.of_trace.procs;
+        ceiling = ap (λ (x : BookRecord). x.ceiling) is ∙ serves.stands.of_trace.ceiling;
+        maxima = maxima_same b l serves.stands.agrees agrees ∙ serves.stands.of_trace.maxima ∙ ap (λ (x : BookRecord). map (λ (row : LimitRow). row.max) x.rows) (sym is);
+      };
+      agrees = agrees;
+      pins = subst (λ (x : BookRecord). pin_room_of (process_count basis.trace) ≤ x.pin_room) (sym is) serves.stands.pins;
+    };
+    events = ap (λ (x : BookRecord). x.event_room) is ∙ serves.events;
+    entries = subst (λ (x : BookRecord). basis.events ≤ x.entry_room) (sym is) serves.entries;
+  }
+
+-- an absorbed heap is absorbed after whatever follows
+absorbed_stays : (trace : Trace) (known rest : List Event) (t : ℕ) → is_absorbed (phase_of (state_after trace known).phases t) ≡ true → is_absorbed (phase_of (state_after trace (known ++ rest)).phases t) ≡ true
+absorbed_stays trace known rest t gone =
+    let before : owner_of trace (state_after trace known) (1 + process_count trace + t) ≡ Kernel
+    = segment_of_shared (process_count trace) (state_after trace known).ended (state_after trace known).phases t ∙ ap (λ b. cond b Kernel (shared t)) gone in
+    let after = stays_kernel trace known rest (1 + process_count trace + t) before in
+    elim (cases_Bool (is_absorbed (phase_of (state_after trace (known ++ rest)).phases t))) [
+      | inl still ↦ still
+      | inr stands ↦ absurd (cc (sym (owner_shared trace (state_after trace (known ++ rest)) t stands), after))
+    ]
+
+-- a shared heap that shows serials of its own segment is not absorbed
+pub stands_where_made : (trace : Trace) (st : State) (s : SharedRecord) (given : ℕ) → Shows trace st (Shared s.id) s.value → get_or s.value.made s.seg.0 None ≡ Some given → is_absorbed_in s.value.phase ≡ false
+unfolding part
+stands_where_made trace st s given shows there =
+    ap (λ (v : ShownPart). is_absorbed_in v.phase) shows.part
+    ∙ owner_stands (process_count trace) st.ended st.phases s.seg.0 s.id.0 (owner_shown trace st (Shared s.id) s.value s.seg.0 given shows there)
+
+-- what a shared heap's cell shows of its phase
+phase_shown : (trace : Trace) (s : SharedRecord) → Agrees trace (Shared s.id) s.note s.value → s.value.phase ≡ Some (phase_of (state_after trace s.note.list).phases s.id.0)
+unfolding part
+phase_shown trace s agrees =
+    ap (λ (y : ShownPart). y.phase) agrees.shows.part
+    ∙ ap (λ list. Some (phase_of (state_after trace list).phases s.id.0)) (ap (λ ys. s.note.list ++ ys) agrees.tail ∙ append-nil s.note.list)
+
+module _ (basis : Basis) (old tie : TableId) (s x : SharedRecord) (rest : List Event) (serves : SharedServes basis old s) (agrees : Agrees basis.trace (Shared x.id) x.note x.value)
+    (is : x ≡ record s { note = x.note; value = x.value }) (longer : s.note.list ++ rest ≡ x.note.list) where
+  -- a heap that is not absorbed now was not absorbed before
+  stood : is_absorbed_in x.value.phase ≡ false → is_absorbed_in s.value.phase ≡ false
+  stood now =
+      let after : is_absorbed (phase_of (state_after basis.trace x.note.list).phases s.id.0) ≡ false =
+      ap (λ (i : SharedId). is_absorbed (phase_of (state_after basis.trace x.note.list).phases i.0)) (sym (ap (λ (y : SharedRecord). y.id) is)) ∙ sym (ap is_absorbed_in (phase_shown basis.trace x agrees)) ∙ now in
+      elim (cases_Bool (is_absorbed (phase_of (state_after basis.trace s.note.list).phases s.id.0))) [
+        | inl gone ↦ absurd (false≢true (sym after ∙ ap (λ list. is_absorbed (phase_of (state_after basis.trace list).phases s.id.0)) (sym longer) ∙ absorbed_stays basis.trace s.note.list rest s.id.0 gone))
+        | inr stands ↦ ap is_absorbed_in (phase_shown basis.trace s serves.agrees) ∙ stands
+      ]
+
+  -- the cell of a shared heap that has changed note and value
+  pub shared_goes_on : x.note.table ≡ tie → x.value.collection ≡ Idle → SharedServes basis tie x
+  shared_goes_on table idle = record {
+    agrees = agrees;
+    table = table;
+    segment = ap (λ (y : SharedRecord). y.seg.0) is ∙ serves.segment ∙ ap (λ (y : SharedRecord). segment_of basis.trace (Shared y.id)) (sym is);
+    idle = idle;
+    exits = subst (λ (y : SharedRecord). basis.events ≤ y.exit_room) (sym is) serves.exits;
+    serials = λ now. subst (λ (y : SharedRecord). GivesSerials basis.events y.serial_rooms y.seg.0) (sym is) (serves.serials (stood now));
+  }

@@ -1,0 +1,110 @@
+-- An operation with whatever it touches.
+use Rattle.std.proofs.Common.{◌≡◌, ◌<◌, refl, sym, ap, ◌∙◌, subst, List, [], ◌∷◌, length, set, Some, slice_get, IsFalse, IsTrue, inl, inr, arith}
+use Rattle.k_types.specs.declared.event.Event.{Event}
+use Rattle.k_types.specs.declared.event.Event.TheVariants.{Done}
+use Rattle.k_types.specs.declared.event.Reply.{Reply}
+use Rattle.k_types.specs.declared.names.Heap.TheVariants.{Kernel, Shared}
+use Rattle.k_types.specs.declared.names.Pid.{Pid}
+use Rattle.k_types.specs.declared.names.SharedId.{SharedId}
+use Rattle.k_types.specs.declared.op.Op.{Op}
+use Rattle.k_types.specs.Agree.{book_shown_by}
+use Rattle.k_types.specs.Cells.{Cell}
+use Rattle.k_squares.specs.Locals.{is_local_in}
+use Rattle.k_squares.specs.Touches.{other_cells_in}
+use Rattle.k_moves.specs.Shown.{idle_part}
+use Rattle.k_book.specs.Books.{BookRecord}
+use Rattle.k_cell.specs.Holdings.{HoldingsValue}
+use Rattle.k_shared.specs.SharedHeaps.{SharedRecord}
+use Rattle.k_steps.specs.Reaching.{CanReach}
+use Rattle.k_operate.proofs.HeapsReached.{heap_reached}
+use Rattle.k_guests.specs.declared.guest.Guest.{Guest}
+use Rattle.k_calls.specs.Doing.{CanDoInside, CanDoWithKernel, CanDoWithShared, CanOperate, HasDoneAlone, HasDoneInside, HasDoneWithKernel, HasDoneWithShared, HasEventsLeft, HasOperated, IsDueWith, IsKernelReady, IsReady, LeavesOthers, touched_by}
+use Rattle.k_guests.specs.Serving.{Basis, GuestServes, HeapsServe, KernelServes}
+use Rattle.k_calls.proofs.Staying.{heaps_set, heaps_stay, kernel_stays}
+
+-- what an operation touches, where trying it inside has changed nothing
+pub touched_before : (basis : Basis) (g h : Guest) (b : BookRecord) (op : Op) → h ≡ g → (cells : List Cell) → other_cells_in basis.trace (book_shown_by b.value) (idle_part h.cell.value) h.cell.pid.0 op ≡ cells →
+    other_cells_in basis.trace (book_shown_by b.value) (idle_part g.cell.value) g.cell.pid.0 op ≡ cells
+touched_before basis g h b op same cells touches = ap (λ (x : Guest). other_cells_in basis.trace (book_shown_by b.value) (idle_part x.cell.value) x.cell.pid.0 op) (sym same) ∙ touches
+
+module _ (basis : Basis) (g : Guest) (k : HoldingsValue) (ss : List SharedRecord) (b : BookRecord) (op : Op) (can : CanOperate basis g k ss b) (ready : IsReady basis g op) (room : HasEventsLeft basis g b) where
+  pub can_inside : CanDoInside basis g op
+  can_inside = record {
+    serves = subst (λ t. GuestServes basis t g) (sym can.guest.table) can.guest;
+    in_range = ready.in_range;
+    awake = ready.awake;
+    room = ready.room;
+    tail = omega (arith, room);
+  }
+
+  pub inside_operated : (h : Guest) (pid : Pid) (said : Reply) → IsTrue (is_local_in (idle_part g.cell.value) g.cell.pid.0 op) → HasDoneInside basis op g h said → pid ≡ h.cell.pid →
+      HasOperated basis op g h k k ss ss b b (Done pid op said)
+  inside_operated h pid said own d is =
+      let same : h.cell.pid ≡ g.cell.pid = ap (λ (x : Guest). x.cell.pid) d.guest_is in
+      let event : Done pid op said ≡ Done g.cell.pid op said = ap (λ (p : Pid). Done p op said) (is ∙ same) in
+      record {
+        can = record { guest = subst (λ t. GuestServes basis t h) can.guest.table d.serves; rest = can.rest };
+        same_table = refl;
+        pid = same;
+        said = said;
+        event_is = event;
+        done = inl (record { own = own; inside = d; kernel_is = refl; shared_is = refl; book_is = refl });
+      }
+
+  -- an operation that is not done inside
+  module _ (h : Guest) (same : h ≡ g) (outside : IsFalse (is_local_in (idle_part g.cell.value) g.cell.pid.0 op)) where
+    pub reach_can : CanReach basis.trace h.cell b op
+    reach_can = subst (λ (x : Guest). CanReach basis.trace x.cell b op) (sym same) (record { book_stands = can.rest.book.stands; agrees = can.guest.agrees; in_range = ready.in_range })
+
+    pub due : (cells : List Cell) → other_cells_in basis.trace (book_shown_by b.value) (idle_part h.cell.value) h.cell.pid.0 op ≡ cells → IsDueWith basis h b op cells
+    due cells =
+        subst (λ (x : Guest). other_cells_in basis.trace (book_shown_by b.value) (idle_part x.cell.value) x.cell.pid.0 op ≡ cells → IsDueWith basis x b op cells) (sym same)
+        (λ touches. record { guest = can.guest; book = can.rest.book; ready = ready; outside = outside; room = room; touches = touches })
+
+    operated : (e : Guest) (x : HoldingsValue) (ts : List SharedRecord) (l : BookRecord) (event : Event) → KernelServes basis l.journal.table x → HeapsServe basis l.journal.table ts → HasDoneAlone basis op h e b l event →
+        LeavesOthers (touched_by basis g b op) k x ss ts → HasOperated basis op g e k x ss ts b l event
+    operated e x ts l event kernel heaps done others =
+        let d = subst (λ (y : Guest). HasDoneAlone basis op y e b l event) same done in
+        record {
+          can = record { guest = d.guest; rest = record { kernel = kernel; heaps = heaps; book = d.book } };
+          same_table = d.same_table;
+          pid = d.pid;
+          said = d.said;
+          event_is = d.event_is;
+          done = inr (record { outside = outside; appended = d.appended; settled = d.settled; idle = d.idle; bodies = d.bodies; others = others });
+        }
+
+    pub alone_operated : (e : Guest) (l : BookRecord) (event : Event) → touched_by basis h b op ≡ [] → HasDoneAlone basis op h e b l event → HasOperated basis op g e k k ss ss b l event
+    alone_operated e l event touches d =
+        operated e k ss l event (kernel_stays basis b.journal.table l.journal.table d.same_table k can.rest.kernel) (heaps_stay basis b.journal.table l.journal.table d.same_table ss can.rest.heaps) d
+        (inl (record { touches = touched_before basis g h b op same [] touches; kernel_is = refl; shared_is = refl }))
+
+    pub can_kernel : IsKernelReady basis k → other_cells_in basis.trace (book_shown_by b.value) (idle_part h.cell.value) h.cell.pid.0 op ≡ Kernel ∷ [] → CanDoWithKernel basis h k b op
+    can_kernel kernel touches = record { due = due (Kernel ∷ []) touches; kernel = can.rest.kernel; ready = kernel }
+
+    pub kernel_operated : (e : Guest) (x : HoldingsValue) (l : BookRecord) (event : Event) → touched_by basis h b op ≡ Kernel ∷ [] → HasDoneWithKernel basis op h e x b l event →
+        HasOperated basis op g e k x ss ss b l event
+    kernel_operated e x l event touches d =
+        operated e x ss l event d.kernel (heaps_stay basis b.journal.table l.journal.table d.own.same_table ss can.rest.heaps) d.own
+        (inr (inl (record { touches = touched_before basis g h b op same (Kernel ∷ []) touches; idle = d.idle; shared_is = refl })))
+
+    pub heap_there : (id : SharedId) → other_cells_in basis.trace (book_shown_by b.value) (idle_part h.cell.value) h.cell.pid.0 op ≡ Shared id ∷ [] → id.0 < length ss
+    heap_there id touches =
+        let known = heap_reached basis.trace b can.rest.book.stands h.cell.pid.0 id (idle_part h.cell.value) op ready.in_range touches in
+        let count = can.rest.heaps.count in
+        omega (arith, known, count)
+
+    module _ (id : SharedId) (s : SharedRecord) (at : slice_get ss id.0 ≡ Some s) where
+      pub can_shared : length s.value.exits < basis.events → other_cells_in basis.trace (book_shown_by b.value) (idle_part h.cell.value) h.cell.pid.0 op ≡ Shared id ∷ [] → CanDoWithShared basis h s b op
+      can_shared few touches = record {
+        due = due (Shared s.id ∷ []) (touches ∙ ap (λ (i : SharedId). Shared i ∷ []) (sym (ap (λ n. record { 0 = n }) (can.rest.heaps.placed id.0 s at))));
+        shared = can.rest.heaps.each id.0 s at;
+        exits = few;
+      }
+
+      pub shared_operated : (e : Guest) (t : SharedRecord) (l : BookRecord) (event : Event) → touched_by basis h b op ≡ Shared id ∷ [] → HasDoneWithShared basis op h e s t b l event →
+          HasOperated basis op g e k k ss (set ss id.0 t) b l event
+      shared_operated e t l event touches d =
+          operated e k (set ss id.0 t) l event (kernel_stays basis b.journal.table l.journal.table d.own.same_table k can.rest.kernel)
+          (heaps_set basis b.journal.table l.journal.table d.own.same_table ss id.0 s t can.rest.heaps at d.shared d.same) d.own
+          (inr (inr (record { id = id; after = t; touches = touched_before basis g h b op same (Shared id ∷ []) touches; kernel_is = refl; shared_is = refl })))

@@ -1,0 +1,212 @@
+-- What an operation of a host asks and leaves.
+use Rattle.std.specs.Prelude.{◌≡◌, ◌⊎◌, ℕ, ◌+◌, ◌-◌, ◌^◌, ◌<◌, ◌≤◌, IsFalse, IsTrue, List, [], ◌∷◌, ◌++◌, length, slice_set}
+use Rattle.k_types.specs.declared.event.Event.{Event}
+use Rattle.k_types.specs.declared.event.Event.TheVariants.{Done}
+use Rattle.k_types.specs.declared.event.Reply.{Reply}
+use Rattle.k_types.specs.declared.names.CellPhase.TheVariants.{Idle}
+use Rattle.k_types.specs.declared.names.Heap.TheVariants.{Kernel, Shared}
+use Rattle.k_types.specs.declared.names.SharedId.{SharedId}
+use Rattle.k_types.specs.declared.op.Op.{Op}
+use Rattle.k_types.specs.declared.op.Op.TheVariants.{New, KNew, SNew, Store, Load, Move, Clear, Dir, Put, Get, Collect, KCollect, Share, Freeze, Attach, Exit}
+use Rattle.k_types.specs.Agree.{book_shown_by}
+use Rattle.k_types.specs.Cells.{Cell}
+use Rattle.k_types.specs.Steps.{IsPossible, in_range, state_after}
+use Rattle.k_frame.specs.PartUpdates.{done_in}
+use Rattle.k_bounds.specs.Counts.{is_allocation, one_if}
+use Rattle.k_squares.specs.Locals.{is_local_in}
+use Rattle.k_squares.specs.Touches.{other_cells_in}
+use Rattle.k_moves.specs.Shown.{idle_part}
+use Rattle.k_book.specs.Books.{BookRecord}
+use Rattle.k_cell.specs.Holdings.{HoldingsValue}
+use Rattle.k_heap.specs.Heaps.{has_ended_in}
+use Rattle.k_local.specs.Locals.{after_local}
+use Rattle.k_own.specs.Own.{is_collect}
+use Rattle.k_pair.specs.Operating.{collects_or_exits}
+use Rattle.k_shared.specs.SharedHeaps.{SharedRecord}
+use Rattle.k_guests.specs.declared.guest.Guest.{Guest}
+use Rattle.k_guests.specs.Serving.{Basis, BookServes, GuestServes, KeepsPair, KernelServes, RestServes, SharedServes}
+
+-- an allocation finds a body of its type
+abbrev pub HasItsBody : Basis → ℕ → Op → Type 0
+HasItsBody basis bodies (New r ty) = (ty.0 ≡ basis.ty.0) × (0 < bodies)
+HasItsBody basis bodies (KNew r ty) = (ty.0 ≡ basis.ty.0) × (0 < bodies)
+HasItsBody basis bodies (SNew r s ty) = (ty.0 ≡ basis.ty.0) × (0 < bodies)
+HasItsBody basis bodies (Store base i value) = Unit {0}
+HasItsBody basis bodies (Load r base i) = Unit {0}
+HasItsBody basis bodies (Move r from) = Unit {0}
+HasItsBody basis bodies (Clear r) = Unit {0}
+HasItsBody basis bodies (Dir r) = Unit {0}
+HasItsBody basis bodies (Put base i number) = Unit {0}
+HasItsBody basis bodies (Get base i) = Unit {0}
+HasItsBody basis bodies Collect = Unit {0}
+HasItsBody basis bodies KCollect = Unit {0}
+HasItsBody basis bodies (Share s) = Unit {0}
+HasItsBody basis bodies (Freeze s root) = Unit {0}
+HasItsBody basis bodies (Attach r s) = Unit {0}
+HasItsBody basis bodies Exit = Unit {0}
+
+-- the process lives, and its heap is not collected
+pub record IsAwake (g : Guest) : Type 0 where
+  pub lives : IsFalse (has_ended_in g.cell.value.process)
+  pub idle : g.cell.value.collection ≡ Idle
+
+-- the process can have one exit item more, and do one operation more
+pub record HasItemRoom (basis : Basis) (g : Guest) : Type 0 where
+  pub exits : length g.cell.value.exits < basis.events
+  pub count : done_in g.cell.value.process < 2 ^ 32 - 1
+
+-- the journal has room for the unpublished events of the process, and for one more
+abbrev pub HasEventsLeft : Basis → Guest → BookRecord → Type 0
+HasEventsLeft basis g b = length b.journal.list + length g.cell.value.tail < basis.events
+
+-- the journal has room for the unpublished events of the process
+abbrev pub HasRoomToPublish : Basis → Guest → BookRecord → Type 0
+HasRoomToPublish basis g b = length b.journal.list + length g.cell.value.tail ≤ basis.events
+
+-- the process is awake, and the operation names what the setup declares, begins no collection, ends no process, and has what it needs
+pub record IsReady (basis : Basis) (g : Guest) (op : Op) : Type 0 where
+  pub in_range : IsTrue (in_range basis.trace op)
+  pub no_collection : IsFalse (is_collect op)
+  pub goes_on : IsFalse (collects_or_exits op)
+  pub awake : IsAwake g
+  pub room : HasItemRoom basis g
+  pub stock : HasItsBody basis g.bodies op
+
+-- the process serves and is awake, the operation names what the setup declares, and the cell has room for one more unpublished event
+pub record CanDoInside (basis : Basis) (g : Guest) (op : Op) : Type 0 where
+  pub serves : GuestServes basis g.cell.note.table g
+  pub in_range : IsTrue (in_range basis.trace op)
+  pub awake : IsAwake g
+  pub room : HasItemRoom basis g
+  pub tail : length g.cell.value.tail < basis.events
+
+-- the operation was done inside the heap: its event is the newest that the journal lacks, and possible after those before it
+pub record HasDoneInside (basis : Basis) (op : Op) (old g : Guest) (said : Reply) : Type 0 where
+  pub serves : GuestServes basis old.cell.note.table g
+  pub guest_is : g ≡ record old { cell = record old.cell { value = after_local old.cell.pid op said old.cell.value } }
+  pub possible : IsPossible basis.trace (state_after basis.trace (old.cell.note.list ++ old.cell.value.tail)) (Done old.cell.pid op said)
+
+-- what the process had unpublished is in the journal, and nothing else has changed
+pub record HasPublishedAll (basis : Basis) (old g : Guest) (old_b b : BookRecord) : Type 0 where
+  pub keeps : KeepsPair basis old g old_b b
+  pub guest_is : g ≡ record old { cell = record old.cell { note = g.cell.note; value = record old.cell.value { tail = [] } } }
+  pub book_is : b ≡ record old_b { journal = b.journal }
+  pub journal : b.journal.list ≡ old_b.journal.list ++ old.cell.value.tail
+
+-- process and book serve and are ready for the operation, which is not done inside the heap and touches these cells beside the own
+pub record IsDueWith (basis : Basis) (g : Guest) (b : BookRecord) (op : Op) (cells : List Cell) : Type 0 where
+  pub guest : GuestServes basis b.journal.table g
+  pub book : BookServes basis b
+  pub ready : IsReady basis g op
+  pub outside : IsFalse (is_local_in (idle_part g.cell.value) g.cell.pid.0 op)
+  pub room : HasEventsLeft basis g b
+  pub touches : other_cells_in basis.trace (book_shown_by b.value) (idle_part g.cell.value) g.cell.pid.0 op ≡ cells
+
+-- behind what the process had unpublished the event is possible, and the newest of the journal
+pub record IsAppended (basis : Basis) (old : Guest) (old_b b : BookRecord) (event : Event) : Type 0 where
+  pub journal : b.journal.list ≡ (old_b.journal.list ++ old.cell.value.tail) ++ event ∷ []
+  pub possible : IsPossible basis.trace (state_after basis.trace (old_b.journal.list ++ old.cell.value.tail)) event
+
+-- process and book serve still, and the event of the operation is appended; the process has nothing unpublished, its heap is not
+-- collected, and an allocation has taken one of its bodies
+pub record HasDoneAlone (basis : Basis) (op : Op) (old g : Guest) (old_b b : BookRecord) (event : Event) : Type 0 where
+  pub guest : GuestServes basis b.journal.table g
+  pub book : BookServes basis b
+  pub same_table : b.journal.table ≡ old_b.journal.table
+  pub pid : g.cell.pid ≡ old.cell.pid
+  pub said : Reply
+  pub event_is : event ≡ Done old.cell.pid op said
+  pub appended : IsAppended basis old old_b b event
+  pub settled : g.cell.value.tail ≡ []
+  pub idle : g.cell.value.collection ≡ Idle
+  pub bodies : g.bodies ≡ old.bodies - one_if (is_allocation op)
+
+-- the kernel's heap is not collected, and can have one exit item more
+pub record IsKernelReady (basis : Basis) (k : HoldingsValue) : Type 0 where
+  pub idle : k.value.collection ≡ Idle
+  pub exits : length k.value.exits < basis.events
+
+-- the operation touches the kernel's cell too, which serves and is ready
+pub record CanDoWithKernel (basis : Basis) (g : Guest) (k : HoldingsValue) (b : BookRecord) (op : Op) : Type 0 where
+  pub due : IsDueWith basis g b op (Kernel ∷ [])
+  pub kernel : KernelServes basis b.journal.table k
+  pub ready : IsKernelReady basis k
+
+-- the kernel's cell serves still, too, and its heap is not collected
+pub record HasDoneWithKernel (basis : Basis) (op : Op) (old g : Guest) (k : HoldingsValue) (old_b b : BookRecord) (event : Event) : Type 0 where
+  pub own : HasDoneAlone basis op old g old_b b event
+  pub kernel : KernelServes basis b.journal.table k
+  pub idle : k.value.collection ≡ Idle
+
+-- the operation touches the shared heap's cell too, which serves and can have one exit item more
+pub record CanDoWithShared (basis : Basis) (g : Guest) (s : SharedRecord) (b : BookRecord) (op : Op) : Type 0 where
+  pub due : IsDueWith basis g b op (Shared s.id ∷ [])
+  pub shared : SharedServes basis b.journal.table s
+  pub exits : length s.value.exits < basis.events
+
+-- the shared heap's cell serves still, too, and is the same one
+pub record HasDoneWithShared (basis : Basis) (op : Op) (old g : Guest) (old_s s : SharedRecord) (old_b b : BookRecord) (event : Event) : Type 0 where
+  pub own : HasDoneAlone basis op old g old_b b event
+  pub shared : SharedServes basis b.journal.table s
+  pub same : s.id ≡ old_s.id
+
+-- all that an operation may touch serves
+pub record CanOperate (basis : Basis) (g : Guest) (k : HoldingsValue) (shared : List SharedRecord) (b : BookRecord) : Type 0 where
+  pub guest : GuestServes basis b.journal.table g
+  pub rest : RestServes basis k shared b
+
+-- the cells beside its process's own that the operation touches, by what that cell and the book show
+abbrev pub touched_by : Basis → Guest → BookRecord → Op → List Cell
+touched_by basis g b op = other_cells_in basis.trace (book_shown_by b.value) (idle_part g.cell.value) g.cell.pid.0 op
+
+-- no other cell is touched, and all are as they were
+pub record LeavesAll (cells : List Cell) (old_k k : HoldingsValue) (old_shared shared : List SharedRecord) : Type 0 where
+  pub touches : cells ≡ []
+  pub kernel_is : k ≡ old_k
+  pub shared_is : shared ≡ old_shared
+
+-- the kernel's cell is touched, whose heap is not collected, and no shared heap has changed
+pub record LeavesShared (cells : List Cell) (k : HoldingsValue) (old_shared shared : List SharedRecord) : Type 0 where
+  pub touches : cells ≡ Kernel ∷ []
+  pub idle : k.value.collection ≡ Idle
+  pub shared_is : shared ≡ old_shared
+
+-- the cell of one shared heap is touched, and no other cell has changed
+pub record LeavesKernel (cells : List Cell) (old_k k : HoldingsValue) (old_shared shared : List SharedRecord) : Type 0 where
+  pub id : SharedId
+  pub after : SharedRecord
+  pub touches : cells ≡ Shared id ∷ []
+  pub kernel_is : k ≡ old_k
+  pub shared_is : shared ≡ slice_set old_shared id.0 after
+
+-- the cells that are not touched are as they were
+abbrev pub LeavesOthers : List Cell → HoldingsValue → HoldingsValue → List SharedRecord → List SharedRecord → Type 0
+LeavesOthers cells old_k k old_shared shared =
+    LeavesAll cells old_k k old_shared shared ⊎ LeavesShared cells k old_shared shared ⊎ LeavesKernel cells old_k k old_shared shared
+
+-- the operation needs the process's heap alone and was done inside it, and nothing else has changed
+pub record IsKept (basis : Basis) (op : Op) (old g : Guest) (old_k k : HoldingsValue) (old_shared shared : List SharedRecord) (old_b b : BookRecord) (said : Reply) : Type 0 where
+  pub own : IsTrue (is_local_in (idle_part old.cell.value) old.cell.pid.0 op)
+  pub inside : HasDoneInside basis op old g said
+  pub kernel_is : k ≡ old_k
+  pub shared_is : shared ≡ old_shared
+  pub book_is : b ≡ old_b
+
+-- the operation does not need the process's heap alone. Its event is appended behind what the process had unpublished; the process has
+-- nothing unpublished, its heap is not collected, and an allocation has taken one of its bodies
+pub record IsRecorded (basis : Basis) (op : Op) (old g : Guest) (old_k k : HoldingsValue) (old_shared shared : List SharedRecord) (old_b b : BookRecord) (event : Event) : Type 0 where
+  pub outside : IsFalse (is_local_in (idle_part old.cell.value) old.cell.pid.0 op)
+  pub appended : IsAppended basis old old_b b event
+  pub settled : g.cell.value.tail ≡ []
+  pub idle : g.cell.value.collection ≡ Idle
+  pub bodies : g.bodies ≡ old.bodies - one_if (is_allocation op)
+  pub others : LeavesOthers (touched_by basis old old_b op) old_k k old_shared shared
+
+-- all serves still, and the event of the operation is kept by the process or recorded in the journal
+pub record HasOperated (basis : Basis) (op : Op) (old g : Guest) (old_k k : HoldingsValue) (old_shared shared : List SharedRecord) (old_b b : BookRecord) (event : Event) : Type 0 where
+  pub can : CanOperate basis g k shared b
+  pub same_table : b.journal.table ≡ old_b.journal.table
+  pub pid : g.cell.pid ≡ old.cell.pid
+  pub said : Reply
+  pub event_is : event ≡ Done old.cell.pid op said
+  pub done : IsKept basis op old g old_k k old_shared shared old_b b said ⊎ IsRecorded basis op old g old_k k old_shared shared old_b b event

@@ -1,0 +1,78 @@
+-- When a call is refused, and with which error: a refused call changes nothing, and its error names what is lacking.
+use Rattle.std.specs.Prelude.{◌≡◌, ◌⊎◌, ◌||◌, ◌<◌, Bool, not, IsFalse, IsTrue, List, Some, [], ◌∷◌, length, slice_get}
+use Rattle.k_types.specs.declared.names.CellPhase.TheVariants.{Idle}
+use Rattle.k_types.specs.declared.names.Heap.TheVariants.{Kernel, Shared}
+use Rattle.k_types.specs.declared.names.SharedId.{SharedId}
+use Rattle.k_types.specs.declared.op.Op.{Op}
+use Rattle.k_types.specs.Steps.{in_range}
+use Rattle.k_book.specs.Books.{BookRecord}
+use Rattle.k_cell.specs.Holdings.{HoldingsValue}
+use Rattle.k_heap.specs.Heaps.{has_ended_in}
+use Rattle.k_own.specs.Own.{is_collect}
+use Rattle.k_pair.specs.Operating.{collects_or_exits}
+use Rattle.k_shared.specs.SharedHeaps.{SharedRecord}
+use Rattle.k_guests.specs.declared.guest.Guest.{Guest}
+use Rattle.k_guests.specs.Serving.{Basis}
+use Rattle.k_calls.specs.declared.errors.HostError.{HostError}
+use Rattle.k_calls.specs.declared.errors.HostError.TheVariants.{Unknown, OwnCall, Ended, Phase, Full, NoBody}
+use Rattle.k_calls.specs.Doing.{HasEventsLeft, HasItemRoom, HasItsBody, HasRoomToPublish, touched_by}
+
+-- the error that a call answers is this one, since what it asks for does not hold
+pub record Lacks (error : HostError) (asked : Type 0) (why : HostError) : Type 0 where
+  pub error_is : why ≡ error
+  pub fails : ¬ asked
+
+-- a process is not awake: it has ended, or a collection of its heap is open
+abbrev pub IsNotAwake : Guest → HostError → Type 0
+IsNotAwake g why = Lacks Ended (IsFalse (has_ended_in g.cell.value.process)) why ⊎ Lacks Phase (g.cell.value.collection ≡ Idle) why
+
+-- the operation has no call of its own: it begins no collection and ends no process
+abbrev pub is_plain : Op → Bool
+is_plain op = not (is_collect op || collects_or_exits op)
+
+-- an operation is not ready: it names what the setup does not declare, has a call of its own or no body, or its process is not awake
+-- or has no room for what the operation may add to its tables
+abbrev pub IsNotReady : Basis → Guest → Op → HostError → Type 0
+IsNotReady basis g op why =
+    Lacks Unknown (IsTrue (in_range basis.trace op)) why
+    ⊎ Lacks OwnCall (IsTrue (is_plain op)) why
+    ⊎ IsNotAwake g why
+    ⊎ Lacks Full (HasItemRoom basis g) why
+    ⊎ Lacks NoBody (HasItsBody basis g.bodies op) why
+
+-- the kernel's heap is not ready: a collection of it is open, or its table of exit items is full
+abbrev pub IsKernelNotReady : Basis → HoldingsValue → HostError → Type 0
+IsKernelNotReady basis k why = Lacks Phase (k.value.collection ≡ Idle) why ⊎ Lacks Full (length k.value.exits < basis.events) why
+
+-- the operation touches the kernel's heap, which is not ready
+pub record IsKernelBarred (basis : Basis) (g : Guest) (k : HoldingsValue) (b : BookRecord) (op : Op) (why : HostError) : Type 0 where
+  pub touches : touched_by basis g b op ≡ Kernel ∷ []
+  pub barred : IsKernelNotReady basis k why
+
+-- the operation touches a shared heap, whose table of exit items is full
+pub record IsSharedBarred (basis : Basis) (g : Guest) (shared : List SharedRecord) (b : BookRecord) (op : Op) (why : HostError) : Type 0 where
+  pub id : SharedId
+  pub heap : SharedRecord
+  pub there : slice_get shared id.0 ≡ Some heap
+  pub touches : touched_by basis g b op ≡ Shared id ∷ []
+  pub barred : Lacks Full (length heap.value.exits < basis.events) why
+
+-- the process can't do the operation: it is not ready, the journal is full, or the other heap that it touches bars it
+abbrev pub CanNotOperate : Basis → HoldingsValue → List SharedRecord → BookRecord → Op → Guest → HostError → Type 0
+CanNotOperate basis k shared b op g why =
+    IsNotReady basis g op why
+    ⊎ Lacks Full (HasEventsLeft basis g b) why
+    ⊎ IsKernelBarred basis g k b op why
+    ⊎ IsSharedBarred basis g shared b op why
+
+-- the process can't try the operation inside its heap: it names what the setup does not declare, or the process is not awake or has no
+-- room for one more unpublished event
+abbrev pub CanNotDoInside : Basis → Op → Guest → HostError → Type 0
+CanNotDoInside basis op g why =
+    Lacks Unknown (IsTrue (in_range basis.trace op)) why
+    ⊎ IsNotAwake g why
+    ⊎ Lacks Full (HasItemRoom basis g × (length g.cell.value.tail < basis.events)) why
+
+-- the journal has no room for what the process has unpublished
+abbrev pub CanNotPublish : Basis → BookRecord → Guest → HostError → Type 0
+CanNotPublish basis b g why = Lacks Full (HasRoomToPublish basis g b) why

@@ -1,0 +1,132 @@
+//! One operation of a process, with the cells that it touches and the book.
+ghost use Rattle.std.specs.Prelude.{◌≡◌, IfNone, IfSome, IsFalse, [], is_some};
+ghost use Rattle.k_book.specs.Books.{book_entries};
+ghost use Rattle.k_bounds.specs.Counts.{is_allocation, one_if};
+ghost use Rattle.k_entry.specs.Entries.{AreEntries};
+ghost use Rattle.k_moves.specs.Shown.{idle_part};
+ghost use Rattle.k_squares.specs.Locals.{is_local_in};
+ghost use Rattle.k_squares.specs.Touches.{other_cells_in};
+ghost use Rattle.k_steps.specs.Reaching.{CanReach, cells_of};
+ghost use Rattle.k_types.specs.Agree.{book_shown_by};
+ghost use Rattle.k_calls.specs.Doing.{CanDoInside, CanDoWithKernel, CanDoWithShared, HasDoneAlone, HasDoneInside, HasDoneWithKernel, HasDoneWithShared, HasPublishedAll, HasRoomToPublish, IsDueWith};
+ghost use Rattle.k_guests.specs.Serving.{Basis, BookServes, GuestServes};
+
+use k_book::Book;
+use k_guests::{Guest, Terms};
+use k_kernel::KernelCell;
+use k_local::local;
+use k_shared::SharedCell;
+use k_steps::{Reach, publish, reach, step_kernel, step_own, step_shared};
+use k_types::{Event, Heap, Op, Reply};
+
+/// Does the operation inside the process's own heap, if it needs that heap alone.
+pub(crate) fn do_inside(terms: &Terms, guest: &mut Guest, op: &Op) -> Option<Reply>
+    ghost basis: { Basis }
+    requires { CanDoInside basis guest.old op.now }
+    ensures some { IfSome result (λ said. HasDoneInside basis op.now guest.old guest.new said) }
+    ensures none { IfNone result (guest.new ≡ guest.old) }
+    ensures outside { IfNone result (IsFalse (is_local_in (idle_part guest.old.cell.value) guest.old.cell.pid.0 op.now)) }
+    ensures told { is_some result ≡ is_local_in (idle_part guest.old.cell.value) guest.old.cell.pid.0 op.now }
+{
+    let _setup = &terms.setup;
+    local(&mut guest.cell, op)
+}
+
+/// Publishes what the process did inside its heap.
+pub(crate) fn publish_all(terms: &Terms, guest: &mut Guest, book: &mut Book)
+    ghost basis: { Basis }
+    requires guest { GuestServes basis book.old.journal.table guest.old }
+    requires book { BookServes basis book.old }
+    requires room { HasRoomToPublish basis guest.old book.old }
+    ensures { HasPublishedAll basis guest.old guest.new book.old book.new }
+{
+    let _setup = &terms.setup;
+    publish(&mut guest.cell, book);
+}
+
+/// The cell that the operation touches beside its process's own.
+pub(crate) fn reached(terms: &Terms, guest: &Guest, book: &Book, op: &Op) -> Reach
+    ghost basis: { Basis }
+    requires { CanReach basis.trace guest.now.cell book.now op.now }
+    ensures { cells_of result ≡ other_cells_in basis.trace (book_shown_by book.now.value) (idle_part guest.now.cell.value) guest.now.cell.pid.0 op.now }
+{
+    let _setup = &terms.setup;
+    reach(&guest.cell, book, op)
+}
+
+/// Tells that no entry item of the book stands twice, and that each counts.
+fn know_entries(book: &Book)
+    ensures { AreEntries (book_entries book.now) }
+{
+    book.first_entry(Heap::Kernel);
+}
+
+/// How many bodies the operation takes.
+fn bodies_taken(op: &Op) -> u32
+    ensures { result ≡ one_if (is_allocation op.now) }
+{
+    match *op {
+        Op::New { reg: _, ty: _ } => 1,
+        Op::KNew { reg: _, ty: _ } => 1,
+        Op::SNew {
+            reg: _,
+            shared: _,
+            ty: _,
+        } => 1,
+        _ => 0,
+    }
+}
+
+/// Publishes, and does an operation that touches the process's own cell alone.
+pub(crate) fn do_alone(terms: &Terms, guest: &mut Guest, book: &mut Book, op: &Op) -> Event
+    ghost basis: { Basis }
+    requires { IsDueWith basis guest.old book.old op.now [] }
+    ensures { HasDoneAlone basis op.now guest.old guest.new book.old book.new result }
+{
+    let _setup = &terms.setup;
+    publish(&mut guest.cell, book);
+    know_entries(book);
+    let event = step_own(&mut guest.cell, book, op);
+    guest.bodies -= bodies_taken(op);
+    event
+}
+
+/// Publishes, and does an operation that touches the kernel's cell too.
+pub(crate) fn do_with_kernel(
+    terms: &Terms,
+    guest: &mut Guest,
+    kernel: &mut KernelCell,
+    book: &mut Book,
+    op: &Op,
+) -> Event
+    ghost basis: { Basis }
+    requires { CanDoWithKernel basis guest.old kernel.old book.old op.now }
+    ensures { HasDoneWithKernel basis op.now guest.old guest.new kernel.new book.old book.new result }
+{
+    let _setup = &terms.setup;
+    publish(&mut guest.cell, book);
+    know_entries(book);
+    let event = step_kernel(&mut guest.cell, kernel, book, op);
+    guest.bodies -= bodies_taken(op);
+    event
+}
+
+/// Publishes, and does an operation that touches a shared heap's cell too.
+pub(crate) fn do_with_shared(
+    terms: &Terms,
+    guest: &mut Guest,
+    shared: &mut SharedCell,
+    book: &mut Book,
+    op: &Op,
+) -> Event
+    ghost basis: { Basis }
+    requires { CanDoWithShared basis guest.old shared.old book.old op.now }
+    ensures { HasDoneWithShared basis op.now guest.old guest.new shared.old shared.new book.old book.new result }
+{
+    let _setup = &terms.setup;
+    publish(&mut guest.cell, book);
+    know_entries(book);
+    let event = step_shared(&mut guest.cell, shared, book, op);
+    guest.bodies -= bodies_taken(op);
+    event
+}

@@ -1,0 +1,20 @@
+//! Why a host does not do what it is called for.
+
+/// Why a call of a host changes nothing.
+#[derive(Clone, Copy, Debug, PartialEq, Eq)]
+pub enum HostError {
+    /// No such process or shared heap, or the operation names what the setup does not declare.
+    Unknown,
+    /// The operation has a call of its own.
+    OwnCall,
+    /// The process has ended.
+    Ended,
+    /// A collection of a heap that is touched is open, or not as far as the call asks.
+    Phase,
+    /// There may be no room for the event, or for what it adds to a table.
+    Full,
+    /// There is no body for the allocation, or only one of another type.
+    NoBody,
+    /// A shared heap is an orphan, or the one to be absorbed is none.
+    Orphan,
+}

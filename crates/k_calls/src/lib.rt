@@ -1,0 +1,17 @@
+//! Operations of a host's processes, each tested before it is done.
+//!
+//! [`operate_with`] does an operation inside the process's heap where it needs that heap alone, and else publishes and calls the step of
+//! the cells that it touches. [`try_inside`] does what needs the heap alone or nothing, and [`try_publish`] publishes. What a step asks
+//! beyond what the parts of a host keep, such as room in the journal, is tested first: a test that fails is a [`HostError`], which names
+//! what is lacking, and nothing has changed.
+#![tactic(auto)]
+
+mod doing;
+mod errors;
+mod ranges;
+mod readiness;
+mod stepping;
+
+pub use errors::HostError;
+pub use readiness::{awake, has_events_left, is_begun, is_idle, is_marked};
+pub use stepping::{operate_with, try_inside, try_publish};

@@ -1,0 +1,213 @@
+//! What an operation asks beyond what a host keeps, tested when it is called.
+ghost use Rattle.std.specs.Prelude.{◌≡◌, ◌<◌, ◌↔◌, IfErr, IsTrue, OnOk};
+ghost use Rattle.k_calls.specs.Doing.{HasEventsLeft, HasItemRoom, HasItsBody, HasRoomToPublish, IsAwake, IsKernelReady, IsReady};
+ghost use Rattle.k_calls.specs.Refusals.{IsKernelNotReady, IsNotAwake, IsNotReady, Lacks, is_plain};
+ghost use Rattle.k_guests.specs.Serving.{basis_of};
+
+use crate::errors::HostError;
+use crate::ranges::is_in_range;
+use k_book::Book;
+use k_guests::{Guest, Terms};
+use k_kernel::KernelCell;
+use k_types::{CellPhase, Op, TypeId};
+
+/// Whether the operation has no call of its own.
+fn is_plain(op: &Op) -> bool
+    ensures { result ≡ is_plain op.now }
+{
+    match *op {
+        Op::Collect => false,
+        Op::KCollect => false,
+        Op::Exit => false,
+        Op::New { reg: _, ty: _ } => true,
+        Op::KNew { reg: _, ty: _ } => true,
+        Op::SNew {
+            reg: _,
+            shared: _,
+            ty: _,
+        } => true,
+        Op::Store {
+            base: _,
+            field: _,
+            value: _,
+        } => true,
+        Op::Load {
+            reg: _,
+            base: _,
+            field: _,
+        } => true,
+        Op::Move { reg: _, from: _ } => true,
+        Op::Clear { reg: _ } => true,
+        Op::Dir { reg: _ } => true,
+        Op::Put {
+            base: _,
+            field: _,
+            number: _,
+        } => true,
+        Op::Get { base: _, field: _ } => true,
+        Op::Share { shared: _ } => true,
+        Op::Freeze { shared: _, root: _ } => true,
+        Op::Attach { reg: _, shared: _ } => true,
+    }
+}
+
+/// Whether no collection is open.
+pub fn is_idle(phase: CellPhase) -> bool
+    ensures { IsTrue result ↔ (phase ≡ CellPhase.Idle) }
+{
+    match phase {
+        CellPhase::Idle => true,
+        CellPhase::Begun => false,
+        CellPhase::Marked => false,
+    }
+}
+
+/// Whether a collection has begun and is not marked.
+pub fn is_begun(phase: CellPhase) -> bool
+    ensures { IsTrue result ↔ (phase ≡ CellPhase.Begun) }
+{
+    match phase {
+        CellPhase::Idle => false,
+        CellPhase::Begun => true,
+        CellPhase::Marked => false,
+    }
+}
+
+/// Whether a collection is marked.
+pub fn is_marked(phase: CellPhase) -> bool
+    ensures { IsTrue result ↔ (phase ≡ CellPhase.Marked) }
+{
+    match phase {
+        CellPhase::Idle => false,
+        CellPhase::Begun => false,
+        CellPhase::Marked => true,
+    }
+}
+
+/// Whether the process lives and its heap is not collected.
+pub fn awake(guest: &Guest) -> Result<(), HostError>
+    ensures ok { OnOk result (IsAwake guest.now) }
+    ensures why { IfErr result (λ why. IsNotAwake guest.now why) }
+{
+    if !guest.cell.lives() {
+        return Err(HostError::Ended);
+    }
+    if !is_idle(guest.cell.phase()) {
+        return Err(HostError::Phase);
+    }
+    Ok(())
+}
+
+/// Whether the journal has room for what the process has unpublished and one event more.
+pub fn has_events_left(terms: &Terms, guest: &Guest, book: &Book) -> bool
+    ensures { IsTrue result ↔ HasEventsLeft (basis_of terms.now) guest.now book.now }
+{
+    u64::from(book.len()) + u64::from(guest.cell.tail_len()) < u64::from(terms.events)
+}
+
+/// Whether the journal has room for what the process has unpublished.
+pub(crate) fn has_room_to_publish(terms: &Terms, guest: &Guest, book: &Book) -> bool
+    ensures { IsTrue result ↔ HasRoomToPublish (basis_of terms.now) guest.now book.now }
+{
+    u64::from(book.len()) + u64::from(guest.cell.tail_len()) <= u64::from(terms.events)
+}
+
+/// Tells that the journal has room for what the process has unpublished and one event more.
+pub(crate) fn room_left(terms: &Terms, guest: &Guest, book: &Book) -> Result<(), HostError>
+    ensures ok { OnOk result (HasEventsLeft (basis_of terms.now) guest.now book.now) }
+    ensures why { IfErr result (λ why. Lacks HostError.Full (HasEventsLeft (basis_of terms.now) guest.now book.now) why) }
+{
+    if !has_events_left(terms, guest, book) {
+        return Err(HostError::Full);
+    }
+    Ok(())
+}
+
+/// Whether the process can have one exit item more, and do one operation more.
+pub(crate) fn has_item_room(terms: &Terms, guest: &Guest) -> bool
+    ensures { IsTrue result ↔ HasItemRoom (basis_of terms.now) guest.now }
+{
+    guest.cell.exit_count() < terms.events && guest.cell.done() < u32::MAX
+}
+
+/// Whether a body of the type is left.
+fn has_body_of(terms: &Terms, guest: &Guest, ty: TypeId) -> bool
+    ensures { IsTrue result ↔ ((ty.0 ≡ terms.now.ty.0) × (0 < guest.now.bodies)) }
+{
+    ty.0 == terms.ty.0 && 0 < guest.bodies
+}
+
+/// Whether the operation finds its body, if it needs one.
+fn has_its_body(terms: &Terms, guest: &Guest, op: &Op) -> bool
+    ensures { IsTrue result ↔ HasItsBody (basis_of terms.now) guest.now.bodies op.now }
+{
+    match *op {
+        Op::New { reg: _, ty } => has_body_of(terms, guest, ty),
+        Op::KNew { reg: _, ty } => has_body_of(terms, guest, ty),
+        Op::SNew {
+            reg: _,
+            shared: _,
+            ty,
+        } => has_body_of(terms, guest, ty),
+        Op::Store {
+            base: _,
+            field: _,
+            value: _,
+        } => true,
+        Op::Load {
+            reg: _,
+            base: _,
+            field: _,
+        } => true,
+        Op::Move { reg: _, from: _ } => true,
+        Op::Clear { reg: _ } => true,
+        Op::Dir { reg: _ } => true,
+        Op::Put {
+            base: _,
+            field: _,
+            number: _,
+        } => true,
+        Op::Get { base: _, field: _ } => true,
+        Op::Collect => true,
+        Op::KCollect => true,
+        Op::Share { shared: _ } => true,
+        Op::Freeze { shared: _, root: _ } => true,
+        Op::Attach { reg: _, shared: _ } => true,
+        Op::Exit => true,
+    }
+}
+
+/// Whether the process can try the operation now.
+pub(crate) fn ready(terms: &Terms, guest: &Guest, op: &Op) -> Result<(), HostError>
+    ensures ok { OnOk result (IsReady (basis_of terms.now) guest.now op.now) }
+    ensures why { IfErr result (λ why. IsNotReady (basis_of terms.now) guest.now op.now why) }
+{
+    if !is_in_range(&terms.setup, op) {
+        return Err(HostError::Unknown);
+    }
+    if !is_plain(op) {
+        return Err(HostError::OwnCall);
+    }
+    awake(guest)?;
+    if !has_item_room(terms, guest) {
+        return Err(HostError::Full);
+    }
+    if !has_its_body(terms, guest, op) {
+        return Err(HostError::NoBody);
+    }
+    Ok(())
+}
+
+/// Whether the kernel's heap is not collected and can have one exit item more.
+pub(crate) fn kernel_ready(terms: &Terms, kernel: &KernelCell) -> Result<(), HostError>
+    ensures ok { OnOk result (IsKernelReady (basis_of terms.now) kernel.now) }
+    ensures why { IfErr result (λ why. IsKernelNotReady (basis_of terms.now) kernel.now why) }
+{
+    if !is_idle(kernel.phase()) {
+        return Err(HostError::Phase);
+    }
+    if kernel.exit_count() >= terms.events {
+        return Err(HostError::Full);
+    }
+    Ok(())
+}

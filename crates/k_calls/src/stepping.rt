@@ -1,0 +1,92 @@
+//! An operation that is made up, with whatever it touches, and what a process does inside its heap.
+ghost use Rattle.std.specs.Prelude.{◌≡◌, IfErr, IfNone, IfOk, IfSome, OnErr, OnOk, is_some};
+ghost use Rattle.k_moves.specs.Shown.{idle_part};
+ghost use Rattle.k_squares.specs.Locals.{is_local_in};
+ghost use Rattle.k_guests.specs.Serving.{BookServes, GuestServes, basis_of};
+ghost use Rattle.k_calls.specs.Doing.{CanOperate, HasDoneInside, HasOperated, HasPublishedAll};
+ghost use Rattle.k_calls.specs.Refusals.{CanNotDoInside, CanNotOperate, CanNotPublish};
+
+use crate::doing::{do_alone, do_inside, do_with_kernel, do_with_shared, publish_all, reached};
+use crate::errors::HostError;
+use crate::ranges::is_in_range;
+use crate::readiness::{awake, has_item_room, has_room_to_publish, kernel_ready, ready, room_left};
+use k_book::Book;
+use k_guests::{Guest, Terms};
+use k_kernel::KernelCell;
+use k_shared::SharedCell;
+use k_steps::Reach;
+use k_types::{Event, Op, Reply};
+
+/// Does the operation inside the process's own heap, if it needs that heap alone and there is room.
+pub fn try_inside(terms: &Terms, guest: &mut Guest, op: &Op) -> Result<Option<Reply>, HostError>
+    requires { GuestServes (basis_of terms.now) guest.old.cell.note.table guest.old }
+    ensures done { IfOk result (λ answer. IfSome answer (λ said. HasDoneInside (basis_of terms.now) op.now guest.old guest.new said)) }
+    ensures none { IfOk result (λ answer. IfNone answer (guest.new ≡ guest.old)) }
+    ensures same { IfErr result (λ why. guest.new ≡ guest.old) }
+    ensures told { IfOk result (λ answer. is_some answer ≡ is_local_in (idle_part guest.old.cell.value) guest.old.cell.pid.0 op.now) }
+    ensures why { IfErr result (λ why. CanNotDoInside (basis_of terms.now) op.now guest.old why) }
+{
+    if !is_in_range(&terms.setup, op) {
+        return Err(HostError::Unknown);
+    }
+    awake(guest)?;
+    if !has_item_room(terms, guest) || guest.cell.tail_len() >= terms.events {
+        return Err(HostError::Full);
+    }
+    Ok(do_inside(terms, guest, op))
+}
+
+/// Publishes what the process did inside its heap, if there is room.
+pub fn try_publish(terms: &Terms, guest: &mut Guest, book: &mut Book) -> Result<(), HostError>
+    requires guest { GuestServes (basis_of terms.now) book.old.journal.table guest.old }
+    requires book { BookServes (basis_of terms.now) book.old }
+    ensures done { OnOk result (HasPublishedAll (basis_of terms.now) guest.old guest.new book.old book.new) }
+    ensures same { OnErr result ((guest.new ≡ guest.old) × (book.new ≡ book.old)) }
+    ensures why { IfErr result (λ why. CanNotPublish (basis_of terms.now) book.old guest.old why) }
+{
+    if !has_room_to_publish(terms, guest, book) {
+        return Err(HostError::Full);
+    }
+    publish_all(terms, guest, book);
+    Ok(())
+}
+
+/// Does the operation with whatever it touches, if it is ready and there is room.
+pub fn operate_with(
+    terms: &Terms,
+    guest: &mut Guest,
+    kernel: &mut KernelCell,
+    shared: &mut Vec<SharedCell>,
+    book: &mut Book,
+    op: &Op,
+) -> Result<Event, HostError>
+    requires { CanOperate (basis_of terms.now) guest.old kernel.old shared.old.items book.old }
+    ensures done { IfOk result (λ event. HasOperated (basis_of terms.now) op.now guest.old guest.new kernel.old kernel.new shared.old.items shared.new.items book.old book.new event) }
+    ensures same { IfErr result (λ why. (guest.new ≡ guest.old) × (kernel.new ≡ kernel.old) × (shared.new.items ≡ shared.old.items) × (book.new ≡ book.old)) }
+    ensures why { IfErr result (λ why. CanNotOperate (basis_of terms.now) kernel.old shared.old.items book.old op.now guest.old why) }
+{
+    ready(terms, guest, op)?;
+    room_left(terms, guest, book)?;
+    if let Some(reply) = do_inside(terms, guest, op) {
+        let pid = guest.cell.pid();
+        return Ok(Event::Done {
+            pid,
+            op: *op,
+            reply,
+        });
+    }
+    match reached(terms, guest, book, op) {
+        Reach::Own => Ok(do_alone(terms, guest, book, op)),
+        Reach::Kernel => {
+            kernel_ready(terms, kernel)?;
+            Ok(do_with_kernel(terms, guest, kernel, book, op))
+        }
+        Reach::Shared(id) => {
+            let heap = &mut shared[id.0 as usize];
+            if heap.exit_count() >= terms.events {
+                return Err(HostError::Full);
+            }
+            Ok(do_with_shared(terms, guest, heap, book, op))
+        }
+    }
+}

@@ -1,0 +1,5 @@
+use Rattle.k_guests.specs.Serving.{basis_of}
+use Rattle.k_ends.proofs.starting.try_begin_kernel.Given as goal
+
+abbrev pub ghost-do_begin_kernel : goal.ghost-do_begin_kernel
+ghost-do_begin_kernel a = basis_of a.terms.now

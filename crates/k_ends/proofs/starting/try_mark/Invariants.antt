@@ -1,0 +1,5 @@
+use Rattle.k_guests.specs.Serving.{basis_of}
+use Rattle.k_ends.proofs.starting.try_mark.Given as goal
+
+abbrev pub ghost-do_mark : goal.ghost-do_mark
+ghost-do_mark a = basis_of a.terms.now

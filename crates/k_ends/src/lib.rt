@@ -1,0 +1,15 @@
+//! Collections of a host's heaps from their beginning to their end, absorptions of shared heaps, and the ends of processes.
+//!
+//! A collection begins, is marked and ends by calls of their own ([`try_begin`], [`try_mark`], [`try_end`]; of the kernel's heap
+//! [`try_begin_kernel`], [`try_mark_kernel`], [`try_end_kernel`]), so that others of its kind and operations may come between.
+//! [`try_settle`] and [`try_settle_kernel`] end whatever is open. [`try_exit`] ends a process, and [`try_absorb`] a shared heap that
+//! nobody shares. As in `k_calls`, what a step asks is tested first, and an error names what is lacking.
+#![tactic(auto)]
+
+mod collecting;
+mod starting;
+
+pub use starting::{
+    try_absorb, try_begin, try_begin_kernel, try_end, try_end_kernel, try_exit, try_mark,
+    try_mark_kernel, try_settle, try_settle_kernel,
+};

@@ -1,0 +1,103 @@
+-- Processes, kernel, shared heaps and book of a host, as they stand between its calls.
+use Rattle.std.specs.Prelude.{◌≡◌, ℕ, ◌<◌, ◌≤◌, IsFalse, List, Option, Some, None, [], length, replicate, slice_get, slice_index_or}
+use Rattle.atomic_table.specs.Seated.{TableId}
+use Rattle.k_types.specs.declared.names.CellPhase.TheVariants.{Idle}
+use Rattle.k_types.specs.declared.names.Heap.TheVariants.{Kernel, Shared, User}
+use Rattle.k_types.specs.declared.names.TypeId.{TypeId}
+use Rattle.k_types.specs.declared.setup.Setup.{Setup}
+use Rattle.k_types.specs.Trace.{Trace, process_count, segment_count, segment_of, trace_of}
+use Rattle.k_types.specs.TraceRules.{KeepsRules}
+use Rattle.k_agree.specs.Agreement.{Agrees}
+use Rattle.k_book.specs.Books.{BookRecord}
+use Rattle.k_cell.specs.Holdings.{HoldingsValue}
+use Rattle.k_heap.specs.Heaps.{has_ended_in, own_segment}
+use Rattle.k_shared.specs.SharedHeaps.{SharedRecord}
+use Rattle.k_space.specs.Objects.{new_body}
+use Rattle.k_commit.specs.Standing.{BookStands}
+use Rattle.k_locked.specs.Keeping.{is_absorbed_in}
+use Rattle.k_guests.specs.declared.guest.Guest.{Guest}
+use Rattle.k_guests.specs.declared.terms.Terms.{Terms}
+
+-- the trace of the setup in which no process has an operation: what is done is made up as it goes
+abbrev pub open_trace : Setup → Trace
+open_trace setup = trace_of setup (replicate (length setup.procs.items) []) []
+
+-- what all parts of a host have in common: the trace with which they agree, the type of the objects that are allocated, and how many
+-- events there can be
+pub record Basis : Type 0 where
+  pub trace : Trace
+  pub ty : TypeId
+  pub events : ℕ
+
+-- the basis of a host that is made for these terms
+abbrev pub basis_of : Terms → Basis
+basis_of terms = record { trace = open_trace terms.setup; ty = terms.ty; events = terms.events }
+
+-- by these rooms the segment is there, and can give more serials than there can be events
+pub record GivesSerials (events : ℕ) (rooms : List (Option ℕ)) (seg : ℕ) : Type 0 where
+  pub room : ℕ
+  pub there : slice_index_or rooms seg None ≡ Some room
+  pub enough : events < room
+
+-- the cell of a process agrees with the trace, which keeps the rules, and is of the journal's table; it has as many bodies as are
+-- counted, and its tables have room for each event
+pub record GuestServes (basis : Basis) (tie : TableId) (g : Guest) : Type 0 where
+  pub rules : KeepsRules basis.trace
+  pub agrees : Agrees basis.trace (User g.cell.pid) g.cell.note g.cell.value
+  pub table : g.cell.note.table ≡ tie
+  pub stock : g.cell.bodies ≡ replicate g.bodies (new_body basis.trace.types basis.ty)
+  pub exits : basis.events ≤ g.cell.exit_room
+  pub serials : IsFalse (has_ended_in g.cell.value.process) → GivesSerials basis.events g.cell.serial_rooms (own_segment g.cell.pid)
+  pub tail : basis.events ≤ g.cell.tail_room
+
+-- the kernel's cell agrees with the trace, which keeps the rules, and is of the journal's table; its tables have room for each event,
+-- and it has a number for each segment
+pub record KernelServes (basis : Basis) (tie : TableId) (k : HoldingsValue) : Type 0 where
+  pub rules : KeepsRules basis.trace
+  pub agrees : Agrees basis.trace Kernel k.note k.value
+  pub table : k.note.table ≡ tie
+  pub exits : basis.events ≤ k.exit_room
+  pub serials : GivesSerials basis.events k.serial_rooms 0
+  pub numbers : segment_count basis.trace ≤ k.bound
+
+-- the cell of a shared heap agrees, is of the journal's table and begins with the heap's own segment, and its tables have room for
+-- each event
+pub record SharedServes (basis : Basis) (tie : TableId) (s : SharedRecord) : Type 0 where
+  pub agrees : Agrees basis.trace (Shared s.id) s.note s.value
+  pub table : s.note.table ≡ tie
+  pub segment : s.seg.0 ≡ segment_of basis.trace (Shared s.id)
+  pub idle : s.value.collection ≡ Idle
+  pub exits : basis.events ≤ s.exit_room
+  pub serials : IsFalse (is_absorbed_in s.value.phase) → GivesSerials basis.events s.serial_rooms s.seg.0
+
+-- the book stands, with room for so many events and for as many entry items
+pub record BookServes (basis : Basis) (b : BookRecord) : Type 0 where
+  pub stands : BookStands basis.trace b
+  pub events : b.event_room ≡ basis.events
+  pub entries : basis.events ≤ b.entry_room
+
+-- process and book serve still, with the same table, and the process is the same one with as many bodies
+pub record KeepsPair (basis : Basis) (old g : Guest) (old_b b : BookRecord) : Type 0 where
+  pub guest : GuestServes basis b.journal.table g
+  pub book : BookServes basis b
+  pub same_table : b.journal.table ≡ old_b.journal.table
+  pub pid : g.cell.pid ≡ old.cell.pid
+  pub bodies : g.bodies ≡ old.bodies
+
+-- there is a guest for each process, in the place of its number
+pub record GuestsServe (basis : Basis) (tie : TableId) (guests : List Guest) : Type 0 where
+  pub count : length guests ≡ process_count basis.trace
+  pub each : (k : ℕ) (g : Guest) → slice_get guests k ≡ Some g → GuestServes basis tie g
+  pub placed : (k : ℕ) (g : Guest) → slice_get guests k ≡ Some g → g.cell.pid.0 ≡ k
+
+-- there is a cell for each shared heap, in the place of its number
+pub record HeapsServe (basis : Basis) (tie : TableId) (shared : List SharedRecord) : Type 0 where
+  pub count : length shared ≡ basis.trace.shared_heaps
+  pub each : (k : ℕ) (s : SharedRecord) → slice_get shared k ≡ Some s → SharedServes basis tie s
+  pub placed : (k : ℕ) (s : SharedRecord) → slice_get shared k ≡ Some s → s.id.0 ≡ k
+
+-- the kernel, all shared heaps and the book serve
+pub record RestServes (basis : Basis) (k : HoldingsValue) (shared : List SharedRecord) (b : BookRecord) : Type 0 where
+  pub kernel : KernelServes basis b.journal.table k
+  pub heaps : HeapsServe basis b.journal.table shared
+  pub book : BookServes basis b

@@ -1,0 +1,25 @@
+use Rattle.std.proofs.Common.{refl}
+use Rattle.k_guests.specs.Making.{AreFit}
+use Rattle.k_host.proofs.Opened.{decided}
+use Rattle.k_host.proofs.host.Host.make.Goals as goal
+
+pub returns-then-not-are_fit-clause-why : goal.returns-then-not-are_fit-clause-why
+returns-then-not-are_fit-clause-why c = decided (AreFit c.args.terms.setup.types c.args.terms.ty c.args.terms.events) c.are_fit.result c.are_fit.ensures c.if-not-are_fit.true
+
+pub make_parts-requires : goal.make_parts-requires
+make_parts-requires c = record { rules = c.requires; fit = c.are_fit.ensures.0 c.if-not-are_fit.false }
+
+pub invariant_of-result : goal.invariant_of-result
+invariant_of-result c = record { all = c.in_ok-parts.ensures.guests; rest = c.in_ok-parts.ensures.rest }
+
+pub returns-clause-made : goal.returns-clause-made
+returns-clause-made c = record {
+  basis_is = refl;
+  serves = record { all = c.in_ok-parts.ensures.guests; rest = c.in_ok-parts.ensures.rest };
+  journal = c.in_ok-parts.ensures.empty;
+  guests = c.in_ok-parts.ensures.first;
+  kernel = c.in_ok-parts.ensures.idle;
+}
+
+pub returns-clause-fit : goal.returns-clause-fit
+returns-clause-fit c = c.are_fit.ensures.0 c.if-not-are_fit.false

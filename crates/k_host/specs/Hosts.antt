@@ -1,0 +1,39 @@
+-- What is seen of a host, and what it keeps.
+use Rattle.std.specs.Prelude.{◌≡◌, ℕ, List, Some, [], length, slice_get}
+use Rattle.k_types.specs.declared.names.CellPhase.{CellPhase}
+use Rattle.k_types.specs.declared.names.CellPhase.TheVariants.{Idle}
+use Rattle.k_book.specs.Books.{BookRecord}
+use Rattle.k_cell.specs.Holdings.{HoldingsValue}
+use Rattle.k_shared.specs.SharedHeaps.{SharedRecord}
+use Rattle.k_guests.specs.declared.guest.Guest.{Guest}
+use Rattle.k_guests.specs.Making.{IsFirstGuest}
+use Rattle.k_guests.specs.Serving.{Basis, GuestsServe, RestServes}
+
+-- a host: what its parts have in common, its processes, the cells of the kernel and of the shared heaps, and the book
+pub record HostValue : Type 0 where
+  pub basis : Basis
+  pub guests : List Guest
+  pub kernel : HoldingsValue
+  pub shared : List SharedRecord
+  pub book : BookRecord
+
+-- all parts serve
+pub record HostServes (h : HostValue) : Type 0 where
+  pub all : GuestsServe h.basis h.book.journal.table h.guests
+  pub rest : RestServes h.basis h.kernel h.shared h.book
+
+-- how many events of the process the journal lacks
+abbrev pub unpublished_of : Guest → ℕ
+unpublished_of g = length g.cell.value.tail
+
+-- how far the collection of the process's heap has come
+abbrev pub collection_of : Guest → CellPhase
+collection_of g = g.cell.value.collection
+
+-- nothing has happened yet: all parts serve, the journal is empty, no collection is open, and each process has so many bodies
+pub record IsFresh (basis : Basis) (bodies : ℕ) (h : HostValue) : Type 0 where
+  pub basis_is : h.basis ≡ basis
+  pub serves : HostServes h
+  pub journal : h.book.journal.list ≡ []
+  pub guests : (k : ℕ) (g : Guest) → slice_get h.guests k ≡ Some g → IsFirstGuest bodies g
+  pub kernel : h.kernel.value.collection ≡ Idle

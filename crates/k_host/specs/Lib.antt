@@ -1,0 +1,5 @@
+pub mod Hosts
+pub mod Opening
+pub mod Calls
+pub mod Refusals
+pub mod Twins

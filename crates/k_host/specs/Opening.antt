@@ -1,0 +1,42 @@
+-- What the making of a host answers.
+use Rattle.std.specs.Prelude.{ℕ, [], replicate}
+use Rattle.k_types.specs.declared.names.TypeId.{TypeId}
+use Rattle.k_types.specs.Trace.{Trace, process_count}
+use Rattle.k_words.specs.Words.{Text}
+use Rattle.k_trace.specs.Judgement.{IsBad}
+use Rattle.k_trace.specs.Named.{NamedTrace}
+use Rattle.k_trace.specs.Rules.{Spells}
+use Rattle.k_guests.specs.declared.terms.Terms.{Terms}
+use Rattle.k_guests.specs.Making.{AreFit}
+use Rattle.k_host.specs.declared.errors.OpenError.{OpenError}
+use Rattle.k_host.specs.declared.errors.OpenError.TheVariants.{NoMemory, Bad, Terms as Unfit}
+use Rattle.k_host.specs.Hosts.{HostValue, IsFresh}
+
+-- a host for these terms is not made: memory ran out, or the terms are not fit
+abbrev pub IsNotMade : Terms → OpenError → Type 0
+IsNotMade terms (NoMemory refused) = Unit {0}
+IsNotMade terms (Bad line reason) = ⊥
+IsNotMade terms Unfit = ¬ (AreFit terms.setup.types terms.ty terms.events)
+
+-- the trace that declares the same, in which no process has an operation
+abbrev pub idle_trace : Trace → Trace
+idle_trace trace = record trace { operations = replicate (process_count trace) []; order = [] }
+
+-- the bytes spell a trace that declares the type, and the host is one of what it declares, in which nothing has happened
+pub record HasRead (bytes : Text) (ty : TypeId) (bodies events : ℕ) (h : HostValue) : Type 0 where
+  pub said : NamedTrace
+  pub spelled : Spells bytes said
+  pub fit : AreFit said.trace.types ty events
+  pub fresh : IsFresh (record { trace = idle_trace said.trace; ty = ty; events = events }) bodies h
+
+-- the bytes spell a trace that does not declare the type, or the events are too many
+pub record SpellsUnfit (bytes : Text) (ty : TypeId) (events : ℕ) : Type 0 where
+  pub said : NamedTrace
+  pub spelled : Spells bytes said
+  pub unfit : ¬ (AreFit said.trace.types ty events)
+
+-- no host is read: memory ran out, that line of the bytes is the first bad one by that reason, or what they spell is not fit
+abbrev pub IsNotRead : Text → TypeId → ℕ → OpenError → Type 0
+IsNotRead bytes ty events (NoMemory refused) = Unit {0}
+IsNotRead bytes ty events (Bad line reason) = IsBad bytes line reason
+IsNotRead bytes ty events Unfit = SpellsUnfit bytes ty events

@@ -1,0 +1,133 @@
+//! A host of processes.
+ghost use Rattle.std.specs.Prelude.{◌≡◌, IfErr, IfOk, OnErr, OnOk};
+ghost use Rattle.k_types.specs.TraceRules.{KeepsRules};
+ghost use Rattle.k_guests.specs.Making.{AreFit};
+ghost use Rattle.k_guests.specs.Serving.{basis_of, open_trace};
+ghost use Rattle.k_calls.specs.Refusals.{CanNotOperate};
+ghost use Rattle.k_host.specs.Calls.{HasOperatedAs};
+ghost use Rattle.k_host.specs.Hosts.{IsFresh};
+ghost use Rattle.k_host.specs.Opening.{HasRead, IsNotMade, IsNotRead};
+ghost use Rattle.k_host.specs.Refusals.{MayRefuse};
+
+use crate::errors::OpenError;
+use crate::places::place_of;
+use k_book::Book;
+use k_calls::{HostError, operate_with};
+use k_guests::{Guest, Terms, are_fit, make_parts};
+use k_kernel::KernelCell;
+use k_shared::SharedCell;
+use k_trace::{Trace, TraceError, read_trace};
+use k_types::{Event, Op, Pid, TypeId};
+use std::alloc::Global;
+use std::marker::Model;
+
+/// Processes with their heaps, the kernel's heap, shared heaps and the book, driven operation by operation.
+#[derive(Drop)]
+pub struct Host {
+    pub(crate) terms: Terms,
+    pub(crate) guests: Vec<Guest>,
+    pub(crate) kernel: KernelCell,
+    pub(crate) shared: Vec<SharedCell>,
+    pub(crate) book: Book,
+}
+
+impl Model for Host {
+    ghost use Rattle.k_guests.specs.Serving.{basis_of};
+    ghost use Rattle.k_host.specs.Hosts.{HostServes, HostValue};
+
+    ghost Value = { HostValue };
+
+    ghost view = { λ h. record { basis = basis_of h.terms; guests = h.guests.items; kernel = h.kernel; shared = h.shared.items; book = h.book } };
+
+    ghost invariant = { λ h. HostServes (record { basis = basis_of h.terms; guests = h.guests.items; kernel = h.kernel; shared = h.shared.items; book = h.book }) };
+}
+
+impl Host {
+    /// A host for these terms, before the first event. It takes all memory that its calls will need: time and memory are in proportion to
+    /// the bodies, and to the events for each heap.
+    ///
+    /// # Errors
+    ///
+    /// `Terms` exactly where the setup has no such type or the events are 2^30 or more. `NoMemory` where memory runs out.
+    pub fn make(alloc: Global, terms: Terms) -> Result<Host, OpenError>
+        requires { KeepsRules (open_trace terms.setup) }
+        ensures made { IfOk result (λ host. IsFresh (basis_of terms) terms.bodies host) }
+        ensures fit { OnOk result (AreFit terms.setup.types terms.ty terms.events) }
+        ensures why { IfErr result (λ why. IsNotMade terms why) }
+    {
+        if !are_fit(&terms) {
+            return Err(OpenError::Terms);
+        }
+        let parts = make_parts(alloc, &terms)?;
+        Ok(Host {
+            terms,
+            guests: parts.guests,
+            kernel: parts.kernel,
+            shared: parts.shared,
+            book: parts.book,
+        })
+    }
+
+    /// A host of the setup that the text of a trace declares. Operations that stand there are left out.
+    ///
+    /// # Errors
+    ///
+    /// `Bad` exactly where the bytes spell no trace, with the first bad line and its reason, as `k_trace` numbers them; else those of
+    /// `make`: `Terms` where the trace declares no such type or the events are 2^30 or more, and `NoMemory` where memory runs out.
+    pub fn read(
+        alloc: Global,
+        text: &[u8],
+        ty: TypeId,
+        bodies: u32,
+        events: u32,
+    ) -> Result<Host, OpenError>
+        ensures read { IfOk result (λ host. HasRead text.now ty bodies events host) }
+        ensures why { IfErr result (λ why. IsNotRead text.now ty events why) }
+    {
+        match read_trace(alloc, text) {
+            Ok(trace) => {
+                let Trace {
+                    setup,
+                    names: _,
+                    ops: _,
+                    order: _,
+                } = trace;
+                Host::make(
+                    alloc,
+                    Terms {
+                        setup,
+                        ty,
+                        bodies,
+                        events,
+                    },
+                )
+            }
+            Err(TraceError::NoMemory(refused)) => Err(OpenError::NoMemory(refused)),
+            Err(TraceError::Bad { line, reason }) => Err(OpenError::Bad { line, reason }),
+        }
+    }
+
+    /// Does the operation of the process, inside its heap where it needs that heap alone, and answers its event.
+    ///
+    /// # Errors
+    ///
+    /// Each changes nothing: `Unknown`, `OwnCall`, `Ended` and `NoBody` as they say, `Phase` where a collection is open of the process's
+    /// heap, or of the kernel's where the operation touches that, and `Full` where the journal has no room for what is unpublished and
+    /// one event more, or the tables of a heap that is touched may have none for what the operation adds.
+    pub fn operate(&mut self, pid: Pid, op: &Op) -> Result<Event, HostError>
+        ensures done { IfOk result (λ event. HasOperatedAs self.old self.new pid op.now event) }
+        ensures same { OnErr result (self.new ≡ self.old) }
+        ensures why { IfErr result (λ why. MayRefuse self.old pid (CanNotOperate self.old.basis self.old.kernel self.old.shared self.old.book op.now) why) }
+    {
+        let at = place_of(&self.guests, pid)?;
+        let guest = &mut self.guests[at];
+        operate_with(
+            &self.terms,
+            guest,
+            &mut self.kernel,
+            &mut self.shared,
+            &mut self.book,
+            op,
+        )
+    }
+}

@@ -1,0 +1,23 @@
+//! Heaps that are driven operation by operation, with no trace: a host of processes over the step calls.
+//!
+//! A [`Host`] has the cells and the book of a setup, with a guest for each process. What a process does is made up as it goes:
+//! [`Host::operate`] does an operation inside the process's heap where it needs that heap alone, and else publishes and calls the
+//! step of the cells that it touches. Collections begin, are marked and end by calls of their own. What a step asks beyond what the host
+//! keeps, such as room in the journal, is tested when it is called: a test that fails is an error, which names what is lacking, and
+//! nothing has changed.
+//!
+//! A [`Twin`] is the machine on one thread beside a host, which takes the events that the host answers.
+#![tactic(auto)]
+
+mod collections;
+mod errors;
+mod host;
+mod looking;
+mod places;
+mod twin;
+
+pub use errors::OpenError;
+pub use host::Host;
+pub use k_calls::HostError;
+pub use k_guests::Terms;
+pub use twin::Twin;
