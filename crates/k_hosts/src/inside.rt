@@ -1,39 +1,34 @@
 //! Operations inside one heap.
-use crate::driving::{Call, answer, done};
-use crate::usual::{P1, name, new, usual};
-use k_types::{Op, Reg, Reply};
+use crate::driving::{local, operate, publish};
+use crate::usual::{P1, new, usual};
+use k_host::{Host, HostError};
+use k_types::{Op, Reg};
 use std::test::Fail;
 
-const MOVES: Op = Op::Move {
-    reg: Reg(1),
-    from: Reg(0),
-};
+/// How many events the journal has, and how many of the first process it lacks: once an object was made, and a move and a put done inside
+/// the heap, and again when these were published.
+fn lengths(host: &mut Host) -> Result<[(u32, Option<u32>); 2], HostError> {
+    let moves = Op::Move {
+        reg: Reg(1),
+        from: Reg(0),
+    };
+    let puts = Op::Put {
+        base: Reg(0),
+        field: 2,
+        number: 5,
+    };
+    operate(host, P1, &new(0))?;
+    local(host, P1, &moves)?;
+    local(host, P1, &puts)?;
+    let waiting = (host.len(), host.unpublished(P1));
+    publish(host, P1)?;
+    Ok([waiting, (host.len(), host.unpublished(P1))])
+}
 
-const PUTS: Op = Op::Put {
-    base: Reg(0),
-    field: 2,
-    number: 5,
-};
-
-// A move and a put wait in the process's heap until they are published; a collection is not done inside.
+// A move and a put wait in the process's heap until they are published.
 #[test]
 fn events_wait_until_they_are_published(rt: HostRuntime) -> Result<(), Fail> {
     let mut host = usual(rt.alloc())?;
-    let made = done(P1, new(0), Reply::Made(name(1, 1)));
-    let moved = done(P1, MOVES, Reply::Done);
-    let stored = done(P1, PUTS, Reply::Done);
-    for (call, want, journal, waiting) in [
-        (Call::Operate(P1, new(0)), made, 1, 0),
-        (Call::Local(P1, MOVES), moved, 1, 1),
-        (Call::Operate(P1, PUTS), stored, 1, 2),
-        (Call::Publish(P1), Ok(None), 3, 0),
-        (Call::Local(P1, Op::Collect), Ok(None), 3, 0),
-    ] {
-        assert_eq!(rt; answer(&mut host, call), want);
-        assert_eq!(rt;
-            (host.len(), host.unpublished(P1)),
-            (journal, Some(waiting))
-        );
-    }
+    assert_eq!(rt; lengths(&mut host)?, [(1, Some(2)), (3, Some(0))]);
     Ok(())
 }

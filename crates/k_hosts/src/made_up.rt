@@ -3,8 +3,10 @@ use crate::driving::{
     begin_heap, begin_kernel, end_heap, end_kernel, mark_heap, mark_kernel, operate,
 };
 use crate::usual::{NODE, P1, P2, S, share, usual};
-use k_host::{Host, HostError};
+use k_host::{Host, HostError, Twin};
+use k_io::NoMemory;
 use k_types::{Event, Op, Pid, Reg};
+use std::alloc::Global;
 use std::test::Fail;
 
 /// Numbers that look like chance, from a seed.
@@ -128,6 +130,19 @@ fn step(host: &mut Host, chance: &mut Chance) -> Result<Option<Event>, HostError
     }
 }
 
+/// One more step, and whether its event is a step of the machine on one thread too; none where it is refused or has no event.
+fn step_beside(
+    host: &mut Host,
+    twin: &mut Twin,
+    chance: &mut Chance,
+    alloc: Global,
+) -> Result<Option<bool>, NoMemory> {
+    match step(host, chance) {
+        Ok(Some(event)) => Ok(Some(twin.take(alloc, &event)?)),
+        _ => Ok(None),
+    }
+}
+
 // Each event is a step of the machine on one thread, with the same reply and the same numbers, in the order in which they are done.
 #[test]
 fn each_reply_is_the_plain_machines(rt: HostRuntime) -> Result<(), Fail> {
@@ -136,8 +151,8 @@ fn each_reply_is_the_plain_machines(rt: HostRuntime) -> Result<(), Fail> {
     let mut chance = Chance(0x9E37_79B9_7F4A_7C15);
     let mut done: u32 = 0;
     for _ in 0..1000 {
-        if let Ok(Some(event)) = step(&mut host, &mut chance) {
-            assert!(rt; twin.take(rt.alloc(), &event)?, "{event:?}");
+        if let Some(agreed) = step_beside(&mut host, &mut twin, &mut chance, rt.alloc())? {
+            assert!(rt; agreed);
             done = done.saturating_add(1);
         }
     }
