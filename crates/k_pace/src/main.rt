@@ -12,7 +12,7 @@
 //! is none of these, or 1 where the trace, memory or the output fail.
 #![tactic(auto)]
 
-ghost use Rattle.std.specs.Prelude.{IfOk};
+ghost use Rattle.std.specs.Prelude.{IfSome};
 ghost use Rattle.k_trace.specs.Meaning.{meaning_of};
 ghost use Rattle.k_trace.specs.Rules.{IsTrace};
 
@@ -27,40 +27,53 @@ use k_run::{replay_trace, run_trace};
 use k_text::View;
 use k_trace::{Trace, read_trace};
 use k_types::MOST_TRACE_BYTES;
+use std::alloc::Global;
 use std::env;
 use std::process::ExitCode;
+use std::sync::Wait;
+use std::thread::Threads;
+use std::time::Clock;
 
-/// Why there is nothing to tell.
-enum Failed {
-    Trace,
-    NoMemory,
+/// What is measured.
+#[derive(Clone, Copy)]
+enum Measure {
+    Run,
+    Gaps,
+    Replay,
 }
 
-impl From<NoMemory> for Failed {
-    fn from(_refused: NoMemory) -> Failed {
-        Failed::NoMemory
+/// What the word asks for; nothing where it is none of them.
+fn measure_of(word: &str) -> Option<Measure> {
+    match word {
+        "run" => Some(Measure::Run),
+        "gaps" => Some(Measure::Gaps),
+        "replay" => Some(Measure::Replay),
+        _ => None,
     }
 }
 
-/// The trace that standard input has.
-fn trace_of(rt: &HostRuntime) -> Result<Trace, Failed>
-    ensures { IfOk result (λ trace. IsTrace (meaning_of trace)) }
+/// The trace that standard input has; none where it has no trace, or where that finds no room.
+fn trace_of(rt: &HostRuntime) -> Option<Trace>
+    ensures { IfSome result (λ trace. IsTrace (meaning_of trace)) }
 {
     let alloc = rt.alloc();
     match read_all(alloc, &mut StdSource::of(rt.stdin()), MOST_TRACE_BYTES) {
         Ok(bytes) => match read_trace(alloc, &bytes) {
-            Ok(trace) => Ok(trace),
-            Err(_) => Err(Failed::Trace),
+            Ok(trace) => Some(trace),
+            Err(_) => None,
         },
-        Err(_) => Err(Failed::Trace),
+        Err(_) => None,
     }
 }
 
 /// Runs the trace on threads, and tells how long it ran. It answers the number of events.
-fn run_timed(rt: &HostRuntime, trace: Trace) -> Result<u32, NoMemory>
+fn run_timed<R: Threads + Wait + Sync + Clock + Eprint>(
+    rt: &R,
+    alloc: Global,
+    trace: Trace,
+) -> Result<u32, NoMemory>
     requires { IsTrace (meaning_of trace) }
 {
-    let alloc = rt.alloc();
     let gate = Ends::of(rt, alloc, &trace.ops)?;
     let outcome = run_trace(rt, alloc, trace, &gate)?;
     gate.tell();
@@ -68,10 +81,13 @@ fn run_timed(rt: &HostRuntime, trace: Trace) -> Result<u32, NoMemory>
 }
 
 /// Runs the trace on threads, and tells how long its processes stood still. It answers the number of events.
-fn run_with_gaps(rt: &HostRuntime, trace: Trace) -> Result<u32, NoMemory>
+fn run_with_gaps<R: Threads + Wait + Sync + Clock + Eprint>(
+    rt: &R,
+    alloc: Global,
+    trace: Trace,
+) -> Result<u32, NoMemory>
     requires { IsTrace (meaning_of trace) }
 {
-    let alloc = rt.alloc();
     let gate = Gaps::of(rt, alloc, trace.ops.len())?;
     let outcome = run_trace(rt, alloc, trace, &gate)?;
     gate.tell();
@@ -79,22 +95,27 @@ fn run_with_gaps(rt: &HostRuntime, trace: Trace) -> Result<u32, NoMemory>
 }
 
 /// Does the operations of the trace in the order of the file. It answers the number of events.
-fn replayed(rt: &HostRuntime, trace: Trace) -> Result<u32, NoMemory>
+fn replayed(alloc: Global, trace: Trace) -> Result<u32, NoMemory>
     requires { IsTrace (meaning_of trace) }
 {
-    let outcome = replay_trace(rt.alloc(), trace)?;
+    let outcome = replay_trace(alloc, trace)?;
     Ok(outcome.events())
 }
 
-/// Does what the word says with the trace from standard input, and gives the number of events; nothing where it is no word.
-fn measured(rt: &HostRuntime, word: &str) -> Result<Option<u32>, Failed> {
-    let events = match word {
-        "run" => run_timed(rt, trace_of(rt)?)?,
-        "gaps" => run_with_gaps(rt, trace_of(rt)?)?,
-        "replay" => replayed(rt, trace_of(rt)?)?,
-        _ => return Ok(None),
-    };
-    Ok(Some(events))
+/// Measures the trace, and answers the number of events.
+fn measured<R: Threads + Wait + Sync + Clock + Eprint>(
+    rt: &R,
+    alloc: Global,
+    measure: Measure,
+    trace: Trace,
+) -> Result<u32, NoMemory>
+    requires { IsTrace (meaning_of trace) }
+{
+    match measure {
+        Measure::Run => run_timed(rt, alloc, trace),
+        Measure::Gaps => run_with_gaps(rt, alloc, trace),
+        Measure::Replay => replayed(alloc, trace),
+    }
 }
 
 /// The words after the program's name; none where they cannot be had.
@@ -115,9 +136,14 @@ fn main(rt: HostRuntime) -> ExitCode {
     let [word] = words.as_slice() else {
         return ExitCode::from(2);
     };
-    match measured(&rt, word.as_str()) {
-        Ok(Some(events)) => ExitCode::from(println!(rt; "{word}: {events} events").is_err() as u8),
-        Ok(None) => ExitCode::from(2),
+    let Some(measure) = measure_of(word.as_str()) else {
+        return ExitCode::from(2);
+    };
+    let Some(trace) = trace_of(&rt) else {
+        return ExitCode::from(1);
+    };
+    match measured(&rt, rt.alloc(), measure, trace) {
+        Ok(events) => ExitCode::from(println!(rt; "{word}: {events} events").is_err() as u8),
         Err(_) => ExitCode::from(1),
     }
 }
