@@ -3,8 +3,12 @@ use crate::call::kaffe;
 use crate::status::Status;
 use crate::tests::{call, check_call, sink, words_of};
 use k_io::{Gate, GatePlace, MemSource};
+use std::alloc::Global;
+use std::process::Abort;
+use std::sync::Wait;
 use std::sync::atomic::{AtomicBool, AtomicU32, Ordering};
 use std::test::Fail;
+use std::thread::Threads;
 
 /// The summary for ten objects of each process.
 const TEN: &str = "big 10
@@ -123,17 +127,23 @@ impl Gate for Told {
     }
 }
 
+/// Runs the workload, compares its summary, and gives what the gate was told.
+fn told<R: Abort + Threads + Wait + Sync>(rt: &R, alloc: Global) -> Result<Told, Fail> {
+    let words = words_of(alloc, "big 10")?;
+    let mut source = MemSource::of(Vec::new(alloc), Vec::new(alloc));
+    let mut out = sink(alloc, 0)?;
+    let gate = Told::new();
+    let status = kaffe(rt, alloc, &words, &mut source, &mut out, &gate);
+    assert_eq!(rt; status, Status::Good);
+    assert_eq!(rt; str::from_utf8(out.bytes()), Ok(TEN));
+    Ok(gate)
+}
+
 /// A summary that is computed from the number alone is told by this, and so is a run that leaves some of its work to its end, where no
 /// gate is told.
 #[test]
 fn threads_do_all_the_work(rt: HostRuntime) -> Result<(), Fail> {
-    let words = words_of(rt.alloc(), "big 10")?;
-    let mut source = MemSource::of(Vec::new(rt.alloc()), Vec::new(rt.alloc()));
-    let mut out = sink(rt.alloc(), 0)?;
-    let gate = Told::new();
-    let status = kaffe(&rt, rt.alloc(), &words, &mut source, &mut out, &gate);
-    assert_eq!(rt; status, Status::Good);
-    assert_eq!(rt; str::from_utf8(out.bytes()), Ok(TEN));
+    let gate = told(&rt, rt.alloc())?;
     for pid in 0..8usize {
         // a step for `dir`, ten `new`, two stores into the directory, both ends of a collection, and every other process's `exit`
         let want = if pid % 2 == 0 { (47, 16) } else { (46, 15) };

@@ -277,34 +277,46 @@ fn tells_each_byte_that_is_not_given(rt: HostRuntime) -> Result<(), Fail> {
     Ok(())
 }
 
+/// Replays the first trace into a sink whose write of that number fails, and compares what it took before.
+fn check_cut<R: Abort + Threads + Wait + Sync>(
+    rt: &R,
+    alloc: Global,
+    failing_write: u32,
+    taken: &str,
+) -> Result<(), Fail> {
+    let mut out = sink(alloc, failing_write)?;
+    let status = call(rt, alloc, "replay", TRACE, 0, &mut out)?;
+    assert_eq!(rt; status, Status::WriteFault, "write {failing_write}");
+    assert_eq!(rt;
+        str::from_utf8(out.bytes()),
+        Ok(taken),
+        "write {failing_write}"
+    );
+    Ok(())
+}
+
 #[test]
 fn tells_each_line_that_is_not_taken(rt: HostRuntime) -> Result<(), Fail> {
-    let mut written = String::new(rt.alloc());
+    let mut taken = String::new(rt.alloc());
     let mut number = 1u32;
     for line in REPORT.split_inclusive('\n') {
-        let mut out = sink(rt.alloc(), number)?;
-        let status = call(&rt, rt.alloc(), "replay", TRACE, 0, &mut out)?;
-        assert_eq!(rt; status, Status::WriteFault, "write {number}");
-        assert_eq!(rt;
-            str::from_utf8(out.bytes()),
-            Ok(written.as_str()),
-            "write {number}"
-        );
-        written.push_str(line)?;
+        check_cut(&rt, rt.alloc(), number, &taken)?;
+        taken.push_str(line)?;
         number = number.saturating_add(1);
     }
+    // each line is one write, and there is no other
     let mut out = sink(rt.alloc(), number)?;
-    assert_eq!(rt;
-        call(&rt, rt.alloc(), "replay", TRACE, 0, &mut out)?,
-        Status::Good
-    );
+    let status = call(&rt, rt.alloc(), "replay", TRACE, 0, &mut out)?;
+    assert_eq!(rt; status, Status::Good);
+    Ok(())
+}
+
+#[test]
+fn tells_other_texts_that_are_not_taken(rt: HostRuntime) -> Result<(), Fail> {
     for (words, input) in [("run", ""), ("help", TRACE), ("check", TRACE)] {
         let mut out = sink(rt.alloc(), 1)?;
-        assert_eq!(rt;
-            call(&rt, rt.alloc(), words, input, 0, &mut out)?,
-            Status::WriteFault,
-            "{words}"
-        );
+        let status = call(&rt, rt.alloc(), words, input, 0, &mut out)?;
+        assert_eq!(rt; status, Status::WriteFault, "{words}");
         assert_eq!(rt; out.bytes().len(), 0);
     }
     Ok(())
