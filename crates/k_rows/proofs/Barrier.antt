@@ -1,5 +1,6 @@
 -- The barrier judges stores, and nothing judges loads into registers.
-use Rattle.std.proofs.Common.{◌≡◌, refl, lit<}
+use Rattle.std.proofs.Common.{◌≡◌, refl}
+use Rattle.k_types.specs.State.{opening}
 use Rattle.k_types.specs.Steps.{IsLegalHistory}
 use Rattle.k_types.specs.FileOrder.{file_order, file_order_from}
 use Rattle.k_types.specs.TraceRules.{KeepsRules}
@@ -9,35 +10,12 @@ use Rattle.k_rows.specs.Lefts.{left_by}
 use Rattle.k_rows.specs.Worked.{IsWorked}
 use Rattle.k_rows.specs.Barriers.{barrier, barrier_left}
 use Rattle.k_rows.proofs.Machine.{machine}
+use Rattle.k_rows.proofs.Legal.{run_of}
 use Rattle.k_rows.proofs.Rules.{rules_kept, is_complete}
 
 legal : IsLegalHistory (trace_doing usual barrier) barrier
 unfolding machine
-legal = (
-  record { known = lit< tt; lives = refl; in_range = refl; idle = refl; orphans = refl; replied = refl },
-  (
-    record { known = lit< tt; lives = refl; in_range = refl; idle = refl; orphans = refl; replied = refl },
-    (
-      record { known = lit< tt; lives = refl; in_range = refl; idle = refl; orphans = refl; replied = refl },
-      (
-        record { known = lit< tt; lives = refl; in_range = refl; idle = refl; orphans = refl; replied = refl },
-        (
-          record { known = lit< tt; lives = refl; in_range = refl; idle = refl; orphans = refl; replied = refl },
-          (
-            record { known = lit< tt; lives = refl; in_range = refl; idle = refl; orphans = refl; replied = refl },
-            (
-              record { known = lit< tt; lives = refl; in_range = refl; idle = refl; orphans = refl; replied = refl },
-              (
-                record { known = lit< tt; lives = refl; in_range = refl; idle = refl; orphans = refl; replied = refl },
-                tt,
-              ),
-            ),
-          ),
-        ),
-      ),
-    ),
-  ),
-)
+legal = run_of (trace_doing usual barrier) (opening (trace_doing usual barrier)) barrier refl refl
 
 filed : file_order (trace_doing usual barrier) ≡ barrier
 unfolding machine file_order_from

@@ -1,10 +1,12 @@
 -- Events that are not possible.
-use Rattle.std.proofs.Common.{refl, sym, ap, arith, lit<}
+use Rattle.std.proofs.Common.{refl, sym, ap, arith}
 use Rattle.std.proofs.lemmas.Bool.{false≢true}
-use Rattle.k_rows.specs.Words.{usual}
+use Rattle.k_types.specs.State.{opening}
+use Rattle.k_rows.specs.Words.{trace_doing, usual}
 use Rattle.k_rows.specs.Worked.{IsImpossibleAfter}
 use Rattle.k_rows.specs.Impossible.{before_an_operation_of_no_process, an_operation_of_no_process, before_an_operation_after_an_exit, an_operation_after_an_exit, before_a_register_that_is_not_there, a_register_that_is_not_there, before_a_type_that_is_not_there, a_type_that_is_not_there, before_a_shared_heap_that_is_not_there, a_shared_heap_that_is_not_there, before_a_move_on_a_scanned_heap, a_move_on_a_scanned_heap, before_a_put_on_a_scanned_heap, a_put_on_a_scanned_heap, before_a_get_on_a_scanned_heap, a_get_on_a_scanned_heap, before_an_allocation_in_a_scanned_kernel, an_allocation_in_a_scanned_kernel, before_a_put_into_a_scanned_kernel, a_put_into_a_scanned_kernel, before_a_second_collection_of_a_heap, a_second_collection_of_a_heap, before_a_kernel_collection_beside_an_orphan, a_kernel_collection_beside_an_orphan, before_a_wrong_name, a_wrong_name, before_a_fault_that_is_not_there, a_fault_that_is_not_there, before_a_fault_that_is_missed, a_fault_that_is_missed, before_an_end_without_a_collection, an_end_without_a_collection, before_one_object_too_many, one_object_too_many, before_one_byte_too_few, one_byte_too_few, before_an_exit_item_too_many, an_exit_item_too_many, before_a_share_too_many, a_share_too_many, before_absorbing_a_heap_that_is_not_there, absorbing_a_heap_that_is_not_there, before_absorbing_an_unmade_heap, absorbing_an_unmade_heap, before_absorbing_a_shared_heap_in_use, absorbing_a_shared_heap_in_use, before_absorbing_into_a_scanned_kernel, absorbing_into_a_scanned_kernel, before_closing_before_all_have_ended, closing_before_all_have_ended, before_closing_beside_an_orphan, closing_beside_an_orphan, before_closing_a_scanned_kernel, closing_a_scanned_kernel, before_closing_twice, closing_twice}
 use Rattle.k_rows.proofs.Machine.{machine}
+use Rattle.k_rows.proofs.Legal.{run_of}
 use Rattle.k_rows.proofs.Replies.{name_in, is_refused, is_done}
 
 pub an_operation_of_no_process_is_not : IsImpossibleAfter usual before_an_operation_of_no_process an_operation_of_no_process
@@ -14,10 +16,7 @@ an_operation_of_no_process_is_not = record { legal = tt; not = λ possible. omeg
 pub an_operation_after_an_exit_is_not : IsImpossibleAfter usual before_an_operation_after_an_exit an_operation_after_an_exit
 unfolding machine
 an_operation_after_an_exit_is_not = record {
-  legal = (
-    record { known = lit< tt; lives = refl; in_range = refl; idle = refl; orphans = refl; replied = refl },
-    tt,
-  );
+  legal = run_of (trace_doing usual before_an_operation_after_an_exit) (opening (trace_doing usual before_an_operation_after_an_exit)) before_an_operation_after_an_exit refl refl;
   not = λ possible. false≢true (sym possible.lives);
 }
 
@@ -36,85 +35,49 @@ a_shared_heap_that_is_not_there_is_not = record { legal = tt; not = λ possible.
 pub a_move_on_a_scanned_heap_is_not : IsImpossibleAfter usual before_a_move_on_a_scanned_heap a_move_on_a_scanned_heap
 unfolding machine
 a_move_on_a_scanned_heap_is_not = record {
-  legal = (
-    record { known = lit< tt; lives = refl; in_range = refl; idle = refl; orphans = refl; replied = refl },
-    (
-      record { known = lit< tt; lives = refl; in_range = refl; idle = refl; orphans = refl; replied = refl },
-      tt,
-    ),
-  );
+  legal = run_of (trace_doing usual before_a_move_on_a_scanned_heap) (opening (trace_doing usual before_a_move_on_a_scanned_heap)) before_a_move_on_a_scanned_heap refl refl;
   not = λ possible. false≢true possible.idle;
 }
 
 pub a_put_on_a_scanned_heap_is_not : IsImpossibleAfter usual before_a_put_on_a_scanned_heap a_put_on_a_scanned_heap
 unfolding machine
 a_put_on_a_scanned_heap_is_not = record {
-  legal = (
-    record { known = lit< tt; lives = refl; in_range = refl; idle = refl; orphans = refl; replied = refl },
-    (
-      record { known = lit< tt; lives = refl; in_range = refl; idle = refl; orphans = refl; replied = refl },
-      tt,
-    ),
-  );
+  legal = run_of (trace_doing usual before_a_put_on_a_scanned_heap) (opening (trace_doing usual before_a_put_on_a_scanned_heap)) before_a_put_on_a_scanned_heap refl refl;
   not = λ possible. false≢true possible.idle;
 }
 
 pub a_get_on_a_scanned_heap_is_not : IsImpossibleAfter usual before_a_get_on_a_scanned_heap a_get_on_a_scanned_heap
 unfolding machine
 a_get_on_a_scanned_heap_is_not = record {
-  legal = (
-    record { known = lit< tt; lives = refl; in_range = refl; idle = refl; orphans = refl; replied = refl },
-    (
-      record { known = lit< tt; lives = refl; in_range = refl; idle = refl; orphans = refl; replied = refl },
-      tt,
-    ),
-  );
+  legal = run_of (trace_doing usual before_a_get_on_a_scanned_heap) (opening (trace_doing usual before_a_get_on_a_scanned_heap)) before_a_get_on_a_scanned_heap refl refl;
   not = λ possible. false≢true possible.idle;
 }
 
 pub an_allocation_in_a_scanned_kernel_is_not : IsImpossibleAfter usual before_an_allocation_in_a_scanned_kernel an_allocation_in_a_scanned_kernel
 unfolding machine
 an_allocation_in_a_scanned_kernel_is_not = record {
-  legal = (
-    record { known = lit< tt; lives = refl; in_range = refl; idle = refl; orphans = refl; replied = refl },
-    tt,
-  );
+  legal = run_of (trace_doing usual before_an_allocation_in_a_scanned_kernel) (opening (trace_doing usual before_an_allocation_in_a_scanned_kernel)) before_an_allocation_in_a_scanned_kernel refl refl;
   not = λ possible. false≢true possible.idle;
 }
 
 pub a_put_into_a_scanned_kernel_is_not : IsImpossibleAfter usual before_a_put_into_a_scanned_kernel a_put_into_a_scanned_kernel
 unfolding machine
 a_put_into_a_scanned_kernel_is_not = record {
-  legal = (
-    record { known = lit< tt; lives = refl; in_range = refl; idle = refl; orphans = refl; replied = refl },
-    (
-      record { known = lit< tt; lives = refl; in_range = refl; idle = refl; orphans = refl; replied = refl },
-      tt,
-    ),
-  );
+  legal = run_of (trace_doing usual before_a_put_into_a_scanned_kernel) (opening (trace_doing usual before_a_put_into_a_scanned_kernel)) before_a_put_into_a_scanned_kernel refl refl;
   not = λ possible. false≢true possible.idle;
 }
 
 pub a_second_collection_of_a_heap_is_not : IsImpossibleAfter usual before_a_second_collection_of_a_heap a_second_collection_of_a_heap
 unfolding machine
 a_second_collection_of_a_heap_is_not = record {
-  legal = (
-    record { known = lit< tt; lives = refl; in_range = refl; idle = refl; orphans = refl; replied = refl },
-    tt,
-  );
+  legal = run_of (trace_doing usual before_a_second_collection_of_a_heap) (opening (trace_doing usual before_a_second_collection_of_a_heap)) before_a_second_collection_of_a_heap refl refl;
   not = λ possible. false≢true possible.idle;
 }
 
 pub a_kernel_collection_beside_an_orphan_is_not : IsImpossibleAfter usual before_a_kernel_collection_beside_an_orphan a_kernel_collection_beside_an_orphan
 unfolding machine
 a_kernel_collection_beside_an_orphan_is_not = record {
-  legal = (
-    record { known = lit< tt; lives = refl; in_range = refl; idle = refl; orphans = refl; replied = refl },
-    (
-      record { known = lit< tt; lives = refl; in_range = refl; idle = refl; orphans = refl; replied = refl },
-      tt,
-    ),
-  );
+  legal = run_of (trace_doing usual before_a_kernel_collection_beside_an_orphan) (opening (trace_doing usual before_a_kernel_collection_beside_an_orphan)) before_a_kernel_collection_beside_an_orphan refl refl;
   not = λ possible. false≢true possible.orphans;
 }
 
@@ -137,64 +100,28 @@ an_end_without_a_collection_is_not = record { legal = tt; not = λ possible. fal
 pub one_object_too_many_is_not : IsImpossibleAfter usual before_one_object_too_many one_object_too_many
 unfolding machine
 one_object_too_many_is_not = record {
-  legal = (
-    record { known = lit< tt; lives = refl; in_range = refl; idle = refl; orphans = refl; replied = refl },
-    (
-      record { known = lit< tt; lives = refl; in_range = refl; idle = refl; orphans = refl; replied = refl },
-      (
-        record { known = lit< tt; lives = refl; in_range = refl; idle = refl; orphans = refl; replied = refl },
-        tt,
-      ),
-    ),
-  );
+  legal = run_of (trace_doing usual before_one_object_too_many) (opening (trace_doing usual before_one_object_too_many)) before_one_object_too_many refl refl;
   not = λ possible. omega (arith, possible.objects_gone);
 }
 
 pub one_byte_too_few_is_not : IsImpossibleAfter usual before_one_byte_too_few one_byte_too_few
 unfolding machine
 one_byte_too_few_is_not = record {
-  legal = (
-    record { known = lit< tt; lives = refl; in_range = refl; idle = refl; orphans = refl; replied = refl },
-    (
-      record { known = lit< tt; lives = refl; in_range = refl; idle = refl; orphans = refl; replied = refl },
-      (
-        record { known = lit< tt; lives = refl; in_range = refl; idle = refl; orphans = refl; replied = refl },
-        tt,
-      ),
-    ),
-  );
+  legal = run_of (trace_doing usual before_one_byte_too_few) (opening (trace_doing usual before_one_byte_too_few)) before_one_byte_too_few refl refl;
   not = λ possible. omega (arith, possible.bytes_gone);
 }
 
 pub an_exit_item_too_many_is_not : IsImpossibleAfter usual before_an_exit_item_too_many an_exit_item_too_many
 unfolding machine
 an_exit_item_too_many_is_not = record {
-  legal = (
-    record { known = lit< tt; lives = refl; in_range = refl; idle = refl; orphans = refl; replied = refl },
-    (
-      record { known = lit< tt; lives = refl; in_range = refl; idle = refl; orphans = refl; replied = refl },
-      (
-        record { known = lit< tt; lives = refl; in_range = refl; idle = refl; orphans = refl; replied = refl },
-        tt,
-      ),
-    ),
-  );
+  legal = run_of (trace_doing usual before_an_exit_item_too_many) (opening (trace_doing usual before_an_exit_item_too_many)) before_an_exit_item_too_many refl refl;
   not = λ possible. omega (arith, possible.exits_gone);
 }
 
 pub a_share_too_many_is_not : IsImpossibleAfter usual before_a_share_too_many a_share_too_many
 unfolding machine
 a_share_too_many_is_not = record {
-  legal = (
-    record { known = lit< tt; lives = refl; in_range = refl; idle = refl; orphans = refl; replied = refl },
-    (
-      record { known = lit< tt; lives = refl; in_range = refl; idle = refl; orphans = refl; replied = refl },
-      (
-        record { known = lit< tt; lives = refl; in_range = refl; idle = refl; orphans = refl; replied = refl },
-        tt,
-      ),
-    ),
-  );
+  legal = run_of (trace_doing usual before_a_share_too_many) (opening (trace_doing usual before_a_share_too_many)) before_a_share_too_many refl refl;
   not = λ possible. omega (arith, possible.shares_gone);
 }
 
@@ -209,98 +136,41 @@ absorbing_an_unmade_heap_is_not = record { legal = tt; not = λ possible. false�
 pub absorbing_a_shared_heap_in_use_is_not : IsImpossibleAfter usual before_absorbing_a_shared_heap_in_use absorbing_a_shared_heap_in_use
 unfolding machine
 absorbing_a_shared_heap_in_use_is_not = record {
-  legal = (
-    record { known = lit< tt; lives = refl; in_range = refl; idle = refl; orphans = refl; replied = refl },
-    tt,
-  );
+  legal = run_of (trace_doing usual before_absorbing_a_shared_heap_in_use) (opening (trace_doing usual before_absorbing_a_shared_heap_in_use)) before_absorbing_a_shared_heap_in_use refl refl;
   not = λ possible. false≢true possible.orphan;
 }
 
 pub absorbing_into_a_scanned_kernel_is_not : IsImpossibleAfter usual before_absorbing_into_a_scanned_kernel absorbing_into_a_scanned_kernel
 unfolding machine
 absorbing_into_a_scanned_kernel_is_not = record {
-  legal = (
-    record { known = lit< tt; lives = refl; in_range = refl; idle = refl; orphans = refl; replied = refl },
-    (
-      record { known = lit< tt; lives = refl; in_range = refl; idle = refl; orphans = refl; replied = refl },
-      (
-        record { known = lit< tt; lives = refl; in_range = refl; idle = refl; orphans = refl; replied = refl },
-        (
-          record { known = lit< tt; lives = refl; in_range = refl; idle = refl; orphans = refl; replied = refl },
-          (
-            record { known = lit< tt; lives = refl; in_range = refl; idle = refl; orphans = refl; replied = refl },
-            (
-              record { known = lit< tt; lives = refl; in_range = refl; idle = refl; orphans = refl; replied = refl },
-              (
-                record { scanned = refl; objects_gone = refl; bytes_gone = refl; exits_gone = refl; shares_gone = refl },
-                tt,
-              ),
-            ),
-          ),
-        ),
-      ),
-    ),
-  );
+  legal = run_of (trace_doing usual before_absorbing_into_a_scanned_kernel) (opening (trace_doing usual before_absorbing_into_a_scanned_kernel)) before_absorbing_into_a_scanned_kernel refl refl;
   not = λ possible. false≢true (sym possible.idle);
 }
 
 pub closing_before_all_have_ended_is_not : IsImpossibleAfter usual before_closing_before_all_have_ended closing_before_all_have_ended
 unfolding machine
 closing_before_all_have_ended_is_not = record {
-  legal = (
-    record { known = lit< tt; lives = refl; in_range = refl; idle = refl; orphans = refl; replied = refl },
-    tt,
-  );
+  legal = run_of (trace_doing usual before_closing_before_all_have_ended) (opening (trace_doing usual before_closing_before_all_have_ended)) before_closing_before_all_have_ended refl refl;
   not = λ possible. false≢true possible.all_ended;
 }
 
 pub closing_beside_an_orphan_is_not : IsImpossibleAfter usual before_closing_beside_an_orphan closing_beside_an_orphan
 unfolding machine
 closing_beside_an_orphan_is_not = record {
-  legal = (
-    record { known = lit< tt; lives = refl; in_range = refl; idle = refl; orphans = refl; replied = refl },
-    (
-      record { known = lit< tt; lives = refl; in_range = refl; idle = refl; orphans = refl; replied = refl },
-      (
-        record { known = lit< tt; lives = refl; in_range = refl; idle = refl; orphans = refl; replied = refl },
-        tt,
-      ),
-    ),
-  );
+  legal = run_of (trace_doing usual before_closing_beside_an_orphan) (opening (trace_doing usual before_closing_beside_an_orphan)) before_closing_beside_an_orphan refl refl;
   not = λ possible. false≢true possible.orphans;
 }
 
 pub closing_a_scanned_kernel_is_not : IsImpossibleAfter usual before_closing_a_scanned_kernel closing_a_scanned_kernel
 unfolding machine
 closing_a_scanned_kernel_is_not = record {
-  legal = (
-    record { known = lit< tt; lives = refl; in_range = refl; idle = refl; orphans = refl; replied = refl },
-    (
-      record { known = lit< tt; lives = refl; in_range = refl; idle = refl; orphans = refl; replied = refl },
-      (
-        record { all_ended = refl; orphans = refl; idle = refl; first = refl },
-        tt,
-      ),
-    ),
-  );
+  legal = run_of (trace_doing usual before_closing_a_scanned_kernel) (opening (trace_doing usual before_closing_a_scanned_kernel)) before_closing_a_scanned_kernel refl refl;
   not = λ possible. false≢true (sym possible.idle);
 }
 
 pub closing_twice_is_not : IsImpossibleAfter usual before_closing_twice closing_twice
 unfolding machine
 closing_twice_is_not = record {
-  legal = (
-    record { known = lit< tt; lives = refl; in_range = refl; idle = refl; orphans = refl; replied = refl },
-    (
-      record { known = lit< tt; lives = refl; in_range = refl; idle = refl; orphans = refl; replied = refl },
-      (
-        record { all_ended = refl; orphans = refl; idle = refl; first = refl },
-        (
-          record { scanned = refl; objects_gone = refl; bytes_gone = refl; exits_gone = refl; shares_gone = refl },
-          tt,
-        ),
-      ),
-    ),
-  );
+  legal = run_of (trace_doing usual before_closing_twice) (opening (trace_doing usual before_closing_twice)) before_closing_twice refl refl;
   not = λ possible. false≢true (sym possible.first);
 }

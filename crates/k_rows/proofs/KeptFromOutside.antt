@@ -1,5 +1,6 @@
 -- After the barrier: the entry item, and later a register of the other process alone, keep the object.
-use Rattle.std.proofs.Common.{◌≡◌, refl, lit<}
+use Rattle.std.proofs.Common.{◌≡◌, refl}
+use Rattle.k_types.specs.State.{opening}
 use Rattle.k_types.specs.Steps.{IsLegalHistory}
 use Rattle.k_types.specs.FileOrder.{file_order, file_order_from}
 use Rattle.k_types.specs.TraceRules.{KeepsRules}
@@ -9,68 +10,12 @@ use Rattle.k_rows.specs.Lefts.{left_by}
 use Rattle.k_rows.specs.Worked.{IsWorked}
 use Rattle.k_rows.specs.Barriers.{kept_from_outside, kept_from_outside_left}
 use Rattle.k_rows.proofs.Machine.{machine}
+use Rattle.k_rows.proofs.Legal.{run_of}
 use Rattle.k_rows.proofs.Rules.{rules_kept, is_complete}
 
 legal : IsLegalHistory (trace_doing usual kept_from_outside) kept_from_outside
 unfolding machine
-legal = (
-  record { known = lit< tt; lives = refl; in_range = refl; idle = refl; orphans = refl; replied = refl },
-  (
-    record { known = lit< tt; lives = refl; in_range = refl; idle = refl; orphans = refl; replied = refl },
-    (
-      record { known = lit< tt; lives = refl; in_range = refl; idle = refl; orphans = refl; replied = refl },
-      (
-        record { known = lit< tt; lives = refl; in_range = refl; idle = refl; orphans = refl; replied = refl },
-        (
-          record { known = lit< tt; lives = refl; in_range = refl; idle = refl; orphans = refl; replied = refl },
-          (
-            record { known = lit< tt; lives = refl; in_range = refl; idle = refl; orphans = refl; replied = refl },
-            (
-              record { known = lit< tt; lives = refl; in_range = refl; idle = refl; orphans = refl; replied = refl },
-              (
-                record { known = lit< tt; lives = refl; in_range = refl; idle = refl; orphans = refl; replied = refl },
-                (
-                  record { known = lit< tt; lives = refl; in_range = refl; idle = refl; orphans = refl; replied = refl },
-                  (
-                    record { known = lit< tt; lives = refl; in_range = refl; idle = refl; orphans = refl; replied = refl },
-                    (
-                      record { scanned = refl; objects_gone = refl; bytes_gone = refl; exits_gone = refl; shares_gone = refl },
-                      (
-                        record { known = lit< tt; lives = refl; in_range = refl; idle = refl; orphans = refl; replied = refl },
-                        (
-                          record { known = lit< tt; lives = refl; in_range = refl; idle = refl; orphans = refl; replied = refl },
-                          (
-                            record { scanned = refl; objects_gone = refl; bytes_gone = refl; exits_gone = refl; shares_gone = refl },
-                            (
-                              record { known = lit< tt; lives = refl; in_range = refl; idle = refl; orphans = refl; replied = refl },
-                              (
-                                record { scanned = refl; objects_gone = refl; bytes_gone = refl; exits_gone = refl; shares_gone = refl },
-                                (
-                                  record { known = lit< tt; lives = refl; in_range = refl; idle = refl; orphans = refl; replied = refl },
-                                  (
-                                    record { known = lit< tt; lives = refl; in_range = refl; idle = refl; orphans = refl; replied = refl },
-                                    (
-                                      record { scanned = refl; objects_gone = refl; bytes_gone = refl; exits_gone = refl; shares_gone = refl },
-                                      tt,
-                                    ),
-                                  ),
-                                ),
-                              ),
-                            ),
-                          ),
-                        ),
-                      ),
-                    ),
-                  ),
-                ),
-              ),
-            ),
-          ),
-        ),
-      ),
-    ),
-  ),
-)
+legal = run_of (trace_doing usual kept_from_outside) (opening (trace_doing usual kept_from_outside)) kept_from_outside refl refl
 
 filed : file_order (trace_doing usual kept_from_outside) ≡ kept_from_outside
 unfolding machine file_order_from

@@ -1,5 +1,6 @@
 -- Both processes end, and the last collection frees what the first left to the kernel.
-use Rattle.std.proofs.Common.{◌≡◌, refl, lit<, take}
+use Rattle.std.proofs.Common.{◌≡◌, refl, take}
+use Rattle.k_types.specs.State.{opening}
 use Rattle.k_types.specs.Steps.{IsLegalHistory}
 use Rattle.k_types.specs.FileOrder.{file_order, file_order_from}
 use Rattle.k_types.specs.TraceRules.{KeepsRules}
@@ -9,32 +10,12 @@ use Rattle.k_rows.specs.Lefts.{left_by}
 use Rattle.k_rows.specs.Worked.{IsWorked}
 use Rattle.k_rows.specs.Ends.{last_collection, last_collection_left}
 use Rattle.k_rows.proofs.Machine.{machine}
+use Rattle.k_rows.proofs.Legal.{run_of}
 use Rattle.k_rows.proofs.Rules.{rules_kept, is_closed}
 
 legal : IsLegalHistory (trace_doing usual last_collection) last_collection
 unfolding machine
-legal = (
-  record { known = lit< tt; lives = refl; in_range = refl; idle = refl; orphans = refl; replied = refl },
-  (
-    record { known = lit< tt; lives = refl; in_range = refl; idle = refl; orphans = refl; replied = refl },
-    (
-      record { known = lit< tt; lives = refl; in_range = refl; idle = refl; orphans = refl; replied = refl },
-      (
-        record { known = lit< tt; lives = refl; in_range = refl; idle = refl; orphans = refl; replied = refl },
-        (
-          record { known = lit< tt; lives = refl; in_range = refl; idle = refl; orphans = refl; replied = refl },
-          (
-            record { all_ended = refl; orphans = refl; idle = refl; first = refl },
-            (
-              record { scanned = refl; objects_gone = refl; bytes_gone = refl; exits_gone = refl; shares_gone = refl },
-              tt,
-            ),
-          ),
-        ),
-      ),
-    ),
-  ),
-)
+legal = run_of (trace_doing usual last_collection) (opening (trace_doing usual last_collection)) last_collection refl refl
 
 filed : file_order (trace_doing usual last_collection) ≡ last_collection
 unfolding machine file_order_from

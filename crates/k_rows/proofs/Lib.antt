@@ -1,4 +1,5 @@
 mod Machine
+mod Legal
 mod Rules
 mod ASoftLimitChargesUpward
 mod BoundaryOfAHardLimit

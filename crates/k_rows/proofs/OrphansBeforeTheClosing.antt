@@ -1,5 +1,6 @@
 -- Where all processes have ended the orphans are absorbed by rising number, and then the last collection comes.
-use Rattle.std.proofs.Common.{◌≡◌, refl, lit<, take}
+use Rattle.std.proofs.Common.{◌≡◌, refl, take}
+use Rattle.k_types.specs.State.{opening}
 use Rattle.k_types.specs.Steps.{IsLegalHistory}
 use Rattle.k_types.specs.FileOrder.{file_order, file_order_from}
 use Rattle.k_types.specs.TraceRules.{KeepsRules}
@@ -9,38 +10,12 @@ use Rattle.k_rows.specs.Lefts.{left_by}
 use Rattle.k_rows.specs.Worked.{IsWorked}
 use Rattle.k_rows.specs.Ends.{orphans_before_the_closing, orphans_before_the_closing_left}
 use Rattle.k_rows.proofs.Machine.{machine}
+use Rattle.k_rows.proofs.Legal.{run_of}
 use Rattle.k_rows.proofs.Rules.{rules_kept, is_closed}
 
 legal : IsLegalHistory (trace_doing two_shared orphans_before_the_closing) orphans_before_the_closing
 unfolding machine
-legal = (
-  record { known = lit< tt; lives = refl; in_range = refl; idle = refl; orphans = refl; replied = refl },
-  (
-    record { known = lit< tt; lives = refl; in_range = refl; idle = refl; orphans = refl; replied = refl },
-    (
-      record { known = lit< tt; lives = refl; in_range = refl; idle = refl; orphans = refl; replied = refl },
-      (
-        record { known = lit< tt; lives = refl; in_range = refl; idle = refl; orphans = refl; replied = refl },
-        (
-          record { known = lit< tt; lives = refl; in_range = refl; idle = refl; orphans = refl; replied = refl },
-          (
-            record { known = lit< tt; orphan = refl; idle = refl },
-            (
-              record { known = lit< tt; orphan = refl; idle = refl },
-              (
-                record { all_ended = refl; orphans = refl; idle = refl; first = refl },
-                (
-                  record { scanned = refl; objects_gone = refl; bytes_gone = refl; exits_gone = refl; shares_gone = refl },
-                  tt,
-                ),
-              ),
-            ),
-          ),
-        ),
-      ),
-    ),
-  ),
-)
+legal = run_of (trace_doing two_shared orphans_before_the_closing) (opening (trace_doing two_shared orphans_before_the_closing)) orphans_before_the_closing refl refl
 
 filed : file_order (trace_doing two_shared orphans_before_the_closing) ≡ orphans_before_the_closing
 unfolding machine file_order_from

@@ -1,6 +1,7 @@
 -- A freeze is refused for a root that is null or lies elsewhere; after the freeze nobody populates the heap any more,
 -- so a second freeze is refused, and so is an allocation there.
-use Rattle.std.proofs.Common.{◌≡◌, refl, lit<}
+use Rattle.std.proofs.Common.{◌≡◌, refl}
+use Rattle.k_types.specs.State.{opening}
 use Rattle.k_types.specs.Steps.{IsLegalHistory}
 use Rattle.k_types.specs.FileOrder.{file_order, file_order_from}
 use Rattle.k_types.specs.TraceRules.{KeepsRules}
@@ -10,35 +11,12 @@ use Rattle.k_rows.specs.Lefts.{left_by}
 use Rattle.k_rows.specs.Worked.{IsWorked}
 use Rattle.k_rows.specs.Sharing.{refused_freezes, refused_freezes_left}
 use Rattle.k_rows.proofs.Machine.{machine}
+use Rattle.k_rows.proofs.Legal.{run_of}
 use Rattle.k_rows.proofs.Rules.{rules_kept, is_complete}
 
 legal : IsLegalHistory (trace_doing usual refused_freezes) refused_freezes
 unfolding machine
-legal = (
-  record { known = lit< tt; lives = refl; in_range = refl; idle = refl; orphans = refl; replied = refl },
-  (
-    record { known = lit< tt; lives = refl; in_range = refl; idle = refl; orphans = refl; replied = refl },
-    (
-      record { known = lit< tt; lives = refl; in_range = refl; idle = refl; orphans = refl; replied = refl },
-      (
-        record { known = lit< tt; lives = refl; in_range = refl; idle = refl; orphans = refl; replied = refl },
-        (
-          record { known = lit< tt; lives = refl; in_range = refl; idle = refl; orphans = refl; replied = refl },
-          (
-            record { known = lit< tt; lives = refl; in_range = refl; idle = refl; orphans = refl; replied = refl },
-            (
-              record { known = lit< tt; lives = refl; in_range = refl; idle = refl; orphans = refl; replied = refl },
-              (
-                record { known = lit< tt; lives = refl; in_range = refl; idle = refl; orphans = refl; replied = refl },
-                tt,
-              ),
-            ),
-          ),
-        ),
-      ),
-    ),
-  ),
-)
+legal = run_of (trace_doing usual refused_freezes) (opening (trace_doing usual refused_freezes)) refused_freezes refl refl
 
 filed : file_order (trace_doing usual refused_freezes) ≡ refused_freezes
 unfolding machine file_order_from

@@ -1,5 +1,6 @@
 -- After the barrier: a stale exit item of the kernel alone keeps the object, until the kernel is collected.
-use Rattle.std.proofs.Common.{◌≡◌, refl, lit<}
+use Rattle.std.proofs.Common.{◌≡◌, refl}
+use Rattle.k_types.specs.State.{opening}
 use Rattle.k_types.specs.Steps.{IsLegalHistory}
 use Rattle.k_types.specs.FileOrder.{file_order, file_order_from}
 use Rattle.k_types.specs.TraceRules.{KeepsRules}
@@ -9,62 +10,12 @@ use Rattle.k_rows.specs.Lefts.{left_by}
 use Rattle.k_rows.specs.Worked.{IsWorked}
 use Rattle.k_rows.specs.Barriers.{stale_exit_item, stale_exit_item_left}
 use Rattle.k_rows.proofs.Machine.{machine}
+use Rattle.k_rows.proofs.Legal.{run_of}
 use Rattle.k_rows.proofs.Rules.{rules_kept, is_complete}
 
 legal : IsLegalHistory (trace_doing usual stale_exit_item) stale_exit_item
 unfolding machine
-legal = (
-  record { known = lit< tt; lives = refl; in_range = refl; idle = refl; orphans = refl; replied = refl },
-  (
-    record { known = lit< tt; lives = refl; in_range = refl; idle = refl; orphans = refl; replied = refl },
-    (
-      record { known = lit< tt; lives = refl; in_range = refl; idle = refl; orphans = refl; replied = refl },
-      (
-        record { known = lit< tt; lives = refl; in_range = refl; idle = refl; orphans = refl; replied = refl },
-        (
-          record { known = lit< tt; lives = refl; in_range = refl; idle = refl; orphans = refl; replied = refl },
-          (
-            record { known = lit< tt; lives = refl; in_range = refl; idle = refl; orphans = refl; replied = refl },
-            (
-              record { known = lit< tt; lives = refl; in_range = refl; idle = refl; orphans = refl; replied = refl },
-              (
-                record { known = lit< tt; lives = refl; in_range = refl; idle = refl; orphans = refl; replied = refl },
-                (
-                  record { known = lit< tt; lives = refl; in_range = refl; idle = refl; orphans = refl; replied = refl },
-                  (
-                    record { known = lit< tt; lives = refl; in_range = refl; idle = refl; orphans = refl; replied = refl },
-                    (
-                      record { known = lit< tt; lives = refl; in_range = refl; idle = refl; orphans = refl; replied = refl },
-                      (
-                        record { known = lit< tt; lives = refl; in_range = refl; idle = refl; orphans = refl; replied = refl },
-                        (
-                          record { scanned = refl; objects_gone = refl; bytes_gone = refl; exits_gone = refl; shares_gone = refl },
-                          (
-                            record { known = lit< tt; lives = refl; in_range = refl; idle = refl; orphans = refl; replied = refl },
-                            (
-                              record { scanned = refl; objects_gone = refl; bytes_gone = refl; exits_gone = refl; shares_gone = refl },
-                              (
-                                record { known = lit< tt; lives = refl; in_range = refl; idle = refl; orphans = refl; replied = refl },
-                                (
-                                  record { scanned = refl; objects_gone = refl; bytes_gone = refl; exits_gone = refl; shares_gone = refl },
-                                  tt,
-                                ),
-                              ),
-                            ),
-                          ),
-                        ),
-                      ),
-                    ),
-                  ),
-                ),
-              ),
-            ),
-          ),
-        ),
-      ),
-    ),
-  ),
-)
+legal = run_of (trace_doing usual stale_exit_item) (opening (trace_doing usual stale_exit_item)) stale_exit_item refl refl
 
 filed : file_order (trace_doing usual stale_exit_item) ≡ stale_exit_item
 unfolding machine file_order_from

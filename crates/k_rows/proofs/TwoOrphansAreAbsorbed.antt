@@ -1,5 +1,6 @@
 -- Before a collection of the kernel all orphans are absorbed, the one with the lower number first.
-use Rattle.std.proofs.Common.{◌≡◌, refl, lit<}
+use Rattle.std.proofs.Common.{◌≡◌, refl}
+use Rattle.k_types.specs.State.{opening}
 use Rattle.k_types.specs.Steps.{IsLegalHistory}
 use Rattle.k_types.specs.FileOrder.{file_order, file_order_from}
 use Rattle.k_types.specs.TraceRules.{KeepsRules}
@@ -9,38 +10,12 @@ use Rattle.k_rows.specs.Lefts.{left_by}
 use Rattle.k_rows.specs.Worked.{IsWorked}
 use Rattle.k_rows.specs.Sharing.{two_orphans_are_absorbed, two_orphans_are_absorbed_left}
 use Rattle.k_rows.proofs.Machine.{machine}
+use Rattle.k_rows.proofs.Legal.{run_of}
 use Rattle.k_rows.proofs.Rules.{rules_kept, is_complete}
 
 legal : IsLegalHistory (trace_doing two_shared two_orphans_are_absorbed) two_orphans_are_absorbed
 unfolding machine
-legal = (
-  record { known = lit< tt; lives = refl; in_range = refl; idle = refl; orphans = refl; replied = refl },
-  (
-    record { known = lit< tt; lives = refl; in_range = refl; idle = refl; orphans = refl; replied = refl },
-    (
-      record { known = lit< tt; lives = refl; in_range = refl; idle = refl; orphans = refl; replied = refl },
-      (
-        record { known = lit< tt; lives = refl; in_range = refl; idle = refl; orphans = refl; replied = refl },
-        (
-          record { known = lit< tt; lives = refl; in_range = refl; idle = refl; orphans = refl; replied = refl },
-          (
-            record { known = lit< tt; orphan = refl; idle = refl },
-            (
-              record { known = lit< tt; orphan = refl; idle = refl },
-              (
-                record { known = lit< tt; lives = refl; in_range = refl; idle = refl; orphans = refl; replied = refl },
-                (
-                  record { scanned = refl; objects_gone = refl; bytes_gone = refl; exits_gone = refl; shares_gone = refl },
-                  tt,
-                ),
-              ),
-            ),
-          ),
-        ),
-      ),
-    ),
-  ),
-)
+legal = run_of (trace_doing two_shared two_orphans_are_absorbed) (opening (trace_doing two_shared two_orphans_are_absorbed)) two_orphans_are_absorbed refl refl
 
 filed : file_order (trace_doing two_shared two_orphans_are_absorbed) ≡ two_orphans_are_absorbed
 unfolding machine file_order_from

@@ -1,5 +1,6 @@
 -- While a collection of one heap is open the other process works on.
-use Rattle.std.proofs.Common.{◌≡◌, refl, lit<}
+use Rattle.std.proofs.Common.{◌≡◌, refl}
+use Rattle.k_types.specs.State.{opening}
 use Rattle.k_types.specs.Steps.{IsLegalHistory}
 use Rattle.k_types.specs.TraceRules.{KeepsRules}
 use Rattle.k_rows.specs.Words.{trace_doing, usual}
@@ -7,26 +8,12 @@ use Rattle.k_rows.specs.Lefts.{left_by}
 use Rattle.k_rows.specs.Worked.{IsInterleaved}
 use Rattle.k_rows.specs.Collections.{work_beside_a_collection, work_beside_a_collection_left}
 use Rattle.k_rows.proofs.Machine.{machine}
+use Rattle.k_rows.proofs.Legal.{run_of}
 use Rattle.k_rows.proofs.Rules.{rules_kept}
 
 legal : IsLegalHistory (trace_doing usual work_beside_a_collection) work_beside_a_collection
 unfolding machine
-legal = (
-  record { known = lit< tt; lives = refl; in_range = refl; idle = refl; orphans = refl; replied = refl },
-  (
-    record { known = lit< tt; lives = refl; in_range = refl; idle = refl; orphans = refl; replied = refl },
-    (
-      record { known = lit< tt; lives = refl; in_range = refl; idle = refl; orphans = refl; replied = refl },
-      (
-        record { scanned = refl; objects_gone = refl; bytes_gone = refl; exits_gone = refl; shares_gone = refl },
-        (
-          record { known = lit< tt; lives = refl; in_range = refl; idle = refl; orphans = refl; replied = refl },
-          tt,
-        ),
-      ),
-    ),
-  ),
-)
+legal = run_of (trace_doing usual work_beside_a_collection) (opening (trace_doing usual work_beside_a_collection)) work_beside_a_collection refl refl
 
 left : left_by (trace_doing usual work_beside_a_collection) work_beside_a_collection ≡ work_beside_a_collection_left
 unfolding machine
