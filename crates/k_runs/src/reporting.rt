@@ -35,7 +35,7 @@ pub(crate) fn trace_text(alloc: Global, more: &str, operations: &str) -> Result<
 }
 
 /// The trace that the text spells.
-fn trace_of(alloc: Global, text: &str) -> Result<Trace, Fail>
+pub(crate) fn trace_of(alloc: Global, text: &str) -> Result<Trace, Fail>
     ensures { IfOk result (λ trace. IsTrace (meaning_of trace)) }
 {
     let trace = read_trace(alloc, text.as_bytes())?;
@@ -43,11 +43,11 @@ fn trace_of(alloc: Global, text: &str) -> Result<Trace, Fail>
 }
 
 /// The report of the end of a run.
-fn report_of(alloc: Global, end: &Outcome) -> Result<MemSink, Fail>
-    requires { AreNamed end.now.names end.now.setup }
+pub(crate) fn report_of(alloc: Global, end: Outcome) -> Result<MemSink, Fail>
+    requires { AreNamed end.names end.setup }
 {
     let mut out = MemSink::make(alloc, MOST_BYTES, Vec::new(alloc))?;
-    report(&mut out, &end.names, end)?;
+    report(&mut out, &end.names, &end)?;
     Ok(out)
 }
 
@@ -82,13 +82,13 @@ pub(crate) fn run_report<G: Gate, R: Threads + Wait + Sync>(
     gate: &G,
 ) -> Result<MemSink, Fail> {
     let end = run_end(rt, alloc, text, gate)?;
-    report_of(alloc, &end)
+    report_of(alloc, end)
 }
 
 /// The report of the trace's operations, done in the order of the lines.
 pub(crate) fn replay_report(alloc: Global, text: &str) -> Result<MemSink, Fail> {
     let end = replay_end(alloc, text)?;
-    report_of(alloc, &end)
+    report_of(alloc, end)
 }
 
 /// What the check of reports says of the report, as one of the trace.
