@@ -1,5 +1,5 @@
 //! Tests of whole runs: what no contract of a run says. That threads do the work and overlap, which locks they hold meanwhile, in which
-//! turns they take the processes, and that they leave nothing to the end.
+//! turns they take the processes, and that they leave nothing to the end; and what the end does where they did nothing.
 //!
 //! Gates hold a process at a place of its run until another one has come somewhere, or count what a run tells. Nothing stands on this
 //! crate. What its tests want was worked out from the rules, and never taken from a run.
@@ -17,3 +17,5 @@ mod rows;
 mod serving;
 #[cfg(test)]
 mod turns;
+#[cfg(test)]
+mod unrun;

@@ -52,7 +52,7 @@ fn push_for_each(trace: &mut String, operation: &str) -> Result<(), Fail> {
 
 /// The table is made of a hundred rows and frozen. Each worker links sixty nodes that refer to it, and after each twenty of them lets go of
 /// all and collects.
-fn server_trace(alloc: Global) -> Result<String, Fail> {
+pub(crate) fn server_trace(alloc: Global) -> Result<String, Fail> {
     let mut trace = String::from_str(alloc, HEADER)?;
     trace.push_str("m0 share table\n")?;
     for row in 0..100 {
