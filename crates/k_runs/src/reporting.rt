@@ -109,10 +109,3 @@ pub(crate) fn parts(report: &MemSink) -> Result<(&str, &str), Fail> {
     let parts = lines.split_once("graph\n").ok_or("no state")?;
     Ok(parts)
 }
-
-/// The lines of a state from the graph to the shares, and its charges: all but the faults, which go by the order of the operations.
-pub(crate) fn heaps_and_charges(state: &str) -> Result<(&str, &str), Fail> {
-    let (heaps, rest) = state.split_once("faults\n").ok_or("no faults")?;
-    let (_, charges) = rest.split_once("charges\n").ok_or("no charges")?;
-    Ok((heaps, charges))
-}

@@ -1,7 +1,4 @@
-//! A server's trace: a table in a shared heap that four workers share and read, run on threads and replayed.
-use crate::reporting::{heaps_and_charges, parts, replay_report, run_report, verdict_on};
-use k_check::Verdict;
-use k_io::NoGate;
+//! A server's trace: a table in a shared heap that four workers share and read.
 use std::alloc::Global;
 use std::test::Fail;
 
@@ -18,26 +15,6 @@ proc w2 w
 proc w3 w
 proc w4 w
 shared table
-";
-
-/// The last events, in whatever order the others came.
-const LAST_EVENTS: &str = "absorbed table\nclosing\nended kernel 100 3200 0 0\n";
-
-/// What stands from the graph to the shares at the end.
-const HEAPS: &str = "kernel.1 kernel directory null null null null\nroots\nexits\nshares\n";
-
-/// The charges at the end.
-const CHARGES: &str = "kernel 48 of 4096
-limit root 400000 of 1000000
-limit m 0 of 100000
-limit w 0 of 400000
-process m0 0
-process w1 0
-process w2 0
-process w3 0
-process w4 0
-shared table 0 absorbed
-end
 ";
 
 /// Appends the operation for each worker in turn.
@@ -77,27 +54,4 @@ pub(crate) fn server_trace(alloc: Global) -> Result<String, Fail> {
     push_for_each(&mut trace, "exit")?;
     trace.push_str("m0 exit\n")?;
     Ok(trace)
-}
-
-#[test]
-fn a_server_leaves_the_same_by_threads(rt: HostRuntime) -> Result<(), Fail> {
-    let trace = server_trace(rt.alloc())?;
-    let replayed = replay_report(rt.alloc(), &trace)?;
-    assert_eq!(rt; heaps_and_charges(parts(&replayed)?.1)?, (HEAPS, CHARGES));
-    for _ in 0..4 {
-        let run = run_report(&rt, rt.alloc(), &trace, &NoGate)?;
-        let (events, state) = parts(&run)?;
-        assert!(rt; events.ends_with(LAST_EVENTS));
-        // a worker that attaches before the table is frozen is refused, so the faults can differ
-        assert_eq!(rt; heaps_and_charges(state)?, (HEAPS, CHARGES));
-    }
-    Ok(())
-}
-
-#[test]
-fn the_report_of_a_server_run_by_threads_is_good(rt: HostRuntime) -> Result<(), Fail> {
-    let trace = server_trace(rt.alloc())?;
-    let run = run_report(&rt, rt.alloc(), &trace, &NoGate)?;
-    assert_eq!(rt; verdict_on(rt.alloc(), &trace, &run)?, Verdict::Good);
-    Ok(())
 }

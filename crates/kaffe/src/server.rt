@@ -110,19 +110,19 @@ fn count_events(report: &str) -> (u32, u32) {
     (events, collections)
 }
 
-/// The lines of a report behind its events, but for those that count faults.
+/// The lines of a report from the last events on, but for those that count faults.
 fn without_faults(alloc: Global, report: &str) -> Result<String, Fail> {
     let mut kept = String::new(alloc);
-    let mut behind_events = false;
+    let mut at_the_end = false;
     let mut counts_faults = false;
     for line in report.lines() {
         match line {
-            "graph" => behind_events = true,
+            "absorbed table" => at_the_end = true,
             "faults" => counts_faults = true,
             "charges" => counts_faults = false,
             _ => {}
         }
-        if behind_events && !counts_faults {
+        if at_the_end && !counts_faults {
             kept.push_str(line)?;
             kept.push_str("\n")?;
         }
