@@ -3,9 +3,12 @@ use crate::counting::Counts;
 use crate::holding::{Stop, Stops};
 use crate::reporting::{parts, replay_report, run_report, trace_text};
 use crate::turns::FifthComes;
-use k_io::{GatePlace, NoGate};
+use k_io::{GatePlace, MemSink, NoGate};
 use std::alloc::Global;
+use std::process::Abort;
+use std::sync::Wait;
 use std::test::Fail;
+use std::thread::Threads;
 
 /// The first trace, of one process alone.
 const FIRST_TRACE: &str = "kaffe 1
@@ -80,6 +83,19 @@ fn one_process_runs_in_the_order_of_its_lines(rt: HostRuntime) -> Result<(), Fai
     Ok(())
 }
 
+/// Runs the operations behind the header with the gate, and asks that each of its stops was met.
+fn run_with_stops<const N: usize, R: Threads + Wait + Sync + Abort>(
+    rt: &R,
+    alloc: Global,
+    operations: &str,
+    gate: Stops<N>,
+) -> Result<MemSink, Fail> {
+    let trace = trace_text(alloc, "", operations)?;
+    let out = run_report(rt, alloc, &trace, &gate)?;
+    assert!(rt; gate.all_met(), "{operations}");
+    Ok(out)
+}
+
 #[test]
 fn two_heaps_are_marked_at_once(rt: HostRuntime) -> Result<(), Fail> {
     let gate = Stops::of([
@@ -87,9 +103,7 @@ fn two_heaps_are_marked_at_once(rt: HostRuntime) -> Result<(), Fail> {
         Stop::at(1, GatePlace::Marking, 0),
     ]);
     let operations = "p1 new r0 Node\np2 new r0 Node\np1 collect\np2 collect\n";
-    let trace = trace_text(rt.alloc(), "", operations)?;
-    run_report(&rt, rt.alloc(), &trace, &gate)?;
-    assert!(rt; gate.all_met());
+    run_with_stops(&rt, rt.alloc(), operations, gate)?;
     Ok(())
 }
 
@@ -105,11 +119,8 @@ fn meanwhile_of_marking() -> Stops<3> {
 
 #[test]
 fn others_allocate_while_a_heap_is_marked(rt: HostRuntime) -> Result<(), Fail> {
-    let gate = meanwhile_of_marking();
     let operations = "p1 new r0 Node\np1 collect\np2 new r0 Node\np2 drop r0\n";
-    let trace = trace_text(rt.alloc(), "", operations)?;
-    let out = run_report(&rt, rt.alloc(), &trace, &gate)?;
-    assert!(rt; gate.all_met());
+    let out = run_with_stops(&rt, rt.alloc(), operations, meanwhile_of_marking())?;
     let (events, state) = parts(&out)?;
     let first = "p1 new r0 Node = p1.1\np1 collect = ok\np2 new r0 Node = p2.1\n";
     let rest = events.strip_prefix(first).ok_or("other events")?;
@@ -119,6 +130,17 @@ fn others_allocate_while_a_heap_is_marked(rt: HostRuntime) -> Result<(), Fail> {
         "{rest}"
     );
     assert_eq!(rt; state, ONE_OBJECT_EACH);
+    Ok(())
+}
+
+/// Runs a collection, and the operation of another process while its heap is marked.
+fn check_meanwhile_of_marking<R: Threads + Wait + Sync + Abort>(
+    rt: &R,
+    alloc: Global,
+    op: &str,
+) -> Result<(), Fail> {
+    let operations = format!(in alloc; "p1 new r0 Node\np1 collect\np2 {op}\np2 drop r1\n")?;
+    run_with_stops(rt, alloc, &operations, meanwhile_of_marking())?;
     Ok(())
 }
 
@@ -132,13 +154,7 @@ fn others_do_any_operation_while_a_heap_is_marked(rt: HostRuntime) -> Result<(),
         "collect",
         "kcollect",
     ] {
-        let gate = meanwhile_of_marking();
-        let operations = format!(in rt.alloc();
-            "p1 new r0 Node\np1 collect\np2 {op}\np2 drop r1\n"
-        )?;
-        let trace = trace_text(rt.alloc(), "", &operations)?;
-        run_report(&rt, rt.alloc(), &trace, &gate)?;
-        assert!(rt; gate.all_met(), "{op}");
+        check_meanwhile_of_marking(&rt, rt.alloc(), op)?;
     }
     Ok(())
 }
@@ -155,16 +171,24 @@ fn meanwhile_of_a_step() -> Stops<4> {
 
 #[test]
 fn a_move_needs_no_book(rt: HostRuntime) -> Result<(), Fail> {
-    let gate = meanwhile_of_a_step();
     let operations = "p1 new r0 Node\np2 new r0 Node\np2 move r1 r0\np2 drop r0\n";
-    let trace = trace_text(rt.alloc(), "", operations)?;
-    let out = run_report(&rt, rt.alloc(), &trace, &gate)?;
-    assert!(rt; gate.all_met());
+    let out = run_with_stops(&rt, rt.alloc(), operations, meanwhile_of_a_step())?;
     let (events, _) = parts(&out)?;
     assert_eq!(rt;
         events,
         "p2 new r0 Node = p2.1\np1 new r0 Node = p1.1\np2 move r1 r0 = ok\np2 drop r0 = ok\n"
     );
+    Ok(())
+}
+
+/// Runs the operation of the second process while the first one is held under the book's lock.
+fn check_meanwhile_of_a_step<R: Threads + Wait + Sync + Abort>(
+    rt: &R,
+    alloc: Global,
+    op: &str,
+) -> Result<(), Fail> {
+    let operations = format!(in alloc; "p1 new r0 Node\np2 new r0 Node\np2 {op}\np2 drop r0\n")?;
+    run_with_stops(rt, alloc, &operations, meanwhile_of_a_step())?;
     Ok(())
 }
 
@@ -177,13 +201,7 @@ fn no_work_inside_a_heap_needs_the_book(rt: HostRuntime) -> Result<(), Fail> {
         "store r0 0 r0",
         "load r1 r0 0",
     ] {
-        let gate = meanwhile_of_a_step();
-        let operations = format!(in rt.alloc();
-            "p1 new r0 Node\np2 new r0 Node\np2 {op}\np2 drop r0\n"
-        )?;
-        let trace = trace_text(rt.alloc(), "", &operations)?;
-        run_report(&rt, rt.alloc(), &trace, &gate)?;
-        assert!(rt; gate.all_met(), "{op}");
+        check_meanwhile_of_a_step(&rt, rt.alloc(), op)?;
     }
     Ok(())
 }
