@@ -206,13 +206,25 @@ fn no_work_inside_a_heap_needs_the_book(rt: HostRuntime) -> Result<(), Fail> {
     Ok(())
 }
 
+/// Appends the line so many times.
+fn push_times(text: &mut String, line: &str, times: u32) -> Result<(), Fail> {
+    for _ in 0..times {
+        text.push_str(line)?;
+    }
+    Ok(())
+}
+
 /// The operations of five processes, 65 of each.
 fn turns_lines(alloc: Global) -> Result<String, Fail> {
     let mut text = String::new(alloc);
-    for pid in 1..=5 {
-        for _ in 0..65 {
-            text.push_str(&format!(in alloc; "p{pid} drop r0\n")?)?;
-        }
+    for line in [
+        "p1 drop r0\n",
+        "p2 drop r0\n",
+        "p3 drop r0\n",
+        "p4 drop r0\n",
+        "p5 drop r0\n",
+    ] {
+        push_times(&mut text, line, 65)?;
     }
     Ok(text)
 }
@@ -243,6 +255,32 @@ p2 dir r1\np2 store r1 0 r0\np2 kcollect\np2 exit\n";
     Ok(())
 }
 
+/// Runs the trace a few times, and compares the state that each run leaves.
+fn check_runs<R: Threads + Wait + Sync + Abort>(
+    rt: &R,
+    alloc: Global,
+    trace: &str,
+    state: &str,
+) -> Result<(), Fail> {
+    for _ in 0..4 {
+        let run = run_report(rt, alloc, trace, &NoGate)?;
+        assert_eq!(rt; parts(&run)?.1, state, "{trace}");
+    }
+    Ok(())
+}
+
+/// Replays the operations behind the header, and compares what runs of them leave.
+fn check_as_replayed<R: Threads + Wait + Sync + Abort>(
+    rt: &R,
+    alloc: Global,
+    operations: &str,
+) -> Result<(), Fail> {
+    let trace = trace_text(alloc, "", operations)?;
+    let replayed = replay_report(alloc, &trace)?;
+    let (_, state) = parts(&replayed)?;
+    check_runs(rt, alloc, &trace, state)
+}
+
 #[test]
 fn a_run_leaves_what_its_replay_leaves(rt: HostRuntime) -> Result<(), Fail> {
     // the processes of each leave the same in whatever order their operations are done
@@ -253,12 +291,7 @@ fn a_run_leaves_what_its_replay_leaves(rt: HostRuntime) -> Result<(), Fail> {
         "p1 share s\np1 snew r0 s Node\np1 freeze s r0\np1 drop r0\np1 collect\np1 kcollect\np2 new r0 Node\np2 collect\n",
         "p1 new r0 Node\np1 dir r1\np1 store r1 0 r0\np1 drop r0\np1 collect\np2 new r0 Node\np2 dir r1\np2 store r1 1 r0\np2 exit\n",
     ] {
-        let trace = trace_text(rt.alloc(), "", operations)?;
-        let replayed = replay_report(rt.alloc(), &trace)?;
-        for _ in 0..4 {
-            let run = run_report(&rt, rt.alloc(), &trace, &NoGate)?;
-            assert_eq!(rt; parts(&run)?.1, parts(&replayed)?.1, "{operations}");
-        }
+        check_as_replayed(&rt, rt.alloc(), operations)?;
     }
     Ok(())
 }
