@@ -27,30 +27,57 @@ fn push_for_each(trace: &mut String, operation: &str) -> Result<(), Fail> {
     Ok(())
 }
 
-/// The table is made of a hundred rows and frozen. Each worker links sixty nodes that refer to it, and after each twenty of them lets go of
-/// all and collects.
-pub(crate) fn server_trace(alloc: Global) -> Result<String, Fail> {
-    let mut trace = String::from_str(alloc, HEADER)?;
+/// Appends the operations for each worker in turn, one operation after the other.
+fn push_all(trace: &mut String, operations: &[&str]) -> Result<(), Fail> {
+    for operation in operations {
+        push_for_each(trace, operation)?;
+    }
+    Ok(())
+}
+
+/// Makes the table of a hundred rows, and freezes it.
+fn push_table(trace: &mut String, alloc: Global) -> Result<(), Fail> {
     trace.push_str("m0 share table\n")?;
     for row in 0..100 {
-        trace.push_str("m0 snew r0 table Row\n")?;
-        trace.push_str(&format!(in alloc; "m0 put r0 0 {row}\n")?)?;
+        trace.push_str(&format!(in alloc; "m0 snew r0 table Row\nm0 put r0 0 {row}\n")?)?;
     }
     trace.push_str("m0 freeze table r0\n")?;
-    push_for_each(&mut trace, "attach r0 table")?;
+    Ok(())
+}
+
+/// Each worker makes the node of that number, which refers to the table and to the node before it.
+fn push_node(trace: &mut String, alloc: Global, node: u32) -> Result<(), Fail> {
+    let numbered = format!(in alloc; "put r1 2 {node}")?;
+    push_all(
+        trace,
+        &[
+            "new r1 Node",
+            "store r1 0 r0",
+            numbered.as_str(),
+            "get r0 0",
+            "store r1 1 r2",
+            "move r2 r1",
+        ],
+    )
+}
+
+/// Each worker makes sixty nodes, and after each twenty of them lets go of all and collects.
+fn push_nodes(trace: &mut String, alloc: Global) -> Result<(), Fail> {
     for node in 1..=60 {
-        push_for_each(&mut trace, "new r1 Node")?;
-        push_for_each(&mut trace, "store r1 0 r0")?;
-        push_for_each(&mut trace, &format!(in alloc; "put r1 2 {node}")?)?;
-        push_for_each(&mut trace, "get r0 0")?;
-        push_for_each(&mut trace, "store r1 1 r2")?;
-        push_for_each(&mut trace, "move r2 r1")?;
+        push_node(trace, alloc, node)?;
         if node % 20 == 0 {
-            push_for_each(&mut trace, "drop r2")?;
-            push_for_each(&mut trace, "drop r1")?;
-            push_for_each(&mut trace, "collect")?;
+            push_all(trace, &["drop r2", "drop r1", "collect"])?;
         }
     }
+    Ok(())
+}
+
+/// The table is made and frozen. Each worker attaches to it, makes nodes that refer to it, and ends; and at last the table's maker ends.
+pub(crate) fn server_trace(alloc: Global) -> Result<String, Fail> {
+    let mut trace = String::from_str(alloc, HEADER)?;
+    push_table(&mut trace, alloc)?;
+    push_for_each(&mut trace, "attach r0 table")?;
+    push_nodes(&mut trace, alloc)?;
     push_for_each(&mut trace, "exit")?;
     trace.push_str("m0 exit\n")?;
     Ok(trace)
