@@ -15,6 +15,9 @@ use std::marker::{Model, PhantomData};
 pub struct LockedProcess<W: WorldName> {
     pub(crate) process: Process,
     of: PhantomData<W>,
+    // One line of a processor's cache, which nobody reads: so the next process's lock, which its worker writes again and again, lies in no
+    // line with what this one's worker reads.
+    apart: [u64; 8],
 }
 
 impl<W: WorldName> Model for LockedProcess<W> {
@@ -37,6 +40,7 @@ impl<W: WorldName> LockedProcess<W> {
         LockedProcess {
             process,
             of: PhantomData,
+            apart: [0; 8],
         }
     }
 
@@ -44,7 +48,11 @@ impl<W: WorldName> LockedProcess<W> {
         ensures stands { ProcessStands W.world result }
         ensures cell { result.cell ≡ self }
     {
-        let LockedProcess { process, of: _ } = self;
+        let LockedProcess {
+            process,
+            of: _,
+            apart: _,
+        } = self;
         process
     }
 }

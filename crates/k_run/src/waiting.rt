@@ -3,10 +3,10 @@ use std::hint::spin_loop;
 use std::sync::{Mutex, MutexGuard, Wait};
 
 /// How often a thread looks for a lock before it sleeps.
-const LOOKS: u32 = 40;
+const LOOKS: u32 = 24;
 
 /// The most pauses between two looks, as a power of two.
-const LONGEST: u32 = 6;
+const LONGEST: u32 = 8;
 
 /// Lets time pass, as long as so many pauses of the processor take.
 fn pause(count: u32) {
