@@ -1,4 +1,4 @@
-//! Lemmas on the words of the machine, which every crate above cites: tests of names and heaps, distinct names, sums and
+//! Lemmas on the words of the machine, which the crates above cite: tests of names and heaps, distinct names, sums and
 //! maxima, lists of objects, and paths of charges.
 //!
 //! There is no code and no contract here. A lemma stands in this crate where more than one crate needs it, so that it is

@@ -14,7 +14,7 @@ pub fn smallest_summary_row()
     ensures { file_order_summary 1 ≡ smallest_summary }
 {}
 
-/// Words from `1` to `5000` are read, and no others.
+/// Of ten words, those from `1` to `5000` are read, and the others are not.
 pub fn words_are_read()
     ensures { WordsAreRead }
 {}

@@ -53,7 +53,7 @@ pub fn collections_end_once()
         ended_count history + length (state_after trace history).scans ≡ begun_count history }
 {}
 
-/// Each shared heap is absorbed at most once, and there is at most one closing.
+/// There are at most as many absorptions as shared heaps, and there is at most one closing.
 pub fn heaps_are_absorbed_once()
     ensures absorbed { (trace : Trace) (history : List Event) → IsLegalHistory trace history →
         absorbed_count history ≤ trace.shared_heaps }

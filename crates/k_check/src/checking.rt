@@ -39,7 +39,7 @@ fn compare(alloc: Global, trace: &Trace, walk: Walk, bytes: &[u8]) -> Result<Ver
 
 /// Whether the bytes are the report of a history that is legal and complete for the trace, and where they are not their first
 /// wrong line. The report is read once up to the line `graph`, and compared once. The time goes with the bytes and with what the
-/// plain machine needs for each step; docs/PERFORMANCE.md has figures.
+/// plain machine needs for each step.
 ///
 /// `NoMemory` comes where the machine or the events find no memory.
 pub fn check_report(alloc: Global, trace: &Trace, bytes: &[u8]) -> Result<Verdict, NoMemory>

@@ -10,7 +10,8 @@
 //! spreads the objects and no two heaps share a walk number, each call but [`EntryTable::make`] takes
 //! constant time.
 //!
-//! The crate stands on `k_types` for names and heaps, and on `k_lists` for the lists.
+//! The crate stands on `k_types` for names and heaps, on `k_io` for want of memory, on `k_hash` and `k_lists` for the lists, and
+//! on the lemmas of `k_base`.
 #![tactic(auto)]
 
 mod item;

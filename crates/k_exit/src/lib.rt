@@ -8,7 +8,8 @@
 //! and [`ExitTable::mark`] take constant time where the fixed hash spreads the names. A caller that
 //! takes targets until there is none passes each item once.
 //!
-//! The crate stands on `k_types` for names.
+//! The crate stands on `k_types` for names, on `k_io` for want of memory, on `k_hash` for the chains, and on the lemmas of
+//! `k_base`.
 #![tactic(auto)]
 
 mod chains;

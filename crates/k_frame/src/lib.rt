@@ -1,5 +1,6 @@
 //! Laws of the one-thread machine on what a step leaves as it was and on what it goes by. Each law is the contract of a
-//! public function with an empty body. They hold in every state, sound or not. Below stand the definitions of k_types alone.
+//! public function with an empty body. They hold in every state, sound or not. Below stand the definitions of k_types
+//! and the lemmas of k_base.
 #![tactic(auto)]
 
 mod frame;

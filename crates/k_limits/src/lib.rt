@@ -5,7 +5,7 @@
 //! charged directly at each limit, and promises that the use of a limit is the sum over the tree below it, computed afresh,
 //! after any charges and credits; and that a charge is refused exactly where the first limit on its path is full.
 //!
-//! Below stand the definitions of `k_types` alone.
+//! The crate stands on `k_types` for numbers of limits, on `k_io` for want of memory, and on the lemmas of `k_base`.
 #![tactic(auto)]
 
 mod error;

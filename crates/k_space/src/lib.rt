@@ -9,7 +9,8 @@
 //! Looking an object up, reading, writing and placing take constant time in the number of objects, and so
 //! does taking all marks away. A sweep costs in proportion to the objects that are live when it begins.
 //!
-//! The crate stands on `k_types` for names and types of objects, and on `slab` for the slots.
+//! The crate stands on `k_types` for names and types of objects, on `k_io` for want of memory, on `slab` for the slots, and on
+//! the lemmas of `k_base`.
 #![tactic(auto)]
 
 mod area;

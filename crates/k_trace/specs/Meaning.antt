@@ -4,7 +4,7 @@ use Rattle.k_types.specs.Trace.{trace_of}
 use Rattle.k_trace.specs.declared.trace.Trace.{Trace}
 use Rattle.k_trace.specs.Named.{NamedTrace}
 
--- the names, and the trace of the machine, of which there is one version
+-- the names, and the trace of the machine
 abbrev pub meaning_of : Trace → NamedTrace
 meaning_of t = record {
   names = t.names;

@@ -1,12 +1,21 @@
-use Rattle.std.proofs.Common.{ap}
+use Rattle.std.proofs.Common.{Ok, Result, ap, subst, sym}
+use Rattle.std.specs.Prelude.{IfOk}
+use Rattle.k_text.specs.Named.{AreNamed}
 use Rattle.k_io.specs.declared.errors.WriteFailed.{WriteFailed}
 use Rattle.k_io.proofs.Writings.{writes_same}
 use Rattle.k_outcome.specs.Ends.{EndValue, journal_of, last_state}
 use Rattle.k_text.specs.Report.{text_over}
 use Rattle.kaffe.specs.declared.status.Status.TheVariants.{Good}
+use Rattle.kaffe.specs.declared.run_error.RunError.{RunError}
+use Rattle.kaffe.specs.Runs.{IsNamedEnd}
 use Rattle.kaffe.proofs.Runs.{end_written}
 use Rattle.kaffe.proofs.Written.{never_unwritten, written_by}
 use Rattle.kaffe.proofs.running.tell_end.Goals as goal
+
+pub report-requires : goal.report-requires
+report-requires g c =
+    let named : IfOk (Ok c.in-Ok.outcome) IsNamedEnd = subst (λ (r : Result EndValue RunError). IfOk r IsNamedEnd) c.in-Ok.is c.requires in
+    subst (λ (e : EndValue). AreNamed e.names c.in-Ok.outcome.setup) (sym c.outcome.view_is) named
 
 pub returns-in-Ok-clause-written : goal.returns-in-Ok-clause-written
 returns-in-Ok-clause-written g c =
