@@ -14,7 +14,7 @@ use Rattle.kaffe.proofs.running.tell_end.Goals as goal
 
 pub report-requires : goal.report-requires
 report-requires g c =
-    let named : IfOk (Ok c.in-Ok.outcome) IsNamedEnd = subst (λ (r : Result EndValue RunError). IfOk r IsNamedEnd) c.in-Ok.is c.requires in
+    let named : IfOk {E = RunError} (Ok c.in-Ok.outcome) IsNamedEnd = subst (λ (r : Result EndValue RunError). IfOk r IsNamedEnd) c.in-Ok.is c.requires in
     subst (λ (e : EndValue). AreNamed e.names c.in-Ok.outcome.setup) (sym c.outcome.view_is) named
 
 pub returns-in-Ok-clause-written : goal.returns-in-Ok-clause-written
