@@ -27,7 +27,8 @@ fn bodies_of(alloc: Global, types: &TypeTable, ops: &[Op]) -> Result<VecDeque<Bo
     requires known { AllByRecursion (λ op. IfSome (type_made op) (λ ty. ty.0 < length types.now)) ops.now }
     ensures { IfOk result (λ made. made.items ≡ bodies_of types.now ops.now) }
 {
-    let mut made = VecDeque::new(alloc);
+    let makers = ops.iter().filter(|op| type_made(op).is_some()).count();
+    let mut made = VecDeque::with_capacity(alloc, makers)?;
     for op in ops {
         if let Some(ty) = type_made(op) {
             made.push_back(Body::make(alloc, types, ty)?)?;

@@ -1,5 +1,5 @@
 -- What serves goes on serving after a step.
-use Rattle.std.proofs.Common.{◌≡◌, ℕ, ◌+◌, ◌≤◌, sym, ap, ◌∙◌, subst, List, ◌++◌, append-nil, map, replicate, IsFalse, false, true, cond, get_or, Some, None, inl, inr}
+use Rattle.std.proofs.Common.{◌≡◌, ℕ, ◌+◌, ◌≤◌, sym, ap, ◌∙◌, subst, List, ◌++◌, append-nil, map, replicate, IsFalse, false, true, get_or, Some, None, inl, inr}
 use Rattle.std.proofs.lemmas.Bool.{cases_Bool, false≢true}
 use Rattle.atomic_table.specs.Seated.{TableId}
 use Rattle.k_types.specs.declared.event.Event.{Event}
@@ -8,13 +8,12 @@ use Rattle.k_types.specs.declared.names.Heap.TheVariants.{Kernel, Shared, User}
 use Rattle.k_types.specs.declared.names.SharedId.{SharedId}
 use Rattle.k_types.specs.declared.setup.LimitRow.{LimitRow}
 use Rattle.k_types.specs.Cells.{BookPart, ShownPart, book_part, part}
-use Rattle.k_types.specs.Owners.{is_absorbed, owner_of, phase_of, shared}
+use Rattle.k_types.specs.Owners.{is_absorbed, phase_of}
 use Rattle.k_types.specs.State.{State, opening}
 use Rattle.k_types.specs.Steps.{state_after}
 use Rattle.k_types.specs.Trace.{Trace, process_count, segment_count, segment_of}
 use Rattle.k_frame.proofs.Constant.{run_maxima}
-use Rattle.k_frame.proofs.OwnerOf.{owner_shared, owner_stands, segment_of_shared}
-use Rattle.k_kept.proofs.Owning.{stays_kernel}
+use Rattle.k_frame.proofs.OwnerOf.{owner_stands}
 use Rattle.k_agree.specs.Agreement.{Agrees, BookAgrees, Shows}
 use Rattle.k_book.specs.Books.{BookRecord, pin_room_of}
 use Rattle.k_cell.specs.Holdings.{HoldingsValue}
@@ -22,6 +21,7 @@ use Rattle.k_heap.specs.Heaps.{HeapRecord, has_ended_in, own_segment}
 use Rattle.k_shared.specs.SharedHeaps.{SharedRecord}
 use Rattle.k_space.specs.Objects.{BodyValue, new_body}
 use Rattle.k_locked.proofs.CanDo.{owner_shown}
+use Rattle.k_locked.proofs.Kept.{absorbed_stays}
 use Rattle.k_locked.specs.Keeping.{is_absorbed_in}
 use Rattle.k_guests.specs.declared.guest.Guest.{Guest}
 use Rattle.k_guests.specs.Serving.{Basis, BookServes, GivesSerials, GuestServes, KernelServes, SharedServes}
@@ -82,17 +82,6 @@ module _ (basis : Basis) where
     events = ap (λ (x : BookRecord). x.event_room) is ∙ serves.events;
     entries = subst (λ (x : BookRecord). basis.events ≤ x.entry_room) (sym is) serves.entries;
   }
-
--- an absorbed heap is absorbed after whatever follows
-absorbed_stays : (trace : Trace) (known rest : List Event) (t : ℕ) → is_absorbed (phase_of (state_after trace known).phases t) ≡ true → is_absorbed (phase_of (state_after trace (known ++ rest)).phases t) ≡ true
-absorbed_stays trace known rest t gone =
-    let before : owner_of trace (state_after trace known) (1 + process_count trace + t) ≡ Kernel
-    = segment_of_shared (process_count trace) (state_after trace known).ended (state_after trace known).phases t ∙ ap (λ b. cond b Kernel (shared t)) gone in
-    let after = stays_kernel trace known rest (1 + process_count trace + t) before in
-    elim (cases_Bool (is_absorbed (phase_of (state_after trace (known ++ rest)).phases t))) [
-      | inl still ↦ still
-      | inr stands ↦ absurd (cc (sym (owner_shared trace (state_after trace (known ++ rest)) t stands), after))
-    ]
 
 -- a shared heap that shows serials of its own segment is not absorbed
 pub stands_where_made : (trace : Trace) (st : State) (s : SharedRecord) (given : ℕ) → Shows trace st (Shared s.id) s.value → get_or s.value.made s.seg.0 None ≡ Some given → is_absorbed_in s.value.phase ≡ false

@@ -41,7 +41,7 @@ use Rattle.k_operate.specs.Collecting.{KernelCollects}
 use Rattle.k_operate.proofs.AbsorbKept.{first_is, first_told, sound_at_last}
 use Rattle.k_operate.proofs.Appended.{open_once_met, room_for, room_for_end, stands_on}
 use Rattle.k_complete.specs.Closing.{CanCollectLast, HasClosedAll, HasCollectedLast}
-use Rattle.k_complete.specs.Meetings.{BookEnds}
+use Rattle.k_process.specs.Over.{BookEnds}
 use Rattle.k_complete.proofs.Closings.{absorptions_end_none, all_fail, end_is, orphans_stay, still_open}
 
 -- what a book that stands tells of processes and shared heaps

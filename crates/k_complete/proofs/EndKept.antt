@@ -15,8 +15,9 @@ use Rattle.k_locked.specs.Keeping.{operations_left}
 use Rattle.k_process.specs.declared.process.Process.{Process}
 use Rattle.k_process.specs.Standing.{IsNextOf}
 use Rattle.k_complete.specs.Closing.{HasClosedAll}
-use Rattle.k_complete.specs.Ended.{AllEnded, AllMet, AllStand, AllThrough, CanComplete, HasCompleted}
-use Rattle.k_complete.specs.Meetings.{AreSameButNotes, BookEnds, CellsAndBook, CellsMet, HeapsAndBook, HeapsMet, ProcessesAndBook, ProcessesMet}
+use Rattle.k_complete.specs.Ended.{AllStand, AllThrough, CanComplete, HasCompleted}
+use Rattle.k_process.specs.Over.{AllEnded, AllMet, BookEnds}
+use Rattle.k_complete.specs.Meetings.{AreSameButNotes, CellsAndBook, CellsMet, HeapsAndBook, HeapsMet, ProcessesAndBook, ProcessesMet}
 use Rattle.k_process.specs.Standing.{HasDone, IsThroughWith, ProcessStands, RestStands}
 use Rattle.k_operate.specs.Steps.{HasPublishedAll}
 use Rattle.k_process.specs.Worlds.{WorldValue}

@@ -26,13 +26,13 @@ use Rattle.k_shared.specs.SharedHeaps.{SharedRecord}
 use Rattle.k_locked.proofs.Kept.{drop_none}
 use Rattle.k_locked.specs.Keeping.{HeapKeeps}
 use Rattle.k_process.specs.declared.process.Process.{Process}
-use Rattle.k_process.specs.Standing.{IsThroughWith, ProcessesStand, RestStands}
+use Rattle.k_process.specs.Standing.{ArePublished, IsThroughWith, ProcessesStand, RestStands}
 use Rattle.k_process.specs.Worlds.{WorldValue}
 use Rattle.k_process.proofs.Kept.{process_set}
 use Rattle.k_process.proofs.Written.{get_set_cases}
 use Rattle.k_complete.specs.Closing.{HasClosedAll}
 use Rattle.k_complete.specs.Meetings.{CellsMet}
-use Rattle.k_complete.specs.Replaying.{ArePublished, CanDoLine, HasDoneLine, HasReplayed}
+use Rattle.k_complete.specs.Replaying.{CanDoLine, HasDoneLine, HasReplayed}
 use Rattle.k_complete.proofs.LineKept.{process_shown}
 
 -- what is left of the order, and the journal, are together the history of the file's order

@@ -13,7 +13,7 @@ use Rattle.k_shares.specs.Sharers.{lowest_orphan}
 use Rattle.k_locked.specs.Keeping.{BookKeeps, KernelKeeps}
 use Rattle.k_process.specs.Standing.{HeapsStand}
 use Rattle.k_process.specs.Worlds.{WorldValue}
-use Rattle.k_complete.specs.Meetings.{BookEnds}
+use Rattle.k_process.specs.Over.{BookEnds}
 
 -- kernel and book stand, every process has ended, and no shared heap is an orphan
 pub record CanCollectLast (world : WorldValue) (k : HoldingsValue) (b : BookRecord) : Type 0 where

@@ -1,19 +1,10 @@
--- Runs that are over.
-use Rattle.std.specs.Prelude.{◌≡◌, ℕ, ◌<◌, IsTrue, List, Some, slice_get}
-use Rattle.k_types.specs.declared.names.Heap.TheVariants.{Kernel, Shared, User}
-use Rattle.k_types.specs.Complete.{EndsWithClosing, IsComplete}
-use Rattle.k_types.specs.Steps.{IsLegalHistory, state_after}
-use Rattle.k_types.specs.Trace.{Trace, process_count}
-use Rattle.k_agree.specs.Agreement.{BookShows, Shows}
-use Rattle.k_agree.specs.Settled.{all_ended_in, no_orphan_in}
+-- Cells of which the work is over.
+use Rattle.std.specs.Prelude.{◌≡◌, ℕ, List, Some, slice_get}
 use Rattle.k_book.specs.Books.{BookRecord}
 use Rattle.k_cell.specs.Holdings.{HoldingsValue}
-use Rattle.k_heap.specs.Heaps.{HeapRecord}
 use Rattle.k_shared.specs.SharedHeaps.{SharedRecord}
-use Rattle.k_locked.specs.Keeping.{KernelKeeps}
 use Rattle.k_process.specs.declared.process.Process.{Process}
-use Rattle.k_complete.specs.Meetings.{ProcessesThrough}
-use Rattle.k_process.specs.Standing.{HeapsStand, IsThroughWith, ProcessStands, ProcessesStand, RestStands}
+use Rattle.k_process.specs.Standing.{IsThroughWith, ProcessStands, ProcessesStand, RestStands}
 use Rattle.k_process.specs.Worlds.{WorldValue}
 
 -- process, kernel, shared heaps and book stand
@@ -37,35 +28,3 @@ pub record AllStand (world : WorldValue) (ps : List Process) (kernel : HoldingsV
 pub record AllThrough (world : WorldValue) (processes : List Process) (kernel : HoldingsValue) (shared : List SharedRecord) (book : BookRecord) : Type 0 where
   pub stand : AllStand world processes kernel shared book
   pub through : (k : ℕ) (p : Process) → slice_get processes k ≡ Some p → IsThroughWith world.trace p.cell
-
--- all processes are through and all cells stand; and where every process has ended, no shared heap is an orphan and the journal ends with
--- the closing
-pub record AllEnded (world : WorldValue) (ps : List Process) (k : HoldingsValue) (ss : List SharedRecord) (b : BookRecord) : Type 0 where
-  pub processes : ProcessesThrough world ps b
-  pub kernel : KernelKeeps world.trace world.table k
-  pub shared : HeapsStand world ss
-  pub orphans : IsTrue (all_ended_in world.trace b.value) → IsTrue (no_orphan_in world.trace b.value)
-  pub closed : IsTrue (all_ended_in world.trace b.value) → EndsWithClosing b.journal.list
-
--- and each cell knows the whole journal
-pub record AllMet (world : WorldValue) (processes : List Process) (kernel : HoldingsValue) (shared : List SharedRecord) (book : BookRecord) : Type 0 where
-  pub ended : AllEnded world processes kernel shared book
-  pub processes_met : (k : ℕ) (p : Process) → slice_get processes k ≡ Some p → p.cell.note.list ≡ book.journal.list
-  pub kernel_met : kernel.note.list ≡ book.journal.list
-  pub shared_met : (k : ℕ) (s : SharedRecord) → slice_get shared k ≡ Some s → s.note.list ≡ book.journal.list
-
--- the cells of a run that is over
-pub record OutcomeValue : Type 0 where
-  pub processes : List HeapRecord
-  pub kernel : HoldingsValue
-  pub shared : List SharedRecord
-  pub book : BookRecord
-
--- the journal is a legal and complete history of the trace, and each cell and the book show the state after it
-pub record IsOutcome (trace : Trace) (o : OutcomeValue) : Type 0 where
-  pub legal : IsLegalHistory trace o.book.journal.list
-  pub complete : IsComplete trace o.book.journal.list
-  pub processes : (p : ℕ) → p < process_count trace → (c : HeapRecord) × (slice_get o.processes p ≡ Some c) × (c.pid.0 ≡ p) × Shows trace (state_after trace o.book.journal.list) (User c.pid) c.value
-  pub kernel : Shows trace (state_after trace o.book.journal.list) Kernel o.kernel.value
-  pub shared : (s : ℕ) → s < trace.shared_heaps → (c : SharedRecord) × (slice_get o.shared s ≡ Some c) × (c.id.0 ≡ s) × Shows trace (state_after trace o.book.journal.list) (Shared c.id) c.value
-  pub book : BookShows trace (state_after trace o.book.journal.list) o.book.value

@@ -3,28 +3,15 @@ use Rattle.std.specs.Prelude.{◌≡◌, ℕ, List, Some, slice_get}
 use Rattle.k_book.specs.Books.{BookRecord}
 use Rattle.k_cell.specs.Holdings.{HoldingsValue}
 use Rattle.k_shared.specs.SharedHeaps.{SharedRecord}
-use Rattle.k_agree.specs.Rooms.{AreFirst}
-use Rattle.k_commit.specs.Standing.{BookStands}
 use Rattle.k_locked.specs.Keeping.{KernelKeeps}
 use Rattle.k_process.specs.declared.process.Process.{Process}
-use Rattle.k_process.specs.Standing.{HeapsStand, IsThroughWith, ProcessesStand}
+use Rattle.k_process.specs.Over.{BookEnds}
+use Rattle.k_process.specs.Standing.{HeapsStand, ProcessesStand}
 use Rattle.k_process.specs.Worlds.{WorldValue}
-
--- the book stands and is of the table, and its journal has of each process the first operations of the trace
-pub record BookEnds (world : WorldValue) (b : BookRecord) : Type 0 where
-  pub stands : BookStands world.trace b
-  pub table : b.journal.table ≡ world.table
-  pub first : AreFirst world.trace b.journal.list
 
 -- all processes and the book stand
 pub record ProcessesAndBook (world : WorldValue) (ps : List Process) (b : BookRecord) : Type 0 where
   pub processes : ProcessesStand world ps
-  pub book : BookEnds world b
-
--- all processes stand and are through, and the book stands
-pub record ProcessesThrough (world : WorldValue) (ps : List Process) (b : BookRecord) : Type 0 where
-  pub processes : ProcessesStand world ps
-  pub through : (k : ℕ) (p : Process) → slice_get ps k ≡ Some p → IsThroughWith world.trace p.cell
   pub book : BookEnds world b
 
 -- each process's cell is as it was but for its note

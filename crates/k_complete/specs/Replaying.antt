@@ -1,5 +1,5 @@
 -- The operations of a trace in the order of the file.
-use Rattle.std.specs.Prelude.{◌≡◌, ℕ, List, [], ◌++◌, map, Some, slice_get}
+use Rattle.std.specs.Prelude.{◌≡◌, List, [], ◌++◌, map}
 use Rattle.k_types.specs.declared.names.Pid.{Pid}
 use Rattle.k_types.specs.FileOrder.{events_of, file_order, next_operation}
 use Rattle.k_types.specs.Steps.{state_after}
@@ -7,9 +7,9 @@ use Rattle.k_book.specs.Books.{BookRecord}
 use Rattle.k_cell.specs.Holdings.{HoldingsValue}
 use Rattle.k_shared.specs.SharedHeaps.{SharedRecord}
 use Rattle.k_process.specs.declared.process.Process.{Process}
-use Rattle.k_process.specs.Standing.{ProcessStands, ProcessesStand, RestStands}
+use Rattle.k_process.specs.Standing.{ArePublished, ProcessStands, ProcessesStand, RestStands}
 use Rattle.k_process.specs.Worlds.{WorldValue}
-use Rattle.k_complete.specs.Ended.{AllMet}
+use Rattle.k_process.specs.Over.{AllMet}
 
 -- process, kernel, shared heaps and book stand, and nothing of the process is unpublished
 pub record CanDoLine (world : WorldValue) (p : Process) (k : HoldingsValue) (ss : List SharedRecord) (b : BookRecord) : Type 0 where
@@ -25,10 +25,6 @@ pub record HasDoneLine (world : WorldValue) (old new : Process) (k : HoldingsVal
   pub published : new.cell.value.tail ≡ []
   pub journal : b.journal.list ≡ old_b.journal.list
       ++ events_of world.trace (state_after world.trace old_b.journal.list) old.cell.pid.0 (next_operation world.trace (state_after world.trace old_b.journal.list) old.cell.pid.0)
-
--- nothing of the processes is unpublished
-abbrev pub ArePublished : List Process → Type 0
-ArePublished ps = (k : ℕ) (p : Process) → slice_get ps k ≡ Some p → p.cell.value.tail ≡ []
 
 -- all stands and nothing has happened yet, and the order is the file's
 pub record CanReplay (world : WorldValue) (ps : List Process) (k : HoldingsValue) (ss : List SharedRecord) (b : BookRecord) (order : List Pid) : Type 0 where

@@ -1,5 +1,6 @@
 //! What is left of a run, done on the caller's thread.
-ghost use Rattle.k_complete.specs.Ended.{AllMet, AllStand, AllThrough, CanComplete, HasCompleted};
+ghost use Rattle.k_complete.specs.Ended.{AllStand, AllThrough, CanComplete, HasCompleted};
+ghost use Rattle.k_process.specs.Over.{AllMet};
 ghost use Rattle.k_complete.specs.Meetings.{CellsAndBook, CellsMet, HeapsAndBook, HeapsMet, ProcessesAndBook, ProcessesMet};
 ghost use Rattle.k_process.specs.Worlds.{WorldValue};
 

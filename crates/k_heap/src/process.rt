@@ -8,6 +8,8 @@ ghost use Rattle.k_heap.specs.Heaps.{with_process_ended, with_register_in};
 use crate::heap::HeapCell;
 use k_space::Body;
 use k_types::{Event, Link, Reg};
+use std::collections::VecDeque;
+use std::mem::replace;
 
 impl HeapCell {
     /// Has the register hold that. Constant time.
@@ -51,7 +53,20 @@ impl HeapCell {
         let Some(event) = self.tail.pop_front() else {
             unreachable!()
         };
+        if self.tail.is_empty() {
+            self.rewind_tail();
+        }
         event
+    }
+
+    /// Has the list of unpublished events begin at the front of its memory again. A queue alone would go on to memory that was never
+    /// used with each event, up to the room for all operations of the process.
+    fn rewind_tail(&mut self)
+        ensures { self.new ≡ self.old }
+    {
+        let alloc = *self.tail.allocator();
+        let tail = replace(&mut self.tail, VecDeque::new(alloc));
+        self.tail = VecDeque::from_vec(tail.into_vec());
     }
 
     /// Gives the body for the next allocation.

@@ -13,16 +13,9 @@ use Rattle.k_guests.specs.Serving.{Basis, BookServes, GuestServes, KeepsPair, Ke
 use Rattle.k_calls.specs.Doing.{CanOperate, HasDoneInside, HasOperated}
 use Rattle.k_calls.proofs.Staying.{guests_set, guests_stay, heaps_set, heaps_stay, kernel_stays}
 use Rattle.k_ends.specs.Collecting.{HasAbsorbedNow, HasMarkedGuest}
+use Rattle.k_host.proofs.Called.{host_of, pid_of}
 use Rattle.k_host.specs.Calls.{HasOperatedAs}
-use Rattle.k_host.specs.Hosts.{HostServes, HostValue}
-
--- the process of that number
-abbrev numbered : ℕ → Pid
-numbered n = record { 0 = n }
-
--- the host of these parts
-abbrev whole : Basis → List Guest → HoldingsValue → List SharedRecord → BookRecord → HostValue
-whole basis gs k ss b = record { basis = basis; guests = gs; kernel = k; shared = ss; book = b }
+use Rattle.k_host.specs.Hosts.{HostServes}
 
 -- whatever a call on a process answers, process and book serve still
 module _ (basis : Basis) (g h : Guest) (b l : BookRecord) (guest : GuestServes basis b.journal.table g) (book : BookServes basis b) where
@@ -103,8 +96,8 @@ module _ (basis : Basis) (gs : List Guest) (k : HoldingsValue) (ss : List Shared
     before = g;
     after = h;
     there = ap (slice_get gs) (sym same) ∙ at;
-    named = ap numbered (serves.all.placed i g at ∙ same);
-    host_is = ap (λ n. whole basis (slice_set gs n h) x ts l) same;
+    named = ap pid_of (serves.all.placed i g at ∙ same);
+    host_is = ap (λ n. host_of basis (slice_set gs n h) x ts l) same;
     way = done;
   }
 

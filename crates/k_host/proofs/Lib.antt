@@ -1,5 +1,5 @@
-pub mod Hosts
 pub mod Called
+pub mod Hosts
 pub mod Refused
 pub mod Opened
 pub mod Twined

@@ -168,7 +168,7 @@ module _ (trace : Trace) (table : TableId) (c w : HeapRecord) (k x : HoldingsVal
   }
 
 -- an absorbed heap is absorbed after whatever follows
-absorbed_stays : (trace : Trace) (known rest : List Event) (t : ℕ) → is_absorbed (phase_of (state_after trace known).phases t) ≡ true → is_absorbed (phase_of (state_after trace (known ++ rest)).phases t) ≡ true
+pub absorbed_stays : (trace : Trace) (known rest : List Event) (t : ℕ) → is_absorbed (phase_of (state_after trace known).phases t) ≡ true → is_absorbed (phase_of (state_after trace (known ++ rest)).phases t) ≡ true
 absorbed_stays trace known rest t gone =
     let before : owner_of trace (state_after trace known) (1 + process_count trace + t) ≡ Kernel
     = segment_of_shared (process_count trace) (state_after trace known).ended (state_after trace known).phases t ∙ ap (λ b. cond b Kernel (shared t)) gone in

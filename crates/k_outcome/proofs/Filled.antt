@@ -10,7 +10,7 @@ use Rattle.k_types.specs.Trace.{Trace, segment_count}
 use Rattle.k_text.specs.Shown.{in_order}
 use Rattle.k_solo.specs.Runs.{heap_at}
 use Rattle.k_solo.proofs.Arranged.{row_at}
-use Rattle.k_complete.specs.Ended.{OutcomeValue}
+use Rattle.k_process.specs.Over.{OutcomeValue}
 use Rattle.k_outcome.specs.Cells.{cell_at}
 use Rattle.k_outcome.specs.Listed.{AreTargets, CanList}
 

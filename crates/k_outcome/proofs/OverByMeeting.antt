@@ -8,8 +8,8 @@ use Rattle.k_shared.specs.SharedHeaps.{SharedRecord}
 use Rattle.k_state.specs.Machines.{setup_of}
 use Rattle.k_process.specs.declared.process.Process.{Process}
 use Rattle.k_process.specs.Worlds.{WorldValue}
-use Rattle.k_complete.specs.Ended.{AllMet}
-use Rattle.k_complete.proofs.Over.{outcome}
+use Rattle.k_process.specs.Over.{AllMet}
+use Rattle.k_process.proofs.Over.{outcome}
 use Rattle.k_outcome.specs.Ends.{EndsRun}
 
 pub met_ends : (world : WorldValue) (setup : Trace) (ps : List Process) (k : HoldingsValue) (ss : List SharedRecord) (b : BookRecord) → AllMet world ps k ss b → setup ≡ setup_of world.trace →

@@ -32,7 +32,7 @@ use Rattle.k_state.specs.Machines.{setup_of}
 use Rattle.k_solo.specs.Runs.{heap_at}
 use Rattle.k_solo.proofs.Lines.{setup_rules}
 use Rattle.k_solo.proofs.Unread.{legal_unread, run_unread}
-use Rattle.k_complete.specs.Ended.{OutcomeValue}
+use Rattle.k_process.specs.Over.{OutcomeValue}
 use Rattle.k_outcome.specs.Cells.{IsThere, cell_at, process_value, shared_value}
 use Rattle.k_outcome.specs.Ends.{EndsRun, IsEnd}
 use Rattle.k_outcome.specs.Listed.{AreRoomsFor, CanCount, HaveRoom, most_exits}

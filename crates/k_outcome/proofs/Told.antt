@@ -36,7 +36,7 @@ use Rattle.k_cell.specs.Looks.{field_among, field_count_among, type_among, type_
 use Rattle.k_text.specs.Shown.{exits_of, in_order, type_at}
 use Rattle.k_text.proofs.InOrder.{in_order_among, in_order_rises, rising_exits}
 use Rattle.k_solo.proofs.Arranged.{exits_length}
-use Rattle.k_complete.specs.Ended.{OutcomeValue}
+use Rattle.k_process.specs.Over.{OutcomeValue}
 use Rattle.k_outcome.proofs.Lists.{at_place}
 use Rattle.k_outcome.specs.Cells.{IsThere, cell_at}
 use Rattle.k_outcome.specs.Ends.{EndValue, IsEnd, journal_of, last_state}

@@ -18,7 +18,7 @@ use Rattle.k_bounds.specs.Counts.{stores_in}
 use Rattle.k_agree.specs.Rooms.{exit_room}
 use Rattle.k_locked.specs.Rooms.{shared_exit_room}
 use Rattle.k_text.specs.Shown.{in_order}
-use Rattle.k_complete.specs.Ended.{OutcomeValue}
+use Rattle.k_process.specs.Over.{OutcomeValue}
 use Rattle.k_solo.specs.Runs.{heap_at}
 use Rattle.k_outcome.specs.Cells.{IsThere, cell_at}
 use Rattle.k_outcome.specs.Ends.{EndValue, EndsRun, IsEnd, last_state}

@@ -29,7 +29,7 @@ pub struct Cells {
 }
 
 impl Model for Cells {
-    ghost use Rattle.k_complete.specs.Ended.{OutcomeValue};
+    ghost use Rattle.k_process.specs.Over.{OutcomeValue};
 
     ghost Value = { OutcomeValue };
 

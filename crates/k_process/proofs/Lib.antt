@@ -1,3 +1,4 @@
 pub mod Written
 pub mod Kept
 pub mod Looped
+pub mod Over

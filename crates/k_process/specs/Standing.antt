@@ -21,6 +21,10 @@ pub record ProcessesStand (world : WorldValue) (ps : List Process) : Type 0 wher
   pub each : (k : ℕ) (p : Process) → slice_get ps k ≡ Some p → ProcessStands world p
   pub placed : (k : ℕ) (p : Process) → slice_get ps k ≡ Some p → p.cell.pid.0 ≡ k
 
+-- nothing of any of these processes is unpublished
+abbrev pub ArePublished : List Process → Type 0
+ArePublished ps = (k : ℕ) (p : Process) → slice_get ps k ≡ Some p → p.cell.value.tail ≡ []
+
 -- there is a cell for each shared heap of the trace, in the place of its number
 pub record HeapsStand (world : WorldValue) (shared : List SharedRecord) : Type 0 where
   pub count : length shared ≡ world.trace.shared_heaps

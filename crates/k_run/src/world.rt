@@ -1,6 +1,6 @@
 //! A run whose heaps and book stand behind locks, and its end.
 ghost use Rattle.std.specs.Prelude.{length, vec_capacity, ◌≡◌};
-ghost use Rattle.k_complete.specs.Ended.{IsOutcome};
+ghost use Rattle.k_process.specs.Over.{IsOutcome};
 ghost use Rattle.k_outcome.specs.Ends.{EndsRun};
 ghost use Rattle.k_run.specs.Gathering.{CanGather, CanGatherShared};
 ghost use Rattle.k_run.specs.Rooms.{AreEndRooms};

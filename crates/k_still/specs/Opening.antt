@@ -30,7 +30,7 @@ use Rattle.k_still.specs.declared.beginning.Cells.{Cells}
 use Rattle.k_process.specs.declared.process.Process.{Process}
 use Rattle.k_still.specs.declared.prepared.Prepared.{Prepared}
 use Rattle.k_still.specs.declared.first.FirstCells.{FirstCells}
-use Rattle.k_process.specs.Standing.{HeapsStand, ProcessStands, ProcessesStand, RestStands}
+use Rattle.k_process.specs.Standing.{ArePublished, HeapsStand, ProcessStands, ProcessesStand, RestStands}
 use Rattle.k_process.specs.Worlds.{WorldValue}
 
 -- it holds of each element at its place
@@ -129,10 +129,6 @@ pub record ProcessBegins (world : WorldValue) (p : Process) : Type 0 where
   pub stands : ProcessStands world p
   pub published : p.cell.value.tail ≡ []
 
--- nothing of any of these processes is unpublished
-abbrev pub AllPublished : List Process → Type 0
-AllPublished processes = (k : ℕ) (p : Process) → slice_get processes k ≡ Some p → p.cell.value.tail ≡ []
-
 -- the last processes are made, from the last down; the operations, bodies and beginnings of the others are left
 pub record ArePending (world : WorldValue) (setup : Setup) (ops : List (Vec Op Global)) (bodies : List (VecDeque BodyValue Global)) (b : Beginnings) (made : List Process) : Type 0 where
   pub of : IsSetupOf setup world
@@ -147,7 +143,7 @@ pub record ArePending (world : WorldValue) (setup : Setup) (ops : List (Vec Op G
 -- all processes stand, nothing of them is unpublished, and one beginning is left
 pub record HaveOpened (world : WorldValue) (b : Beginnings) (made : List Process) : Type 0 where
   pub processes : ProcessesStand world made
-  pub published : AllPublished made
+  pub published : ArePublished made
   pub beginnings : AreBeginnings world b
   pub left : length b.notes.items ≡ 1
 
@@ -197,7 +193,7 @@ pub record CanOpenCells (world : WorldValue) (setup : Setup) (ops : List (Vec Op
 -- all cells stand, and nothing of the processes is unpublished
 pub record CellsStand (world : WorldValue) (cells : Cells) : Type 0 where
   pub processes : ProcessesStand world cells.processes.items
-  pub published : AllPublished cells.processes.items
+  pub published : ArePublished cells.processes.items
   pub kernel : KernelKeeps world.trace world.table cells.kernel
   pub shared : HeapsStand world cells.shared.items
 
@@ -260,4 +256,4 @@ pub record IsOpened (named : NamedTrace) (first : FirstCells) : Type 0 where
   pub names : first.names ≡ named.names
   pub order : map (λ pid. pid.0) first.order.items ≡ named.trace.order
   pub empty : first.book.journal.list ≡ []
-  pub published : AllPublished first.processes.items
+  pub published : ArePublished first.processes.items

@@ -1,5 +1,5 @@
 use Rattle.std.proofs.Common.{sym, subst}
-use Rattle.k_complete.specs.Meetings.{BookEnds}
+use Rattle.k_process.specs.Over.{BookEnds}
 use Rattle.k_complete.proofs.EndKept.{cells_met}
 use Rattle.k_process.proofs.Kept.{kernel_can_meet}
 use Rattle.k_complete.proofs.ending.meet_all.Goals as goal

@@ -1,7 +1,6 @@
 use Rattle.std.proofs.Common.{map, drop}
 use Rattle.k_types.specs.declared.names.Pid.{Pid}
-use Rattle.k_process.specs.Standing.{ProcessesStand, RestStands}
-use Rattle.k_complete.specs.Replaying.{ArePublished}
+use Rattle.k_process.specs.Standing.{ArePublished, ProcessesStand, RestStands}
 use Rattle.k_complete.proofs.ReplayKept.{Files}
 use Rattle.k_complete.proofs.replaying.replay.Given as goal
 

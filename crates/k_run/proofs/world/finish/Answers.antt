@@ -1,7 +1,7 @@
 use Rattle.std.proofs.Common.{[], ap, sym, subst}
 use Rattle.k_types.specs.Trace.{trace_of}
 use Rattle.k_trace.specs.Named.{NamedTrace}
-use Rattle.k_complete.specs.Ended.{IsOutcome}
+use Rattle.k_process.specs.Over.{IsOutcome}
 use Rattle.k_outcome.specs.Ends.{EndValue}
 use Rattle.k_run.specs.Runs.{IsRunOf}
 use Rattle.k_run.specs.Worlds.{RunValue}

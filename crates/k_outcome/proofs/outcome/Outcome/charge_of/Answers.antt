@@ -7,7 +7,7 @@ use Rattle.k_types.specs.Totals.{total}
 use Rattle.k_types.specs.Trace.{Trace}
 use Rattle.std.specs.Prelude.{slice_index}
 use Rattle.k_book.specs.Books.{BookRecord}
-use Rattle.k_complete.specs.Ended.{OutcomeValue}
+use Rattle.k_process.specs.Over.{OutcomeValue}
 use Rattle.k_outcome.specs.Cells.{cell_at}
 use Rattle.k_outcome.specs.Ends.{last_state}
 use Rattle.k_outcome.proofs.Told.{book_shown, book_tells, bytes_told, phases_long}

@@ -1,7 +1,7 @@
 use Rattle.std.proofs.Common.{ap₂, ◌∙◌}
 use Rattle.k_types.specs.declared.names.Heap.{Heap}
 use Rattle.k_cell.specs.Looks.{field_among}
-use Rattle.k_complete.specs.Ended.{OutcomeValue}
+use Rattle.k_process.specs.Over.{OutcomeValue}
 use Rattle.k_outcome.specs.Cells.{cell_at}
 use Rattle.k_outcome.proofs.Told.{field_there}
 use Rattle.k_outcome.proofs.outcome.Outcome.field.Goals as goal

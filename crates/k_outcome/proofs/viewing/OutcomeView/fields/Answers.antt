@@ -1,7 +1,7 @@
 use Rattle.std.proofs.Common.{◌≤◌, sym, ap₂, ◌∙◌, subst}
 use Rattle.k_types.specs.declared.names.Heap.{Heap}
 use Rattle.k_cell.specs.Looks.{field_count_among}
-use Rattle.k_complete.specs.Ended.{OutcomeValue}
+use Rattle.k_process.specs.Over.{OutcomeValue}
 use Rattle.k_outcome.specs.Cells.{cell_at}
 use Rattle.k_outcome.proofs.Told.{count_there, few_fields}
 use Rattle.k_outcome.proofs.viewing.OutcomeView.fields.Goals as goal

@@ -3,7 +3,7 @@ use Rattle.std.specs.Prelude.{IfSome}
 use Rattle.k_types.specs.declared.names.Heap.{Heap}
 use Rattle.k_types.specs.declared.names.TypeId.{TypeId}
 use Rattle.k_cell.specs.Looks.{type_among}
-use Rattle.k_complete.specs.Ended.{OutcomeValue}
+use Rattle.k_process.specs.Over.{OutcomeValue}
 use Rattle.k_outcome.specs.Cells.{cell_at}
 use Rattle.k_outcome.proofs.Told.{type_known, type_there}
 use Rattle.k_outcome.proofs.viewing.OutcomeView.object_type.Goals as goal

@@ -19,7 +19,7 @@ use Rattle.k_heap.specs.Heaps.{has_ended_in}
 use Rattle.k_shared.specs.SharedHeaps.{SharedRecord}
 use Rattle.k_locked.proofs.CanDo.{done_at_most}
 use Rattle.k_process.specs.declared.process.Process.{Process}
-use Rattle.k_complete.specs.Ended.{AllMet, IsOutcome}
+use Rattle.k_process.specs.Over.{AllMet, IsOutcome}
 use Rattle.k_process.specs.Worlds.{WorldValue}
 
 -- each place of a list has its element

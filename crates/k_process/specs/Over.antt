@@ -1,0 +1,62 @@
+-- Runs that are over, and what they leave.
+use Rattle.std.specs.Prelude.{◌≡◌, ℕ, ◌<◌, IsTrue, List, Some, slice_get}
+use Rattle.k_types.specs.declared.names.Heap.TheVariants.{Kernel, Shared, User}
+use Rattle.k_types.specs.Complete.{EndsWithClosing, IsComplete}
+use Rattle.k_types.specs.Steps.{IsLegalHistory, state_after}
+use Rattle.k_types.specs.Trace.{Trace, process_count}
+use Rattle.k_agree.specs.Agreement.{BookShows, Shows}
+use Rattle.k_agree.specs.Rooms.{AreFirst}
+use Rattle.k_agree.specs.Settled.{all_ended_in, no_orphan_in}
+use Rattle.k_book.specs.Books.{BookRecord}
+use Rattle.k_cell.specs.Holdings.{HoldingsValue}
+use Rattle.k_commit.specs.Standing.{BookStands}
+use Rattle.k_heap.specs.Heaps.{HeapRecord}
+use Rattle.k_shared.specs.SharedHeaps.{SharedRecord}
+use Rattle.k_locked.specs.Keeping.{KernelKeeps}
+use Rattle.k_process.specs.declared.process.Process.{Process}
+use Rattle.k_process.specs.Standing.{HeapsStand, IsThroughWith, ProcessesStand}
+use Rattle.k_process.specs.Worlds.{WorldValue}
+
+-- the book stands and is of the table, and its journal has of each process the first operations of the trace
+pub record BookEnds (world : WorldValue) (b : BookRecord) : Type 0 where
+  pub stands : BookStands world.trace b
+  pub table : b.journal.table ≡ world.table
+  pub first : AreFirst world.trace b.journal.list
+
+-- all processes stand and are through, and the book stands
+pub record ProcessesThrough (world : WorldValue) (ps : List Process) (b : BookRecord) : Type 0 where
+  pub processes : ProcessesStand world ps
+  pub through : (k : ℕ) (p : Process) → slice_get ps k ≡ Some p → IsThroughWith world.trace p.cell
+  pub book : BookEnds world b
+
+-- all processes are through and all cells stand; and where every process has ended, no shared heap is an orphan and the journal ends with
+-- the closing
+pub record AllEnded (world : WorldValue) (ps : List Process) (k : HoldingsValue) (ss : List SharedRecord) (b : BookRecord) : Type 0 where
+  pub processes : ProcessesThrough world ps b
+  pub kernel : KernelKeeps world.trace world.table k
+  pub shared : HeapsStand world ss
+  pub orphans : IsTrue (all_ended_in world.trace b.value) → IsTrue (no_orphan_in world.trace b.value)
+  pub closed : IsTrue (all_ended_in world.trace b.value) → EndsWithClosing b.journal.list
+
+-- and each cell knows the whole journal
+pub record AllMet (world : WorldValue) (processes : List Process) (kernel : HoldingsValue) (shared : List SharedRecord) (book : BookRecord) : Type 0 where
+  pub ended : AllEnded world processes kernel shared book
+  pub processes_met : (k : ℕ) (p : Process) → slice_get processes k ≡ Some p → p.cell.note.list ≡ book.journal.list
+  pub kernel_met : kernel.note.list ≡ book.journal.list
+  pub shared_met : (k : ℕ) (s : SharedRecord) → slice_get shared k ≡ Some s → s.note.list ≡ book.journal.list
+
+-- the cells of a run that is over
+pub record OutcomeValue : Type 0 where
+  pub processes : List HeapRecord
+  pub kernel : HoldingsValue
+  pub shared : List SharedRecord
+  pub book : BookRecord
+
+-- the journal is a legal and complete history of the trace, and each cell and the book show the state after it
+pub record IsOutcome (trace : Trace) (o : OutcomeValue) : Type 0 where
+  pub legal : IsLegalHistory trace o.book.journal.list
+  pub complete : IsComplete trace o.book.journal.list
+  pub processes : (p : ℕ) → p < process_count trace → (c : HeapRecord) × (slice_get o.processes p ≡ Some c) × (c.pid.0 ≡ p) × Shows trace (state_after trace o.book.journal.list) (User c.pid) c.value
+  pub kernel : Shows trace (state_after trace o.book.journal.list) Kernel o.kernel.value
+  pub shared : (s : ℕ) → s < trace.shared_heaps → (c : SharedRecord) × (slice_get o.shared s ≡ Some c) × (c.id.0 ≡ s) × Shows trace (state_after trace o.book.journal.list) (Shared c.id) c.value
+  pub book : BookShows trace (state_after trace o.book.journal.list) o.book.value
