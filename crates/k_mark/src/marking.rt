@@ -1,18 +1,18 @@
 //! Marking: what references reach from the gray objects is black in the end.
-ghost use Rattle.std.specs.Prelude.{◌≡◌, ℕ, ◌<◌, ◌≤◌, ◌↔◌, IsTrue, IsFalse, IsSome, Some, None, List, length, slice_get, slice_index_or, is_some, ◌∷◌, [], ◌+◌, count_by};
+ghost use Rattle.std.specs.Prelude.{◌≡◌, ℕ, ◌<◌, ◌≤◌, ◌↔◌, IsTrue, IsFalse, IsSome, Some, None, List, length, is_some, ◌∷◌, [], ◌+◌, count_by};
 ghost use Rattle.k_types.specs.declared.names.Name.{Name as Named};
 ghost use Rattle.k_types.specs.State.{Content};
 ghost use Rattle.k_types.specs.Names.{name_of};
 ghost use Rattle.k_space.specs.Objects.{content_of};
-ghost use Rattle.k_space.specs.declared.body.Stored.TheVariants.{Null as NoTarget};
 ghost use Rattle.k_space.specs.Areas.{HasDistinct, row_of_name, fields_at, is_foreign, marked_at, gray_at, black_at, grayed, unmarked};
+ghost use Rattle.k_space.specs.Visiting.{AreHeld};
 ghost use Rattle.k_exit.specs.Exits.{has_target, target_marked, targets, unmarked as unmarked_exits};
 ghost use Rattle.k_mark.specs.Marking.{IsReachedIn, IsExit, Marks, looked, looked_all, fields_lead_to, refers_at, is_ref, work};
 
 use crate::steps::Steps;
 use k_exit::ExitTable;
-use k_space::{Area, Stored};
-use k_types::{Link, Name};
+use k_space::{Area, Stored, Visited};
+use k_types::Link;
 use std::marker::Brand;
 use std::sync::ledger::{Blank, Ledger};
 
@@ -33,25 +33,6 @@ pub fn root(area: &mut Area, target: Link)
     ensures { area.new ≡ grayed area.old (name_of target) }
 {
     area.make_gray(target.name());
-}
-
-/// Writes what the fields of that object hold to the front of the list, and gives their number.
-fn copied(area: &Area, at: Name, into: &mut [Stored]) -> u32
-    requires distinct { HasDistinct area.now.segments }
-    requires live { IsSome (row_of_name area.now.segments at) }
-    requires room { 16 ≤ length into.old }
-    ensures count { (fields : List Content) → fields_at area.now at ≡ Some fields → result ≡ length fields }
-    ensures most { result ≤ 16 }
-    ensures copied { (fields : List Content) (i : ℕ) → fields_at area.now at ≡ Some fields → i < result → slice_get fields i ≡ Some (content_of (slice_index_or into.new i NoTarget)) }
-    ensures len { length into.new ≡ length into.old }
-{
-    let Some(segment) = area.get(at.seg) else {
-        unreachable!()
-    };
-    let Some(slot) = segment.find(at.serial) else {
-        unreachable!()
-    };
-    segment.copy_fields(slot, into)
 }
 
 /// Looks at one field: an object of the area is made gray, a foreign target is marked.
@@ -75,26 +56,25 @@ fn look<L: Ledger>(area: &mut Area, exits: &mut ExitTable, steps: &mut Steps<L>,
     }
 }
 
-/// Looks at each field of the object. The list is for what they hold.
+/// Looks at each field of the object. The front of the list has what they hold.
 fn trace<L: Ledger>(
     area: &mut Area,
     exits: &mut ExitTable,
     steps: &mut Steps<L>,
-    at: Name,
-    held: &mut [Stored],
+    found: Visited,
+    held: &[Stored],
 )
-    requires list { 16 ≤ length held.old }
+    requires list { found.fields ≤ length held.now }
     requires distinct { HasDistinct area.old.segments }
-    requires live { IsSome (row_of_name area.old.segments at) }
-    requires exits { (fields : List Content) (n : Named) → fields_at area.old at ≡ Some fields → IsTrue (fields_lead_to fields n) → IsTrue (is_foreign area.old n) → IsTrue (has_target exits.old.items n) }
+    requires live { IsSome (row_of_name area.old.segments found.name) }
+    requires held { (fields : List Content) → fields_at area.old found.name ≡ Some fields → AreHeld fields found.fields held.now }
+    requires exits { (fields : List Content) (n : Named) → fields_at area.old found.name ≡ Some fields → IsTrue (fields_lead_to fields n) → IsTrue (is_foreign area.old n) → IsTrue (has_target exits.old.items n) }
     ensures room { exits.new.room ≡ exits.old.room }
-    ensures steps { (fields : List Content) → fields_at area.old at ≡ Some fields → steps.new ≡ steps.old + count_by is_ref fields }
-    ensures looked { (fields : List Content) → fields_at area.old at ≡ Some fields →
+    ensures steps { (fields : List Content) → fields_at area.old found.name ≡ Some fields → steps.new ≡ steps.old + count_by is_ref fields }
+    ensures looked { (fields : List Content) → fields_at area.old found.name ≡ Some fields →
         record { area = area.new; exits = exits.new.items } ≡ looked_all fields (record { area = area.old; exits = exits.old.items }) }
-    ensures list { length held.new ≡ length held.old }
 {
-    let count = copied(area, at, held);
-    for field in 0..count {
+    for field in 0..found.fields {
         let stored = held[field as usize];
         look(area, exits, steps, stored);
     }
@@ -119,9 +99,9 @@ pub fn mark<L: Ledger>(area: &mut Area, exits: &mut ExitTable, steps: &mut Steps
     ensures steps { steps.new ≡ steps.old + work area.new }
 {
     let mut held = [Stored::Null; 16];
-    while let Some(at) = area.take_gray() {
+    while let Some(found) = area.visit_gray(&mut held) {
         steps.tick();
-        trace(area, exits, steps, at, &mut held);
+        trace(area, exits, steps, found, &held);
     }
 }
 

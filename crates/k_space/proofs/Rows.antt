@@ -11,9 +11,11 @@ use Rattle.k_space.specs.declared.marks.Place.{Place}
 use Rattle.k_space.specs.declared.marks.Place.TheVariants.{Empty, At}
 use Rattle.k_space.specs.declared.marks.Mark.{Mark}
 use Rattle.k_space.specs.declared.marks.Mark.TheVariants.{White as MarkWhite, Gray as MarkGray, Black as MarkBlack}
+use Rattle.k_space.specs.declared.body.Stored.{Stored}
 use Rattle.k_space.specs.declared.segment.Cell.{Cell}
-use Rattle.k_space.specs.Segments.{Gray, Black, Row, SegmentValue, LiesAt, row_at, with_row, some_gray, unmarked_row}
+use Rattle.k_space.specs.Segments.{Gray, Row, SegmentValue, LiesAt, row_at, with_row, some_gray, unmarked_row}
 use Rattle.k_space.specs.Places.{row_of, row_in, color_of, IsSound, IsPlaced, IsKept, IsGrayList, is_gray_place, white_place}
+use Rattle.k_space.specs.Visiting.{AreHeld, IsVisitedIn}
 use Rattle.k_space.proofs.GrayLists.{At_inside}
 
 pub front_whole : {A : Type 0} (xs ys : List A) (n : ℕ) → length xs ≡ n → take n (xs ++ ys) ≡ xs
@@ -234,14 +236,20 @@ pub read_at : (places : List Place) (i : ℕ) (p q : Place) → i < length place
 read_at places i p q within read is = get_or_default places i Empty p within ∙ sym read ∙ is
 
 -- the first gray object, made black
-pub taken : (number room : ℕ) (places : List Place) (cells : Slab Cell) (s : SegmentValue) (i k slot : ℕ) (next : ℕ) (cell : Cell) →
-    record { number = number; room = room; rows = map (row_of cells) places } ≡ s → get_or places i Empty ≡ At slot (MarkGray next) → get cells slot ≡ Some cell → i ≡ k →
-    (row : Row) × LiesAt s row.slot k row × (row.color ≡ Gray) × (record { number = number; room = room; rows = map (row_of cells) (set places i (At slot MarkBlack)) } ≡ with_row s k (Some (record row { color = Black })))
-taken number room places cells s i k slot next cell is here found e =
+pub visited : (number room : ℕ) (places : List Place) (cells : Slab Cell) (s : SegmentValue) (i slot next : ℕ) (cell : Cell) (count : ℕ) (list : List Stored) →
+    record { number = number; room = room; rows = map (row_of cells) places } ≡ s → get_or places i Empty ≡ At slot (MarkGray next) → get cells slot ≡ Some cell → AreHeld cell.body.fields count list →
+    IsVisitedIn s (record { number = number; room = room; rows = map (row_of cells) (set places i (At slot MarkBlack)) }) (record { name = record { seg = record { 0 = number }; serial = record { 0 = i } }; fields = count }) list
+visited number room places cells s i slot next cell count list is here found held =
     let row : Row = record { slot = slot; color = Gray; ty = cell.body.ty; fields = cell.body.fields } in
     let at : row_at s i ≡ Some row = row_there number room places cells s i slot (MarkGray next) (Some cell) is here found in
-    let view = recolored_view number room places cells i slot (MarkGray next) MarkBlack s row is here at in
-    (row, record { there = ap (row_at s) (sym e) ∙ at; slot_is = refl }, refl, view ∙ ap (λ k. with_row s k (Some (record row { color = Black }))) e)
+    record {
+      row = row;
+      number = ap (λ (x : SegmentValue). x.number) is;
+      there = at;
+      was = refl;
+      now = recolored_view number room places cells i slot (MarkGray next) MarkBlack s row is here at;
+      held = held;
+    }
 
 abbrev pub bit : Bool → ℕ
 bit b = cond b 1 0

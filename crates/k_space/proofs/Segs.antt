@@ -6,8 +6,11 @@ use Rattle.std.proofs.lemmas.List.{set-get_or}
 use Rattle.std.proofs.lemmas.Option.{get_or_from_slice_get}
 use Rattle.std.proofs.lemmas.Option.{slice_get_within}
 use Rattle.k_types.specs.declared.names.Name.{Name}
-use Rattle.k_space.specs.Segments.{SegmentValue, Row, row_at, with_row, gray_or_black, some_gray}
-use Rattle.k_space.specs.Areas.{AreaValue, place_of, segment_at, with_segment, row_in_segment, row_of_name, with_row_in, grayed, grayed_row}
+use Rattle.k_space.specs.declared.body.Stored.{Stored}
+use Rattle.k_space.specs.declared.segment.Visited.{Visited}
+use Rattle.k_space.specs.Segments.{SegmentValue, Row, Black, row_at, with_row, gray_or_black, some_gray}
+use Rattle.k_space.specs.Areas.{AreaValue, place_of, segment_at, with_segment, row_in_segment, row_of_name, with_row_in, HasDistinct, grayed, grayed_row}
+use Rattle.k_space.specs.Visiting.{IsVisited, IsVisitedIn}
 
 pub put_back : (a : AreaValue) (number : ℕ) (s : SegmentValue) → Some s ≡ segment_at a.segments number → with_segment a number s ≡ a
 put_back a number s e =
@@ -40,6 +43,32 @@ pub grayed_at : (segments : List SegmentValue) (room at : ℕ) (a : AreaValue) (
 grayed_at segments room at a n s t is place there some none =
     ap₂ (λ (x : AreaValue) p. record x { segments = set x.segments p t }) is place
     ∙ grayed_in a n s t (sym there ∙ ap₂ (λ (ss : List SegmentValue) p. slice_get ss p) (ap (λ (x : AreaValue). x.segments) is) place) some none
+
+-- a segment of an area in which an object was visited
+pub visited_at : (segments : List SegmentValue) (room at : ℕ) (a : AreaValue) (s t : SegmentValue) (found : Visited) (list : List Stored) → record { segments = segments; room = room } ≡ a → HasDistinct a.segments → slice_get segments at ≡ Some s →
+    IsVisitedIn s t found list → IsVisited a (record { segments = set segments at t; room = room }) found list
+visited_at segments room at a s t found list is distinct there visited =
+    record {
+      black = record {
+        row = visited.row;
+        there = ap (λ (o : Option SegmentValue). row_in_segment o found.name.serial.0) named ∙ visited.there;
+        was = visited.was;
+        now =
+            ap₂ (λ (x : AreaValue) p. record x { segments = set x.segments p t }) is (sym place)
+            ∙ ap (with_segment a found.name.seg.0) visited.now
+            ∙ sym (ap (λ (o : Option SegmentValue). with_row_in a found.name (Some (record visited.row { color = Black })) o) named);
+      };
+      held = visited.held;
+    }
+  where
+    there_now : slice_get a.segments at ≡ Some s
+    there_now = ap (λ (x : AreaValue). slice_get x.segments at) (sym is) ∙ there
+
+    place : place_of a.segments found.name.seg.0 ≡ at
+    place = ap (place_of a.segments) visited.number ∙ distinct at s there_now
+
+    named : segment_at a.segments found.name.seg.0 ≡ Some s
+    named = ap (slice_get a.segments) place ∙ there_now
 
 -- an area without the segment of a name
 pub grayed_none : (a : AreaValue) (n : Name) → segment_at a.segments n.seg.0 ≡ None → grayed a n ≡ a

@@ -1,12 +1,14 @@
 -- What the stamps of spots mean after a change.
-use Rattle.std.proofs.Common.{◌≡◌, ◌==◌, ◌≢◌, ℕ, zero, suc, ◌+◌, ◌<◌, ◌^◌, Bool, true, false, cond, refl, ap, ap₂, ◌∙◌, inl, inr, List, [], ◌∷◌, ◌++◌, length, map, get_or, set, eqb-true, arith}
+use Rattle.std.proofs.Common.{◌≡◌, ◌==◌, ◌≢◌, ℕ, zero, suc, ◌+◌, ◌<◌, ◌^◌, Bool, true, false, cond, refl, sym, ap, ap₂, ◌∙◌, inl, inr, List, [], ◌∷◌, ◌++◌, length, map, get_or, set, eqb-true, arith}
 use Rattle.std.proofs.lemmas.Bool.{cases_eq}
-use Rattle.std.proofs.lemmas.List.{get_or-set_same, get_or-set_other}
+use Rattle.std.proofs.Math.ListN.{get_or-map}
+use Rattle.std.proofs.lemmas.List.{get_or-set_same, get_or-set_other, map-set}
+use Rattle.k_space.specs.declared.marks.Place.{Place}
 use Rattle.k_space.specs.declared.marks.Place.TheVariants.{Empty, At}
 use Rattle.k_space.specs.declared.marks.Mark.TheVariants.{White, Gray, Black}
 use Rattle.k_space.specs.declared.marks.Spot.{Spot}
 use Rattle.k_space.specs.Places.{white_place}
-use Rattle.k_space.specs.Stamps.{seen, plain, blank, AreStamped}
+use Rattle.k_space.specs.Stamps.{PlacesValue, seen, plain, blank, AreStamped}
 
 -- one stamp more
 pub stamped_set : (spots : List Spot) (epoch i : ℕ) (spot : Spot) → AreStamped spots epoch → spot.stamp < epoch + 2 → i < length spots → AreStamped (set spots i spot) epoch
@@ -23,6 +25,24 @@ stamped_set spots epoch i spot was new within = record {
             omega (arith, here, was.past j)
       ];
 }
+
+-- a gray place that names another next one
+pub seen_next : (spot : Spot) (epoch slot next after : ℕ) → seen epoch spot ≡ At slot (Gray next) → seen epoch (record spot { next = after }) ≡ At slot (Gray after)
+seen_next spot epoch slot next after e = by_bools (spot.stamp == 0) (spot.stamp == epoch) (spot.stamp == epoch + 1) e
+  where
+    by_bools : (a b c : Bool) → cond a Empty (cond b (At spot.slot (Gray spot.next)) (cond c (At spot.slot Black) (At spot.slot White))) ≡ At slot (Gray next) →
+        cond a Empty (cond b (At spot.slot (Gray after)) (cond c (At spot.slot Black) (At spot.slot White))) ≡ At slot (Gray after)
+    by_bools true b c e = absurd (cc)
+    by_bools false true c e = let same : spot.slot ≡ slot = cc in ap (λ s. At s (Gray after)) same
+    by_bools false false true e = absurd (cc)
+    by_bools false false false e = absurd (cc)
+
+pub followed : (spots : List Spot) (epoch capacity last slot after : ℕ) (spot : Spot) (p : PlacesValue) → record { items = map (seen epoch) spots; capacity = capacity } ≡ p → get_or spots last blank ≡ spot → get_or p.items last Empty ≡ At slot (Gray 0) →
+    record { items = map (seen epoch) (set spots last (record spot { next = after })); capacity = capacity } ≡ record p { items = set p.items last (At slot (Gray after)) }
+followed spots epoch capacity last slot after spot p is read here =
+    let now : seen epoch spot ≡ At slot (Gray 0) = ap (seen epoch) (sym read) ∙ sym (get_or-map (seen epoch) spots last blank) ∙ ap (λ (x : PlacesValue). get_or x.items last Empty) is ∙ here in
+    ap (λ (ps : List Place). record { items = ps; capacity = capacity }) (map-set (seen epoch) spots last (record spot { next = after }) ∙ ap (set (map (seen epoch) spots) last) (seen_next spot epoch slot 0 after now))
+    ∙ ap (λ (x : PlacesValue). record x { items = set x.items last (At slot (Gray after)) }) is
 
 pub stamped_push : (spots : List Spot) (epoch : ℕ) (spot : Spot) → AreStamped spots epoch → spot.stamp < epoch + 2 → AreStamped (spots ++ spot ∷ []) epoch
 stamped_push spots epoch spot was new = record { begun = was.begun; small = was.small; past = by_list spots was.past }

@@ -7,3 +7,4 @@ pub mod Listed
 pub mod Areas
 pub mod Hints
 pub mod AreaLends
+pub mod Visiting

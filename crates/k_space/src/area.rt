@@ -5,9 +5,11 @@ ghost use Rattle.std.specs.Borrow.{sem};
 ghost use Rattle.std.specs.List.{position_or_len};
 ghost use Rattle.k_space.specs.Segments.{SegmentValue, row_at, some_gray, unmarked_segment};
 ghost use Rattle.k_space.specs.Hints.{AreExact, numbers};
-ghost use Rattle.k_space.specs.Areas.{place_of, segment_at, row_of_name, with_row_of, HasDistinct, IsBlackened, is_foreign, gray_at, grayed, has_number, unmarked};
+ghost use Rattle.k_space.specs.Visiting.{IsVisited};
+ghost use Rattle.k_space.specs.Areas.{place_of, segment_at, HasDistinct, is_foreign, gray_at, grayed, has_number, unmarked};
 
-use crate::segment::Segment;
+use crate::body::Stored;
+use crate::segment::{Segment, Visited};
 use k_io::NoMemory;
 use k_types::{Name, Seg};
 use std::alloc::Global;
@@ -228,53 +230,58 @@ impl Area {
         true
     }
 
-    /// Takes a gray object, and makes it black. It looks first in the segment where one was made gray or found
-    /// last, and then through the others from there on.
-    pub fn take_gray(&mut self) -> Option<Name>
-        requires { HasDistinct self.old.segments }
-        ensures some { IfSome result (λ n. IsBlackened self.old self.new n) }
+    /// Takes a gray object, makes it black, and writes what its fields hold to the front of the list. `None` comes
+    /// where no object is gray. It looks first in the segment where one was made gray or found last, and then
+    /// through the others from there on; the object is looked up once. No memory.
+    pub fn visit_gray(&mut self, into: &mut [Stored]) -> Option<Visited>
+        requires distinct { HasDistinct self.old.segments }
+        requires list { 16 ≤ length into.old }
+        ensures some { IfSome result (λ found. IsVisited self.old self.new found into.new) }
         ensures none { IfNone result ((n : Name) → IsFalse (gray_at self.old n)) }
         ensures kept { IfNone result (self.new ≡ self.old) }
+        ensures len { length into.new ≡ length into.old }
     {
         let len = self.segments.len();
         let from = self.hints.gray.min(len);
-        if let Some(name) = self.take_gray_between(from, len) {
-            return Some(name);
+        if let Some(found) = self.visit_gray_between(from, len, into) {
+            return Some(found);
         }
-        self.take_gray_between(0, from)
+        self.visit_gray_between(0, from, into)
     }
 
-    /// Takes a gray object of the segments from the one place up to below the other.
-    fn take_gray_between(&mut self, from: usize, to: usize) -> Option<Name>
-        requires { HasDistinct self.old.segments }
-        ensures some { IfSome result (λ n. IsBlackened self.old self.new n) }
+    /// Visits a gray object of the segments from the one place up to below the other.
+    fn visit_gray_between(&mut self, from: usize, to: usize, into: &mut [Stored]) -> Option<Visited>
+        requires distinct { HasDistinct self.old.segments }
+        requires list { 16 ≤ length into.old }
+        ensures some { IfSome result (λ found. IsVisited self.old self.new found into.new) }
         ensures none { IfNone result ((i : ℕ) (s : SegmentValue) (serial : ℕ) → from ≤ i → i < to → slice_get self.old.segments i ≡ Some s → IsFalse (some_gray (row_at s serial))) }
         ensures kept { IfNone result (self.new ≡ self.old) }
+        ensures len { length into.new ≡ length into.old }
     {
         for i in from..to {
-            if let Some(name) = self.take_gray_at(i) {
+            if let Some(found) = self.visit_gray_at(i, into) {
                 self.hints.gray = i;
-                return Some(name);
+                return Some(found);
             }
         }
         None
     }
 
-    /// Takes a gray object of the segment at that place.
+    /// Visits a gray object of the segment at that place.
     #[tactic(auto, using(crate::proofs::Segs::as_before))]
-    fn take_gray_at(&mut self, at: usize) -> Option<Name>
-        requires { HasDistinct self.old.segments }
-        ensures some { IfSome result (λ n. IsBlackened self.old self.new n) }
+    fn visit_gray_at(&mut self, at: usize, into: &mut [Stored]) -> Option<Visited>
+        requires distinct { HasDistinct self.old.segments }
+        requires list { 16 ≤ length into.old }
+        ensures some { IfSome result (λ found. IsVisited self.old self.new found into.new) }
         ensures none { IfNone result ((s : SegmentValue) (serial : ℕ) → slice_get self.old.segments at ≡ Some s → IsFalse (some_gray (row_at s serial))) }
         ensures kept { IfNone result (self.new ≡ self.old) }
+        ensures len { length into.new ≡ length into.old }
     {
         if at >= self.segments.len() {
             return None;
         }
-        let segment = &mut self.segments[at];
-        let seg = segment.number();
-        let serial = segment.take_gray()?;
-        Some(Name { seg, serial })
+        let found = self.segments[at].visit_gray(into)?;
+        Some(found)
     }
 
     /// Takes the marks of all objects away. It passes the segments, each in constant time as

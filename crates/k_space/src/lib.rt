@@ -23,4 +23,4 @@ mod tests;
 
 pub use area::Area;
 pub use body::{Body, Stored};
-pub use segment::{Gone, Segment};
+pub use segment::{Gone, Segment, Visited};

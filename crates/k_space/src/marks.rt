@@ -179,10 +179,7 @@ impl Places {
         requires { IsGrayEnd self.old.items last }
         ensures { (slot : ℕ) → slice_index_or self.old.items last NoPlace ≡ PlaceAt slot (MarkGray 0) → self.new ≡ record self.old { items = slice_set self.old.items last (PlaceAt slot (MarkGray next)) } }
     {
-        match self.at(last) {
-            Place::At(slot, _) => self.set(last, Place::At(slot, Mark::Gray(next))),
-            Place::Empty => unreachable!(),
-        }
+        self.spots[last].next = next;
     }
 
     /// Makes it the place of the next serial.

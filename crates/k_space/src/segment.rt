@@ -1,18 +1,18 @@
 //! The objects made under one number.
-ghost use Rattle.std.specs.Prelude.{◌≡◌, ◌<◌, ◌≤◌, ◌+◌, ℕ, length, map, Some, None, option_map, IfOk, IfSome, IfNone, ◌∷◌, [], slice_set, slice_get, slice_index_or, ◌==◌, IsFalse, IsTrue, OnSome};
+ghost use Rattle.std.specs.Prelude.{◌≡◌, ◌<◌, ◌≤◌, ◌+◌, ℕ, length, map, Some, None, option_map, IfOk, IfSome, IfNone, ◌∷◌, [], slice_set, slice_get, ◌==◌, IsFalse, IsTrue, OnSome};
 ghost use Rattle.k_types.specs.State.{Refers, Holds, field_kind};
 ghost use Rattle.k_types.specs.Types.{object_size};
 ghost use Rattle.k_space.specs.Objects.{HasRef, HasInt, content_of};
-ghost use Rattle.k_space.specs.declared.body.Stored.TheVariants.{Null as NoTarget};
 ghost use Rattle.k_types.specs.Names.{name_of};
-ghost use Rattle.k_space.specs.Segments.{Row, White, Black, Gray, LiesAt, IsLive, row_at, made, with_row, IsSegment, placed, some_gray, is_gray, is_marked, gray_or_black, segment_bytes, unmarked_segment, body_of};
+ghost use Rattle.k_space.specs.Segments.{Row, White, LiesAt, IsLive, row_at, made, with_row, IsSegment, placed, some_gray, is_gray, is_marked, gray_or_black, segment_bytes, unmarked_segment, body_of};
 ghost use Rattle.k_space.specs.Sweeping.{IsFreed, IsFree, IsFirstUnmarked, IsTakenAway, IsUnmarkedAt};
+ghost use Rattle.k_space.specs.Visiting.{IsVisitedIn};
 
 use crate::body::{Body, Stored};
 use crate::live::{Pass, next_white, passed};
 use crate::marks::{Mark, Place, Places};
 use k_io::NoMemory;
-use k_types::{Field, Link, Seg, Serial, Slot, TypeId};
+use k_types::{Field, Link, Name, Seg, Serial, Slot, TypeId};
 use slab::Slab;
 use std::alloc::Global;
 use std::marker::Model;
@@ -29,6 +29,13 @@ pub struct Gone {
     pub slot: Slot,
     pub serial: Serial,
     pub bytes: u64,
+}
+
+/// A gray object that was made black, and how many fields it has.
+#[derive(Clone, Copy, Debug)]
+pub struct Visited {
+    pub name: Name,
+    pub fields: u32,
 }
 
 /// The objects that were made under one number. Each has a serial, which is never used again, and
@@ -212,19 +219,6 @@ impl Segment {
         self.body_at(slot).stored(field)
     }
 
-    /// Writes what the fields of the object there hold to the front of the list, and gives their number. Constant
-    /// time.
-    pub fn copy_fields(&self, slot: Slot, into: &mut [Stored]) -> u32
-        requires live { IsLive self.now slot.0 }
-        requires room { 16 ≤ length into.old }
-        ensures count { (serial : ℕ) (row : Row) → LiesAt self.now slot.0 serial row → result ≡ length row.fields }
-        ensures most { result ≤ 16 }
-        ensures copied { (serial : ℕ) (row : Row) (i : ℕ) → LiesAt self.now slot.0 serial row → i < result → slice_get row.fields i ≡ Some (content_of (slice_index_or into.new i NoTarget)) }
-        ensures len { length into.new ≡ length into.old }
-    {
-        self.body_at(slot).copy_to(into)
-    }
-
     /// What a reference field of the object there refers to, by its name; nothing where it is null. Constant time.
     pub fn read_ref(&self, slot: Slot, field: u32) -> Option<Link>
         requires live { IsLive self.now slot.0 }
@@ -297,12 +291,15 @@ impl Segment {
         }
     }
 
-    /// Takes a gray object, and makes it black. Constant time.
-    pub fn take_gray(&mut self) -> Option<Serial>
-        ensures some { (serial : Serial) → result ≡ Some serial → (row : Row) × LiesAt self.old row.slot serial.0 row × (row.color ≡ Gray)
-            × (self.new ≡ with_row self.old serial.0 (Some (record row { color = Black }))) }
+    /// Takes a gray object, makes it black, and writes what its fields hold to the front of the list. `None` comes
+    /// where no object is gray. Constant time, and no memory.
+    pub fn visit_gray(&mut self, into: &mut [Stored]) -> Option<Visited>
+        requires { 16 ≤ length into.old }
+        ensures some { IfSome result (λ found. IsVisitedIn self.old self.new found into.new) }
         ensures none { IfNone result ((serial : ℕ) → IsFalse (some_gray (row_at self.old serial))) }
         ensures kept { IfNone result (self.new ≡ self.old) }
+        ensures number { self.new.number ≡ self.old.number }
+        ensures len { length into.new ≡ length into.old }
     {
         if self.gray == 0 {
             return None;
@@ -313,9 +310,16 @@ impl Segment {
         match place {
             Place::At(slot, mark) => match mark {
                 Mark::Gray(next) => {
+                    let fields = self.cells[slot].body.copy_to(into);
                     self.places.set(at, Place::At(slot, Mark::Black));
                     self.gray = next;
-                    Some(Serial(serial))
+                    Some(Visited {
+                        name: Name {
+                            seg: self.number,
+                            serial: Serial(serial),
+                        },
+                        fields,
+                    })
                 }
                 Mark::White => unreachable!(),
                 Mark::Black => unreachable!(),

@@ -10,13 +10,13 @@ use Rattle.k_mark.proofs.marking.trace.Goals as goal
 
 pub look-requires : goal.look-requires
 look-requires g c =
-    let live = fields_live c.args.area.now c.args.at c.requires.live in
-    let so = so_far c.args.area.now c.args.exits.now.items c.args.at c.loop-field.field c.loop-field.area c.loop-field.exits.items live.0 c.loop-field.invariant.traced live.1 in
+    let live = fields_live c.args.area.now c.args.found.name c.requires.live in
+    let so = so_far c.args.area.now c.args.exits.now.items c.args.found.name c.loop-field.field c.loop-field.area c.loop-field.exits.items live.0 c.loop-field.invariant.traced live.1 in
     record {
       distinct = so.distinct c.requires.distinct;
       exits = λ n leads far.
           so.exit_has n ∙ c.requires.exits live.0 n live.1
-          (leads_at live.0 c.loop-field.field (content_of (get_or c.copied-count.new.into c.loop-field.field Null)) n (c.copied-count.ensures.copied live.0 c.loop-field.field live.1 c.loop-field-test.true) leads)
+          (leads_at live.0 c.loop-field.field (content_of (get_or c.args.held.now c.loop-field.field Null)) n ((c.requires.held live.0 live.1).each c.loop-field.field c.loop-field-test.true) leads)
           (sym (so.foreign n) ∙ far);
     }
 
@@ -25,11 +25,11 @@ loop-field-init g c = record { traced = λ fields is. refl; room = refl; steps =
 
 pub loop-field-preserved : goal.loop-field-preserved
 loop-field-preserved g c =
-    let stored = content_of (get_or c.copied-count.new.into c.loop-field.field Null) in
-    let at_i : (fields : List Content) → fields_at c.args.area.now c.args.at ≡ Some fields → slice_get fields c.loop-field.field ≡ Some stored =
-    λ fields is. c.copied-count.ensures.copied fields c.loop-field.field is c.loop-field-test.true in
+    let stored = content_of (get_or c.args.held.now c.loop-field.field Null) in
+    let at_i : (fields : List Content) → fields_at c.args.area.now c.args.found.name ≡ Some fields → slice_get fields c.loop-field.field ≡ Some stored =
+    λ fields is. (c.requires.held fields is).each c.loop-field.field c.loop-field-test.true in
     record {
-      traced = traced_more c.args.area.now c.args.exits.now.items c.args.at c.loop-field.field c.loop-field.area c.look.new.area c.loop-field.exits.items c.look.new.exits.items stored c.loop-field.invariant.traced at_i
+      traced = traced_more c.args.area.now c.args.exits.now.items c.args.found.name c.loop-field.field c.loop-field.area c.look.new.area c.loop-field.exits.items c.look.new.exits.items stored c.loop-field.invariant.traced at_i
           c.look.ensures.area c.look.ensures.exits;
       room = c.look.ensures.room ∙ c.loop-field.invariant.room;
       steps = λ fields is.
@@ -42,9 +42,8 @@ returns g c = record {
   room = c.loop-field.invariant.room;
   steps = λ fields is.
       c.loop-field.invariant.steps fields is
-      ∙ ap (λ (f : List Content). c.args.steps.now + count_by is_ref f) (take_all c.loop-field.field fields (omega (arith, c.copied-count.ensures.count fields is)));
+      ∙ ap (λ (f : List Content). c.args.steps.now + count_by is_ref f) (take_all c.loop-field.field fields (omega (arith, (c.requires.held fields is).counted)));
   looked = λ fields is.
       c.loop-field.invariant.traced fields is
-      ∙ ap (λ (f : List Content). looked_all f (record { area = c.args.area.now; exits = c.args.exits.now.items })) (take_all c.loop-field.field fields (omega (arith, c.copied-count.ensures.count fields is)));
-  list = c.copied-count.ensures.len;
+      ∙ ap (λ (f : List Content). looked_all f (record { area = c.args.area.now; exits = c.args.exits.now.items })) (take_all c.loop-field.field fields (omega (arith, (c.requires.held fields is).counted)));
 }

@@ -7,7 +7,7 @@ use Rattle.k_mark.proofs.marking.trace.Given as goal
 
 abbrev pub invariant-loop-field : goal.invariant-loop-field
 invariant-loop-field g l = record {
-  traced : TracedTo l.fn.area l.fn.exits.items l.fn.at l.field l.area l.exits.items;
+  traced : TracedTo l.fn.area l.fn.exits.items l.fn.found.name l.field l.area l.exits.items;
   room : l.exits.room ≡ l.fn.exits.room;
-  steps : (fields : List Content) → fields_at l.fn.area l.fn.at ≡ Some fields → l.steps ≡ l.fn.steps + count_by is_ref (take l.field fields);
+  steps : (fields : List Content) → fields_at l.fn.area l.fn.found.name ≡ Some fields → l.steps ≡ l.fn.steps + count_by is_ref (take l.field fields);
 }

@@ -1,15 +1,15 @@
-use Rattle.std.proofs.Common.{◌≡◌, ℕ, Option, Some, refl, sym, ap, subst, ◌∙◌, get_or, count_by}
-use Rattle.k_types.specs.declared.names.Serial.{Serial}
+use Rattle.std.proofs.Common.{◌≡◌, ℕ, refl, sym, ap, subst, ◌∙◌, get_or, count_by, is_some}
 use Rattle.k_space.specs.declared.marks.Place.TheVariants.{Empty, At}
 use Rattle.k_space.specs.declared.marks.Mark.TheVariants.{White as MarkWhite, Gray as MarkGray, Black as MarkBlack}
 use Rattle.k_space.specs.Segments.{SegmentValue, row_at, some_gray}
 use Rattle.k_space.specs.Places.{IsGrayList, is_gray_place}
+use Rattle.k_space.specs.Visiting.{AreHeld}
 use Rattle.k_space.proofs.GrayQueue.{last_set}
 use Rattle.k_space.proofs.ListedLemmas.{listed_set}
 use Rattle.k_space.proofs.Bytes.{bytes_recolored}
 use Rattle.k_space.proofs.GrayLists.{above_zero, first_left, head_gray, none_gray, no_head, At_inside}
-use Rattle.k_space.proofs.Rows.{recolored, taken, gray_row, row_at_view}
-use Rattle.k_space.proofs.segment.Segment.take_gray.Goals as goal
+use Rattle.k_space.proofs.Rows.{recolored, visited, gray_row, row_at_view}
+use Rattle.k_space.proofs.segment.Segment.visit_gray.Goals as goal
 
 pub returns-then-self-eq0-clause-none : goal.returns-then-self-eq0-clause-none
 returns-then-self-eq0-clause-none c = λ serial.
@@ -55,14 +55,14 @@ unreachable-requires-in-Black c =
     let both : At first.0 (MarkGray first.1) ≡ At c.in-At.slot MarkBlack = sym first.2 ∙ here in
     cc
 
-pub returns-clause-some : goal.returns-clause-some
-returns-clause-some c = λ serial e.
-    let places = c.self.inside.places.items in
-    let at = c.self.inside.gray in
-    let first = head_gray places _ at (above_zero at c.if-self-eq0.false) c.self.invariant.sound.grays in
+pub index-requires : goal.index-requires
+index-requires c =
     let here = sym c.at-place.ensures ∙ (c.in-At.is ∙ ap (At c.in-At.slot) c.in-Gray.is) in
-    let placed = c.self.invariant.sound.placed at c.in-At.slot (MarkGray c.in-Gray.next) here in
-    rw c.set.ensures (taken _ _ places c.self.inside.cells c.args.self.now at serial.0 c.in-At.slot c.in-Gray.next placed.cell c.self.view_is here placed.there (same_serial e))
-  where
-    same_serial : {a : ℕ} {s : Serial} → ◌≡◌ {A = Option Serial} (Some (record { 0 = a })) (Some s) → a ≡ s.0
-    same_serial {a} {s} e = let same : record { 0 = a } ≡ s = cc in ap (λ (s : Serial). s.0) same
+    ap is_some (c.self.invariant.sound.placed c.self.inside.gray c.in-At.slot (MarkGray c.in-Gray.next) here).there
+
+pub returns-clause-some : goal.returns-clause-some
+returns-clause-some c =
+    let here = sym c.at-place.ensures ∙ (c.in-At.is ∙ ap (At c.in-At.slot) c.in-Gray.is) in
+    let held : AreHeld c.index.result.now.body.fields c.copy_to-fields.result c.copy_to-fields.new.into = record { counted = c.copy_to-fields.ensures.count; most = c.copy_to-fields.ensures.most; each = c.copy_to-fields.ensures.copied } in
+    rw c.set.ensures
+    (visited _ _ c.self.inside.places.items c.self.inside.cells c.args.self.now c.self.inside.gray c.in-At.slot c.in-Gray.next c.index.result.now c.copy_to-fields.result c.copy_to-fields.new.into c.self.view_is here c.index.ensures held)
