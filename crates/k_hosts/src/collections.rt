@@ -1,6 +1,7 @@
 //! Collections that are open at once, and collections that are settled.
 use crate::driving::{
     begin_heap, begin_kernel, end_heap, end_kernel, mark_heap, mark_kernel, operate, settle_heap,
+    settle_kernel,
 };
 use crate::usual::{P1, P2, clear, dir, let_go, new, store, usual};
 use k_host::Host;
@@ -66,21 +67,66 @@ fn two_collections_are_open(rt: HostRuntime) -> Result<(), Fail> {
     end
 }
 
-/// An object is made and dropped, and a collection of its heap begins: when it is settled it has been marked and ended.
+/// The heap of the first process is settled: its open collection has ended, and is the fourth event.
 fn settle<R: Abort>(rt: &R, host: &mut Host) -> Result<(), Fail> {
+    settle_heap(host, P1)?;
+    assert_eq!(rt; host.event(3), Some(ended(Heap::User(P1), 1, 40, 0)));
+    assert_eq!(rt; host.len(), 4);
+    assert_eq!(rt; host.phase(P1), Some(CellPhase::Idle));
+    Ok(())
+}
+
+/// An object is made and dropped, and a collection of its heap begins.
+fn begin_one(host: &mut Host) -> Result<(), Fail> {
     operate(host, P1, &new(0))?;
     operate(host, P1, &clear(0))?;
     begin_heap(host, P1)?;
-    settle_heap(host, P1)?;
-    assert_eq!(rt; host.event(3), Some(ended(Heap::User(P1), 1, 40, 0)));
-    assert_eq!(rt; host.phase(P1), Some(CellPhase::Idle));
+    Ok(())
+}
+
+/// What has begun is marked and ended, and settling again does nothing.
+fn settle_twice<R: Abort>(rt: &R, host: &mut Host) -> Result<(), Fail> {
+    begin_one(host)?;
+    settle(rt, host)?;
+    settle(rt, host)
+}
+
+/// What is marked is ended.
+fn settle_marked<R: Abort>(rt: &R, host: &mut Host) -> Result<(), Fail> {
+    begin_one(host)?;
+    mark_heap(host, P1)?;
+    settle(rt, host)
+}
+
+/// A collection of the kernel's heap begins, and is marked and ended when it is settled.
+fn settle_the_kernel<R: Abort>(rt: &R, host: &mut Host) -> Result<(), Fail> {
+    begin_kernel(host, P2)?;
+    settle_kernel(host)?;
+    assert_eq!(rt; host.event(1), Some(ended(Heap::Kernel, 0, 0, 0)));
+    assert_eq!(rt; host.kernel_phase(), CellPhase::Idle);
     Ok(())
 }
 
 #[test]
 fn an_open_collection_is_settled(rt: HostRuntime) -> Result<(), Fail> {
     let mut host = usual(rt.alloc())?;
-    let end = settle(&rt, &mut host);
+    let end = settle_twice(&rt, &mut host);
+    let_go(host);
+    end
+}
+
+#[test]
+fn a_marked_collection_is_settled(rt: HostRuntime) -> Result<(), Fail> {
+    let mut host = usual(rt.alloc())?;
+    let end = settle_marked(&rt, &mut host);
+    let_go(host);
+    end
+}
+
+#[test]
+fn an_open_collection_of_the_kernel_is_settled(rt: HostRuntime) -> Result<(), Fail> {
+    let mut host = usual(rt.alloc())?;
+    let end = settle_the_kernel(&rt, &mut host);
     let_go(host);
     end
 }

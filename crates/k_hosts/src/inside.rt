@@ -29,9 +29,10 @@ fn check_lengths<R: Abort>(rt: &R, host: &Host, published: u32, waiting: u32) {
     assert_eq!(rt; host.unpublished(P1), Some(waiting));
 }
 
-/// What is done inside the heap waits until it is published.
+/// What is done inside the heap waits until it is published. A collection is not done inside the heap alone.
 fn waits<R: Abort>(rt: &R, host: &mut Host) -> Result<(), Fail> {
     work_inside(host)?;
+    assert_eq!(rt; local(host, P1, &Op::Collect)?, None);
     check_lengths(rt, host, 1, 2);
     publish(host, P1)?;
     check_lengths(rt, host, 3, 0);
