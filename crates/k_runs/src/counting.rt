@@ -6,7 +6,7 @@ use std::sync::atomic::{AtomicBool, AtomicU32, Ordering};
 use std::test::Fail;
 
 /// The turns for which a step is held, so that another one can come beside it if the book's lock lets it.
-const TURNS_OF_A_STEP: u32 = 1_000;
+const TURNS_OF_A_STEP: u32 = 100_000;
 
 /// How often one process was told.
 #[derive(Drop)]

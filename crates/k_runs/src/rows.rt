@@ -255,6 +255,34 @@ p2 dir r1\np2 store r1 0 r0\np2 kcollect\np2 exit\n";
     Ok(())
 }
 
+#[test]
+fn four_processes_begin_at_once(rt: HostRuntime) -> Result<(), Fail> {
+    let gate = Stops::of([
+        Stop::before(0, 0, Some(3)),
+        Stop::before(1, 0, Some(3)),
+        Stop::before(2, 0, Some(3)),
+        Stop::before(3, 0, None),
+    ]);
+    let operations = "p1 drop r0\np2 drop r0\np3 drop r0\np4 drop r0\n";
+    let trace = trace_text(rt.alloc(), "proc p3 b\nproc p4 b\n", operations)?;
+    run_report(&rt, rt.alloc(), &trace, &gate)?;
+    assert!(rt; gate.all_met());
+    Ok(())
+}
+
+#[test]
+fn threads_absorb_orphans(rt: HostRuntime) -> Result<(), Fail> {
+    let gate = Counts::make(rt.alloc(), 1)?;
+    let operations =
+        "p1 share s\np1 snew r0 s Node\np1 freeze s r0\np1 drop r0\np1 collect\np1 kcollect\n";
+    let trace = trace_text(rt.alloc(), "", operations)?;
+    run_report(&rt, rt.alloc(), &trace, &gate)?;
+    // the process lets go of the shared heap, and so its collection drops the share; then the kernel absorbs that heap, which is a step,
+    // and its collection has two more
+    assert_eq!(rt; gate.of(0), Some((6, 9)));
+    Ok(())
+}
+
 /// Runs the trace a few times, and compares the state that each run leaves.
 fn check_runs<R: Threads + Wait + Sync + Abort>(
     rt: &R,
