@@ -5,7 +5,7 @@ use crate::driving::{
 };
 use crate::usual::{P1, P2, clear, dir, let_go, new, store, usual};
 use k_host::Host;
-use k_types::{CellPhase, Event, Heap};
+use k_types::{CellPhase, Event, Heap, Op, Pid, Reply};
 use std::process::Abort;
 use std::test::Fail;
 
@@ -17,6 +17,15 @@ fn ended(heap: Heap, freed_objects: u32, freed_bytes: u64, exits_dropped: u32) -
         freed_bytes,
         exits_dropped,
         shares_dropped: 0,
+    }
+}
+
+/// The operation, done by the process.
+fn done(pid: Pid, op: Op) -> Event {
+    Event::Done {
+        pid,
+        op,
+        reply: Reply::Done,
     }
 }
 
@@ -51,8 +60,8 @@ fn free<R: Abort>(rt: &R, host: &mut Host, objects: u32, bytes: u64) -> Result<(
 /// were recorded before, and the next one frees the object.
 fn overlap<R: Abort>(rt: &R, host: &mut Host) -> Result<(), Fail> {
     overwrite_one(host)?;
-    begin_heap(host, P1)?;
-    begin_kernel(host, P2)?;
+    assert_eq!(rt; begin_heap(host, P1)?, done(P1, Op::Collect));
+    assert_eq!(rt; begin_kernel(host, P2)?, done(P2, Op::KCollect));
     drop_one(rt, host)?;
     free(rt, host, 0, 0)?;
     begin_heap(host, P1)?;
@@ -63,6 +72,26 @@ fn overlap<R: Abort>(rt: &R, host: &mut Host) -> Result<(), Fail> {
 fn two_collections_are_open(rt: HostRuntime) -> Result<(), Fail> {
     let mut host = usual(rt.alloc())?;
     let end = overlap(&rt, &mut host);
+    let_go(host);
+    end
+}
+
+/// The same, where the heap is marked already when the item is dropped.
+fn overlap_marked<R: Abort>(rt: &R, host: &mut Host) -> Result<(), Fail> {
+    overwrite_one(host)?;
+    begin_heap(host, P1)?;
+    mark_heap(host, P1)?;
+    begin_kernel(host, P2)?;
+    drop_one(rt, host)?;
+    assert_eq!(rt; end_heap(host, P1)?, ended(Heap::User(P1), 0, 0, 0));
+    begin_heap(host, P1)?;
+    free(rt, host, 1, 40)
+}
+
+#[test]
+fn an_item_is_dropped_after_the_marking(rt: HostRuntime) -> Result<(), Fail> {
+    let mut host = usual(rt.alloc())?;
+    let end = overlap_marked(&rt, &mut host);
     let_go(host);
     end
 }
@@ -103,6 +132,7 @@ fn settle_the_kernel<R: Abort>(rt: &R, host: &mut Host) -> Result<(), Fail> {
     begin_kernel(host, P2)?;
     settle_kernel(host)?;
     assert_eq!(rt; host.event(1), Some(ended(Heap::Kernel, 0, 0, 0)));
+    assert_eq!(rt; host.len(), 2);
     assert_eq!(rt; host.kernel_phase(), CellPhase::Idle);
     Ok(())
 }

@@ -2,12 +2,12 @@
 use crate::driving::{local, operate, publish};
 use crate::usual::{P1, let_go, new, usual};
 use k_host::Host;
-use k_types::{Op, Reg};
+use k_types::{Op, Reg, Reply};
 use std::process::Abort;
 use std::test::Fail;
 
 /// An object is made, and a move and a put are done inside its heap.
-fn work_inside(host: &mut Host) -> Result<(), Fail> {
+fn work_inside<R: Abort>(rt: &R, host: &mut Host) -> Result<(), Fail> {
     let moves = Op::Move {
         reg: Reg(1),
         from: Reg(0),
@@ -18,8 +18,8 @@ fn work_inside(host: &mut Host) -> Result<(), Fail> {
         number: 5,
     };
     operate(host, P1, &new(0))?;
-    local(host, P1, &moves)?;
-    local(host, P1, &puts)?;
+    assert_eq!(rt; local(host, P1, &moves)?, Some(Reply::Done));
+    assert_eq!(rt; local(host, P1, &puts)?, Some(Reply::Done));
     Ok(())
 }
 
@@ -31,7 +31,7 @@ fn check_lengths<R: Abort>(rt: &R, host: &Host, published: u32, waiting: u32) {
 
 /// What is done inside the heap waits until it is published. A collection is not done inside the heap alone.
 fn waits<R: Abort>(rt: &R, host: &mut Host) -> Result<(), Fail> {
-    work_inside(host)?;
+    work_inside(rt, host)?;
     assert_eq!(rt; local(host, P1, &Op::Collect)?, None);
     check_lengths(rt, host, 1, 2);
     publish(host, P1)?;

@@ -5,7 +5,7 @@ use crate::driving::{
 use crate::usual::{NODE, P1, P2, S, let_go, share, usual};
 use k_host::{Host, HostError, Twin};
 use k_io::NoMemory;
-use k_types::{Event, Op, Pid, Reg};
+use k_types::{Event, Op, Pid, Reg, Reply};
 use std::alloc::Global;
 use std::process::Abort;
 use std::test::Fail;
@@ -162,11 +162,33 @@ fn agreed<R: Abort>(
     Ok(done)
 }
 
+/// Whether the event loads the root of a shared heap into a register.
+fn attaches(event: Option<Event>) -> bool {
+    match event {
+        Some(Event::Done { op, reply, .. }) => {
+            matches!(op, Op::Attach { .. }) && matches!(reply, Reply::Loaded(_))
+        }
+        _ => false,
+    }
+}
+
+/// How often a process has come to share the heap, by the journal.
+fn attached(host: &Host) -> u32 {
+    let mut count: u32 = 0;
+    for number in 0..host.len() {
+        if attaches(host.event(number)) {
+            count = count.saturating_add(1);
+        }
+    }
+    count
+}
+
 /// A host and the machine on one thread go through the same.
 fn beside<R: Abort>(rt: &R, alloc: Global, host: &mut Host) -> Result<(), Fail> {
     let mut twin = host.twin(alloc)?;
     let done = agreed(rt, alloc, host, &mut twin)?;
     assert!(rt; done > 300, "{done}");
+    assert!(rt; attached(host) > 0);
     Ok(())
 }
 
