@@ -1,7 +1,7 @@
-//! Runs of the workload: their summaries, and what the gate is told of the run that they come from.
+//! Runs of the workload: their summaries, and what the gate is told of them and of a `run`.
 use crate::call::kaffe;
 use crate::status::Status;
-use crate::tests::{call, check_call, sink, words_of};
+use crate::tests::{HEADER, call, check_call, sink, words_of};
 use k_io::{Gate, GatePlace, MemSource};
 use std::sync::atomic::{AtomicBool, AtomicU32, Ordering};
 use std::test::Fail;
@@ -139,5 +139,24 @@ fn threads_do_all_the_work(rt: HostRuntime) -> Result<(), Fail> {
         let want = if pid % 2 == 0 { (47, 16) } else { (46, 15) };
         assert_eq!(rt; gate.of(pid), Some(want), "process {pid}");
     }
+    Ok(())
+}
+
+/// A `run` that does the operations on the caller's thread, as `replay` does, is told by this: the gate hears of nothing then.
+#[test]
+fn run_tells_the_gate(rt: HostRuntime) -> Result<(), Fail> {
+    let words = words_of(rt.alloc(), "run")?;
+    let input = format!(in rt.alloc();
+        "{HEADER}p1 new r0 Node\np1 move r1 r0\np2 new r0 Node\np2 exit\n"
+    )?;
+    let bytes = Vec::from_slice(rt.alloc(), input.as_bytes())?;
+    let mut source = MemSource::of(bytes, Vec::new(rt.alloc()));
+    let mut out = sink(rt.alloc(), 0)?;
+    let gate = Told::new();
+    let status = kaffe(&rt, rt.alloc(), &words, &mut source, &mut out, &gate);
+    assert_eq!(rt; status, Status::Good);
+    // a `move` inside the heap has no step
+    assert_eq!(rt; gate.of(0), Some((2, 1)));
+    assert_eq!(rt; gate.of(1), Some((2, 2)));
     Ok(())
 }

@@ -8,8 +8,10 @@ use std::test::Fail;
 use std::thread::Threads;
 
 /// The events of each trace behind the header. An operation's line of the trace is the part before ` = `.
-const WORKED: [&str; 12] = [
+const WORKED: [&str; 13] = [
     "",
+    "p2 new r0 Node = p2.1
+",
     "p1 new r0 Node = p1.1
 p1 new r1 Node = p1.2
 p1 new r2 Node = p1.3
@@ -256,4 +258,40 @@ fn runs_worked_traces(rt: HostRuntime) -> Result<(), Fail> {
         check_run(&rt, rt.alloc(), &header, events)?;
     }
     Ok(())
+}
+
+/// Two processes share a heap, and each pays for it in full.
+const SHARED: &str = "p1 share s
+p1 snew r0 s Node
+p1 snew r1 s Node
+p1 store r0 0 r1
+p1 freeze s r0
+p2 attach r0 s
+";
+
+#[test]
+fn stops_at_the_third_line_that_is_not_taken(rt: HostRuntime) -> Result<(), Fail> {
+    let mut trace = String::from_str(rt.alloc(), HEADER)?;
+    trace.push_str(SHARED)?;
+    let mut out = sink(rt.alloc(), 3)?;
+    let status = call(&rt, rt.alloc(), "replay", &trace, 0, &mut out)?;
+    assert_eq!(rt; status, Status::WriteFault);
+    assert_eq!(rt;
+        str::from_utf8(out.bytes()),
+        Ok("report 1\np1 share s = ok\n")
+    );
+    Ok(())
+}
+
+#[test]
+fn refuses_traces_to_replay(rt: HostRuntime) -> Result<(), Fail> {
+    let text = "bad trace: line 1 reason 12\n";
+    check_call(&rt, rt.alloc(), "replay", "", Status::BadTrace, text)?;
+    // the hard limits below b reserve more than it may hold
+    let trace = header_of(
+        rt.alloc(),
+        "limit b root soft 400\nlimit c b hard 300\nlimit e b hard 101\nproc p1 a\nproc p2 b\nshared s\n",
+    )?;
+    let text = "bad trace: line 8 reason 10\n";
+    check_call(&rt, rt.alloc(), "replay", &trace, Status::BadTrace, text)
 }
