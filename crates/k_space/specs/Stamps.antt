@@ -1,5 +1,5 @@
 -- How a place is kept. No public clause cites this file.
-use Rattle.std.specs.Prelude.{◌==◌, ℕ, ◌+◌, ◌<◌, ◌≤◌, ◌^◌, List, slice_index_or, if◌then◌else◌}
+use Rattle.std.specs.Prelude.{◌≡◌, ◌==◌, ℕ, ◌+◌, ◌<◌, ◌≤◌, ◌^◌, List, slice_index_or, slice_set, if◌then◌else◌}
 use Rattle.k_space.specs.declared.marks.Place.{Place}
 use Rattle.k_space.specs.declared.marks.Place.TheVariants.{Empty, At}
 use Rattle.k_space.specs.declared.marks.Mark.TheVariants.{White as MarkWhite, Gray as MarkGray, Black as MarkBlack}
@@ -9,6 +9,12 @@ use Rattle.k_space.specs.declared.marks.Spot.{Spot}
 pub record PlacesValue : Type 0 where
   pub items : List Place
   pub capacity : ℕ
+
+-- the place of that serial was white, and is gray with no next one
+pub record IsGrayed (old new : PlacesValue) (serial : ℕ) : Type 0 where
+  pub slot : ℕ
+  pub was : slice_index_or old.items serial Empty ≡ At slot MarkWhite
+  pub now : new ≡ record old { items = slice_set old.items serial (At slot (MarkGray 0)) }
 
 -- the place that a spot keeps
 abbrev pub seen : ℕ → Spot → Place

@@ -1,9 +1,9 @@
 //! The places of objects by serial, and their marks.
-ghost use Rattle.std.specs.Prelude.{◌≡◌, ◌<◌, ◌≤◌, ◌+◌, ◌^◌, ◌++◌, ◌∷◌, [], length, map, slice_set, slice_index_or, IfOk, ℕ};
+ghost use Rattle.std.specs.Prelude.{◌≡◌, ◌<◌, ◌≤◌, ◌+◌, ◌^◌, ◌++◌, ◌∷◌, [], length, map, slice_set, slice_index_or, IfOk, IsTrue, IsFalse, ℕ};
 ghost use Rattle.k_space.specs.declared.marks.Place.TheVariants.{Empty as NoPlace, At as PlaceAt};
-ghost use Rattle.k_space.specs.declared.marks.Mark.TheVariants.{Gray as MarkGray};
+ghost use Rattle.k_space.specs.declared.marks.Mark.TheVariants.{White as MarkWhite, Gray as MarkGray};
 ghost use Rattle.k_space.specs.Places.{white_place, is_white_place, is_empty_place, IsGrayEnd};
-ghost use Rattle.k_space.specs.Stamps.{seen, plain};
+ghost use Rattle.k_space.specs.Stamps.{IsGrayed, seen, plain};
 
 use k_io::NoMemory;
 use std::alloc::Global;
@@ -100,6 +100,15 @@ impl Spot {
         }
     }
 
+    /// Whether it keeps an object without a mark.
+    fn is_white(self, epoch: u32) -> bool
+        requires { self.stamp < epoch + 2 }
+        ensures yes { IsTrue result → seen epoch self ≡ PlaceAt self.slot MarkWhite }
+        ensures no { IsFalse result → IsFalse (is_white_place (seen epoch self)) }
+    {
+        self.stamp != 0 && self.stamp < epoch
+    }
+
     /// The same without a mark in any epoch.
     fn plain(self) -> Spot
         ensures { result ≡ plain self }
@@ -172,6 +181,21 @@ impl Places {
         ensures { self.new ≡ record self.old { items = slice_set self.old.items serial place } }
     {
         self.spots[serial] = Spot::of(place, self.epoch);
+    }
+
+    /// Makes the place of that serial gray, with no next one, where it is white, and tells whether it was.
+    pub(crate) fn make_gray(&mut self, serial: usize) -> bool
+        requires { serial < length self.old.items }
+        ensures yes { IsTrue result → IsGrayed self.old self.new serial }
+        ensures no { IsFalse result → IsFalse (is_white_place (slice_index_or self.old.items serial NoPlace)) }
+        ensures kept { IsFalse result → self.new ≡ self.old }
+    {
+        let spot = self.spots[serial];
+        if !spot.is_white(self.epoch) {
+            return false;
+        }
+        self.spots[serial] = Spot::of(Place::At(spot.slot, Mark::Gray(0)), self.epoch);
+        true
     }
 
     /// Has the gray place of the one serial, which names no next one, name the other.

@@ -270,24 +270,16 @@ impl Segment {
         if at >= self.places.len() {
             return;
         }
-        let place = self.places.at(at);
-        match place {
-            Place::At(slot, mark) => match mark {
-                Mark::White => {
-                    // Behind the others, so that objects are visited mostly in the order of their making.
-                    let last = self.last;
-                    self.last = serial.0;
-                    self.places.set(at, Place::At(slot, Mark::Gray(0)));
-                    if self.gray == 0 {
-                        self.gray = serial.0;
-                    } else {
-                        self.places.follow(last as usize, serial.0);
-                    }
-                }
-                Mark::Gray(_) => {}
-                Mark::Black => {}
-            },
-            Place::Empty => {}
+        if !self.places.make_gray(at) {
+            return;
+        }
+        // Behind the others, so that objects are visited mostly in the order of their making.
+        let last = self.last;
+        self.last = serial.0;
+        if self.gray == 0 {
+            self.gray = serial.0;
+        } else {
+            self.places.follow(last as usize, serial.0);
         }
     }
 
