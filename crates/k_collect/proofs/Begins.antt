@@ -38,6 +38,7 @@ use Rattle.k_agree.proofs.Commits.{committed}
 use Rattle.k_agree.proofs.Touched.{as_listed}
 use Rattle.k_book.specs.Books.{BookRecord}
 use Rattle.k_heap.specs.Heaps.{HeapRecord}
+use Rattle.k_lawful.proofs.Laws.{possible_events_are_lawful}
 use Rattle.k_moves.specs.Moves.{noted}
 use Rattle.k_moves.specs.Shown.{ShowsIdle}
 use Rattle.k_moves.proofs.Idle.{book_follows, unscanned}
@@ -161,7 +162,7 @@ module _ (trace : Trace) (c : HeapRecord) (b : BookRecord) (stands : BookStands 
     unfolding part
     begins = record {
       event_is = refl;
-      appended = record { possible = collect_possible; journal = refl; same_table = refl; book_is = refl; agrees = after.book_agrees };
+      appended = record { possible = collect_possible; lawful = possible_events_are_lawful trace b.journal.list collect stands.keeps.limits stands.agrees.legal collect_possible; journal = refl; same_table = refl; book_is = refl; agrees = after.book_agrees };
       heap_goes_on = record { cell_is = refl; table = heap_stands.table; settled = heap_stands.settled; in_phase = refl; met = after.cells_met.0; agrees = after.cells_agree.0 };
       done = one_more c.value.process _ (ap (λ (s : ShownPart). s.process) met.after.shows.part);
       gray = gray_right trace now collect heap b c.value w (sound_now before met) refl stands.agrees.shows met.after.shows grayed (ap (λ (p : CellPart). p.scan) collect_part);

@@ -37,6 +37,7 @@ use Rattle.k_book.specs.Calls.{ChangesEntries}
 use Rattle.k_cell.specs.Holdings.{HoldingsValue}
 use Rattle.k_changes.specs.BookChanges.{registers_in}
 use Rattle.k_heap.specs.Heaps.{HeapRecord}
+use Rattle.k_lawful.proofs.Laws.{possible_events_are_lawful}
 use Rattle.k_moves.specs.Moves.{noted}
 use Rattle.k_squares.proofs.Laws.{what_is_let_go_is_counted-entries}
 use Rattle.k_commit.specs.Met.{FitsTheBook}
@@ -289,7 +290,7 @@ module _ (trace : Trace) (c : HeapRecord) (b : BookRecord) (can : CanSweep trace
       exits = dropped_exits c.value;
       shares = dropped_shares trace (owners_now trace b) b.value c.value p;
       event_is = refl;
-      appended = record { possible = told.possible; journal = refl; same_table = refl; book_is = refl; agrees = after.book_agrees };
+      appended = record { possible = told.possible; lawful = possible_events_are_lawful trace b.journal.list ended can.book_stands.keeps.limits can.book_stands.agrees.legal told.possible; journal = refl; same_table = refl; book_is = refl; agrees = after.book_agrees };
       heap_goes_on = record {
         cell_is = refl;
         table = table;
@@ -333,7 +334,7 @@ module _ (trace : Trace) (c : HoldingsValue) (b : BookRecord) (can : CanSweep tr
       bytes = freed_bytes c.value;
       exits = dropped_exits c.value;
       event_is = refl;
-      appended = record { possible = kernel_possible; journal = refl; same_table = refl; book_is = refl; agrees = kernel_after.book_agrees };
+      appended = record { possible = kernel_possible; lawful = possible_events_are_lawful trace b.journal.list kernel_event can.book_stands.keeps.limits can.book_stands.agrees.legal kernel_possible; journal = refl; same_table = refl; book_is = refl; agrees = kernel_after.book_agrees };
       kernel_goes_on = record {
         kernel_is = refl;
         table = table;

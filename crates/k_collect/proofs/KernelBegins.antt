@@ -35,6 +35,7 @@ use Rattle.k_agree.proofs.Touched.{as_listed}
 use Rattle.k_book.specs.Books.{BookRecord}
 use Rattle.k_cell.specs.Holdings.{HoldingsValue}
 use Rattle.k_heap.specs.Heaps.{HeapRecord}
+use Rattle.k_lawful.proofs.Laws.{possible_events_are_lawful}
 use Rattle.k_moves.specs.Moves.{noted}
 use Rattle.k_moves.specs.Shown.{ShowsIdle}
 use Rattle.k_moves.proofs.Idle.{book_follows, not_open, part_shown, shows_part, unscanned}
@@ -175,7 +176,7 @@ module _ (trace : Trace) (c : HeapRecord) (k : HoldingsValue) (b : BookRecord) (
     unfolding part
     begins = record {
       event_is = refl;
-      appended = record { possible = kcollect_possible; journal = refl; same_table = refl; book_is = refl; agrees = both_after.book_agrees };
+      appended = record { possible = kcollect_possible; lawful = possible_events_are_lawful trace b.journal.list kcollect can.book_stands.keeps.limits can.book_stands.agrees.legal kcollect_possible; journal = refl; same_table = refl; book_is = refl; agrees = both_after.book_agrees };
       heap_goes_on = record { cell_is = refl; table = can.heap_stands.table; settled = can.heap_stands.settled; in_phase = can.heap_stands.idle; met = both_after.cells_met.0; agrees = both_after.cells_agree.0 };
       kernel_goes_on = record { kernel_is = refl; table = can.kernel_stands.table; in_phase = refl; met = both_after.cells_met.1.0; agrees = both_after.cells_agree.1.0 };
       done = one_more c.value.process _ (ap (λ (s : ShownPart). s.process) both_met.after.shows.part);
@@ -254,7 +255,7 @@ module _ (trace : Trace) (k : HoldingsValue) (b : BookRecord) (can : CanClose tr
         b (record b { journal = journal_after Closing (k.note.cell ∷ []) b.journal; value = record b.value { closed = true } }) Closing
     closed = record {
       event_is = refl;
-      appended = record { possible = closing_possible; journal = refl; same_table = refl; book_is = refl; agrees = closing_after.book_agrees };
+      appended = record { possible = closing_possible; lawful = possible_events_are_lawful trace b.journal.list Closing can.book_stands.keeps.limits can.book_stands.agrees.legal closing_possible; journal = refl; same_table = refl; book_is = refl; agrees = closing_after.book_agrees };
       kernel_goes_on = record { kernel_is = refl; table = can.kernel_stands.table; in_phase = refl; met = closing_after.cells_met.0; agrees = closing_after.cells_agree.0 };
       gray = gray_right trace st Closing Kernel b k.value w last_sound refl can.book_stands.agrees.shows last_shows grayed (ap (λ (p : CellPart). p.scan) closing_part);
     }

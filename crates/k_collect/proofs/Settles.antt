@@ -23,6 +23,7 @@ use Rattle.k_collect.specs.Ended.{HasEndedHeap, HasEndedKernel}
 use Rattle.k_collect.specs.Marking.{CanMark, HasMarkedOn}
 use Rattle.k_collect.specs.Settling.{AreEnds, CanSettleHeap, CanSettleKernel, HasSettledHeap, HasSettledKernel, IsTheEnd, KeepsBook, KeepsCell, ends_to_come}
 use Rattle.k_types.specs.declared.event.Event.TheVariants.{Ended}
+use Rattle.k_laws.proofs.Laws.{states_are_sound}
 use Rattle.k_agree.specs.Agreement.{Agrees}
 
 -- a collection is open in this phase
@@ -82,6 +83,7 @@ module _ (trace : Trace) (c : HeapRecord) (b : BookRecord) (can : CanSettleHeap 
             agrees = p.agrees;
           };
           agrees = p.book_agrees;
+          sound = p.sound can.book_stands.keeps.limits;
         }
 
     room_for_end : IsOpen d.value.collection → HasEventRoom k
@@ -155,6 +157,7 @@ module _ (trace : Trace) (c : HeapRecord) (b : BookRecord) (can : CanSettleHeap 
           agrees = h.heap_goes_on.agrees;
         };
         agrees = h.appended.agrees;
+        sound = states_are_sound trace l.journal.list can.book_stands.keeps.limits h.appended.agrees.legal;
       }
 
     pub settled_marked : (x : HeapRecord) (l : BookRecord) (e : Event) → HasEndedHeap trace d x k l e → d.value.collection ≡ Marked → HasSettledHeap trace c x b l
@@ -198,6 +201,7 @@ module _ (trace : Trace) (c : HoldingsValue) (b : BookRecord) (can : CanSettleKe
           agrees = kernel_agrees;
         };
         agrees = kernel_stands_still.agrees;
+        sound = states_are_sound trace k.journal.list can.book_stands.keeps.limits kernel_stands_still.agrees.legal;
       }
 
   kernel_room_for_end : IsOpen d.value.collection → HasEventRoom k
@@ -253,6 +257,7 @@ module _ (trace : Trace) (c : HoldingsValue) (b : BookRecord) (can : CanSettleKe
         agrees = h.kernel_goes_on.agrees;
       };
       agrees = h.appended.agrees;
+      sound = states_are_sound trace l.journal.list can.book_stands.keeps.limits h.appended.agrees.legal;
     }
 
   pub kernel_settled_marked : (x : HoldingsValue) (l : BookRecord) (e : Event) → HasEndedKernel trace d x k l e → d.value.collection ≡ Marked → HasSettledKernel trace c x b l

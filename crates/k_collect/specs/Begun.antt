@@ -20,10 +20,12 @@ use Rattle.k_agree.specs.Meeting.{HasMet}
 use Rattle.k_book.specs.Books.{BookRecord}
 use Rattle.k_cell.specs.Holdings.{HoldingsValue}
 use Rattle.k_heap.specs.Heaps.{HeapRecord}
+use Rattle.k_lawful.specs.Lawful.{IsLawful}
 
--- the event is possible after the journal, and its newest; the book is as it was but for its journal and its value, and agrees
+-- the event is possible after the journal, lawful, and its newest; the book is as it was but for its journal and its value, and agrees
 pub record HasAppended (trace : Trace) (old_book book : BookRecord) (event : Event) : Type 0 where
   pub possible : IsPossible trace (state_after trace old_book.journal.list) event
+  pub lawful : IsLawful trace old_book.journal.list event
   pub journal : book.journal.list ≡ old_book.journal.list ++ event ∷ []
   pub same_table : book.journal.table ≡ old_book.journal.table
   pub book_is : book ≡ record old_book { journal = book.journal; value = book.value }

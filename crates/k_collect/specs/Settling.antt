@@ -7,6 +7,8 @@ use Rattle.k_types.specs.declared.names.CellPhase.TheVariants.{Begun, Idle, Mark
 use Rattle.k_types.specs.declared.names.Heap.{Heap}
 use Rattle.k_types.specs.declared.names.Heap.TheVariants.{Kernel, User}
 use Rattle.k_types.specs.Agree.{CellValue}
+use Rattle.k_types.specs.Sound.{IsSound}
+use Rattle.k_types.specs.Steps.{state_after}
 use Rattle.k_types.specs.Trace.{Trace}
 use Rattle.k_agree.specs.Agreement.{Agrees, BookAgrees}
 use Rattle.k_agree.specs.Meeting.{Fits}
@@ -63,7 +65,8 @@ KeepsCell Idle old new = new ≡ record old { tail = [] }
 KeepsCell Begun old new = Unit {0}
 KeepsCell Marked old new = Unit {0}
 
--- the unpublished events of the process's cell are in the journal, and then the end of its open collection; no collection is open
+-- the unpublished events of the process's cell are in the journal, and then the end of its open collection; no collection is open, and
+-- the state after is sound
 pub record HasSettledHeap (trace : Trace) (old_cell cell : HeapRecord) (old_book book : BookRecord) : Type 0 where
   pub fits : Fits old_book.journal old_cell.note
   pub last : List Event
@@ -75,8 +78,9 @@ pub record HasSettledHeap (trace : Trace) (old_cell cell : HeapRecord) (old_book
   pub cell_kept : KeepsCell old_cell.value.collection old_cell.value cell.value
   pub heap_goes_on : HeapGoesOn trace old_cell cell book Idle
   pub agrees : BookAgrees trace book.journal book.value
+  pub sound : IsSound trace (state_after trace book.journal.list)
 
--- the end of the open collection of the kernel's heap is in the journal; no collection is open
+-- the end of the open collection of the kernel's heap is in the journal; no collection is open, and the state after is sound
 pub record HasSettledKernel (trace : Trace) (old_kernel kernel : HoldingsValue) (old_book book : BookRecord) : Type 0 where
   pub fits : Fits old_book.journal old_kernel.note
   pub last : List Event
@@ -88,3 +92,4 @@ pub record HasSettledKernel (trace : Trace) (old_kernel kernel : HoldingsValue) 
   pub cell_kept : KeepsCell old_kernel.value.collection old_kernel.value kernel.value
   pub kernel_goes_on : KernelGoesOn trace old_kernel kernel book Idle
   pub agrees : BookAgrees trace book.journal book.value
+  pub sound : IsSound trace (state_after trace book.journal.list)

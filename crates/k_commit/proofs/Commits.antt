@@ -28,6 +28,7 @@ use Rattle.k_agree.proofs.Commits.{committed}
 use Rattle.k_book.specs.Books.{BookRecord}
 use Rattle.k_cell.specs.Holdings.{HoldingsValue}
 use Rattle.k_heap.specs.Heaps.{HeapRecord}
+use Rattle.k_lawful.proofs.Laws.{possible_events_are_lawful}
 use Rattle.k_moves.specs.Moves.{CommitsAlone, CommitsBoth, MayAct, noted}
 use Rattle.k_moves.proofs.Committed.{commit_alone, commit_both}
 use Rattle.k_shared.specs.SharedHeaps.{SharedRecord}
@@ -104,6 +105,7 @@ module _ (before : Before) (m : HaveMet before) (op : Op) (said : Reply) where
       said = said;
       event_is = refl;
       possible = possible;
+      lawful = possible_events_are_lawful before.trace before.book.journal.list event m.book.keeps.limits m.book.agrees.legal possible;
       journal = refl;
       same_table = refl;
       table = m.heap.table;

@@ -112,6 +112,7 @@ from_note trace op c w note b l event h = record {
   said = h.said;
   event_is = h.event_is;
   possible = h.possible;
+  lawful = h.lawful;
   journal = h.journal;
   same_table = h.same_table;
   table = h.table;

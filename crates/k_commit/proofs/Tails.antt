@@ -14,6 +14,7 @@ use Rattle.k_book.specs.Books.{BookRecord}
 use Rattle.k_heap.specs.Heaps.{HeapRecord}
 use Rattle.k_commit.specs.Met.{HeapHasMet}
 use Rattle.k_commit.specs.Published.{CanPublish, HasPublished}
+use Rattle.k_laws.proofs.Laws.{states_are_sound}
 
 -- some of the events are published, and the rest is still the cell's
 pub record IsPublishing (trace : Trace) (old c : HeapRecord) (before b : BookRecord) : Type 0 where
@@ -89,6 +90,7 @@ module _ (trace : Trace) (old : HeapRecord) (before : BookRecord) (can : CanPubl
       journal = p.journal ∙ ap (λ (t : List Event). before.journal.list ++ t) (sym (append-nil p.taken) ∙ ap (λ (t : List Event). p.taken ++ t) (sym none) ∙ sym p.split);
       table = p.table;
       same_table = p.same_table;
+      sound = λ limits. states_are_sound trace b.journal.list limits p.book_agrees.legal;
       met = record {
         there = p.agrees.there;
         number = p.agrees.number;

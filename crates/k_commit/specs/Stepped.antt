@@ -14,16 +14,18 @@ use Rattle.k_book.specs.Books.{BookRecord}
 use Rattle.k_cell.specs.Holdings.{HoldingsValue}
 use Rattle.k_frame.specs.PartUpdates.{done_in}
 use Rattle.k_heap.specs.Heaps.{HeapRecord}
+use Rattle.k_lawful.specs.Lawful.{IsLawful}
 use Rattle.k_shared.specs.SharedHeaps.{SharedRecord}
 use Rattle.k_commit.specs.Changed.{bodies_after}
 
--- the event is the operation's, possible after the journal, and its newest; the cell is the same one with its rooms, has taken the
--- body that an allocation takes, has done one operation more, is idle with nothing unpublished and has met the journal; cell and
--- book agree
+-- the event is the operation's, possible after the journal, lawful, and its newest; the cell is the same one with its rooms, has
+-- taken the body that an allocation takes, has done one operation more, is idle with nothing unpublished and has met the journal; cell
+-- and book agree
 pub record HasStepped (trace : Trace) (op : Op) (old_cell cell : HeapRecord) (old_book book : BookRecord) (event : Event) : Type 0 where
   pub said : Reply
   pub event_is : event ≡ Done old_cell.pid op said
   pub possible : IsPossible trace (state_after trace old_book.journal.list) event
+  pub lawful : IsLawful trace old_book.journal.list event
   pub journal : book.journal.list ≡ old_book.journal.list ++ event ∷ []
   pub same_table : book.journal.table ≡ old_book.journal.table
   pub table : cell.note.table ≡ book.journal.table

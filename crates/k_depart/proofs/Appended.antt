@@ -12,6 +12,7 @@ use Rattle.k_tie.specs.Values.{NoteValue}
 use Rattle.k_frame.proofs.Histories.{state_next}
 use Rattle.k_laws.specs.Termination.{CreditsTheCharge}
 use Rattle.k_laws.proofs.Laws.{termination_credits_the_whole_charge-exit, termination_leaves_the_rest-exit, termination_leaves_the_rest-exits, termination_leaves_the_rest-rest}
+use Rattle.k_lawful.proofs.Laws.{possible_events_are_lawful}
 use Rattle.k_agree.specs.Agreement.{BookShows, Shows}
 use Rattle.k_agree.specs.Committing.{CanCommit, IsCommitted, NotedCell, journal_after, note_after, state_to_come}
 use Rattle.k_agree.specs.Meeting.{Fits, met_note}
@@ -115,6 +116,7 @@ module _ (trace : Trace) (s0 s1 : SharedRecord) (k0 k1 : HoldingsValue) (b0 l : 
   absorbed_here = record {
     event_is = refl;
     possible = absorption_can.possible;
+    lawful = possible_events_are_lawful trace b0.journal.list absorption met.book_stands.keeps.limits met.book_stands.agrees.legal absorption_can.possible;
     fits = fits;
     kernel_fits = kernel_fits;
     journal = refl;
@@ -256,6 +258,7 @@ module _ (trace : Trace) (c0 c1 : HeapRecord) (k0 k1 : HoldingsValue) (b0 l : Bo
   exited_here = record {
     event_is = refl;
     possible = exit_can.possible;
+    lawful = possible_events_are_lawful trace b0.journal.list leaving met.have_met.own.book.keeps.limits met.have_met.own.book.agrees.legal exit_can.possible;
     fits = fits;
     kernel_fits = kernel_fits;
     journal = refl;

@@ -14,6 +14,7 @@ use Rattle.k_cell.specs.Holdings.{HoldingsValue}
 use Rattle.k_commit.specs.Met.{ShowsAfter}
 use Rattle.k_commit.specs.Rooms.{HasEventRoom}
 use Rattle.k_commit.specs.Standing.{BookStands, KernelStands, SharedStands}
+use Rattle.k_lawful.specs.Lawful.{IsLawful}
 use Rattle.k_shared.specs.SharedHeaps.{SharedRecord}
 use Rattle.k_shares.specs.Sharers.{is_orphan_by}
 use Rattle.k_depart.specs.Ending.{state_with}
@@ -57,12 +58,13 @@ pub record HasTakenOver (trace : Trace) (old_shared shared : SharedRecord) (old_
   pub kernel_shows : Shows trace (state_with trace old_book (Absorbed old_shared.id)) Kernel kernel.value
   pub book_shows : BookShows trace (state_with trace old_book (Absorbed old_shared.id)) book.value
 
--- the event is the absorption, possible after the journal, which the notes fitted, and its newest. The heap is absorbed, and its
+-- the event is the absorption, possible after the journal, which the notes fitted, lawful, and its newest. The heap is absorbed, and its
 -- segment the kernel's: the cells are the same ones, where the room for serials has gone with the segment. Both are idle and have met
 -- the journal; cells and book agree
 pub record HasAbsorbedHeap (trace : Trace) (old_shared shared : SharedRecord) (old_kernel kernel : HoldingsValue) (old_book book : BookRecord) (event : Event) : Type 0 where
   pub event_is : event ≡ Absorbed old_shared.id
   pub possible : IsPossible trace (state_after trace old_book.journal.list) event
+  pub lawful : IsLawful trace old_book.journal.list event
   pub fits : Fits old_book.journal old_shared.note
   pub kernel_fits : Fits old_book.journal old_kernel.note
   pub journal : book.journal.list ≡ old_book.journal.list ++ event ∷ []

@@ -25,6 +25,7 @@ use Rattle.k_commit.specs.Standing.{BookStands, HeapStands, KernelStands}
 use Rattle.k_frame.specs.PartUpdates.{done_in}
 use Rattle.k_depart.specs.Ending.{state_with}
 use Rattle.k_heap.specs.Heaps.{HeapRecord, has_ended_in, own_segment}
+use Rattle.k_lawful.specs.Lawful.{IsLawful}
 
 -- the journal has room for one event more, and the kernel for the exit items of the process's heap beside its own
 pub record HasRoomToExit (cell : HeapRecord) (kernel : HoldingsValue) (book : BookRecord) : Type 0 where
@@ -68,7 +69,7 @@ pub record HasGivenUp (trace : Trace) (old_cell cell : HeapRecord) (old_kernel k
   pub kernel_shows : Shows trace (state_with trace old_book (exit_of old_cell.pid)) Kernel kernel.value
   pub book_shows : BookShows trace (state_with trace old_book (exit_of old_cell.pid)) book.value
 
--- the event is the end of the process, answered as done, possible after the journal, which the notes fitted, and its newest. The process
+-- the event is the end of the process, answered as done, possible after the journal, which the notes fitted, lawful, and its newest. The process
 -- has ended, has done one operation more, and its segment is the kernel's: the cells are the same ones, where the room for serials has
 -- gone with the segment. Both are idle with nothing unpublished and have met the journal; cells and book agree. The whole charge is
 -- credited: the use of each limit on the path of the process's limit falls by what the process was charged, and every other limit's use
@@ -77,6 +78,7 @@ pub record HasGivenUp (trace : Trace) (old_cell cell : HeapRecord) (old_kernel k
 pub record HasExited (trace : Trace) (old_cell cell : HeapRecord) (old_kernel kernel : HoldingsValue) (old_book book : BookRecord) (event : Event) : Type 0 where
   pub event_is : event ≡ exit_of old_cell.pid
   pub possible : IsPossible trace (state_after trace old_book.journal.list) event
+  pub lawful : IsLawful trace old_book.journal.list event
   pub fits : Fits old_book.journal old_cell.note
   pub kernel_fits : Fits old_book.journal old_kernel.note
   pub journal : book.journal.list ≡ old_book.journal.list ++ event ∷ []

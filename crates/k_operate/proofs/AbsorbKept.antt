@@ -80,7 +80,7 @@ module _ (world : WorldValue) (s : SharedRecord) (k : HoldingsValue) (b : BookRe
     appended : HasAppended world.trace b l (Absorbed s.id)
     appended =
         subst (HasAppended world.trace b l) a.event_is
-        (record { possible = a.possible; journal = a.journal; same_table = a.same_table; book_is = a.book_is; agrees = a.book_agrees })
+        (record { possible = a.possible; lawful = a.lawful; journal = a.journal; same_table = a.same_table; book_is = a.book_is; agrees = a.book_agrees })
 
     book_then : BookKeeps world.trace world.table l
     book_then = book_keeps_on world.trace world.table b l (Absorbed s.id) can.book appended tt refl

@@ -78,7 +78,7 @@ module _ (world : WorldValue) (p : Process) (k : HoldingsValue) (b : BookRecord)
 
   module _ (c : HeapRecord) (x : HoldingsValue) (l : BookRecord) (event : Event) (s : HasExited world.trace p.cell c k x b l event) where
     exited : HasAppended world.trace b l (Done p.cell.pid Exit DoneReply)
-    exited = subst (HasAppended world.trace b l) s.event_is (record { possible = s.possible; journal = s.journal; same_table = s.same_table; book_is = s.book_is; agrees = s.book_agrees })
+    exited = subst (HasAppended world.trace b l) s.event_is (record { possible = s.possible; lawful = s.lawful; journal = s.journal; same_table = s.same_table; book_is = s.book_is; agrees = s.book_agrees })
 
     pid_kept : c.pid ≡ p.cell.pid
     pid_kept = ap (λ (y : HeapRecord). y.pid) s.cell_is
