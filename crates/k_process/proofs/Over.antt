@@ -12,7 +12,7 @@ use Rattle.k_frame.specs.PartUpdates.{done_in}
 use Rattle.k_tie.specs.Values.{NoteValue}
 use Rattle.k_agree.specs.Agreement.{Agrees, Shows}
 use Rattle.k_agree.specs.Settled.{IsOver, IsSettled, IsThrough}
-use Rattle.k_agree.proofs.AtTheEnd.{is_complete}
+use Rattle.k_agree.proofs.AtTheEnd.{book_sound, is_complete}
 use Rattle.k_book.specs.Books.{BookRecord}
 use Rattle.k_cell.specs.Holdings.{HoldingsValue}
 use Rattle.k_heap.specs.Heaps.{has_ended_in}
@@ -115,6 +115,7 @@ module _ (world : WorldValue) (processes : List Process) (kernel : HoldingsValue
   outcome = record {
     legal = m.ended.processes.book.stands.agrees.legal;
     complete = is_complete trace book.journal book.value m.ended.processes.book.stands.keeps.limits over;
+    sound = book_sound trace book.journal book.value m.ended.processes.book.stands.keeps.limits m.ended.processes.book.stands.agrees;
     processes = λ p known.
         let at = process_at p known in
         let stands = m.ended.processes.processes.each p at.0 at.1 in (

@@ -2,6 +2,7 @@
 use Rattle.std.specs.Prelude.{◌≡◌, ℕ, ◌<◌, IsTrue, List, Some, slice_get}
 use Rattle.k_types.specs.declared.names.Heap.TheVariants.{Kernel, Shared, User}
 use Rattle.k_types.specs.Complete.{EndsWithClosing, IsComplete}
+use Rattle.k_types.specs.Sound.{IsSound}
 use Rattle.k_types.specs.Steps.{IsLegalHistory, state_after}
 use Rattle.k_types.specs.Trace.{Trace, process_count}
 use Rattle.k_agree.specs.Agreement.{BookShows, Shows}
@@ -52,10 +53,11 @@ pub record OutcomeValue : Type 0 where
   pub shared : List SharedRecord
   pub book : BookRecord
 
--- the journal is a legal and complete history of the trace, and each cell and the book show the state after it
+-- the journal is a legal and complete history of the trace, the state after it is sound, and each cell and the book show that state
 pub record IsOutcome (trace : Trace) (o : OutcomeValue) : Type 0 where
   pub legal : IsLegalHistory trace o.book.journal.list
   pub complete : IsComplete trace o.book.journal.list
+  pub sound : IsSound trace (state_after trace o.book.journal.list)
   pub processes : (p : ℕ) → p < process_count trace → (c : HeapRecord) × (slice_get o.processes p ≡ Some c) × (c.pid.0 ≡ p) × Shows trace (state_after trace o.book.journal.list) (User c.pid) c.value
   pub kernel : Shows trace (state_after trace o.book.journal.list) Kernel o.kernel.value
   pub shared : (s : ℕ) → s < trace.shared_heaps → (c : SharedRecord) × (slice_get o.shared s ≡ Some c) × (c.id.0 ≡ s) × Shows trace (state_after trace o.book.journal.list) (Shared c.id) c.value
