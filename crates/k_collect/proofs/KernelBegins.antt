@@ -55,7 +55,7 @@ use Rattle.k_collect.specs.Graying.{HasGrayed, is_root_by}
 use Rattle.k_collect.proofs.Begins.{gray_right, marks_right, one_more}
 
 -- no element of which none is found passes the test
-none_found : {A : Type 0} (p : A → Bool) (xs : List A) → find p xs ≡ None → list_all (λ x. not (p x)) xs ≡ true
+pub none_found : {A : Type 0} (p : A → Bool) (xs : List A) → find p xs ≡ None → list_all (λ x. not (p x)) xs ≡ true
 none_found p [] e = refl
 none_found p (x ∷ xs) e = go (λ rest. none_found p xs rest) (p x) e
   where

@@ -1,5 +1,5 @@
 -- The last collection of the kernel keeps what is asked at the end.
-use Rattle.std.proofs.Common.{◌≡◌, ◌≤◌, ◌++◌, ℕ, true, false, refl, sym, ap, ap₂, ◌∙◌, subst, List, [], ◌∷◌, length, append-nil, append_assoc, filter, find, Option, Some, None, is_some, IsTrue, if◌then◌else◌}
+use Rattle.std.proofs.Common.{◌≡◌, ◌≤◌, ◌++◌, ℕ, true, false, sym, ap, ap₂, ◌∙◌, subst, List, [], ◌∷◌, length, append-nil, append_assoc, filter, find, Some, None, is_some, IsTrue}
 use Rattle.std.specs.List.{list_all}
 use Rattle.std.proofs.Math.Path.{fun_ext}
 use Rattle.std.proofs.lemmas.Bool.{false≢true}
@@ -40,9 +40,10 @@ use Rattle.k_operate.specs.Absorbing.{HasAbsorbedOrphans}
 use Rattle.k_operate.specs.Collecting.{KernelCollects}
 use Rattle.k_operate.proofs.AbsorbKept.{first_is, first_told, sound_at_last}
 use Rattle.k_operate.proofs.Appended.{open_once_met, room_for, room_for_end, stands_on}
+use Rattle.k_collect.proofs.KernelBegins.{none_found}
 use Rattle.k_complete.specs.Closing.{CanCollectLast, HasClosedAll, HasCollectedLast}
 use Rattle.k_process.specs.Over.{BookEnds}
-use Rattle.k_complete.proofs.Closings.{absorptions_end_none, all_fail, end_is, orphans_stay, still_open}
+use Rattle.k_complete.proofs.Closings.{absorptions_end_none, end_is, orphans_stay, still_open}
 
 -- what a book that stands tells of processes and shared heaps
 module _ (trace : Trace) (b : BookRecord) (stands : BookStands trace b) where
@@ -55,7 +56,7 @@ module _ (trace : Trace) (b : BookRecord) (stands : BookStands trace b) where
 
   pub none_left_in : lowest_orphan b.value.phases b.value.shares ≡ None → IsTrue (no_orphan_in trace b.value)
   none_left_in none =
-      all_fail (is_orphan_by b.value.phases b.value.shares) (numbers_below trace.shared_heaps)
+      none_found (is_orphan_by b.value.phases b.value.shares) (numbers_below trace.shared_heaps)
       (ap (λ n. find (is_orphan_by b.value.phases b.value.shares) (numbers_below n)) (sym phases_count) ∙ none)
 
 -- a book that keeps what its lock asks stands at the end

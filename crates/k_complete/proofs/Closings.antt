@@ -1,5 +1,5 @@
 -- What absorptions and the last collection of the kernel leave of processes and shared heaps.
-use Rattle.std.proofs.Common.{◌≡◌, ℕ, ◌<◌, ◌&&◌, not, Bool, true, false, cond, refl, sym, ap, ap₂, ◌∙◌, List, [], ◌∷◌, filter, find, map, Some, None, arith}
+use Rattle.std.proofs.Common.{◌≡◌, ℕ, ◌<◌, ◌&&◌, not, Bool, true, false, cond, refl, sym, ap, ap₂, ◌∙◌, List, [], ◌∷◌, filter, find, map, arith}
 use Rattle.std.specs.List.{list_all}
 use Rattle.std.proofs.Math.Path.{fun_ext}
 use Rattle.std.proofs.lemmas.Bool.{false_from_ne_true, false≢true}
@@ -19,15 +19,6 @@ use Rattle.k_types.specs.Updates.{close, close_scan, keep_exits, keep_objects, k
 use Rattle.k_base.proofs.Numbered.{all_at_below}
 use Rattle.k_bounds.specs.Counts.{closing_count, one_if}
 use Rattle.k_bounds.proofs.AbsorbedCounts.{closings}
-
--- where none is found, all fail
-pub all_fail : {A : Type 0} (p : A → Bool) (xs : List A) → find p xs ≡ None → list_all (λ x. not (p x)) xs ≡ true
-all_fail p [] none = refl
-all_fail p (x ∷ xs) none = go (λ rest. all_fail p xs rest) (p x) none
-  where
-    go : (find p xs ≡ None → list_all (λ y. not (p y)) xs ≡ true) → (b : Bool) → cond b (Some x) (find p xs) ≡ None → (not b && list_all (λ y. not (p y)) xs) ≡ true
-    go next true is = absurd (cc is)
-    go next false is = next is
 
 all_kept : {A : Type 0} (p : A → Bool) → ((x : A) → p x ≡ true) → (xs : List A) → filter p xs ≡ xs
 all_kept p passes [] = refl

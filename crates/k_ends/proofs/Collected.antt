@@ -1,8 +1,7 @@
 -- Collections, absorptions and ends of processes can be done by what serves, which serves afterwards.
-use Rattle.std.proofs.Common.{◌≡◌, ◌↔◌, ◌==◌, ℕ, ◌+◌, ◌<◌, ◌≤◌, refl, sym, ap, ◌∙◌, subst, Bool, true, false, cond, List, [], ◌∷◌, ◌++◌, length, get_or, arith, Option, Some, None, is_some, option_map, IsTrue, eqb-true}
+use Rattle.std.proofs.Common.{◌≡◌, ◌↔◌, ◌==◌, ℕ, ◌+◌, ◌<◌, ◌≤◌, refl, sym, ap, ◌∙◌, subst, Bool, true, false, List, [], ◌∷◌, ◌++◌, length, get_or, arith, Option, Some, None, is_some, option_map, IsTrue, eqb-true}
 use Rattle.std.proofs.lemmas.Bool.{eq-eqb, false≢true}
 use Rattle.std.proofs.lemmas.List.{get_or-set_other}
-use Rattle.std.specs.List.{find}
 use Rattle.k_types.specs.declared.event.Event.{Event}
 use Rattle.k_types.specs.declared.event.Event.TheVariants.{Done}
 use Rattle.k_types.specs.declared.event.Reply.TheVariants.{Done as DoneReply}
@@ -34,6 +33,7 @@ use Rattle.k_depart.specs.Exiting.{CanExit, HasExited}
 use Rattle.k_guests.specs.declared.guest.Guest.{Guest}
 use Rattle.k_calls.specs.declared.errors.HostError.TheVariants.{Orphan}
 use Rattle.k_calls.specs.Refusals.{Lacks}
+use Rattle.k_locked.proofs.Lists.{found_passes}
 use Rattle.k_ends.specs.Collecting.{CanAbsorbNow, CanBeginKernel, CanExitNow, CanGoOn, CanMarkGuest, CanMarkKernel, HasAbsorbedNow, HasBegun, HasBegunKernel, HasEnded, HasExitedNow, HasGoneOn, HasMarkedGuest, HasMarkedKernel, HasSettled, HasSettledKernel, KernelHasEnded}
 use Rattle.k_guests.specs.Serving.{Basis, BookServes, GivesSerials, GuestServes, KernelServes}
 use Rattle.k_calls.proofs.Due.{book_published, can_publish, guest_published, longer_published}
@@ -350,15 +350,6 @@ module _ (basis : Basis) (s : SharedRecord) (k : HoldingsValue) (b : BookRecord)
     same = ap (λ (y : SharedRecord). y.id) d.shared_is;
     event_is = d.event_is;
   }
-
--- what is found passes the test
-pub found_passes : {A : Type 0} (f : A → Bool) (xs : List A) (x : A) → find f xs ≡ Some x → f x ≡ true
-found_passes f [] x is = absurd (cc)
-found_passes f (y ∷ xs) x is = go (f y) refl is (found_passes f xs x)
-  where
-    go : (t : Bool) → f y ≡ t → cond t (Some y) (find f xs) ≡ Some x → (find f xs ≡ Some x → f x ≡ true) → f x ≡ true
-    go true e found later = let same : y ≡ x = cc in ap f (sym same) ∙ e
-    go false e found later = later found
 
 -- an orphan that was found is there
 pub orphan_there : (found : Option SharedId) (lowest : Option ℕ) (some : Bool) → option_map heap_number found ≡ lowest → some ≡ is_some found → some ≡ true → Lacks Orphan (lowest ≡ None) Orphan

@@ -1,6 +1,5 @@
 -- What is made serves.
-use Rattle.std.proofs.Common.{◌≡◌, ◌⊎◌, ℕ, zero, suc, ◌+◌, ◌<◌, ◌==◌, cond, refl, sym, ap, ◌∙◌, subst, inl, inr, List, [], ◌∷◌, ◌++◌, map, length, replicate, slice_get, Some, None, arith, eq-eqb, Result, Ok, Err}
-use Rattle.std.specs.Prelude.{IfOk}
+use Rattle.std.proofs.Common.{◌≡◌, ℕ, zero, suc, ◌+◌, ◌<◌, ◌==◌, cond, refl, sym, ap, ◌∙◌, subst, List, [], ◌∷◌, ◌++◌, map, length, replicate, Some, None, arith, eq-eqb}
 use Rattle.std.proofs.lemmas.List.{length-append, length-map, length-replicate}
 use Rattle.atomic_table.specs.Seated.{TableId}
 use Rattle.k_types.specs.declared.names.CellPhase.TheVariants.{Idle}
@@ -21,30 +20,11 @@ use Rattle.k_heap.specs.Heaps.{HeapRecord, opened_heap, own_segment}
 use Rattle.k_kernel.specs.Kernels.{opened_kernel}
 use Rattle.k_shared.specs.SharedHeaps.{SharedRecord, opened_shared}
 use Rattle.k_space.specs.Objects.{BodyValue, new_body}
+use Rattle.k_locked.proofs.Lists.{each_pushed}
 use Rattle.k_guests.specs.declared.guest.Guest.{Guest}
 use Rattle.k_guests.specs.declared.terms.Terms.{Terms}
 use Rattle.k_guests.specs.Making.{AreGuestsSoFar, AreHeapsSoFar, AreNotes, CanMake, CanMakeGuest, CanMakeShared, HasMadeBook, HaveMadeGuests, IsFirstGuest}
 use Rattle.k_guests.specs.Serving.{Basis, BookServes, GivesSerials, GuestServes, HeapsServe, KernelServes, SharedServes, basis_of, open_trace}
-
--- what follows from what holds of a success holds of it
-pub ok_weaker : {A E : Type 0} (P Q : A → Type 0) → ((a : A) → P a → Q a) → (r : Result A E) → IfOk r P → IfOk r Q
-ok_weaker P Q f (Ok a) h = f a h
-ok_weaker P Q f (Err e) h = tt
-
--- what is found in a list with one element more
-get_snoc : {A : Type 0} (xs : List A) (y : A) (k : ℕ) (x : A) → slice_get (xs ++ y ∷ []) k ≡ Some x → (slice_get xs k ≡ Some x) ⊎ ((k ≡ length xs) × (y ≡ x))
-get_snoc [] y zero x e = inr (refl, cc)
-get_snoc [] y (suc k) x e = absurd (cc)
-get_snoc (z ∷ xs) y zero x e = inl e
-get_snoc (z ∷ xs) y (suc k) x e = elim (get_snoc xs y k x e) [ inl there ↦ inl there | inr here ↦ inr (ap suc here.0, here.1) ]
-
--- what holds of each element at its place holds with one element more
-each_pushed : {A : Type 0} (P : ℕ → A → Type 0) (xs : List A) (y : A) → ((k : ℕ) (x : A) → slice_get xs k ≡ Some x → P k x) → P (length xs) y →
-    (k : ℕ) (x : A) → slice_get (xs ++ y ∷ []) k ≡ Some x → P k x
-each_pushed P xs y each one k x found = elim (get_snoc xs y k x found) [
-  | inl there ↦ each k x there
-  | inr here ↦ subst (P k) here.1 (subst (λ n. P n y) (sym here.0) one)
-]
 
 -- notes that are left, of which one is taken
 pub first_note : (tie : TableId) (first left : ℕ) (notes rest : List NoteValue) (note : NoteValue) → AreNotes tie first left notes → notes ≡ note ∷ rest →

@@ -1,5 +1,5 @@
 -- A refused operation counts as done, and changes nothing else.
-use Rattle.std.proofs.Common.{◌≡◌, ℕ, ap, sym, Option, Some, None, refl}
+use Rattle.std.proofs.Common.{◌≡◌, ℕ, ap, Option, Some, None, refl}
 use Rattle.k_types.specs.declared.event.Event.TheVariants.{Done as DoneEvent}
 use Rattle.k_types.specs.declared.event.Fault.{Fault}
 use Rattle.k_types.specs.declared.event.Reply.{Reply}
@@ -10,7 +10,6 @@ use Rattle.k_types.specs.declared.op.Op.TheVariants.{New, KNew, SNew, Store, Loa
 use Rattle.k_types.specs.Effects.{after_operation, effect_unless, step}
 use Rattle.k_types.specs.Replies.{answer, faults, first_fault, refused_or, reply_to}
 use Rattle.k_types.specs.State.{State}
-use Rattle.k_types.specs.Steps.{IsPossible}
 use Rattle.k_types.specs.Trace.{Trace}
 use Rattle.k_types.specs.Updates.{count_done}
 

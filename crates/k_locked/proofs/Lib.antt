@@ -1,3 +1,4 @@
+pub mod Lists
 pub mod RoomLeft
 pub mod LocalKept
 pub mod CanDo

@@ -33,7 +33,8 @@ use Rattle.k_process.specs.Standing.{RestStands}
 use Rattle.k_process.specs.Worlds.{WorldValue}
 use Rattle.k_process.proofs.Kept.{shared_set}
 use Rattle.k_operate.specs.Absorbing.{CanAbsorbOrphan, HasAbsorbedOrphan}
-use Rattle.k_operate.proofs.AbsorbOrphans.{absorptions_next, found_below, found_passes, none_to_absorb}
+use Rattle.k_locked.proofs.Lists.{found_passes}
+use Rattle.k_operate.proofs.AbsorbOrphans.{absorptions_next, found_below, none_to_absorb}
 use Rattle.k_operate.proofs.Appended.{book_keeps_on, gives_else, room_for}
 
 -- what a book that stands tells of orphans

@@ -11,15 +11,7 @@ use Rattle.k_types.specs.State.{State}
 use Rattle.k_types.specs.Steps.{has_sharer, is_live, is_orphan}
 use Rattle.k_types.specs.Trace.{Trace}
 use Rattle.k_types.specs.Updates.{keep_exits, set_phase}
-
--- what is found passes the test
-pub found_passes : {A : Type 0} (p : A → Bool) (xs : List A) (x : A) → find p xs ≡ Some x → p x ≡ true
-found_passes p [] x is = absurd cc
-found_passes p (y ∷ xs) x is = go (λ rest. found_passes p xs x rest) (p y) refl is
-  where
-    go : (find p xs ≡ Some x → p x ≡ true) → (b : Bool) → p y ≡ b → cond b (Some y) (find p xs) ≡ Some x → p x ≡ true
-    go next true passes found = let same : y ≡ x = cc in ap p (sym same) ∙ passes
-    go next false fails found = next found
+use Rattle.k_locked.proofs.Lists.{found_passes}
 
 -- where none is found, none passes
 none_kept : {A : Type 0} (p : A → Bool) (xs : List A) → find p xs ≡ None → filter p xs ≡ []

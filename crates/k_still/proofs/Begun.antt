@@ -1,6 +1,5 @@
 -- Cells that are made from the last down.
-use Rattle.std.proofs.Common.{◌≡◌, ℕ, ◌+◌, ◌≤◌, sym, ap, ◌∙◌, subst, List, [], ◌∷◌, ◌++◌, length, reverse, Vec, arith, Result, Ok, Err}
-use Rattle.std.specs.Prelude.{IfOk}
+use Rattle.std.proofs.Common.{◌≡◌, ℕ, ◌+◌, ◌≤◌, sym, ap, ◌∙◌, subst, List, [], ◌∷◌, ◌++◌, length, reverse, Vec, arith}
 use Rattle.std.specs.Global.{Global}
 use Rattle.std.specs.declared.collections.VecDeque.{VecDeque}
 use Rattle.std.proofs.lemmas.List.{length-append, length-reverse}
@@ -27,12 +26,8 @@ use Rattle.k_process.specs.declared.process.Process.{Process}
 use Rattle.k_still.specs.Opening.{ArePending, ArePendingShared, CanOpenHeap, CanOpenKernel, CanOpenProcess, HasBegun, HasOpenedHeap, HaveOpened, HaveOpenedShared, ProcessBegins}
 use Rattle.k_process.specs.Worlds.{WorldValue}
 use Rattle.k_still.proofs.Stands.{heap_stands, kernel_stands, shared_stands}
-use Rattle.k_still.proofs.FromTheEnd.{each_last, each_popped, each_pushed, get_reversed}
-
--- what follows from what holds of a success holds of it
-pub ok_weaker : {A E : Type 0} (P Q : A → Type 0) → ((a : A) → P a → Q a) → (r : Result A E) → IfOk r P → IfOk r Q
-ok_weaker P Q f (Ok a) h = f a h
-ok_weaker P Q f (Err e) h = tt
+use Rattle.k_locked.proofs.Lists.{each_pushed}
+use Rattle.k_still.proofs.FromTheEnd.{each_last, each_popped, get_reversed}
 
 module _ (world : WorldValue) (setup : Setup) where
   pub process_begins : (pid : Pid) (ops : Vec Op Global) (bodies : List BodyValue) (objects : ℕ) (note : NoteValue) (rooms : CellRooms) (cell : HeapRecord) →

@@ -1,18 +1,12 @@
 -- Lists that are taken apart and built at their ends, or read from one end to the other.
-use Rattle.std.proofs.Common.{◌≡◌, ◌⊎◌, ℕ, zero, suc, ◌+◌, ◌<◌, refl, sym, ap, ◌∙◌, subst, inl, inr, List, [], ◌∷◌, ◌++◌, drop, get_or, length, map, reverse, slice_get, Some, arith, drop-cons}
+use Rattle.std.proofs.Common.{◌≡◌, ℕ, zero, suc, ◌+◌, ◌<◌, refl, sym, ap, ◌∙◌, subst, inl, inr, List, [], ◌∷◌, ◌++◌, drop, get_or, length, map, reverse, slice_get, Some, arith, drop-cons}
 use Rattle.std.proofs.lemmas.List.{get_or-map, length-map, length-reverse, reverse-append}
 use Rattle.std.proofs.lemmas.Option.{get_or_from_slice_get, slice_get_within}
 use Rattle.k_types.specs.Numbers.{numbers_below}
 use Rattle.k_base.proofs.Lists.{numbers_length}
 use Rattle.k_agree.proofs.Openings.{at_number}
+use Rattle.k_locked.proofs.Lists.{get_snoc}
 use Rattle.k_still.specs.Opening.{Each}
-
--- what is found in a list with one element more
-pub get_snoc : {A : Type 0} (xs : List A) (y : A) (k : ℕ) (x : A) → slice_get (xs ++ y ∷ []) k ≡ Some x → (slice_get xs k ≡ Some x) ⊎ ((k ≡ length xs) × (y ≡ x))
-get_snoc [] y zero x e = inr (refl, cc)
-get_snoc [] y (suc k) x e = absurd (cc)
-get_snoc (z ∷ xs) y zero x e = inl e
-get_snoc (z ∷ xs) y (suc k) x e = elim (get_snoc xs y k x e) [ inl there ↦ inl there | inr here ↦ inr (ap suc here.0, here.1) ]
 
 -- what is found in a reversed list stands as far from its end
 pub get_reversed : {A : Type 0} (xs : List A) (k : ℕ) (x : A) → slice_get (reverse xs) k ≡ Some x → (j : ℕ) × (slice_get xs j ≡ Some x) × (j + k + 1 ≡ length xs)
@@ -26,12 +20,6 @@ get_reversed (y ∷ ys) k x e =
 -- there is nothing in an empty list
 pub each_none : {A : Type 0} (P : ℕ → A → Type 0) → Each P []
 each_none P k x found = absurd (cc)
-
-pub each_pushed : {A : Type 0} (P : ℕ → A → Type 0) (xs : List A) (y : A) → Each P xs → P (length xs) y → Each P (xs ++ y ∷ [])
-each_pushed P xs y each one k x found = elim (get_snoc xs y k x found) [
-  | inl there ↦ each k x there
-  | inr here ↦ subst (P k) here.1 (subst (λ n. P n y) (sym here.0) one)
-]
 
 -- what is found in a list is found there too where one element more stands behind it
 pub get_front : {A : Type 0} (xs : List A) (y : A) (k : ℕ) (x : A) → slice_get xs k ≡ Some x → slice_get (xs ++ y ∷ []) k ≡ Some x

@@ -1,10 +1,7 @@
-use Rattle.std.proofs.Common.{◌≡◌, Option, None, Some}
 use Rattle.k_limits.proofs.Fits.{none_refused}
+use Rattle.k_locked.proofs.Lists.{nothing_is_something}
 use Rattle.k_guests.proofs.Made.{book_made}
 use Rattle.k_guests.proofs.making.make_book.Goals as goal
-
-nothing_is_something : {A : Type 0} (o : Option A) (x : A) → o ≡ None → o ≡ Some x → ⊥
-nothing_is_something o x none some = cc
 
 pub unreachable-requires : goal.unreachable-requires
 unreachable-requires c =

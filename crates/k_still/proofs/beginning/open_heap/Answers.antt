@@ -1,7 +1,8 @@
 use Rattle.std.proofs.Common.{◌≡◌}
 use Rattle.k_shared.specs.SharedHeaps.{opened_shared}
 use Rattle.k_still.specs.Opening.{HasOpenedHeap}
-use Rattle.k_still.proofs.Begun.{heap_opened, ok_weaker}
+use Rattle.k_locked.proofs.Lists.{ok_weaker}
+use Rattle.k_still.proofs.Begun.{heap_opened}
 use Rattle.k_still.proofs.beginning.open_heap.Goals as goal
 
 pub returns : goal.returns

@@ -1,7 +1,8 @@
 use Rattle.std.proofs.Common.{◌≡◌}
 use Rattle.k_kernel.specs.Kernels.{opened_kernel}
 use Rattle.k_locked.specs.Keeping.{KernelKeeps}
-use Rattle.k_still.proofs.Begun.{kernel_opened, ok_weaker}
+use Rattle.k_locked.proofs.Lists.{ok_weaker}
+use Rattle.k_still.proofs.Begun.{kernel_opened}
 use Rattle.k_still.proofs.beginning.open_kernel.Goals as goal
 
 pub returns : goal.returns

@@ -1,12 +1,10 @@
-use Rattle.std.proofs.Common.{◌≡◌, Option, None, Some, sym, ap, subst}
+use Rattle.std.proofs.Common.{sym, ap, subst}
 use Rattle.k_book.specs.Books.{BookRecord}
 use Rattle.k_locked.specs.Keeping.{BookKeeps}
+use Rattle.k_locked.proofs.Lists.{nothing_is_something}
 use Rattle.k_still.proofs.FirstBook.{none_is_refused}
 use Rattle.k_still.proofs.Stands.{book_stands}
 use Rattle.k_still.proofs.first.open_book.Goals as goal
-
-nothing_is_something : {A : Type 0} (o : Option A) (x : A) → o ≡ None → o ≡ Some x → ⊥
-nothing_is_something o x none some = cc
 
 pub unreachable-requires : goal.unreachable-requires
 unreachable-requires g c = nothing_is_something _ _ (none_is_refused g.world' c.args.setup.now c.requires.of) (rw c.in-Err-ReserveFull.field-0-is at c.in-Err-ReserveFull.ensures.refused)
