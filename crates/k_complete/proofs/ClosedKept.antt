@@ -1,5 +1,5 @@
 -- The last collection of the kernel keeps what is asked at the end.
-use Rattle.std.proofs.Common.{◌≡◌, ◌≤◌, ◌++◌, ℕ, true, false, sym, ap, ap₂, ◌∙◌, subst, List, [], ◌∷◌, length, append-nil, append_assoc, filter, find, Some, None, is_some, IsTrue}
+use Rattle.std.proofs.Common.{◌≡◌, ◌≤◌, ◌++◌, ℕ, true, false, sym, ap, ap₂, ◌∙◌, subst, List, [], ◌∷◌, length, append-nil, append_assoc, filter, find, Some, None, is_some, IsTrue, if◌then◌else◌}
 use Rattle.std.specs.List.{list_all}
 use Rattle.std.proofs.Math.Path.{fun_ext}
 use Rattle.std.proofs.lemmas.Bool.{false≢true}
