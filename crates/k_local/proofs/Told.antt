@@ -15,6 +15,7 @@ use Rattle.k_types.specs.declared.op.Op.TheVariants.{New, KNew, SNew, Store, Loa
 use Rattle.k_types.specs.Agree.{CellValue}
 use Rattle.k_types.specs.Barrier.{legal_store}
 use Rattle.k_types.specs.Cells.{BookPart, Cell, CellPart}
+use Rattle.k_types.specs.Effects.{step}
 use Rattle.k_types.specs.Local.{is_own}
 use Rattle.k_types.specs.Names.{heap_eq, kind_of}
 use Rattle.k_types.specs.Owners.{user}
@@ -22,6 +23,7 @@ use Rattle.k_types.specs.Replies.{at_base, fault_where, first_fault, is_foreign,
 use Rattle.k_types.specs.State.{Content, Holds, Refers}
 use Rattle.k_types.specs.Trace.{Trace}
 use Rattle.k_base.proofs.NameTests.{heap_eq_refl}
+use Rattle.k_frame.proofs.Laws.{local_operations_go_by_their_cell-book}
 use Rattle.k_frame.specs.PartUpdates.{held_in, with_done, with_register, with_written}
 use Rattle.k_changes.specs.BookChanges.{owner_in}
 use Rattle.k_changes.specs.CellChanges.{with_exit_to}
@@ -29,10 +31,11 @@ use Rattle.k_agree.specs.GivingAway.{with_one_done}
 use Rattle.k_agree.specs.Marking.{idle_part}
 use Rattle.k_squares.specs.Answers.{access_faults_in, answer_in, faults_in, field_in, is_frozen_in, load_faults_in, number_faults_in, number_from_in, passes_barrier_in, reference_from_in, reply_in, store_faults_in}
 use Rattle.k_squares.specs.CellAfter.{at_cell, cell_after, cells_operated, cells_put, cells_stored, cells_with_register, reference_given, register_in, unless_refused, with_exit_for}
+use Rattle.k_squares.proofs.Laws.{local_operations_are_told}
 use Rattle.k_squares.specs.Locals.{is_local_in, is_local_load_in, is_local_store_in, is_own_field_in}
 use Rattle.k_cell.specs.Looks.{field_among, field_count_among}
 use Rattle.k_heap.specs.Heaps.{with_register_in}
-use Rattle.k_local.specs.Locals.{IsMachines, ShowOwn, after_local, field_answer, get_answer, load_answer, local_answer, local_change, loaded_through, put_answer, store_answer, written_through}
+use Rattle.k_local.specs.Locals.{IsMachines, LeavesTheBook, ShowOwn, after_local, field_answer, get_answer, load_answer, local_answer, local_change, loaded_through, put_answer, store_answer, written_through}
 
 -- whether an operation is local
 field_some : (own past of_kind goes_on : Bool) (answer : Option Reply) → is_some answer ≡ goes_on →
@@ -360,3 +363,10 @@ module _ (trace : Trace) (book : BookPart) (parts : Cell → CellPart) (pid : Pi
 pub machines : (trace : Trace) (book : BookPart) (parts : Cell → CellPart) (pid : Pid) (v : CellValue) (op : Op) (said : Reply) → ShowOwn trace book parts pid v → local_answer v pid.0 op ≡ Some said →
     IsMachines trace book parts pid v (after_local pid op said v) op said
 machines trace book parts pid v op said own e = record { replied = replied trace book parts pid v own op said e; after = after trace book parts pid v own op said e }
+
+-- what is done inside the heap leaves the book's part
+pub leaves_the_book : (pid : Pid) (v : CellValue) (op : Op) (said : Reply) → local_answer v pid.0 op ≡ Some said → LeavesTheBook pid v op said
+unfolding step
+leaves_the_book pid v op said e trace st known lives shown =
+    local_operations_go_by_their_cell-book trace pid.0 st op known lives
+    (local_operations_are_told trace st pid.0 op known lives ∙ ap (λ (q : CellPart). is_local_in q pid.0 op) shown ∙ sym (local_told v pid.0 op) ∙ ap is_some e)

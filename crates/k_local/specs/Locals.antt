@@ -1,5 +1,5 @@
 -- What a process does inside its own heap, as functions of its cell's value.
-use Rattle.std.specs.Prelude.{◌≡◌, ℕ, ◌+◌, ◌==◌, ◌<◌, ◌&&◌, ◌++◌, ◌∷◌, [], not, nat_le, Bool, true, false, Option, Some, None, if◌then◌else◌}
+use Rattle.std.specs.Prelude.{◌≡◌, ℕ, ◌+◌, ◌==◌, ◌<◌, ◌&&◌, ◌++◌, ◌∷◌, [], not, nat_le, Bool, true, false, IsFalse, Option, Some, None, if◌then◌else◌}
 use Rattle.k_types.specs.declared.event.Event.TheVariants.{Done as DoneEvent}
 use Rattle.k_types.specs.declared.event.Fault.TheVariants.{Null, NoField, WrongKind}
 use Rattle.k_types.specs.declared.event.Reply.{Reply}
@@ -10,12 +10,14 @@ use Rattle.k_types.specs.declared.op.Op.{Op}
 use Rattle.k_types.specs.declared.op.Op.TheVariants.{New, KNew, SNew, Store, Load, Move, Clear, Dir, Put, Get, Collect, KCollect, Share, Freeze, Attach, Exit}
 use Rattle.k_types.specs.Agree.{CellValue}
 use Rattle.k_types.specs.Bounds.{register_count}
-use Rattle.k_types.specs.Cells.{BookPart, Cell, CellPart}
+use Rattle.k_types.specs.Cells.{BookPart, Cell, CellPart, book_part, part}
+use Rattle.k_types.specs.Effects.{step}
 use Rattle.k_types.specs.Local.{is_own}
+use Rattle.k_types.specs.Names.{among}
 use Rattle.k_types.specs.Owners.{user}
 use Rattle.k_types.specs.Replies.{is_ref, number_in, reference}
-use Rattle.k_types.specs.State.{Content, Holds, Refers}
-use Rattle.k_types.specs.Trace.{Trace}
+use Rattle.k_types.specs.State.{Content, Holds, Refers, State}
+use Rattle.k_types.specs.Trace.{Trace, process_count}
 use Rattle.k_frame.specs.PartUpdates.{held_in}
 use Rattle.k_changes.specs.BookChanges.{owner_in}
 use Rattle.k_agree.specs.GivingAway.{with_one_done}
@@ -139,3 +141,9 @@ pub record ShowOwn (trace : Trace) (book : BookPart) (parts : Cell → CellPart)
 pub record IsMachines (trace : Trace) (book : BookPart) (parts : Cell → CellPart) (pid : Pid) (v w : CellValue) (op : Op) (said : Reply) : Type 0 where
   pub replied : said ≡ reply_in trace book parts pid.0 op
   pub after : idle_part w ≡ cell_after trace book parts (DoneEvent pid op said) (user pid.0)
+
+-- in each state in which the process lives and its cell shows that value, the operation leaves the book's part as it was
+abbrev pub LeavesTheBook : Pid → CellValue → Op → Reply → Type 0
+LeavesTheBook pid v op said =
+    (trace : Trace) (st : State) → pid.0 < process_count trace → IsFalse (among pid.0 st.ended) → part trace st (user pid.0) ≡ idle_part v →
+    book_part trace (step trace st (DoneEvent pid op said)) ≡ book_part trace st

@@ -15,15 +15,15 @@ ghost use Rattle.k_squares.specs.CellAfter.{unless_refused};
 ghost use Rattle.k_squares.specs.Locals.{is_local_in};
 ghost use Rattle.k_space.specs.Objects.{content_of};
 ghost use Rattle.k_cell.specs.Looks.{field_among, field_count_among};
-ghost use Rattle.k_local.specs.Locals.{HasRegisters, IsMachines, ShowOwn, after_local, field_answer, get_answer, is_refusal, load_answer, loaded_through, local_answer, local_change, put_answer, store_answer, written_through};
+ghost use Rattle.k_local.specs.Locals.{HasRegisters, IsMachines, LeavesTheBook, ShowOwn, after_local, field_answer, get_answer, is_refusal, load_answer, loaded_through, local_answer, local_change, put_answer, store_answer, written_through};
 
 use k_heap::HeapCell;
 use k_space::Stored;
 use k_types::{Event, Fault, Link, Name, Op, Pid, Reg, Reply};
 
 /// Does the operation of the process where it needs that heap alone: its event then is the newest that the journal lacks, and
-/// reply and cell are those of the machine. `None` changes nothing, and comes exactly where the operation is not local. Constant
-/// time, and no memory.
+/// reply and cell are those of the machine, and the machine's event leaves the book's part. `None` changes nothing, and comes exactly
+/// where the operation is not local. Constant time, and no memory.
 pub fn local(cell: &mut HeapCell, op: &Op) -> Option<Reply>
     requires registers { HasRegisters op.now }
     requires idle { cell.old.value.collection ≡ Idle }
@@ -34,6 +34,7 @@ pub fn local(cell: &mut HeapCell, op: &Op) -> Option<Reply>
     ensures none { IfNone result (cell.new ≡ cell.old) }
     ensures machines { IfSome result (λ said. (trace : Trace) (book : BookPart) (parts : Cell → CellPart) → ShowOwn trace book parts cell.old.pid cell.old.value →
         IsMachines trace book parts cell.old.pid cell.old.value cell.new.value op.now said) }
+    ensures book { IfSome result (λ said. LeavesTheBook cell.old.pid cell.old.value op.now said) }
     ensures some { IfSome result (λ said. cell.new ≡ record cell.old { value = after_local cell.old.pid op.now said cell.old.value }) }
 {
     let reply = answer(cell, op)?;

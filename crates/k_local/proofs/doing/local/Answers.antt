@@ -5,7 +5,7 @@ use Rattle.k_frame.specs.PartUpdates.{done_in}
 use Rattle.k_heap.specs.Heaps.{HeapRecord}
 use Rattle.k_local.specs.Locals.{IsMachines, local_answer}
 use Rattle.k_local.proofs.Done.{done_kept, local_seen, tail_kept}
-use Rattle.k_local.proofs.Told.{local_told, machines}
+use Rattle.k_local.proofs.Told.{leaves_the_book, local_told, machines}
 use Rattle.k_local.proofs.doing.local.Goals as goal
 
 pub count_done-requires : goal.count_done-requires
@@ -33,6 +33,9 @@ returns-clause-machines c = λ trace book parts own.
     subst (λ (h : HeapRecord). IsMachines trace book parts c.args.cell.now.pid c.args.cell.now.value h.value c.args.op.now c.in_ok-reply.reply)
     (sym (local_seen c.args.cell.now c.change.new.cell c.count_done.new.self c.push_tail.new.self c.args.op.now c.in_ok-reply.reply c.pid-pid.result c.change.ensures c.count_done.ensures c.pid-pid.ensures c.push_tail.ensures))
     (machines trace book parts c.args.cell.now.pid c.args.cell.now.value c.args.op.now c.in_ok-reply.reply own e)
+
+pub returns-clause-book : goal.returns-clause-book
+returns-clause-book c = leaves_the_book c.args.cell.now.pid c.args.cell.now.value c.args.op.now c.in_ok-reply.reply (sym c.answer.ensures ∙ c.in_ok-reply.was)
 
 pub returns-in_err-reply-clause-told : goal.returns-in_err-reply-clause-told
 returns-in_err-reply-clause-told c =
