@@ -1,7 +1,8 @@
-use Rattle.std.proofs.Common.{[], ◌∷◌, subst, sym}
+use Rattle.std.proofs.Common.{◌≡◌, [], ◌∷◌, arith, length, subst, sym}
+use Rattle.std.proofs.lemmas.List.{nil_from_length}
 use Rattle.k_agree.specs.Committing.{journal_after, note_after}
 use Rattle.k_heap.specs.Heaps.{HeapRecord}
-use Rattle.k_commit.proofs.Tails.{IsPublishing, publishing_goes_on, publishing_starts}
+use Rattle.k_commit.proofs.Tails.{IsPublishing, publishing_ends, publishing_goes_on, publishing_starts}
 use Rattle.k_commit.proofs.publishing.publish.Goals as goal
 
 pub meet_heap-requires : goal.meet_heap-requires
@@ -18,3 +19,8 @@ loop-cell-preserved g c =
     (subst (λ (x : HeapRecord). IsPublishing g.trace c.args.cell.now (record x { note = note_after e x.note }) c.args.book.now (record b { journal = journal_after e (x.note.cell ∷ []) b.journal }))
     (sym c.take_tail-event.ensures.rest)
     (publishing_goes_on g.trace c.args.cell.now c.args.book.now c.requires c.loop-cell.cell b c.loop-cell.invariant e c.take_tail-event.new.self.value.tail c.take_tail-event.ensures.oldest))
+
+pub returns : goal.returns
+returns g c =
+    let none : length c.loop-cell.cell.value.tail ≡ 0 = omega (arith, c.tail_len.ensures.len, c.loop-cell-test.false) in
+    publishing_ends g.trace c.args.cell.now c.args.book.now c.requires c.loop-cell.cell c.loop-cell.book c.loop-cell.invariant (nil_from_length c.loop-cell.cell.value.tail none)
