@@ -8,6 +8,8 @@
 
 mod call;
 #[cfg(test)]
+mod calling;
+#[cfg(test)]
 mod checked;
 mod checking;
 mod command_line;
@@ -26,6 +28,10 @@ mod tests;
 mod texts;
 #[cfg(test)]
 mod worked;
+#[cfg(test)]
+mod worked_heaps;
+#[cfg(test)]
+mod worked_sharing;
 mod workload;
 
 use crate::command_line::program;
