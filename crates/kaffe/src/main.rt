@@ -15,6 +15,8 @@ mod checking;
 mod command_line;
 mod commands;
 #[cfg(test)]
+mod gated;
+#[cfg(test)]
 mod ranges;
 mod run_error;
 mod running;
