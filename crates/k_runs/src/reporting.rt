@@ -74,6 +74,10 @@ fn replay_end(alloc: Global, text: &str) -> Result<Outcome, Fail>
     Ok(end)
 }
 
+/// Drops the end of a run. A function that has one is proved to drop all its parts wherever it may return; so the others lend theirs, and
+/// end here.
+pub(crate) fn let_go(_end: Outcome) {}
+
 /// The report of a run of the trace on threads, with the gate.
 pub(crate) fn run_report<G: Gate, R: Threads + Wait + Sync>(
     rt: &R,
@@ -82,24 +86,35 @@ pub(crate) fn run_report<G: Gate, R: Threads + Wait + Sync>(
     gate: &G,
 ) -> Result<MemSink, Fail> {
     let end = run_end(rt, alloc, text, gate)?;
-    report_of(alloc, &end)
+    let report = report_of(alloc, &end);
+    let_go(end);
+    report
 }
 
 /// The report of the trace's operations, done in the order of the lines.
 pub(crate) fn replay_report(alloc: Global, text: &str) -> Result<MemSink, Fail> {
     let end = replay_end(alloc, text)?;
-    report_of(alloc, &end)
+    let report = report_of(alloc, &end);
+    let_go(end);
+    report
 }
 
 /// What the check of reports says of the report, as one of the trace.
-pub(crate) fn verdict_on(alloc: Global, text: &str, report: &MemSink) -> Result<Verdict, Fail> {
-    let trace = trace_of(alloc, text)?;
+fn verdict_of(alloc: Global, trace: &Trace, report: &MemSink) -> Result<Verdict, Fail>
+    requires { IsTrace (meaning_of trace.now) }
+{
     let bytes = report.bytes();
     if bytes.len() > MOST_BYTES {
         return Err(Fail::new("a long report"));
     }
-    let verdict = check_report(alloc, &trace, bytes)?;
+    let verdict = check_report(alloc, trace, bytes)?;
     Ok(verdict)
+}
+
+/// The same, of a trace that stands as text.
+pub(crate) fn verdict_on(alloc: Global, text: &str, report: &MemSink) -> Result<Verdict, Fail> {
+    let trace = trace_of(alloc, text)?;
+    verdict_of(alloc, &trace, report)
 }
 
 /// The lines of the events of a report, and those of the state that they left.

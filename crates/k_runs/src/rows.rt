@@ -1,9 +1,7 @@
 //! Short traces, run with gates.
-use crate::counting::Counts;
-use crate::holding::{Stop, Stops};
 use crate::reporting::{parts, replay_report, run_report, trace_text};
-use crate::turns::FifthComes;
-use k_io::{GatePlace, MemSink, NoGate};
+use k_gates::{Counts, Stop, Stops, meanwhile_of_a_step, meanwhile_of_marking};
+use k_io::{Gate, GatePlace, MemSink, NoGate};
 use std::alloc::Global;
 use std::process::Abort;
 use std::sync::Wait;
@@ -52,48 +50,49 @@ process p1 80
 end
 ";
 
-/// The state at the end where each process has one object, and the first one a register that refers to it.
-const ONE_OBJECT_EACH: &str = "kernel.1 kernel directory null null
-p1.1 p1 Node null null 0
-p2.1 p2 Node null null 0
-roots
-p1 r0 p1.1
-exits
-shares
-faults
-p1 0
-p2 0
-charges
-kernel 32 of 200
-limit root 160 of 1000
-limit a 40 of 120
-limit b 40 of 400
-process p1 40
-process p2 40
-shared s 0 unmade
-end
-";
-
-#[test]
-fn one_process_runs_in_the_order_of_its_lines(rt: HostRuntime) -> Result<(), Fail> {
-    let out = run_report(&rt, rt.alloc(), FIRST_TRACE, &NoGate)?;
-    let (events, state) = parts(&out)?;
-    assert_eq!(rt; events, FIRST_EVENTS);
-    assert_eq!(rt; state, FIRST_STATE);
+/// Compares the parts of the report.
+fn check_parts<R: Abort>(
+    rt: &R,
+    report: &MemSink,
+    want_events: &str,
+    want_state: &str,
+) -> Result<(), Fail> {
+    let (events, state) = parts(report)?;
+    assert_eq!(rt; events, want_events);
+    assert_eq!(rt; state, want_state);
     Ok(())
 }
 
-/// Runs the operations behind the header with the gate, and asks that each of its stops was met.
-fn run_with_stops<const N: usize, R: Threads + Wait + Sync + Abort>(
+#[test]
+fn one_process_runs_in_the_order_of_its_lines(rt: HostRuntime) -> Result<(), Fail> {
+    let report = run_report(&rt, rt.alloc(), FIRST_TRACE, &NoGate)?;
+    check_parts(&rt, &report, FIRST_EVENTS, FIRST_STATE)
+}
+
+/// Runs the operations behind the header, in which the lines `more` declare more processes, with the gate.
+fn run_behind<G: Gate, R: Threads + Wait + Sync>(
     rt: &R,
     alloc: Global,
+    more: &str,
     operations: &str,
-    gate: Stops<N>,
-) -> Result<MemSink, Fail> {
-    let trace = trace_text(alloc, "", operations)?;
-    let out = run_report(rt, alloc, &trace, &gate)?;
+    gate: &G,
+) -> Result<(), Fail> {
+    let trace = trace_text(alloc, more, operations)?;
+    run_report(rt, alloc, &trace, gate)?;
+    Ok(())
+}
+
+/// The same with stops, of which each has to be met.
+fn check_stops<const N: usize, R: Threads + Wait + Sync + Abort>(
+    rt: &R,
+    alloc: Global,
+    more: &str,
+    operations: &str,
+    gate: &Stops<N>,
+) -> Result<(), Fail> {
+    run_behind(rt, alloc, more, operations, gate)?;
     assert!(rt; gate.all_met(), "{operations}");
-    Ok(out)
+    Ok(())
 }
 
 #[test]
@@ -103,34 +102,7 @@ fn two_heaps_are_marked_at_once(rt: HostRuntime) -> Result<(), Fail> {
         Stop::at(1, GatePlace::Marking, 0),
     ]);
     let operations = "p1 new r0 Node\np2 new r0 Node\np1 collect\np2 collect\n";
-    run_with_stops(&rt, rt.alloc(), operations, gate)?;
-    Ok(())
-}
-
-/// Holds the second process before its first operation until the first one's heap is to be marked, and the first one there until the
-/// second has done that operation.
-fn meanwhile_of_marking() -> Stops<3> {
-    Stops::of([
-        Stop::before(1, 0, Some(1)),
-        Stop::at(0, GatePlace::Marking, 2),
-        Stop::before(1, 1, None),
-    ])
-}
-
-#[test]
-fn others_allocate_while_a_heap_is_marked(rt: HostRuntime) -> Result<(), Fail> {
-    let operations = "p1 new r0 Node\np1 collect\np2 new r0 Node\np2 drop r0\n";
-    let out = run_with_stops(&rt, rt.alloc(), operations, meanwhile_of_marking())?;
-    let (events, state) = parts(&out)?;
-    let first = "p1 new r0 Node = p1.1\np1 collect = ok\np2 new r0 Node = p2.1\n";
-    let rest = events.strip_prefix(first).ok_or("other events")?;
-    assert!(rt;
-        rest == "ended p1 0 0 0 0\np2 drop r0 = ok\n"
-            || rest == "p2 drop r0 = ok\nended p1 0 0 0 0\n",
-        "{rest}"
-    );
-    assert_eq!(rt; state, ONE_OBJECT_EACH);
-    Ok(())
+    check_stops(&rt, rt.alloc(), "", operations, &gate)
 }
 
 /// Runs a collection, and the operation of another process while its heap is marked.
@@ -140,8 +112,7 @@ fn check_meanwhile_of_marking<R: Threads + Wait + Sync + Abort>(
     op: &str,
 ) -> Result<(), Fail> {
     let operations = format!(in alloc; "p1 new r0 Node\np1 collect\np2 {op}\np2 drop r1\n")?;
-    run_with_stops(rt, alloc, &operations, meanwhile_of_marking())?;
-    Ok(())
+    check_stops(rt, alloc, "", &operations, &meanwhile_of_marking())
 }
 
 #[test]
@@ -159,28 +130,6 @@ fn others_do_any_operation_while_a_heap_is_marked(rt: HostRuntime) -> Result<(),
     Ok(())
 }
 
-/// Holds the first process under the book's lock until the second has done its second operation.
-fn meanwhile_of_a_step() -> Stops<4> {
-    Stops::of([
-        Stop::before(0, 0, Some(1)),
-        Stop::before(1, 1, Some(2)),
-        Stop::at(0, GatePlace::InBook, 3),
-        Stop::before(1, 2, None),
-    ])
-}
-
-#[test]
-fn a_move_needs_no_book(rt: HostRuntime) -> Result<(), Fail> {
-    let operations = "p1 new r0 Node\np2 new r0 Node\np2 move r1 r0\np2 drop r0\n";
-    let out = run_with_stops(&rt, rt.alloc(), operations, meanwhile_of_a_step())?;
-    let (events, _) = parts(&out)?;
-    assert_eq!(rt;
-        events,
-        "p2 new r0 Node = p2.1\np1 new r0 Node = p1.1\np2 move r1 r0 = ok\np2 drop r0 = ok\n"
-    );
-    Ok(())
-}
-
 /// Runs the operation of the second process while the first one is held under the book's lock.
 fn check_meanwhile_of_a_step<R: Threads + Wait + Sync + Abort>(
     rt: &R,
@@ -188,8 +137,7 @@ fn check_meanwhile_of_a_step<R: Threads + Wait + Sync + Abort>(
     op: &str,
 ) -> Result<(), Fail> {
     let operations = format!(in alloc; "p1 new r0 Node\np2 new r0 Node\np2 {op}\np2 drop r0\n")?;
-    run_with_stops(rt, alloc, &operations, meanwhile_of_a_step())?;
-    Ok(())
+    check_stops(rt, alloc, "", &operations, &meanwhile_of_a_step())
 }
 
 #[test]
@@ -206,49 +154,13 @@ fn no_work_inside_a_heap_needs_the_book(rt: HostRuntime) -> Result<(), Fail> {
     Ok(())
 }
 
-/// Appends the line so many times.
-fn push_times(text: &mut String, line: &str, times: u32) -> Result<(), Fail> {
-    for _ in 0..times {
-        text.push_str(line)?;
-    }
-    Ok(())
-}
-
-/// The operations of five processes, 65 of each.
-fn turns_lines(alloc: Global) -> Result<String, Fail> {
-    let mut text = String::new(alloc);
-    for line in [
-        "p1 drop r0\n",
-        "p2 drop r0\n",
-        "p3 drop r0\n",
-        "p4 drop r0\n",
-        "p5 drop r0\n",
-    ] {
-        push_times(&mut text, line, 65)?;
-    }
-    Ok(text)
-}
-
-#[test]
-fn processes_take_turns_of_64_operations(rt: HostRuntime) -> Result<(), Fail> {
-    let gate = FifthComes::new();
-    let operations = turns_lines(rt.alloc())?;
-    let more = "proc p3 b\nproc p4 b\nproc p5 b\n";
-    let trace = trace_text(rt.alloc(), more, &operations)?;
-    run_report(&rt, rt.alloc(), &trace, &gate)?;
-    assert!(rt; gate.met());
-    assert_eq!(rt; gate.second_turns(), 5);
-    Ok(())
-}
-
 #[test]
 fn threads_leave_nothing_to_the_end(rt: HostRuntime) -> Result<(), Fail> {
     let gate = Counts::make(rt.alloc(), 2)?;
     let operations =
         "p1 new r0 Node\np1 store r0 0 r0\np1 collect\np1 drop r0\np1 share s\np2 new r0 Node
 p2 dir r1\np2 store r1 0 r0\np2 kcollect\np2 exit\n";
-    let trace = trace_text(rt.alloc(), "", operations)?;
-    run_report(&rt, rt.alloc(), &trace, &gate)?;
+    run_behind(&rt, rt.alloc(), "", operations, &gate)?;
     // a collection has two steps, its beginning and its end, and what is done inside a heap has none
     assert_eq!(rt; gate.of(0), Some((5, 4)));
     assert_eq!(rt; gate.of(1), Some((5, 6)));
@@ -263,11 +175,9 @@ fn four_processes_begin_at_once(rt: HostRuntime) -> Result<(), Fail> {
         Stop::before(2, 0, Some(3)),
         Stop::before(3, 0, None),
     ]);
+    let more = "proc p3 b\nproc p4 b\n";
     let operations = "p1 drop r0\np2 drop r0\np3 drop r0\np4 drop r0\n";
-    let trace = trace_text(rt.alloc(), "proc p3 b\nproc p4 b\n", operations)?;
-    run_report(&rt, rt.alloc(), &trace, &gate)?;
-    assert!(rt; gate.all_met());
-    Ok(())
+    check_stops(&rt, rt.alloc(), more, operations, &gate)
 }
 
 #[test]
@@ -275,38 +185,63 @@ fn threads_absorb_orphans(rt: HostRuntime) -> Result<(), Fail> {
     let gate = Counts::make(rt.alloc(), 1)?;
     let operations =
         "p1 share s\np1 snew r0 s Node\np1 freeze s r0\np1 drop r0\np1 collect\np1 kcollect\n";
-    let trace = trace_text(rt.alloc(), "", operations)?;
-    run_report(&rt, rt.alloc(), &trace, &gate)?;
+    run_behind(&rt, rt.alloc(), "", operations, &gate)?;
     // the process lets go of the shared heap, and so its collection drops the share; then the kernel absorbs that heap, which is a step,
     // and its collection has two more
     assert_eq!(rt; gate.of(0), Some((6, 9)));
     Ok(())
 }
 
-/// Runs the trace a few times, and compares the state that each run leaves.
+/// Compares the state that the run left with the one that another left.
+fn check_left<R: Abort>(rt: &R, trace: &str, run: &MemSink, other: &MemSink) -> Result<(), Fail> {
+    let (_, left) = parts(run)?;
+    let (_, state) = parts(other)?;
+    assert_eq!(rt; left, state, "{trace}");
+    Ok(())
+}
+
+/// Runs the trace, and compares the state that it leaves with the one that another run left.
+fn check_run<R: Threads + Wait + Sync + Abort>(
+    rt: &R,
+    alloc: Global,
+    trace: &str,
+    other: &MemSink,
+) -> Result<(), Fail> {
+    let run = run_report(rt, alloc, trace, &NoGate)?;
+    check_left(rt, trace, &run, other)
+}
+
+/// Runs the trace a few times.
 fn check_runs<R: Threads + Wait + Sync + Abort>(
     rt: &R,
     alloc: Global,
     trace: &str,
-    state: &str,
+    other: &MemSink,
 ) -> Result<(), Fail> {
     for _ in 0..4 {
-        let run = run_report(rt, alloc, trace, &NoGate)?;
-        assert_eq!(rt; parts(&run)?.1, state, "{trace}");
+        check_run(rt, alloc, trace, other)?;
     }
     Ok(())
 }
 
-/// Replays the operations behind the header, and compares what runs of them leave.
+/// Replays the trace, and compares what runs of it leave.
 fn check_as_replayed<R: Threads + Wait + Sync + Abort>(
+    rt: &R,
+    alloc: Global,
+    trace: &str,
+) -> Result<(), Fail> {
+    let replayed = replay_report(alloc, trace)?;
+    check_runs(rt, alloc, trace, &replayed)
+}
+
+/// The same of the operations behind the header.
+fn check_operations<R: Threads + Wait + Sync + Abort>(
     rt: &R,
     alloc: Global,
     operations: &str,
 ) -> Result<(), Fail> {
     let trace = trace_text(alloc, "", operations)?;
-    let replayed = replay_report(alloc, &trace)?;
-    let (_, state) = parts(&replayed)?;
-    check_runs(rt, alloc, &trace, state)
+    check_as_replayed(rt, alloc, &trace)
 }
 
 #[test]
@@ -319,7 +254,7 @@ fn a_run_leaves_what_its_replay_leaves(rt: HostRuntime) -> Result<(), Fail> {
         "p1 share s\np1 snew r0 s Node\np1 freeze s r0\np1 drop r0\np1 collect\np1 kcollect\np2 new r0 Node\np2 collect\n",
         "p1 new r0 Node\np1 dir r1\np1 store r1 0 r0\np1 drop r0\np1 collect\np2 new r0 Node\np2 dir r1\np2 store r1 1 r0\np2 exit\n",
     ] {
-        check_as_replayed(&rt, rt.alloc(), operations)?;
+        check_operations(&rt, rt.alloc(), operations)?;
     }
     Ok(())
 }

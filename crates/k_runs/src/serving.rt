@@ -1,9 +1,12 @@
 //! A server's trace: a table in a shared heap that four workers share and read, run on threads and replayed.
 use crate::reporting::{heaps_and_charges, parts, replay_report, run_report, verdict_on};
 use k_check::Verdict;
-use k_io::NoGate;
+use k_io::{MemSink, NoGate};
 use std::alloc::Global;
+use std::process::Abort;
+use std::sync::Wait;
 use std::test::Fail;
+use std::thread::Threads;
 
 const HEADER: &str = "kaffe 1
 kernel 4096 4
@@ -95,36 +98,82 @@ fn push_nodes(trace: &mut String, alloc: Global) -> Result<(), Fail> {
     Ok(())
 }
 
-/// The table is made and frozen. Each worker attaches to it, makes nodes that refer to it, and ends; and at last the table's maker ends.
+/// Appends all operations. The table is made and frozen. Each worker attaches to it, makes nodes that refer to it, and ends; and at last the
+/// table's maker ends.
+fn push_operations(trace: &mut String, alloc: Global) -> Result<(), Fail> {
+    push_table(trace, alloc)?;
+    push_for_each(trace, "attach r0 table")?;
+    push_nodes(trace, alloc)?;
+    push_for_each(trace, "exit")?;
+    trace.push_str("m0 exit\n")?;
+    Ok(())
+}
+
+/// The server's trace.
 pub(crate) fn server_trace(alloc: Global) -> Result<String, Fail> {
     let mut trace = String::from_str(alloc, HEADER)?;
-    push_table(&mut trace, alloc)?;
-    push_for_each(&mut trace, "attach r0 table")?;
-    push_nodes(&mut trace, alloc)?;
-    push_for_each(&mut trace, "exit")?;
-    trace.push_str("m0 exit\n")?;
+    push_operations(&mut trace, alloc)?;
     Ok(trace)
+}
+
+/// Compares the last events of the report, and what the server left.
+fn check_end<R: Abort>(rt: &R, report: &MemSink) -> Result<(), Fail> {
+    let (events, state) = parts(report)?;
+    assert!(rt; events.ends_with(LAST_EVENTS));
+    // a worker that attaches before the table is frozen is refused, so the faults can differ
+    assert_eq!(rt; heaps_and_charges(state)?, (HEAPS, CHARGES));
+    Ok(())
+}
+
+/// The same of a replay of the trace.
+fn check_replay<R: Abort>(rt: &R, alloc: Global, trace: &str) -> Result<(), Fail> {
+    let report = replay_report(alloc, trace)?;
+    check_end(rt, &report)
+}
+
+/// The same of a run of it on threads.
+fn check_run<R: Threads + Wait + Sync + Abort>(
+    rt: &R,
+    alloc: Global,
+    trace: &str,
+) -> Result<(), Fail> {
+    let report = run_report(rt, alloc, trace, &NoGate)?;
+    check_end(rt, &report)
+}
+
+/// The same of a replay and of a few runs.
+fn check_all<R: Threads + Wait + Sync + Abort>(
+    rt: &R,
+    alloc: Global,
+    trace: &str,
+) -> Result<(), Fail> {
+    check_replay(rt, alloc, trace)?;
+    for _ in 0..4 {
+        check_run(rt, alloc, trace)?;
+    }
+    Ok(())
 }
 
 #[test]
 fn a_server_leaves_the_same_by_threads(rt: HostRuntime) -> Result<(), Fail> {
     let trace = server_trace(rt.alloc())?;
-    let replayed = replay_report(rt.alloc(), &trace)?;
-    assert_eq!(rt; heaps_and_charges(parts(&replayed)?.1)?, (HEAPS, CHARGES));
-    for _ in 0..4 {
-        let run = run_report(&rt, rt.alloc(), &trace, &NoGate)?;
-        let (events, state) = parts(&run)?;
-        assert!(rt; events.ends_with(LAST_EVENTS));
-        // a worker that attaches before the table is frozen is refused, so the faults can differ
-        assert_eq!(rt; heaps_and_charges(state)?, (HEAPS, CHARGES));
-    }
+    check_all(&rt, rt.alloc(), &trace)
+}
+
+/// Runs the trace on threads, and has the report checked.
+fn check_good<R: Threads + Wait + Sync + Abort>(
+    rt: &R,
+    alloc: Global,
+    trace: &str,
+) -> Result<(), Fail> {
+    let report = run_report(rt, alloc, trace, &NoGate)?;
+    let verdict = verdict_on(alloc, trace, &report)?;
+    assert_eq!(rt; verdict, Verdict::Good);
     Ok(())
 }
 
 #[test]
 fn the_report_of_a_server_run_by_threads_is_good(rt: HostRuntime) -> Result<(), Fail> {
     let trace = server_trace(rt.alloc())?;
-    let run = run_report(&rt, rt.alloc(), &trace, &NoGate)?;
-    assert_eq!(rt; verdict_on(rt.alloc(), &trace, &run)?, Verdict::Good);
-    Ok(())
+    check_good(&rt, rt.alloc(), &trace)
 }

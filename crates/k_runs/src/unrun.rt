@@ -7,7 +7,7 @@ ghost use Rattle.k_text.specs.Named.{AreNamed};
 ghost use Rattle.k_trace.specs.Meaning.{meaning_of};
 ghost use Rattle.k_trace.specs.Rules.{IsTrace};
 
-use crate::reporting::{report_of, trace_of, trace_text, verdict_on};
+use crate::reporting::{let_go, report_of, trace_of, trace_text, verdict_on};
 use crate::serving::server_trace;
 use k_check::Verdict;
 use k_io::{MemSink, NoMemory};
@@ -180,15 +180,28 @@ fn unrun_end<R: Wait>(rt: &R, alloc: Global, text: &str) -> Result<Outcome, Fail
 /// The report of a run of the trace of which threads do nothing.
 fn unrun_report<R: Wait>(rt: &R, alloc: Global, text: &str) -> Result<MemSink, Fail> {
     let end = unrun_end(rt, alloc, text)?;
-    report_of(alloc, &end)
+    let report = report_of(alloc, &end);
+    let_go(end);
+    report
 }
 
 /// Compares how the report of the trace ends, and has it checked.
-fn check_unrun<R: Wait + Abort>(rt: &R, alloc: Global, text: &str, want: &str) -> Result<(), Fail> {
-    let out = unrun_report(rt, alloc, text)?;
-    assert!(rt; out.bytes().ends_with(want.as_bytes()));
-    assert_eq!(rt; verdict_on(alloc, text, &out)?, Verdict::Good);
+fn check_end<R: Abort>(
+    rt: &R,
+    alloc: Global,
+    text: &str,
+    report: &MemSink,
+    want: &str,
+) -> Result<(), Fail> {
+    assert!(rt; report.bytes().ends_with(want.as_bytes()));
+    assert_eq!(rt; verdict_on(alloc, text, report)?, Verdict::Good);
     Ok(())
+}
+
+/// The same of a run of the trace of which threads do nothing.
+fn check_unrun<R: Wait + Abort>(rt: &R, alloc: Global, text: &str, want: &str) -> Result<(), Fail> {
+    let report = unrun_report(rt, alloc, text)?;
+    check_end(rt, alloc, text, &report, want)
 }
 
 #[test]

@@ -1,64 +1,24 @@
 //! Reports given to `check`: a worked one, and the same altered in one place.
+use crate::calling::{HEADER, check_call};
 use crate::status::Status;
-use crate::tests::{HEADER, check_call};
+use crate::worked::trace_of;
+use crate::worked_sharing::WRITTEN;
+use k_io::NoMemory;
 use std::alloc::Global;
+use std::process::Abort;
+use std::sync::Wait;
 use std::test::Fail;
+use std::thread::Threads;
 
-const OPERATIONS: &str = "p1 share s
-p1 snew r0 s Node
-p1 snew r1 s Node
-p1 store r0 0 r1
-p1 freeze s r0
-p2 attach r0 s
-p1 store r0 1 r0
-p1 put r0 2 7
-p2 get r0 2
-";
-
-/// The report of the operations behind the header.
-const REPORT: &str = "report 1
-p1 share s = ok
-p1 snew r0 s Node = s.1
-p1 snew r1 s Node = s.2
-p1 store r0 0 r1 = ok
-p1 freeze s r0 = ok
-p2 attach r0 s = s.1
-p1 store r0 1 r0 = fault Frozen
-p1 put r0 2 7 = ok
-p2 get r0 2 = 7
-graph
-kernel.1 kernel directory null null
-s.1 s Node s.2 null 7
-s.2 s Node null null 0
-roots
-p1 r0 s.1
-p1 r1 s.2
-p2 r0 s.1
-exits
-shares
-p1 s
-p2 s
-faults
-p1 1
-p2 0
-charges
-kernel 32 of 200
-limit root 200 of 1000
-limit a 80 of 120
-limit b 80 of 400
-process p1 80
-process p2 80
-shared s 80 frozen s.1
-end
-";
-
-/// The trace and behind it the report, of which so many lines from the given one on, counted from 1, are left out and replaced by
-/// the text.
-fn altered(alloc: Global, first: usize, left_out: usize, put: &str) -> Result<String, Fail> {
-    let mut input = String::from_str(alloc, HEADER)?;
-    input.push_str(OPERATIONS)?;
+/// Appends the report, of which so many lines from the given one on, counted from 1, are left out and replaced by the text.
+fn push_altered(
+    input: &mut String,
+    first: usize,
+    left_out: usize,
+    put: &str,
+) -> Result<(), NoMemory> {
     let mut number = 0usize;
-    for line in REPORT.split_inclusive('\n') {
+    for line in WRITTEN.split_inclusive('\n') {
         number = number.saturating_add(1);
         if number == first {
             input.push_str(put)?;
@@ -70,7 +30,28 @@ fn altered(alloc: Global, first: usize, left_out: usize, put: &str) -> Result<St
     if number < first {
         input.push_str(put)?;
     }
+    Ok(())
+}
+
+/// The trace and behind it the report, altered so.
+fn altered(alloc: Global, first: usize, left_out: usize, put: &str) -> Result<String, NoMemory> {
+    let mut input = trace_of(alloc, HEADER, WRITTEN)?;
+    push_altered(&mut input, first, left_out, put)?;
     Ok(input)
+}
+
+/// Has the altered report checked.
+fn check_altered<R: Abort + Threads + Wait + Sync>(
+    rt: &R,
+    alloc: Global,
+    first: usize,
+    left_out: usize,
+    put: &str,
+    want: Status,
+    text: &str,
+) -> Result<(), NoMemory> {
+    let input = altered(alloc, first, left_out, put)?;
+    check_call(rt, alloc, "check", &input, want, text)
 }
 
 #[test]
@@ -84,8 +65,15 @@ fn accepts_reports_of_legal_histories(rt: HostRuntime) -> Result<(), Fail> {
             "p1 store r0 1 r0 = fault Frozen\np2 attach r0 s = s.1\n",
         ),
     ] {
-        let input = altered(rt.alloc(), first, left_out, put)?;
-        check_call(&rt, rt.alloc(), "check", &input, Status::Good, "good\n")?;
+        check_altered(
+            &rt,
+            rt.alloc(),
+            first,
+            left_out,
+            put,
+            Status::Good,
+            "good\n",
+        )?;
     }
     Ok(())
 }
@@ -114,8 +102,7 @@ fn tells_the_first_wrong_line(rt: HostRuntime) -> Result<(), Fail> {
         (1, 34, "", "refused 1\n"),
         (2, 33, "", "refused 2\n"),
     ] {
-        let input = altered(rt.alloc(), first, left_out, put)?;
-        check_call(&rt, rt.alloc(), "check", &input, Status::Refused, text)?;
+        check_altered(&rt, rt.alloc(), first, left_out, put, Status::Refused, text)?;
     }
     Ok(())
 }
@@ -131,7 +118,8 @@ fn judges_the_trace_before_the_report(rt: HostRuntime) -> Result<(), Fail> {
         check_call(&rt, rt.alloc(), "check", input, Status::BadTrace, text)?;
     }
     // a first line that is not `report 1` is a line of the trace
-    let input = altered(rt.alloc(), 1, 1, "report 1 \n")?;
+    let put = "report 1 \n";
     let text = "bad trace: line 19 reason 4\n";
-    check_call(&rt, rt.alloc(), "check", &input, Status::BadTrace, text)
+    check_altered(&rt, rt.alloc(), 1, 1, put, Status::BadTrace, text)?;
+    Ok(())
 }

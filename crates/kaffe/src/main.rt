@@ -8,10 +8,14 @@
 
 mod call;
 #[cfg(test)]
+mod calling;
+#[cfg(test)]
 mod checked;
 mod checking;
 mod command_line;
 mod commands;
+#[cfg(test)]
+mod gated;
 #[cfg(test)]
 mod ranges;
 mod run_error;
@@ -26,6 +30,10 @@ mod tests;
 mod texts;
 #[cfg(test)]
 mod worked;
+#[cfg(test)]
+mod worked_heaps;
+#[cfg(test)]
+mod worked_sharing;
 mod workload;
 
 use crate::command_line::program;

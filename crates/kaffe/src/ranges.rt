@@ -1,22 +1,34 @@
 //! Traces at the ends of the ranges of their numbers, counts and lengths.
+use crate::calling::{Given, HEADER, NO_FAULTS, check_call, check_joined};
 use crate::status::Status;
-use crate::tests::{HEADER, call, check_call, sink};
-use k_io::MemSink;
+use crate::worked::check_report;
+use k_io::{NoGate, NoMemory};
 use std::alloc::Global;
 use std::process::Abort;
 use std::sync::Wait;
 use std::test::Fail;
 use std::thread::Threads;
 
-/// A trace of so many operations of one process, each of which lets go of a register.
-fn trace_of(alloc: Global, operations: u32) -> Result<String, Fail> {
-    let mut trace = String::from_str(
-        alloc,
-        "kaffe 1\nkernel 32 2\ntype Node ref ref int\nlimit a 80\nproc p1 a\n",
-    )?;
+/// The header of a trace of one process.
+const ONE_PROCESS: &str = "kaffe 1
+kernel 32 2
+type Node ref ref int
+limit a 80
+proc p1 a
+";
+
+/// Appends so many operations, each of which lets go of a register.
+fn push_operations(trace: &mut String, operations: u32) -> Result<(), NoMemory> {
     for _ in 0..operations {
         trace.push_str("p1 drop r0\n")?;
     }
+    Ok(())
+}
+
+/// A trace of so many operations of one process.
+fn trace_of(alloc: Global, operations: u32) -> Result<String, NoMemory> {
+    let mut trace = String::from_str(alloc, ONE_PROCESS)?;
+    push_operations(&mut trace, operations)?;
     Ok(trace)
 }
 
@@ -25,48 +37,91 @@ fn check_most<R: Abort + Threads + Wait + Sync>(
     rt: &R,
     alloc: Global,
     words: &str,
-) -> Result<(), Fail> {
+) -> Result<(), NoMemory> {
     let most = trace_of(alloc, 200_000)?;
-    let mut out = MemSink::make(alloc, 4_000_000, Vec::new(alloc))?;
-    let status = call(rt, alloc, words, &most, 0, &mut out)?;
-    assert_eq!(rt; status, Status::Good);
+    let mut given = Given::make(alloc, words, &most, NO_FAULTS)?;
+    assert_eq!(rt; given.answer(rt, alloc, &NoGate), Status::Good);
     Ok(())
 }
 
 #[test]
 fn replays_the_most_operations(rt: HostRuntime) -> Result<(), Fail> {
-    check_most(&rt, rt.alloc(), "replay")
+    check_most(&rt, rt.alloc(), "replay")?;
+    Ok(())
 }
 
 #[test]
 fn runs_the_most_operations(rt: HostRuntime) -> Result<(), Fail> {
-    check_most(&rt, rt.alloc(), "run")
+    check_most(&rt, rt.alloc(), "run")?;
+    Ok(())
 }
 
 #[test]
 fn refuses_more_operations(rt: HostRuntime) -> Result<(), Fail> {
     let more = trace_of(rt.alloc(), 200_001)?;
     let text = "bad trace: line 200006 reason 9\n";
-    check_call(&rt, rt.alloc(), "replay", &more, Status::BadTrace, text)
+    check_call(&rt, rt.alloc(), "replay", &more, Status::BadTrace, text)?;
+    Ok(())
+}
+
+/// Doubles the text so often.
+fn double(alloc: Global, text: &mut String, doublings: u32) -> Result<(), NoMemory> {
+    for _ in 0..doublings {
+        let half = String::from_str(alloc, text.as_str())?;
+        text.push_str(&half)?;
+    }
+    Ok(())
+}
+
+/// A line of one byte more than so many doublings of one byte give.
+fn line_of(alloc: Global, doublings: u32) -> Result<String, NoMemory> {
+    let mut line = String::from_str(alloc, "a")?;
+    double(alloc, &mut line, doublings)?;
+    line.push_str("a")?;
+    Ok(line)
+}
+
+/// Replays the text with that line behind it.
+fn check_line<R: Abort + Threads + Wait + Sync>(
+    rt: &R,
+    alloc: Global,
+    front: &str,
+    doublings: u32,
+    text: &str,
+) -> Result<(), NoMemory> {
+    let line = line_of(alloc, doublings)?;
+    check_joined(rt, alloc, "replay", front, &line, Status::BadTrace, text)
 }
 
 #[test]
 fn refuses_bytes_beyond_the_most(rt: HostRuntime) -> Result<(), Fail> {
-    // the bytes are doubled so often, and then one is added: one more than 2^24 or than 2^12
-    for (front, doublings, text) in [
-        ("", 24, "bad trace: line 0 reason 1\n"),
-        (HEADER, 12, "bad trace: line 10 reason 2\n"),
-    ] {
-        let mut line = String::from_str(rt.alloc(), "a")?;
-        for _ in 0..doublings {
-            let half = line.clone()?;
-            line.push_str(&half)?;
-        }
-        let mut input = String::from_str(rt.alloc(), front)?;
-        input.push_str(&line)?;
-        input.push_str("a")?;
-        check_call(&rt, rt.alloc(), "replay", &input, Status::BadTrace, text)?;
+    // 2^24 bytes and one more, and a line of 2^12 bytes and one more
+    check_line(&rt, rt.alloc(), "", 24, "bad trace: line 0 reason 1\n")?;
+    check_line(&rt, rt.alloc(), HEADER, 12, "bad trace: line 10 reason 2\n")?;
+    Ok(())
+}
+
+/// Appends so many lines of the header.
+fn push_lines(input: &mut String, lines: usize) -> Result<(), NoMemory> {
+    for line in HEADER.split_inclusive('\n').take(lines) {
+        input.push_str(line)?;
     }
+    Ok(())
+}
+
+/// Replays what is left of the header where it is cut after so many lines. Compares the status, and how begins what was written.
+fn check_cut<R: Abort + Threads + Wait + Sync>(
+    rt: &R,
+    alloc: Global,
+    lines: usize,
+    want: Status,
+    text: &str,
+) -> Result<(), NoMemory> {
+    let mut input = String::new(alloc);
+    push_lines(&mut input, lines)?;
+    let mut given = Given::make(alloc, "replay", &input, NO_FAULTS)?;
+    assert_eq!(rt; given.answer(rt, alloc, &NoGate), want, "{lines} lines");
+    assert!(rt; given.written().starts_with(text), "{lines} lines");
     Ok(())
 }
 
@@ -84,23 +139,14 @@ fn reads_a_header_that_is_cut(rt: HostRuntime) -> Result<(), Fail> {
         (8, Status::Good, "report 1\n"),
         (9, Status::Good, "report 1\n"),
     ] {
-        let mut input = String::new(rt.alloc());
-        for line in HEADER.split_inclusive('\n').take(lines) {
-            input.push_str(line)?;
-        }
-        let mut out = sink(rt.alloc(), 0)?;
-        let status = call(&rt, rt.alloc(), "replay", &input, 0, &mut out)?;
-        assert_eq!(rt; status, want, "{lines} lines");
-        assert!(rt; out.bytes().starts_with(text.as_bytes()), "{lines} lines");
+        check_cut(&rt, rt.alloc(), lines, want, text)?;
     }
     Ok(())
 }
 
 #[test]
 fn keeps_the_greatest_number(rt: HostRuntime) -> Result<(), Fail> {
-    let mut input = String::from_str(rt.alloc(), HEADER)?;
-    input.push_str("p1 new r0 Node\np1 put r0 2 18446744073709551615\n")?;
-    let text = "report 1
+    let report = "report 1
 p1 new r0 Node = p1.1
 p1 put r0 2 18446744073709551615 = ok
 graph
@@ -123,5 +169,6 @@ process p2 0
 shared s 0 unmade
 end
 ";
-    check_call(&rt, rt.alloc(), "replay", &input, Status::Good, text)
+    check_report(&rt, rt.alloc(), HEADER, report)?;
+    Ok(())
 }

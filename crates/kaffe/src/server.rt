@@ -1,7 +1,8 @@
 //! A server's trace: a table in a shared heap that four workers share and read, with what is left when all have ended.
+use crate::calling::{Given, NO_FAULTS, check_joined};
 use crate::status::Status;
-use crate::tests::{call, check_call};
-use k_io::MemSink;
+use crate::worked::{check_report, check_run, trace_of};
+use k_io::{NoGate, NoMemory};
 use std::alloc::Global;
 use std::process::Abort;
 use std::sync::Wait;
@@ -23,7 +24,7 @@ proc w4 w
 shared table
 ";
 
-/// The last events and what stands behind them.
+/// The last events, in whichever order the others came, and what stands from the graph to the shares.
 const END: &str = "absorbed table
 closing
 ended kernel 100 3200 0 0
@@ -32,13 +33,19 @@ kernel.1 kernel directory null null null null
 roots
 exits
 shares
-faults
+";
+
+/// How many operations of each process were refused, where each worker attaches when the table is frozen.
+const NO_FAULT: &str = "faults
 m0 0
 w1 0
 w2 0
 w3 0
 w4 0
-charges
+";
+
+/// The charges at the end.
+const CHARGES: &str = "charges
 kernel 48 of 4096
 limit root 400000 of 1000000
 limit m 0 of 100000
@@ -52,117 +59,164 @@ shared table 0 absorbed
 end
 ";
 
-/// Appends the operation for each worker in turn.
-fn push_for_each(trace: &mut String, operation: &str) -> Result<(), Fail> {
-    for worker in ["w1 ", "w2 ", "w3 ", "w4 "] {
-        trace.push_str(worker)?;
-        trace.push_str(operation)?;
-        trace.push_str("\n")?;
+/// The names of the workers.
+const WORKERS: [&str; 4] = ["w1", "w2", "w3", "w4"];
+
+/// Appends the operation, and its reply, for each worker in turn.
+fn push_for_each(events: &mut String, operation: &str, reply: &str) -> Result<(), NoMemory> {
+    for worker in WORKERS {
+        writeln!(events, "{worker} {operation} = {reply}")?;
     }
     Ok(())
 }
 
-/// The table is made of a hundred rows and frozen. Each worker links sixty nodes that refer to it, and after each twenty of
-/// them lets go of all and collects.
-fn server_trace(alloc: Global) -> Result<String, Fail> {
-    let mut trace = String::from_str(alloc, HEADER)?;
-    trace.push_str("m0 share table\n")?;
-    for row in 0..100 {
-        trace.push_str("m0 snew r0 table Row\n")?;
-        trace.push_str(&format!(in alloc; "m0 put r0 0 {row}\n")?)?;
+/// Makes the table of a hundred rows, and freezes it with the last one as its root.
+fn push_table(events: &mut String) -> Result<(), NoMemory> {
+    events.push_str("m0 share table = ok\n")?;
+    for row in 0..100u32 {
+        let serial = row + 1;
+        writeln!(events, "m0 snew r0 table Row = table.{serial}")?;
+        writeln!(events, "m0 put r0 0 {row} = ok")?;
     }
-    trace.push_str("m0 freeze table r0\n")?;
-    push_for_each(&mut trace, "attach r0 table")?;
+    events.push_str("m0 freeze table r0 = ok\n")?;
+    Ok(())
+}
+
+/// Each worker makes the node of that number, which is the node's serial too.
+fn push_new(events: &mut String, node: u32) -> Result<(), NoMemory> {
+    for worker in WORKERS {
+        writeln!(events, "{worker} new r1 Node = {worker}.{node}")?;
+    }
+    Ok(())
+}
+
+/// Each worker writes the node's number.
+fn push_put(events: &mut String, node: u32) -> Result<(), NoMemory> {
+    for worker in WORKERS {
+        writeln!(events, "{worker} put r1 2 {node} = ok")?;
+    }
+    Ok(())
+}
+
+/// Each worker collects: the last twenty nodes go, and the one exit item, which leads to the table's root.
+fn push_collections(events: &mut String) -> Result<(), NoMemory> {
+    for worker in WORKERS {
+        writeln!(events, "{worker} collect = ok\nended {worker} 20 800 1 0")?;
+    }
+    Ok(())
+}
+
+/// Each worker makes the node of that number, lets it refer to the table's root and to the node before it, and reads the number of the
+/// root, which is the last row.
+fn push_node(events: &mut String, node: u32) -> Result<(), NoMemory> {
+    push_new(events, node)?;
+    push_for_each(events, "store r1 0 r0", "ok")?;
+    push_put(events, node)?;
+    push_for_each(events, "get r0 0", "99")?;
+    push_for_each(events, "store r1 1 r2", "ok")?;
+    push_for_each(events, "move r2 r1", "ok")
+}
+
+/// Each worker makes sixty nodes, and after each twenty of them lets go of all and collects.
+fn push_nodes(events: &mut String) -> Result<(), NoMemory> {
     for node in 1..=60 {
-        push_for_each(&mut trace, "new r1 Node")?;
-        push_for_each(&mut trace, "store r1 0 r0")?;
-        push_for_each(&mut trace, &format!(in alloc; "put r1 2 {node}")?)?;
-        push_for_each(&mut trace, "get r0 0")?;
-        push_for_each(&mut trace, "store r1 1 r2")?;
-        push_for_each(&mut trace, "move r2 r1")?;
+        push_node(events, node)?;
         if node % 20 == 0 {
-            push_for_each(&mut trace, "drop r2")?;
-            push_for_each(&mut trace, "drop r1")?;
-            push_for_each(&mut trace, "collect")?;
+            push_for_each(events, "drop r2", "ok")?;
+            push_for_each(events, "drop r1", "ok")?;
+            push_collections(events)?;
         }
     }
-    push_for_each(&mut trace, "exit")?;
-    trace.push_str("m0 exit\n")?;
-    Ok(trace)
+    Ok(())
 }
 
-/// How many lines of events the report has, and how many of them are collections of a worker that free twenty nodes and one exit
-/// item.
-fn count_events(report: &str) -> (u32, u32) {
-    let mut events = 0u32;
-    let mut collections = 0u32;
-    for line in report.lines() {
-        if line == "graph" {
-            break;
-        }
-        if line != "report 1" {
-            events = events.saturating_add(1);
-        }
-        if line.starts_with("ended w") && line.ends_with(" 20 800 1 0") {
-            collections = collections.saturating_add(1);
-        }
-    }
-    (events, collections)
+/// All events in the order of the trace, but for the last ones. The table is made and frozen. Each worker attaches to it, makes nodes that
+/// refer to it, and ends; and at last the table's maker ends.
+fn push_events(events: &mut String) -> Result<(), NoMemory> {
+    push_table(events)?;
+    push_for_each(events, "attach r0 table", "table.100")?;
+    push_nodes(events)?;
+    push_for_each(events, "exit", "ok")?;
+    events.push_str("m0 exit = ok\n")?;
+    Ok(())
 }
 
-/// The lines of a report behind its events, but for those that count faults.
-fn without_faults(alloc: Global, report: &str) -> Result<String, Fail> {
-    let mut kept = String::new(alloc);
-    let mut behind_events = false;
-    let mut counts_faults = false;
-    for line in report.lines() {
-        match line {
-            "graph" => behind_events = true,
-            "faults" => counts_faults = true,
-            "charges" => counts_faults = false,
-            _ => {}
-        }
-        if behind_events && !counts_faults {
-            kept.push_str(line)?;
-            kept.push_str("\n")?;
-        }
-    }
-    Ok(kept)
+/// Appends the report of the trace's replay.
+fn push_report(report: &mut String) -> Result<(), NoMemory> {
+    report.push_str("report 1\n")?;
+    push_events(report)?;
+    report.push_str(END)?;
+    report.push_str(NO_FAULT)?;
+    report.push_str(CHARGES)?;
+    Ok(())
 }
 
-/// The report of the trace by that command.
-fn report_by<R: Abort + Threads + Wait + Sync>(
+/// The report of the trace's replay.
+fn server_report(alloc: Global) -> Result<String, NoMemory> {
+    let mut report = String::new(alloc);
+    push_report(&mut report)?;
+    Ok(report)
+}
+
+/// Replays the trace, and has the report checked.
+fn check_replay<R: Abort + Threads + Wait + Sync>(
     rt: &R,
     alloc: Global,
-    words: &str,
-    trace: &str,
-) -> Result<String, Fail> {
-    let mut out = MemSink::make(alloc, 200_000, Vec::new(alloc))?;
-    let status = call(rt, alloc, words, trace, 0, &mut out)?;
-    assert_eq!(rt; status, Status::Good, "{words}");
-    Ok(String::from_str(alloc, str::from_utf8(out.bytes())?)?)
+    report: &str,
+) -> Result<(), NoMemory> {
+    check_report(rt, alloc, HEADER, report)?;
+    let trace = trace_of(alloc, HEADER, report)?;
+    check_joined(rt, alloc, "check", &trace, report, Status::Good, "good\n")
 }
 
 #[test]
 fn serves_a_shared_table(rt: HostRuntime) -> Result<(), Fail> {
-    let mut input = server_trace(rt.alloc())?;
-    let report = report_by(&rt, rt.alloc(), "replay", &input)?;
-    assert!(rt; report.ends_with(END));
-    assert_eq!(rt; count_events(&report), (1702, 12));
-    input.push_str(&report)?;
-    check_call(&rt, rt.alloc(), "check", &input, Status::Good, "good\n")
+    let report = server_report(rt.alloc())?;
+    check_replay(&rt, rt.alloc(), &report)?;
+    Ok(())
+}
+
+/// Compares the last events of the report and what stands behind them, but for the lines that count faults.
+fn check_left<R: Abort>(rt: &R, report: &str) -> Result<(), Fail> {
+    let front = report.strip_suffix(CHARGES).ok_or("other charges")?;
+    let (front, _) = front.split_once("faults\n").ok_or("no faults")?;
+    assert!(rt; front.ends_with(END), "{report}");
+    Ok(())
+}
+
+/// Runs the trace on threads.
+fn check_served<R: Abort + Threads + Wait + Sync>(
+    rt: &R,
+    alloc: Global,
+    trace: &str,
+) -> Result<(), Fail> {
+    let mut given = Given::make(alloc, "run", trace, NO_FAULTS)?;
+    assert_eq!(rt; given.answer(rt, alloc, &NoGate), Status::Good);
+    check_left(rt, given.written())
+}
+
+/// Runs the trace a few times, and has the report of one more run checked.
+fn check_runs<R: Abort + Threads + Wait + Sync>(
+    rt: &R,
+    alloc: Global,
+    trace: &str,
+) -> Result<(), Fail> {
+    for _ in 0..4 {
+        check_served(rt, alloc, trace)?;
+    }
+    check_run(rt, alloc, trace)?;
+    Ok(())
+}
+
+/// The server's trace.
+fn server_trace(alloc: Global) -> Result<String, NoMemory> {
+    let report = server_report(alloc)?;
+    trace_of(alloc, HEADER, &report)
 }
 
 /// A worker may attach before the table is frozen, and is refused then; what is left at the end is the same.
 #[test]
 fn serves_a_shared_table_by_threads(rt: HostRuntime) -> Result<(), Fail> {
-    let mut input = server_trace(rt.alloc())?;
-    let left = without_faults(rt.alloc(), END)?;
-    for _ in 0..4 {
-        let report = report_by(&rt, rt.alloc(), "run", &input)?;
-        assert_eq!(rt; without_faults(rt.alloc(), &report)?, left);
-    }
-    let report = report_by(&rt, rt.alloc(), "run", &input)?;
-    input.push_str(&report)?;
-    check_call(&rt, rt.alloc(), "check", &input, Status::Good, "good\n")
+    let trace = server_trace(rt.alloc())?;
+    check_runs(&rt, rt.alloc(), &trace)
 }

@@ -1,7 +1,9 @@
 //! The top call as tables: words, traces, bad traces, and each read and write that fails in turn.
-use crate::call::kaffe;
+use crate::calling::{
+    Faults, Given, HEADER, NO_FAULTS, ROOM, check_call, check_faults, check_joined,
+};
 use crate::status::Status;
-use k_io::{DripSink, DripSource, MemSink, MemSource, NoGate, Sink};
+use k_io::{DripSink, DripSource, NoMemory};
 use std::alloc::Global;
 use std::process::Abort;
 use std::sync::Wait;
@@ -49,69 +51,15 @@ end
 
 const USAGE: &str = "usage: kaffe run | replay | check | big N\n";
 
-/// A header with a tree of limits, two processes and a shared heap; an operation behind it stands on line 10.
-pub const HEADER: &str = "kaffe 1
-kernel 200 2
-type Node ref ref int
-limit root 1000
-limit a root hard 120
-limit b root soft 400
-proc p1 a
-proc p2 b
-shared s
-";
-
-/// The words of a line.
-pub fn words_of(alloc: Global, line: &str) -> Result<Vec<String>, Fail> {
-    let mut words = Vec::new(alloc);
-    for word in line.split_whitespace() {
-        words.push(String::from_str(alloc, word)?)?;
-    }
-    Ok(words)
-}
-
-/// Calls the program with these words and this input. The read of that number fails; none where it is 0.
-pub fn call<K: Sink, R: Threads + Wait + Sync>(
-    rt: &R,
-    alloc: Global,
-    words: &str,
-    input: &str,
-    failing_read: u32,
-    sink: &mut K,
-) -> Result<Status, Fail> {
-    let given = words_of(alloc, words)?;
-    let bytes = Vec::from_slice(alloc, input.as_bytes())?;
-    let mut source = MemSource::of(bytes, vec![in alloc; failing_read]?);
-    Ok(kaffe(rt, alloc, &given, &mut source, sink, &NoGate))
-}
-
-/// A sink that takes whole pieces. The write of that number fails; none where it is 0.
-pub fn sink(alloc: Global, failing_write: u32) -> Result<MemSink, Fail> {
-    Ok(MemSink::make(alloc, 4096, vec![in alloc; failing_write]?)?)
-}
-
-/// Calls the program without a fault, and compares the status and what was written.
-pub fn check_call<R: Abort + Threads + Wait + Sync>(
-    rt: &R,
-    alloc: Global,
-    words: &str,
-    input: &str,
-    want: Status,
-    text: &str,
-) -> Result<(), Fail> {
-    let mut out = sink(alloc, 0)?;
-    let status = call(rt, alloc, words, input, 0, &mut out)?;
-    assert_eq!(rt; status, want, "{words}: {input}");
-    assert_eq!(rt; str::from_utf8(out.bytes()), Ok(text), "{words}: {input}");
-    Ok(())
-}
-
 #[test]
 fn reports_the_first_trace(rt: HostRuntime) -> Result<(), Fail> {
-    for words in ["run", "replay"] {
-        for input in [TRACE, TRACE.trim_end()] {
-            check_call(&rt, rt.alloc(), words, input, Status::Good, REPORT)?;
-        }
+    for (words, input) in [
+        ("run", TRACE),
+        ("replay", TRACE),
+        ("run", TRACE.trim_end()),
+        ("replay", TRACE.trim_end()),
+    ] {
+        check_call(&rt, rt.alloc(), words, input, Status::Good, REPORT)?;
     }
     Ok(())
 }
@@ -122,10 +70,9 @@ fn refuses_other_words(rt: HostRuntime) -> Result<(), Fail> {
         "", "run x", "x run", "runs", "Replay", "checks", "big", "big 0", "big 007", "big 5001",
         "big 1 1", "Big 10", "10 big",
     ] {
-        let mut out = sink(rt.alloc(), 0)?;
-        let status = call(&rt, rt.alloc(), words, TRACE, 1, &mut out)?;
-        assert_eq!(rt; status, Status::Usage, "{words}");
-        assert_eq!(rt; str::from_utf8(out.bytes()), Ok(USAGE));
+        // the source would fail at its first read, and is not read
+        let faults = Faults { read: 1, write: 0 };
+        check_faults(&rt, rt.alloc(), words, TRACE, faults, Status::Usage, USAGE)?;
     }
     Ok(())
 }
@@ -201,12 +148,27 @@ fn tells_the_first_bad_operation(rt: HostRuntime) -> Result<(), Fail> {
             "bad trace: line 11 reason 8\n",
         ),
     ] {
-        let mut input = String::from_str(rt.alloc(), HEADER)?;
-        input.push_str(rest)?;
-        check_call(&rt, rt.alloc(), "replay", &input, Status::BadTrace, text)?;
+        check_joined(
+            &rt,
+            rt.alloc(),
+            "replay",
+            HEADER,
+            rest,
+            Status::BadTrace,
+            text,
+        )?;
     }
     Ok(())
 }
+
+/// The first lines of a header; a limit behind them stands on line 7.
+const LIMITS: &str = "kaffe 1
+kernel 32 2
+limit root 1000
+limit a root hard 120
+limit b root soft 400
+limit c b hard 300
+";
 
 #[test]
 fn tells_the_first_bad_limit(rt: HostRuntime) -> Result<(), Fail> {
@@ -224,12 +186,15 @@ fn tells_the_first_bad_limit(rt: HostRuntime) -> Result<(), Fail> {
         ("limit d 1\n", "bad trace: line 7 reason 4\n"),
         ("limit d b soft 5000\n", "bad trace: line 8 reason 12\n"),
     ] {
-        let mut input = String::from_str(
+        check_joined(
+            &rt,
             rt.alloc(),
-            "kaffe 1\nkernel 32 2\nlimit root 1000\nlimit a root hard 120\nlimit b root soft 400\nlimit c b hard 300\n",
+            "replay",
+            LIMITS,
+            rest,
+            Status::BadTrace,
+            text,
         )?;
-        input.push_str(rest)?;
-        check_call(&rt, rt.alloc(), "replay", &input, Status::BadTrace, text)?;
     }
     Ok(())
 }
@@ -237,7 +202,7 @@ fn tells_the_first_bad_limit(rt: HostRuntime) -> Result<(), Fail> {
 #[test]
 fn tells_each_read_that_fails(rt: HostRuntime) -> Result<(), Fail> {
     // the first read gives the trace, the second the end of input, and there is no third
-    for (words, failing_read, want, text) in [
+    for (words, read, want, text) in [
         ("run", 1, Status::ReadFault, ""),
         ("run", 2, Status::ReadFault, ""),
         ("run", 3, Status::Good, REPORT),
@@ -245,84 +210,129 @@ fn tells_each_read_that_fails(rt: HostRuntime) -> Result<(), Fail> {
         ("check", 2, Status::ReadFault, ""),
         ("check", 3, Status::Refused, "refused 1\n"),
     ] {
-        let mut out = sink(rt.alloc(), 0)?;
-        let status = call(&rt, rt.alloc(), words, TRACE, failing_read, &mut out)?;
-        assert_eq!(rt; status, want, "{words}: read {failing_read}");
-        assert_eq!(rt;
-            str::from_utf8(out.bytes()),
-            Ok(text),
-            "{words}: read {failing_read}"
-        );
+        let faults = Faults { read, write: 0 };
+        check_faults(&rt, rt.alloc(), words, TRACE, faults, want, text)?;
     }
+    Ok(())
+}
+
+/// A source that gives a byte of the trace at each read. The read of that number fails.
+fn drip_source(alloc: Global, failing_read: u32) -> Result<DripSource, NoMemory> {
+    let fails = Vec::from_slice(alloc, &[failing_read])?;
+    let bytes = Vec::from_slice(alloc, TRACE.as_bytes())?;
+    Ok(DripSource::of(bytes, fails))
+}
+
+/// Replays the trace byte by byte. The read of that number fails.
+fn check_reads<R: Abort + Threads + Wait + Sync>(
+    rt: &R,
+    alloc: Global,
+    failing_read: u32,
+    want: Status,
+    text: &str,
+) -> Result<(), NoMemory> {
+    let mut source = drip_source(alloc, failing_read)?;
+    let mut given = Given::make(alloc, "replay", "", NO_FAULTS)?;
+    let status = given.answer_from(rt, alloc, &mut source);
+    assert_eq!(rt; status, want, "read {failing_read}");
+    assert_eq!(rt; given.written(), text, "read {failing_read}");
     Ok(())
 }
 
 #[test]
 fn tells_each_byte_that_is_not_given(rt: HostRuntime) -> Result<(), Fail> {
-    let words = vec![in rt.alloc(); String::from_str(rt.alloc(), "replay")?]?;
     // the last but one read gives the end of input, and the last one is not asked for
     for given in 0..=TRACE.len() + 1 {
-        let bytes = Vec::from_slice(rt.alloc(), TRACE.as_bytes())?;
-        let mut source = DripSource::of(bytes, vec![in rt.alloc(); given as u32 + 1]?);
-        let mut out = sink(rt.alloc(), 0)?;
-        let status = kaffe(&rt, rt.alloc(), &words, &mut source, &mut out, &NoGate);
         let (want, text) = if given <= TRACE.len() {
             (Status::ReadFault, "")
         } else {
             (Status::Good, REPORT)
         };
-        assert_eq!(rt; status, want, "byte {given}");
-        assert!(rt; out.bytes() == text.as_bytes(), "byte {given}");
+        check_reads(&rt, rt.alloc(), given as u32 + 1, want, text)?;
     }
     Ok(())
+}
+
+/// Replays the trace as often as its report has lines, and once more. The next line is not taken each time. Those before it are appended
+/// to what was written.
+fn check_writes<R: Abort + Threads + Wait + Sync>(
+    rt: &R,
+    alloc: Global,
+    written: &mut String,
+) -> Result<(), NoMemory> {
+    let mut faults = Faults { read: 0, write: 1 };
+    for line in REPORT.split_inclusive('\n') {
+        check_faults(
+            rt,
+            alloc,
+            "replay",
+            TRACE,
+            faults,
+            Status::WriteFault,
+            written.as_str(),
+        )?;
+        written.push_str(line)?;
+        faults.write = faults.write.saturating_add(1);
+    }
+    check_faults(rt, alloc, "replay", TRACE, faults, Status::Good, REPORT)
 }
 
 #[test]
 fn tells_each_line_that_is_not_taken(rt: HostRuntime) -> Result<(), Fail> {
     let mut written = String::new(rt.alloc());
-    let mut number = 1u32;
-    for line in REPORT.split_inclusive('\n') {
-        let mut out = sink(rt.alloc(), number)?;
-        let status = call(&rt, rt.alloc(), "replay", TRACE, 0, &mut out)?;
-        assert_eq!(rt; status, Status::WriteFault, "write {number}");
-        assert_eq!(rt;
-            str::from_utf8(out.bytes()),
-            Ok(written.as_str()),
-            "write {number}"
-        );
-        written.push_str(line)?;
-        number = number.saturating_add(1);
-    }
-    let mut out = sink(rt.alloc(), number)?;
-    assert_eq!(rt;
-        call(&rt, rt.alloc(), "replay", TRACE, 0, &mut out)?,
-        Status::Good
-    );
+    check_writes(&rt, rt.alloc(), &mut written)?;
+    Ok(())
+}
+
+#[test]
+fn tells_a_short_text_that_is_not_taken(rt: HostRuntime) -> Result<(), Fail> {
     for (words, input) in [("run", ""), ("help", TRACE), ("check", TRACE)] {
-        let mut out = sink(rt.alloc(), 1)?;
-        assert_eq!(rt;
-            call(&rt, rt.alloc(), words, input, 0, &mut out)?,
+        let faults = Faults { read: 0, write: 1 };
+        check_faults(
+            &rt,
+            rt.alloc(),
+            words,
+            input,
+            faults,
             Status::WriteFault,
-            "{words}"
-        );
-        assert_eq!(rt; out.bytes().len(), 0);
+            "",
+        )?;
     }
+    Ok(())
+}
+
+/// A sink that takes a byte at each write. The write of that number fails.
+fn drip_sink(alloc: Global, failing_write: u32) -> Result<DripSink, NoMemory> {
+    let fails = Vec::from_slice(alloc, &[failing_write])?;
+    DripSink::make(alloc, ROOM, fails)
+}
+
+/// Runs the trace. The report is taken byte by byte, and the write of that number fails.
+fn check_taken<R: Abort + Threads + Wait + Sync>(
+    rt: &R,
+    alloc: Global,
+    failing_write: u32,
+    want: Status,
+    taken: &[u8],
+) -> Result<(), NoMemory> {
+    let mut sink = drip_sink(alloc, failing_write)?;
+    let mut given = Given::make(alloc, "run", TRACE, NO_FAULTS)?;
+    let status = given.answer_into(rt, alloc, &mut sink);
+    assert_eq!(rt; status, want, "write {failing_write}");
+    assert!(rt; sink.bytes() == taken, "write {failing_write}");
     Ok(())
 }
 
 #[test]
 fn tells_each_byte_that_is_not_taken(rt: HostRuntime) -> Result<(), Fail> {
     for taken in 0..=REPORT.len() {
-        let fails = vec![in rt.alloc(); taken as u32 + 1]?;
-        let mut out = DripSink::make(rt.alloc(), 4096, fails)?;
-        let status = call(&rt, rt.alloc(), "run", TRACE, 0, &mut out)?;
         let want = if taken < REPORT.len() {
             Status::WriteFault
         } else {
             Status::Good
         };
-        assert_eq!(rt; status, want, "byte {taken}");
-        assert!(rt; out.bytes() == &REPORT.as_bytes()[..taken], "byte {taken}");
+        let bytes = &REPORT.as_bytes()[..taken];
+        check_taken(&rt, rt.alloc(), taken as u32 + 1, want, bytes)?;
     }
     Ok(())
 }

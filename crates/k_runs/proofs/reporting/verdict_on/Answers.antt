@@ -1,4 +1,4 @@
 use Rattle.k_runs.proofs.reporting.verdict_on.Goals as goal
 
-pub check_report-requires-clause-good : goal.check_report-requires-clause-good
-check_report-requires-clause-good c = c.in_ok-trace.ensures
+pub verdict_of-requires : goal.verdict_of-requires
+verdict_of-requires c = c.in_ok-trace.ensures

@@ -10,8 +10,8 @@ const MOST_TURNS: u32 = 100_000_000;
 /// How many turns pass before a thread that waits lets others run.
 const TURNS_OF_ONE_STRETCH: u32 = 1_000;
 
-/// Waits until the flag is set, and says whether it was.
-pub(crate) fn wait_for(flag: &AtomicBool) -> bool {
+/// Waits until the flag is set, for at most a hundred million turns, and says whether it was.
+pub fn wait_for(flag: &AtomicBool) -> bool {
     for turn in 0..MOST_TURNS {
         if flag.load(Ordering::SeqCst) {
             return true;
@@ -25,9 +25,9 @@ pub(crate) fn wait_for(flag: &AtomicBool) -> bool {
     false
 }
 
-/// A process at a place of the run.
+/// A process at a place of its run.
 #[derive(Drop)]
-pub(crate) struct Stop {
+pub struct Stop {
     pid: u32,
     // How many operations it has done; any number where none is given.
     done: Option<u32>,
@@ -39,7 +39,7 @@ pub(crate) struct Stop {
 
 impl Stop {
     /// The process before the operation that comes when it has done so many. It waits there for the stop of that number.
-    pub(crate) fn before(pid: u32, done: u32, until: Option<usize>) -> Stop {
+    pub fn before(pid: u32, done: u32, until: Option<usize>) -> Stop {
         Stop {
             pid,
             done: Some(done),
@@ -50,7 +50,7 @@ impl Stop {
     }
 
     /// The process at that place, whatever it has done. It waits there for the stop of that number.
-    pub(crate) fn at(pid: u32, place: GatePlace, until: usize) -> Stop {
+    pub fn at(pid: u32, place: GatePlace, until: usize) -> Stop {
         Stop {
             pid,
             done: None,
@@ -71,15 +71,16 @@ impl Stop {
     }
 }
 
-/// Holds each process at its stops.
+/// A gate that holds each process at its stops. A stop's number is its place in the list, counted from 0.
 #[derive(Drop)]
-pub(crate) struct Stops<const N: usize> {
+pub struct Stops<const N: usize> {
     stops: [Stop; N],
     missed: AtomicBool,
 }
 
 impl<const N: usize> Stops<N> {
-    pub(crate) fn of(stops: [Stop; N]) -> Stops<N> {
+    /// The gate with these stops, none of which was reached yet.
+    pub fn of(stops: [Stop; N]) -> Stops<N> {
         Stops {
             stops,
             missed: AtomicBool::new(false),
@@ -87,7 +88,7 @@ impl<const N: usize> Stops<N> {
     }
 
     /// Whether all stops were reached, and no process waited in vain.
-    pub(crate) fn all_met(&self) -> bool {
+    pub fn all_met(&self) -> bool {
         let mut met = !self.missed.load(Ordering::SeqCst);
         for stop in &self.stops {
             met &= stop.reached.load(Ordering::SeqCst);

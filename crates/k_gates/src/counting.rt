@@ -1,9 +1,8 @@
 //! A gate that counts what a run tells of each process.
-use k_io::{Gate, GatePlace};
+use k_io::{Gate, GatePlace, NoMemory};
 use std::alloc::Global;
 use std::hint::spin_loop;
 use std::sync::atomic::{AtomicBool, AtomicU32, Ordering};
-use std::test::Fail;
 
 /// The turns for which a step is held, so that another one can come beside it if the book's lock lets it.
 const TURNS_OF_A_STEP: u32 = 100_000;
@@ -15,9 +14,9 @@ struct Count {
     steps: AtomicU32,
 }
 
-/// Counts for each process the operations that are told, and the steps under the book's lock.
+/// A gate that counts for each process the operations that are told, and the steps under the book's lock. It holds each step for a while.
 #[derive(Drop)]
-pub(crate) struct Counts {
+pub struct Counts {
     of_each: Vec<Count>,
     // Whether an operation was told twice, left out, or told before an earlier one, or a process that there is not.
     astray: AtomicBool,
@@ -26,7 +25,12 @@ pub(crate) struct Counts {
 }
 
 impl Counts {
-    pub(crate) fn make(alloc: Global, processes: u32) -> Result<Counts, Fail> {
+    /// A gate for so many processes, which was told nothing yet.
+    ///
+    /// # Errors
+    ///
+    /// `NoMemory` where there is no room for a count of each process.
+    pub fn make(alloc: Global, processes: u32) -> Result<Counts, NoMemory> {
         let mut of_each = Vec::new(alloc);
         for _ in 0..processes {
             of_each.push(Count {
@@ -43,7 +47,7 @@ impl Counts {
 
     /// How many operations of the process were told, each once and in order, and how many steps, one at a time. None where anything was
     /// told otherwise, of whatever process.
-    pub(crate) fn of(&self, pid: usize) -> Option<(u32, u32)> {
+    pub fn of(&self, pid: usize) -> Option<(u32, u32)> {
         if self.astray.load(Ordering::SeqCst) {
             return None;
         }

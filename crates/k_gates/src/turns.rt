@@ -1,11 +1,11 @@
-//! A gate that sees in which turns five processes are taken.
+//! A gate that sees in which turns five processes are taken by four workers.
 use crate::holding::wait_for;
 use k_io::{Gate, GatePlace};
 use std::hint::spin_loop;
 use std::sync::atomic::{AtomicBool, AtomicU32, Ordering};
 
 /// How many operations a turn has.
-pub(crate) const OPERATIONS_OF_A_TURN: u32 = 64;
+pub const OPERATIONS_OF_A_TURN: u32 = 64;
 
 /// The turns for which a process is held before it begins, so that others can begin before it has done anything.
 const TURNS_AT_THE_START: u32 = 1_000_000;
@@ -13,10 +13,10 @@ const TURNS_AT_THE_START: u32 = 1_000_000;
 /// The number of the fifth process.
 const FIFTH: u32 = 4;
 
-/// Holds the first four processes for a while before they begin, and each process at its second turn until the fifth one has begun; and
-/// sees whether that came before any turn was over, and how many processes had a second turn.
+/// A gate that holds the first four processes for a while before they begin, and each process at its second turn until the fifth one has
+/// begun; and sees whether that came before any turn was over, and how many processes had a second turn.
 #[derive(Drop)]
-pub(crate) struct FifthComes {
+pub struct FifthComes {
     fifth: AtomicBool,
     turn_over: AtomicBool,
     too_early: AtomicBool,
@@ -25,7 +25,8 @@ pub(crate) struct FifthComes {
 }
 
 impl FifthComes {
-    pub(crate) fn new() -> FifthComes {
+    /// A gate that no process has come to yet.
+    pub fn new() -> FifthComes {
         FifthComes {
             fifth: AtomicBool::new(false),
             turn_over: AtomicBool::new(false),
@@ -36,14 +37,14 @@ impl FifthComes {
     }
 
     /// Whether the fifth process had its turn once one of four workers was free, and before any process had a second turn.
-    pub(crate) fn met(&self) -> bool {
+    pub fn met(&self) -> bool {
         self.fifth.load(Ordering::SeqCst)
             && !self.too_early.load(Ordering::SeqCst)
             && !self.missed.load(Ordering::SeqCst)
     }
 
     /// How many processes had a second turn.
-    pub(crate) fn second_turns(&self) -> u32 {
+    pub fn second_turns(&self) -> u32 {
         self.second_turns.load(Ordering::SeqCst)
     }
 
