@@ -9,8 +9,7 @@ use std::io::ErrorKind;
 
 /// Memory ran out: an allocation was refused.
 ///
-/// It is made from a refused allocation alone, ours or one that the system tells of, and only here. So whoever answers
-/// it, in this crate or in one above, has asked for memory and got none.
+/// It is made here alone: from an allocation that was refused, or from an error by which the system tells of want of memory.
 #[derive(Clone, Copy, Debug, PartialEq, Eq)]
 pub struct NoMemory {
     refused: AllocError,

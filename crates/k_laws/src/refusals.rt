@@ -16,7 +16,7 @@ ghost use Rattle.k_types.specs.declared.names.SharedId.{SharedId};
 ghost use Rattle.k_types.specs.declared.names.TypeId.{TypeId};
 ghost use Rattle.k_types.specs.declared.op.Op.TheVariants.{KNew, New, SNew, Store};
 
-/// No hidden refusals. A store is refused only for its base, its field, a frozen heap or the barrier, so never for memory, a
+/// Nothing is refused for a reason that its operation does not name. A store is refused only for its base, its field, a frozen heap or the barrier, so never for memory, a
 /// limit or the number of exit items. An allocation is refused only where a limit on its path is full (that limit is named),
 /// in the kernel only by the ceiling, and in a shared heap also where the process does not populate it.
 ///

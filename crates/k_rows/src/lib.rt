@@ -2,8 +2,9 @@
 //!
 //! Each law is a function with an empty body. A history is legal for the trace of its operations, keeps the rules of a trace, is
 //! complete and what the order of the file gives, and leaves what is written out in `specs/`: the numbers were worked out by hand
-//! from the rules. For each test that a step makes there is also a history after which an event is not possible. The proofs only
-//! compute: they evaluate the definitions of `k_types`.
+//! from the rules. Three histories, in which a collection is open beside other work, are not the order of the file: they are legal
+//! and leave what is written out. For each test that a step makes there is also a history after which an event is not possible. The
+//! proofs only compute: they evaluate the definitions of `k_types`.
 #![tactic(auto)]
 
 mod barriers;
