@@ -1,6 +1,7 @@
 pub mod Answered
 pub mod Contract
 pub mod Decided
+pub mod Handed
 pub mod Lines
 pub mod Lists
 pub mod Meanings

@@ -3,9 +3,11 @@
 //! A function that owns what a call is given is proved to drop all of it wherever it may return, and one that calls the program looks at all
 //! that the program promises. So a call is made in one place, which promises nothing, and tests lend what they have.
 use crate::call::kaffe;
+use crate::gathering::gathered_call;
 use crate::status::Status;
 use k_io::{Gate, MemSink, MemSource, NoGate, NoMemory, Sink, Source};
 use std::alloc::Global;
+use std::marker::Brand;
 use std::process::Abort;
 use std::sync::Wait;
 use std::thread::Threads;
@@ -131,6 +133,19 @@ impl Given {
         sink: &mut K,
     ) -> Status {
         answer(rt, alloc, &self.words, &mut self.source, sink, &NoGate)
+    }
+
+    /// The answer of the program before whose sink stands one that gathers.
+    pub fn answer_gathered<R: Threads + Wait + Sync>(&mut self, rt: &R, alloc: Global) -> Status {
+        let (status, _sink) = gathered_call::<Brand, MemSource, MemSink, NoGate, R>(
+            rt,
+            alloc,
+            &self.words,
+            &mut self.source,
+            &mut self.sink,
+            &NoGate,
+        );
+        status
     }
 
     /// What the program wrote.

@@ -3,12 +3,13 @@ ghost use Rattle.std.specs.Prelude.{◌≡◌, IfOk, map, string_bytes};
 ghost use Rattle.std.specs.Process.{exit_status};
 ghost use Rattle.kaffe.specs.Endings.{EndsWith, words_of};
 
-use crate::call::kaffe;
+use crate::gathering::gathered_call;
 use crate::status::{exit_code, want_of_memory};
 use k_io::{Gate, NoMemory, Sink, Source, push};
 use std::alloc::Global;
 use std::env::Args;
 use std::io;
+use std::marker::Brand;
 use std::process::ExitCode;
 use std::sync::Wait;
 use std::thread::Threads;
@@ -51,7 +52,12 @@ pub fn program<S: Source, K: Sink, G: Gate, R: Threads + Wait + Sync>(
         (exit_status result) }
 {
     match words_after_name(alloc, args) {
-        Ok(words) => exit_code(kaffe(rt, alloc, &words, src, out, gate)),
+        Ok(words) => {
+            let (status, _out) = gathered_call::<Brand, S, K, G, R>(
+                rt, alloc, &words, src, out, gate,
+            );
+            exit_code(status)
+        }
         Err(refused) => exit_code(want_of_memory(refused)),
     }
 }

@@ -2,8 +2,9 @@
 //! standard output, or checks a report, or does what else its words say. Its exit status says how that ended.
 //!
 //! The contract of `kaffe` promises, for any source and sink, which status comes and what was
-//! written, and that of `program` that the exit status is the number of this status. `main` gives it
-//! the standard streams and the arguments of the command line.
+//! written, and that of `program` that the exit status is the number of this status. `program` has a
+//! sink before its own that gathers lines. `main` gives it the standard streams and the arguments of
+//! the command line.
 #![tactic(auto)]
 
 mod call;
@@ -16,6 +17,7 @@ mod command_line;
 mod commands;
 #[cfg(test)]
 mod gated;
+mod gathering;
 #[cfg(test)]
 mod ranges;
 mod run_error;

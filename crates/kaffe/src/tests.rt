@@ -301,6 +301,32 @@ fn tells_a_short_text_that_is_not_taken(rt: HostRuntime) -> Result<(), Fail> {
     Ok(())
 }
 
+/// Replays the trace before a sink that gathers. The write of that number fails.
+fn check_gathered<R: Abort + Threads + Wait + Sync>(
+    rt: &R,
+    alloc: Global,
+    failing_write: u32,
+    want: Status,
+    text: &str,
+) -> Result<(), NoMemory> {
+    let faults = Faults {
+        read: 0,
+        write: failing_write,
+    };
+    let mut given = Given::make(alloc, "replay", TRACE, faults)?;
+    let status = given.answer_gathered(rt, alloc);
+    assert_eq!(rt; status, want, "write {failing_write}");
+    assert_eq!(rt; given.written(), text, "write {failing_write}");
+    Ok(())
+}
+
+#[test]
+fn gathers_a_short_report_for_one_write(rt: HostRuntime) -> Result<(), Fail> {
+    check_gathered(&rt, rt.alloc(), 1, Status::WriteFault, "")?;
+    check_gathered(&rt, rt.alloc(), 2, Status::Good, REPORT)?;
+    Ok(())
+}
+
 /// A sink that takes a byte at each write. The write of that number fails.
 fn drip_sink(alloc: Global, failing_write: u32) -> Result<DripSink, NoMemory> {
     let fails = Vec::from_slice(alloc, &[failing_write])?;
