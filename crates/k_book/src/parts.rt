@@ -15,7 +15,6 @@ use std::marker::Model;
 
 /// What no heap has alone: limits, entry items, pins, owners, shares, phases, and the journal. Source: KaffeOS paper, on
 /// memlimits, entry items and shared heaps; that one lock stands before all of it is own.
-#[derive(Drop)]
 pub struct Book {
     pub(crate) limits: LimitTree,
     pub(crate) entered: EnteredTables,
@@ -26,6 +25,20 @@ pub struct Book {
     pub(crate) ceiling: u64,
     // The last collection has begun.
     pub(crate) closed: bool,
+}
+
+impl Drop for Book {
+    fn drop(self) {
+        let Book {
+            limits: _,
+            entered: _,
+            table: _,
+            journal: _,
+            of_process: _,
+            ceiling: _,
+            closed: _,
+        } = self;
+    }
 }
 
 impl Model for Book {

@@ -13,10 +13,18 @@ use std::marker::Model;
 
 /// The objects that are entered, and those that are pinned, each with its count. Source: KaffeOS paper, on entry items; the pins
 /// are own.
-#[derive(Drop)]
 pub struct EnteredTables {
     entries: EntryTable,
     pins: EntryTable,
+}
+
+impl Drop for EnteredTables {
+    fn drop(self) {
+        let EnteredTables {
+            entries: _,
+            pins: _,
+        } = self;
+    }
 }
 
 impl Model for EnteredTables {

@@ -16,7 +16,6 @@ use std::marker::Model;
 
 /// Objects with counts above 0, and the home heap of each segment. Source: KaffeOS paper, on entry items,
 /// whose counts say how many heaps refer to an object from outside; the lists are own.
-#[derive(Drop)]
 pub struct EntryTable {
     // A slot with a count of 0 is free.
     slots: Vec<Item>,
@@ -28,6 +27,19 @@ pub struct EntryTable {
     walks: Lists,
     homes: Vec<Heap>,
     room: u32,
+}
+
+impl Drop for EntryTable {
+    fn drop(self) {
+        let EntryTable {
+            slots: _,
+            chains: _,
+            segments: _,
+            walks: _,
+            homes: _,
+            room: _,
+        } = self;
+    }
 }
 
 impl Model for EntryTable {

@@ -11,11 +11,20 @@ use std::alloc::Global;
 use std::marker::Model;
 
 /// The events of the run in order, and for each cell how many of them touch it. A note belongs to it that is of its table.
-#[derive(Drop)]
 pub struct Journal {
     tie: Tie,
     seat: JournalSeat,
     events: Vec<Event>,
+}
+
+impl Drop for Journal {
+    fn drop(self) {
+        let Journal {
+            tie: _,
+            seat: _,
+            events: _,
+        } = self;
+    }
 }
 
 impl Model for Journal {

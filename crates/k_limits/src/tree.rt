@@ -15,11 +15,20 @@ use std::marker::Model;
 
 /// The limits of a trace, and the bytes charged at them. A call takes time in the length of the path that it walks, and
 /// only `make` takes memory.
-#[derive(Drop)]
 pub struct LimitTree {
     rows: Vec<LimitRow>,
     direct: Vec<u64>,
     uses: Vec<u64>,
+}
+
+impl Drop for LimitTree {
+    fn drop(self) {
+        let LimitTree {
+            rows: _,
+            direct: _,
+            uses: _,
+        } = self;
+    }
 }
 
 impl Model for LimitTree {

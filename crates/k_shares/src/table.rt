@@ -13,13 +13,23 @@ use std::marker::Model;
 
 /// Which processes live, who shares which shared heap, and the phase and the bytes of each shared heap. Processes and shared
 /// heaps are numbered from 0. Each call but [`ShareTable::make`] and [`ShareTable::first_orphan`] takes constant time.
-#[derive(Drop)]
 pub struct ShareTable {
     living: Vec<bool>,
     // Whether a process shares a heap: one row of all shared heaps for each process.
     bits: Vec<bool>,
     phases: Vec<Phase>,
     bytes: Vec<u64>,
+}
+
+impl Drop for ShareTable {
+    fn drop(self) {
+        let ShareTable {
+            living: _,
+            bits: _,
+            phases: _,
+            bytes: _,
+        } = self;
+    }
 }
 
 impl Model for ShareTable {
