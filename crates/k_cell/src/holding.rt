@@ -35,7 +35,6 @@ use std::marker::Model;
 
 /// The objects of a heap in their segments, its exit items, how far its collection has come, and what the cell knows of the
 /// journal.
-#[derive(Drop)]
 pub struct Holdings {
     // The numbers of segments are below this one.
     bound: u32,
@@ -45,6 +44,19 @@ pub struct Holdings {
     exits: ExitTable,
     phase: CellPhase,
     note: Note,
+}
+
+impl Drop for Holdings {
+    fn drop(self) {
+        let Holdings {
+            bound: _,
+            area: _,
+            bytes: _,
+            exits: _,
+            phase: _,
+            note: _,
+        } = self;
+    }
 }
 
 impl Model for Holdings {

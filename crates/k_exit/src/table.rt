@@ -25,13 +25,23 @@ enum Wanted {
 
 /// The exit items of one heap: distinct targets, each marked or not, in a table of a fixed room.
 /// Source: KaffeOS paper, on exit items; the hash chains are own.
-#[derive(Drop)]
 pub struct ExitTable {
     items: Vec<Item>,
     heads: Vec<u32>,
     // No item from place `from` on is wanted, so that the next call need not look there again.
     wanted: Wanted,
     from: usize,
+}
+
+impl Drop for ExitTable {
+    fn drop(self) {
+        let ExitTable {
+            items: _,
+            heads: _,
+            wanted: _,
+            from: _,
+        } = self;
+    }
 }
 
 impl Model for ExitTable {

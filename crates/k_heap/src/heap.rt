@@ -21,7 +21,6 @@ pub struct CellRooms {
 }
 
 /// One process's heap with what belongs to the process alone.
-#[derive(Drop)]
 pub struct HeapCell {
     pub(crate) holdings: Holdings,
     pub(crate) pid: Pid,
@@ -32,6 +31,20 @@ pub struct HeapCell {
     pub(crate) tail: VecDeque<Event>,
     // That for the next allocation comes first.
     pub(crate) bodies: VecDeque<Body>,
+}
+
+impl Drop for HeapCell {
+    fn drop(self) {
+        let HeapCell {
+            holdings: _,
+            pid: _,
+            registers: _,
+            done: _,
+            has_ended: _,
+            tail: _,
+            bodies: _,
+        } = self;
+    }
 }
 
 impl Model for HeapCell {

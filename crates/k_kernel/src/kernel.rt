@@ -12,9 +12,14 @@ use std::alloc::Global;
 use std::marker::Model;
 
 /// The kernel's heap.
-#[derive(Drop)]
 pub struct KernelCell {
     pub(crate) holdings: Holdings,
+}
+
+impl Drop for KernelCell {
+    fn drop(self) {
+        let KernelCell { holdings: _ } = self;
+    }
 }
 
 impl Model for KernelCell {

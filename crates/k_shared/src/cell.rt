@@ -12,13 +12,23 @@ use std::alloc::Global;
 use std::marker::Model;
 
 /// One shared heap, with its phase.
-#[derive(Drop)]
 pub struct SharedCell {
     pub(crate) holdings: Holdings,
     pub(crate) id: SharedId,
     // That with which the heap begins.
     pub(crate) seg: Seg,
     pub(crate) phase: Phase,
+}
+
+impl Drop for SharedCell {
+    fn drop(self) {
+        let SharedCell {
+            holdings: _,
+            id: _,
+            seg: _,
+            phase: _,
+        } = self;
+    }
 }
 
 impl Model for SharedCell {

@@ -27,11 +27,20 @@ struct Hints {
 }
 
 /// The segments of one heap. Their numbers are different, which each call but `make` needs.
-#[derive(Drop)]
 pub struct Area {
     segments: Vec<Segment>,
     room: u32,
     hints: Hints,
+}
+
+impl Drop for Area {
+    fn drop(self) {
+        let Area {
+            segments: _,
+            room: _,
+            hints: _,
+        } = self;
+    }
 }
 
 impl Model for Area {

@@ -40,7 +40,6 @@ pub struct Visited {
 
 /// The objects that were made under one number. Each has a serial, which is never used again, and
 /// lies in a slot, which is.
-#[derive(Drop)]
 pub struct Segment {
     number: Seg,
     room: u32,
@@ -58,6 +57,23 @@ pub struct Segment {
     live: Vec<u32>,
     // How far a sweep has come on that list.
     pass: Pass,
+}
+
+impl Drop for Segment {
+    fn drop(self) {
+        let Segment {
+            number: _,
+            room: _,
+            places: _,
+            cells: _,
+            gray: _,
+            last: _,
+            bytes: _,
+            end: _,
+            live: _,
+            pass: _,
+        } = self;
+    }
 }
 
 impl Model for Segment {
