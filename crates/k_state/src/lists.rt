@@ -10,7 +10,6 @@ use std::marker::Model;
 ///
 /// Contracts see the setup, as the trace that has it and no operations, and the machine's state. Objects stand in the order of
 /// their names. The invariant is the shape of the lists alone.
-#[derive(Drop)]
 pub struct PlainLists {
     pub(crate) setup: Setup,
     pub(crate) objects: Vec<PlainObject>,
@@ -26,6 +25,26 @@ pub struct PlainLists {
     pub(crate) maxima: Vec<u64>,
     // The bytes of the objects of each segment.
     pub(crate) totals: Vec<u64>,
+}
+
+impl Drop for PlainLists {
+    fn drop(self) {
+        let PlainLists {
+            setup: _,
+            objects: _,
+            made: _,
+            registers: _,
+            done: _,
+            exits: _,
+            shares: _,
+            phases: _,
+            ended: _,
+            scans: _,
+            closed: _,
+            maxima: _,
+            totals: _,
+        } = self;
+    }
 }
 
 impl Model for PlainLists {
