@@ -20,12 +20,22 @@ use k_types::{Heap, Name, Pid, Reg, SharedId, TypeId};
 use std::marker::Model;
 
 /// The cell of each process and of each shared heap in the place of its number, the kernel's, and the book.
-#[derive(Drop)]
 pub struct Cells {
     pub processes: Vec<Process>,
     pub kernel: KernelCell,
     pub shared: Vec<SharedCell>,
     pub book: Book,
+}
+
+impl Drop for Cells {
+    fn drop(self) {
+        let Cells {
+            processes: _,
+            kernel: _,
+            shared: _,
+            book: _,
+        } = self;
+    }
 }
 
 impl Model for Cells {

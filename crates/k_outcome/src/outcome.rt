@@ -14,7 +14,6 @@ use k_types::{Heap, Name, Seg, Setup};
 use std::marker::Model;
 
 /// The end of a run: its journal, its setup, and all cells as they are then. It shows the machine's state after the journal.
-#[derive(Drop)]
 pub struct Outcome {
     /// The names that the trace declares.
     pub names: Names,
@@ -24,6 +23,18 @@ pub struct Outcome {
     made: Vec<u32>,
     // The targets of each heap's exit items in order, by the segments with which the heaps begin.
     targets: Vec<Vec<Name>>,
+}
+
+impl Drop for Outcome {
+    fn drop(self) {
+        let Outcome {
+            names: _,
+            setup: _,
+            cells: _,
+            made: _,
+            targets: _,
+        } = self;
+    }
 }
 
 impl Model for Outcome {
