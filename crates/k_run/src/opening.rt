@@ -1,13 +1,13 @@
 //! A run that is put behind its locks.
-ghost use Rattle.std.specs.Prelude.{◌≡◌, ◌<◌, ◌^◌, IfOk, length};
+ghost use Rattle.std.specs.Prelude.{◌≡◌, ◌<◌, ◌^◌, IfOk, length, vec_capacity};
 ghost use Rattle.k_process.specs.Standing.{HeapsStand, ProcessesStand, RestStands};
 ghost use Rattle.k_still.specs.Opening.{FirstCellsStand, IsSetupOf};
 ghost use Rattle.k_outcome.specs.Listed.{AreRoomsFor};
-ghost use Rattle.k_run.specs.Rooms.{AreEndRooms};
+ghost use Rattle.k_run.specs.Rooms.{AreEndRooms, HasRoom};
 ghost use Rattle.k_run.specs.Worlds.{AreFree, HoldsRun};
 
 use crate::locked::{LockedBook, LockedKernel, LockedProcess, LockedShared};
-use crate::rooms::{EndRooms, end_rooms};
+use crate::rooms::{EndRooms, empty_list, end_rooms};
 use crate::running::MOST_WORKERS;
 use crate::still::Still;
 use crate::world::{Locks, World};
@@ -25,36 +25,36 @@ use k_types::Setup;
 use std::alloc::Global;
 use std::sync::{Mutex, Wait};
 
-/// Each process behind a lock of its own.
+/// Each process behind a lock of its own, in a list with room for all.
 fn lock_processes<W: WorldName>(
-    alloc: Global,
     mut processes: Vec<Process>,
-) -> Result<Vec<Mutex<LockedProcess<W>>>, NoMemory>
-    requires { ProcessesStand W.world processes.items }
-    ensures { IfOk result (λ locks. length locks.items ≡ length processes.items) }
+    mut locks: Vec<Mutex<LockedProcess<W>>>,
+) -> Vec<Mutex<LockedProcess<W>>>
+    requires stand { ProcessesStand W.world processes.items }
+    requires room { HasRoom (length processes.items) locks.items (vec_capacity locks) }
+    ensures { length result.items ≡ length processes.items }
 {
-    let mut locks = Vec::with_capacity(alloc, processes.len())?;
     while let Some(process) = processes.pop() {
-        locks.push(Mutex::new(LockedProcess::of(process)))?;
+        locks.push_reserved(Mutex::new(LockedProcess::of(process)));
     }
     locks.reverse();
-    Ok(locks)
+    locks
 }
 
-/// Each cell of a shared heap behind a lock of its own.
+/// Each cell of a shared heap behind a lock of its own, in a list with room for all.
 fn lock_shared<W: WorldName>(
-    alloc: Global,
     mut shared: Vec<SharedCell>,
-) -> Result<Vec<Mutex<LockedShared<W>>>, NoMemory>
-    requires { HeapsStand W.world shared.items }
-    ensures { IfOk result (λ locks. length locks.items ≡ length shared.items) }
+    mut locks: Vec<Mutex<LockedShared<W>>>,
+) -> Vec<Mutex<LockedShared<W>>>
+    requires stand { HeapsStand W.world shared.items }
+    requires room { HasRoom (length shared.items) locks.items (vec_capacity locks) }
+    ensures { length result.items ≡ length shared.items }
 {
-    let mut locks = Vec::with_capacity(alloc, shared.len())?;
     while let Some(cell) = shared.pop() {
-        locks.push(Mutex::new(LockedShared::of(cell)))?;
+        locks.push_reserved(Mutex::new(LockedShared::of(cell)));
     }
     locks.reverse();
-    Ok(locks)
+    locks
 }
 
 /// The queue of so many processes, with a pass for each worker: as many as there are processes, at most four.
@@ -71,26 +71,54 @@ fn queue<R: Wait>(
     Turns::make(rt, alloc, count, count.min(MOST_WORKERS))
 }
 
-/// Each process, the kernel, each shared heap and the book behind a lock of its own.
-fn lock_all<W: WorldName>(
+/// Room for the locks of the processes and of the shared heaps.
+#[derive(Drop)]
+struct LockRooms<W: WorldName> {
+    processes: Vec<Mutex<LockedProcess<W>>>,
+    shared: Vec<Mutex<LockedShared<W>>>,
+}
+
+/// Room for the locks of so many processes and shared heaps.
+fn lock_rooms<W: WorldName>(
     alloc: Global,
+    processes: usize,
+    shared: usize,
+) -> Result<LockRooms<W>, NoMemory>
+    ensures processes { IfOk result (λ rooms. HasRoom processes rooms.processes.items (vec_capacity rooms.processes)) }
+    ensures shared { IfOk result (λ rooms. HasRoom shared rooms.shared.items (vec_capacity rooms.shared)) }
+{
+    Ok(LockRooms {
+        processes: empty_list(alloc, processes)?,
+        shared: empty_list(alloc, shared)?,
+    })
+}
+
+/// Each process, the kernel, each shared heap and the book behind a lock of its own. It takes no memory.
+fn lock_all<W: WorldName>(
     processes: Vec<Process>,
     kernel: KernelCell,
     shared: Vec<SharedCell>,
     book: Book,
-) -> Result<Locks<W>, NoMemory>
+    rooms: LockRooms<W>,
+) -> Locks<W>
     requires processes { ProcessesStand W.world processes.items }
     requires rest { RestStands W.world kernel shared.items book }
-    ensures { IfOk result (λ locks. (length locks.processes.items ≡ length processes.items) × (length locks.shared.items ≡ length shared.items)) }
+    requires process_room { HasRoom (length processes.items) rooms.processes.items (vec_capacity rooms.processes) }
+    requires shared_room { HasRoom (length shared.items) rooms.shared.items (vec_capacity rooms.shared) }
+    ensures { (length result.processes.items ≡ length processes.items) × (length result.shared.items ≡ length shared.items) }
 {
-    let processes = lock_processes(alloc, processes)?;
-    let shared = lock_shared(alloc, shared)?;
-    Ok(Locks {
+    let LockRooms {
+        processes: processes_into,
+        shared: shared_into,
+    } = rooms;
+    let processes = lock_processes(processes, processes_into);
+    let shared = lock_shared(shared, shared_into);
+    Locks {
         processes,
         kernel: Mutex::new(LockedKernel::of(kernel)),
         shared,
         book: Mutex::new(LockedBook::of(book)),
-    })
+    }
 }
 
 /// What a run has beside its heaps: the queue of its processes with a pass for each worker, and the places for the end.
@@ -122,6 +150,25 @@ fn make_ready<R: Wait>(
     })
 }
 
+/// What a run of so many processes and shared heaps has beside its heaps, and room for their locks: all that can fail.
+fn make_all_ready<W: WorldName, R: Wait>(
+    rt: &R,
+    alloc: Global,
+    processes: usize,
+    shared: usize,
+) -> Result<(LockRooms<W>, Readiness), NoMemory>
+    requires some { 0 < processes }
+    requires few { processes < 2 ^ 32 }
+    ensures processes { IfOk result (λ made. HasRoom processes made.0.processes.items (vec_capacity made.0.processes)) }
+    ensures shared { IfOk result (λ made. HasRoom shared made.0.shared.items (vec_capacity made.0.shared)) }
+    ensures free { IfOk result (λ made. AreFree made.1.turns made.1.passes.items) }
+    ensures rooms { IfOk result (λ made. AreEndRooms processes shared made.1.rooms) }
+{
+    let locks = lock_rooms(alloc, processes, shared)?;
+    let ready = make_ready(rt, alloc, processes, shared)?;
+    Ok((locks, ready))
+}
+
 /// The run of what was made for it.
 fn put_together<W: WorldName>(
     locks: Locks<W>,
@@ -149,19 +196,21 @@ fn put_together<W: WorldName>(
     }
 }
 
-/// The cells and the book behind locks, with what was made ready beside them.
+/// The cells and the book behind locks, with what was made ready beside them. It takes no memory.
 fn lock_cells<W: WorldName>(
-    alloc: Global,
     cells: FirstCells,
+    rooms: LockRooms<W>,
     ready: Readiness,
     report: ReportRooms,
-) -> Result<World<W>, NoMemory>
+) -> World<W>
     requires stands { FirstCellsStand W.world cells }
     requires setup { IsSetupOf cells.setup W.world }
     requires free { AreFree ready.turns ready.passes.items }
     requires rooms { AreEndRooms (length cells.processes.items) (length cells.shared.items) ready.rooms }
     requires report { AreRoomsFor W.world.trace report }
-    ensures { IfOk result (λ world. (world.names ≡ cells.names) × (world.setup ≡ cells.setup)) }
+    requires process_room { HasRoom (length cells.processes.items) rooms.processes.items (vec_capacity rooms.processes) }
+    requires shared_room { HasRoom (length cells.shared.items) rooms.shared.items (vec_capacity rooms.shared) }
+    ensures { (result.names ≡ cells.names) × (result.setup ≡ cells.setup) }
 {
     let FirstCells {
         setup,
@@ -172,8 +221,8 @@ fn lock_cells<W: WorldName>(
         shared,
         book,
     } = cells;
-    let locks = lock_all(alloc, processes, kernel, shared, book)?;
-    Ok(put_together(locks, ready, report, names, setup))
+    let locks = lock_all(processes, kernel, shared, book, rooms);
+    put_together(locks, ready, report, names, setup)
 }
 
 /// Puts each process, the kernel, each shared heap and the book behind a lock of its own, as the run that `W` names, and queues the
@@ -193,9 +242,9 @@ pub fn open<W: WorldName, R: Wait>(
     requires rooms { AreRoomsFor W.world.trace still.rooms }
     ensures { IfOk result (λ world. (world.names ≡ still.cells.names) × (world.setup ≡ still.cells.setup)) }
 {
+    let process_count = still.cells.processes.len();
+    let shared_count = still.cells.shared.len();
+    let (locks, ready) = make_all_ready(rt, alloc, process_count, shared_count)?;
     let Still { cells, rooms } = still;
-    let process_count = cells.processes.len();
-    let shared_count = cells.shared.len();
-    let ready = make_ready(rt, alloc, process_count, shared_count)?;
-    lock_cells(alloc, cells, ready, rooms)
+    Ok(lock_cells(cells, locks, ready, rooms))
 }

@@ -28,7 +28,7 @@ fn free_places<T: Drop>(alloc: Global, count: usize) -> Result<Vec<Option<T>>, N
 }
 
 /// An empty list with room for so many.
-fn empty_list<T: Drop>(alloc: Global, count: usize) -> Result<Vec<T>, NoMemory>
+pub(crate) fn empty_list<T: Drop>(alloc: Global, count: usize) -> Result<Vec<T>, NoMemory>
     ensures { IfOk result (λ list. (list.items ≡ []) × (count ≤ vec_capacity list)) }
 {
     Ok(Vec::with_capacity(alloc, count)?)

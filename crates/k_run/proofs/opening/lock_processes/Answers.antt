@@ -9,6 +9,10 @@ pub of-requires : goal.of-requires
 of-requires g c =
     each_last (λ k (p : Process). ProcessStands g.W.WorldName.world p) c.loop-process.processes.items c.pop.new.self.items c.in-Some.process c.in-Some.ensures.items c.loop-process.invariant.each
 
+pub push_reserved-requires : goal.push_reserved-requires
+push_reserved-requires g c =
+    omega (arith, c.loop-process.locks.ok.0, ap length c.in-Some.ensures.items, length_push c.pop.new.self.items c.in-Some.process, c.loop-process.invariant.count, c.loop-process.invariant.room)
+
 pub loop-process-smaller : goal.loop-process-smaller
 loop-process-smaller g c = omega (arith, ap length c.in-Some.ensures.items, length_push c.pop.new.self.items c.in-Some.process)
 
@@ -19,8 +23,9 @@ loop-process-preserved g c = record {
     arith,
     ap length c.in-Some.ensures.items,
     length_push c.pop.new.self.items c.in-Some.process,
-    ap length c.in_ok-push.ensures.items,
+    ap length c.push_reserved.ensures.items,
     length_push c.loop-process.locks.items c.new.result,
     c.loop-process.invariant.count,
   );
+  room = omega (arith, c.push_reserved.ensures.capacity, c.loop-process.invariant.room);
 }

@@ -9,6 +9,10 @@ pub of-requires : goal.of-requires
 of-requires g c =
     each_last (λ k (s : SharedRecord). SharedKeeps g.W.WorldName.world.trace g.W.WorldName.world.table s) c.loop-cell.shared.items c.pop.new.self.items c.in-Some.cell c.in-Some.ensures.items c.loop-cell.invariant.each
 
+pub push_reserved-requires : goal.push_reserved-requires
+push_reserved-requires g c =
+    omega (arith, c.loop-cell.locks.ok.0, ap length c.in-Some.ensures.items, length_push c.pop.new.self.items c.in-Some.cell, c.loop-cell.invariant.count, c.loop-cell.invariant.room)
+
 pub loop-cell-smaller : goal.loop-cell-smaller
 loop-cell-smaller g c = omega (arith, ap length c.in-Some.ensures.items, length_push c.pop.new.self.items c.in-Some.cell)
 
@@ -19,8 +23,9 @@ loop-cell-preserved g c = record {
     arith,
     ap length c.in-Some.ensures.items,
     length_push c.pop.new.self.items c.in-Some.cell,
-    ap length c.in_ok-push.ensures.items,
+    ap length c.push_reserved.ensures.items,
     length_push c.loop-cell.locks.items c.new.result,
     c.loop-cell.invariant.count,
   );
+  room = omega (arith, c.push_reserved.ensures.capacity, c.loop-cell.invariant.room);
 }
