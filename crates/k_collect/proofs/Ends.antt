@@ -44,7 +44,7 @@ use Rattle.k_commit.specs.Met.{FitsTheBook}
 use Rattle.k_collect.specs.Collecting.{CanEndHeap, CanEndKernel}
 use Rattle.k_collect.specs.Ended.{HasEndedHeap, HasEndedKernel, HaveWhatIsLeft}
 use Rattle.k_collect.specs.Leaving.{HasItsEntries}
-use Rattle.k_collect.specs.Sweeping.{CanSweep, HasSweptHeap, HasSweptKernel, IsSwept, owners_now}
+use Rattle.k_collect.specs.Sweeping.{CanSweep, HasSweptKernel, IsSwept, owners_now}
 use Rattle.k_collect.specs.Unsharing.{CanUnshare, HasUnshared, bytes_lost, has_way_by, shares_lost, ways_left}
 use Rattle.k_collect.proofs.Roots.{registers_all}
 use Rattle.k_collect.proofs.Sizes.{credit_is_charged, freed_few, freed_light, freed_own, unshared_light}
@@ -57,6 +57,15 @@ absorbed_is Unmade e = absurd (false≢true e)
 absorbed_is (Populating q) e = absurd (false≢true e)
 absorbed_is (Frozen root) e = absurd (false≢true e)
 absorbed_is Absorbed e = refl
+
+-- the process's cell is swept, the book has settled with it, and the event has the numbers of what went
+pub record HasSweptHeap (trace : Trace) (old_cell cell : HeapRecord) (old_book book : BookRecord) (event : Event) : Type 0 where
+  pub cell_is : cell ≡ record old_cell { value = cell.value }
+  pub swept : IsSwept old_cell.value cell.value
+  pub book_is : book ≡ record old_book { value = book.value }
+  pub settled : HasSettledWith trace (owners_now trace old_book) old_cell.pid.0 old_cell.value old_book.value book.value
+  pub event_is : event ≡ Ended (User old_cell.pid) (freed_objects old_cell.value) (freed_bytes old_cell.value) (dropped_exits old_cell.value)
+      (dropped_shares trace (owners_now trace old_book) old_book.value old_cell.value old_cell.pid.0)
 
 -- a cell that has met the journal and is marked, of whatever heap
 module _ (trace : Trace) (cell : Cell) (note : NoteValue) (v : CellValue) (b : BookRecord) (can : CanSweep trace cell note v b) where
@@ -373,8 +382,10 @@ kernel_can_be_swept trace c b can told = record {
   room = can.room told.fits;
 }
 
-heap_since_met : (trace : Trace) (c w : HeapRecord) (note : NoteValue) (b k : BookRecord) (e : Event) → HasEndedHeap trace (record c { note = note }) w b k e → HasEndedHeap trace c w b k e
-heap_since_met trace c w note b k e h = record {
+-- the end of a collection does not depend on the note and the value that the cell had
+pub ended_since : (trace : Trace) (c w : HeapRecord) (n m : NoteValue) (u v : CellValue) (b k : BookRecord) (e : Event) → HasEndedHeap trace (record c { note = n; value = u }) w b k e →
+    HasEndedHeap trace (record c { note = m; value = v }) w b k e
+ended_since trace c w n m u v b k e h = record {
   objects = h.objects;
   bytes = h.bytes;
   exits = h.exits;
@@ -422,7 +433,7 @@ module _ (trace : Trace) (c : HeapRecord) (b : BookRecord) (can : CanEndHeap tra
 
   pub heap_has_ended : HasEndedHeap trace c (record w { note = note_after event w.note }) b (record k { journal = journal_after event (w.note.cell ∷ []) k.journal }) event
   heap_has_ended =
-      heap_since_met trace c (record w { note = note_after event w.note }) (met_note b.journal c.note) b (record k { journal = journal_after event (w.note.cell ∷ []) k.journal }) event
+      ended_since trace c (record w { note = note_after event w.note }) (met_note b.journal c.note) c.note c.value c.value b (record k { journal = journal_after event (w.note.cell ∷ []) k.journal }) event
       (heap_ends trace (record c { note = met_note b.journal c.note }) b (heap_can_be_swept trace c b can told) w k event swept_is can.collects.settled can.collects.table)
 
 module _ (trace : Trace) (c : HoldingsValue) (b : BookRecord) (can : CanEndKernel trace c b) (told : FitsTheBook trace Kernel c.note c.value b) (w : HoldingsValue) (k : BookRecord) (event : Event)

@@ -9,6 +9,7 @@ pub mod Sizes
 pub mod Begins
 pub mod KernelBegins
 pub mod Ends
+pub mod Alone
 pub mod Settles
 pub mod Called
 pub mod Sweeps

@@ -1,8 +1,8 @@
 -- What goes at the end of a collection, call by call: the sweep, the drain, the end of the marks, the shares and the credit.
-use Rattle.std.proofs.Common.{◌≡◌, ◌+◌, ◌-◌, ◌<◌, ◌≤◌, ◌^◌, ◌&&◌, Bool, true, ℕ, sym, ap, ap₂, ◌∙◌, subst, List, [], length, get_or, set, arith}
+use Rattle.std.proofs.Common.{◌≡◌, ◌+◌, ◌-◌, ◌<◌, ◌≤◌, ◌^◌, ◌&&◌, Bool, true, ℕ, sym, ap, ap₂, ◌∙◌, subst, List, [], ◌∷◌, length, get_or, set, arith}
 use Rattle.k_types.specs.declared.event.Event.{Event}
 use Rattle.k_types.specs.declared.event.Event.TheVariants.{Ended}
-use Rattle.k_types.specs.declared.names.CellPhase.TheVariants.{Idle}
+use Rattle.k_types.specs.declared.names.CellPhase.TheVariants.{Idle, Marked}
 use Rattle.k_types.specs.declared.names.Heap.TheVariants.{Kernel, User}
 use Rattle.k_types.specs.declared.names.LimitId.{LimitId}
 use Rattle.k_types.specs.declared.names.Pid.{Pid}
@@ -12,17 +12,24 @@ use Rattle.k_types.specs.Numbers.{numbers_below}
 use Rattle.k_types.specs.State.{has_share}
 use Rattle.k_types.specs.Trace.{Trace, limit_of}
 use Rattle.k_base.specs.Distinct.{AreDistinctNames}
+use Rattle.k_mark.specs.declared.sweeping.Swept.{Swept}
+use Rattle.k_agree.specs.Committing.{journal_after, note_after}
 use Rattle.k_agree.specs.Ending.{HasLeft, bytes_unshared, dropped, dropped_exits, dropped_shares, freed_bytes, freed_objects, keeps_way, swept}
+use Rattle.k_agree.specs.Meeting.{Fits, met_note}
 use Rattle.k_agree.proofs.Swept.{among_kept}
 use Rattle.k_book.specs.Books.{BookRecord}
 use Rattle.k_book.specs.Calls.{ChangesEntries}
 use Rattle.k_cell.specs.Changes.{with_black_alone}
 use Rattle.k_cell.specs.Holdings.{HoldingsValue}
 use Rattle.k_heap.specs.Heaps.{HeapRecord}
-use Rattle.k_collect.specs.Leaving.{HasLeftUnmarked}
-use Rattle.k_collect.specs.Sweeping.{CanSweep, HasSweptHeap, HasSweptKernel, IsSwept, owners_now}
+use Rattle.k_commit.specs.Met.{FitsTheBook}
+use Rattle.k_commit.proofs.Meetings.{told_by}
+use Rattle.k_collect.specs.Ended.{HasEndedHeap}
+use Rattle.k_collect.specs.Leaving.{HasItsEntries, HasLeftUnmarked}
+use Rattle.k_collect.specs.Sweeping.{CanSweep, HasSweptKernel, IsSwept, owners_now}
+use Rattle.k_collect.specs.SweptAlone.{CanEndSwept, NoteHasMet}
 use Rattle.k_collect.specs.Unsharing.{CanUnshare, HasUnshared, bytes_lost, shares_lost, ways_left}
-use Rattle.k_collect.proofs.Ends.{book_alone, can_unshare, credit_fits, credit_within, known, limit_there, limit_told, lost_bytes, lost_shares, settles, ways_same}
+use Rattle.k_collect.proofs.Ends.{HasSweptHeap, book_alone, can_unshare, credit_fits, credit_within, ended_since, entries_there, heap_can_be_swept, heap_has_ended, heap_list, heap_room, heap_table, known, limit_there, limit_told, lost_bytes, lost_shares, settles, ways_same}
 use Rattle.k_collect.proofs.Unshared.{same_bytes_lost, same_shares_lost, same_unshared}
 
 -- the cell without marks
@@ -46,106 +53,170 @@ swept_value v s l e sweeps left distinct ends =
       distinct = subst AreDistinctNames (ap (λ (x : CellValue). x.exits) sweeps) distinct;
     }
 
-module _ (trace : Trace) (c : HeapRecord) (b : BookRecord) (can : CanSweep trace (User c.pid) c.note c.value b) (s l e : HeapRecord) (k : BookRecord) (sweeps : s ≡ record c { value = with_black_alone c.value })
-    (left_rest : l ≡ record s { value = l.value }) (left : HasLeftUnmarked s.value l.value) (distinct : AreDistinctNames s.value.exits) (changes : ChangesEntries b k)
-    (entries : HasLeft (dropped s.value) b.value k.value) (ends : e ≡ record l { value = without_marks l.value }) where
-  pub cell_alone : e ≡ record c { value = e.value }
-  cell_alone =
-      let is : e ≡ record c { value = without_marks l.value } =
-      ends ∙ ap (λ (x : HeapRecord). record x { value = without_marks l.value }) left_rest ∙ ap (λ (x : HeapRecord). record x { value = without_marks l.value }) sweeps in
-      is ∙ sym (ap (λ (x : HeapRecord). record c { value = x.value }) is)
+-- the event with the same numbers
+pub ended_same : {q r : Pid} {a b c d u v w x : ℕ} → q ≡ r → a ≡ u → b ≡ v → c ≡ w → d ≡ x → Ended (User q) a b c d ≡ Ended (User r) u v w x
+ended_same p e f g h = cc
 
-  pub same_pid : e.pid ≡ c.pid
-  same_pid = ap (λ (x : HeapRecord). x.pid) cell_alone
+pub kernel_ended_same : {a b c u v w : ℕ} → a ≡ u → b ≡ v → c ≡ w → Ended Kernel a b c 0 ≡ Ended Kernel u v w 0
+kernel_ended_same e f g = cc
 
-  pub cell_swept : IsSwept c.value e.value
-  cell_swept = swept_value c.value s.value l.value e.value (ap (λ (x : HeapRecord). x.value) sweeps) left distinct (ap (λ (x : HeapRecord). x.value) ends)
+-- what the append of the end asks of cell and book
+pub record CanAppendTo (cell : HeapRecord) (book : BookRecord) : Type 0 where
+  pub table : cell.note.table ≡ book.journal.table
+  pub list : cell.note.list ≡ book.journal.list
+  pub room : length book.journal.list < book.event_room
 
-  abbrev stays : ℕ → Bool
-  stays = keeps_way (owners_now trace b) b.value c.value c.pid.0
+-- a process's cell that was swept alone and then met the journal
+module _ (trace : Trace) (x : HeapRecord) (o : BookRecord) (freed : Swept) (n : CanEndSwept trace x o freed) where
+  pub note_table : x.note.table ≡ o.journal.table
+  note_table = ap (λ (y : HeapRecord). y.note.table) n.swept.cell_is ∙ n.can.collects.table
 
-  abbrev ways : ℕ → Bool
-  ways = ways_left e.value c.pid.0 k
+  module _ (s : HeapRecord) (b : BookRecord) (met : NoteHasMet x s o b) where
+    -- the cell that met the journal and was not swept
+    abbrev c : HeapRecord
+    c = record n.before { note = met_note o.journal n.before.note }
 
-  pub can_unshare_now : CanUnshare e.value e.pid.0 k
-  can_unshare_now = subst (λ (q : Pid). CanUnshare e.value q.0 k) (sym same_pid) (can_unshare trace c b can e.value k changes (ap (λ (x : CellValue). x.process) cell_swept.rest) cell_swept.exits)
+    told : FitsTheBook trace (User n.before.pid) n.before.note n.before.value o
+    told = told_by trace (User n.before.pid) n.before.note n.before.value o (record { agrees = n.can.collects.agrees; book_agrees = n.can.book_stands.agrees; table = n.can.collects.table })
+        (subst (λ (y : HeapRecord). Fits o.journal y.note) n.swept.cell_is met.fits) met.few
 
-  same_ways : (t : ℕ) → has_share k.value.shares c.pid.0 t ≡ true → ways t ≡ stays t
-  same_ways = ways_same trace c b can e.value k changes (ap (λ (x : CellValue). x.process) cell_swept.rest) cell_swept.exits
+    can : CanSweep trace (User c.pid) c.note c.value b
+    can = subst (λ (y : BookRecord). CanSweep trace (User n.before.pid) (met_note o.journal n.before.note) n.before.value y) (sym met.book_is) (heap_can_be_swept trace n.before o n.can told)
 
-  left_entries : HasLeft (dropped c.value) b.value k.value
-  left_entries = subst (λ (x : CellValue). HasLeft (dropped x) b.value k.value) (ap (λ (x : HeapRecord). x.value) sweeps) entries
+    sweeps : s ≡ record c { value = with_black_alone c.value }
+    sweeps = met.cell_is ∙ ap (λ (y : HeapRecord). record y { note = met_note o.journal y.note }) n.swept.cell_is
 
-  lost_bytes_now : bytes_lost (ways_left e.value e.pid.0 k) k.value e.pid.0 (numbers_below (length k.value.phases)) ≡ bytes_unshared trace (owners_now trace b) b.value c.value c.pid.0
-  lost_bytes_now =
-      ap (λ (q : Pid). bytes_lost (ways_left e.value q.0 k) k.value q.0 (numbers_below (length k.value.phases))) same_pid
-      ∙ same_bytes_lost ways stays c.pid.0 k same_ways (numbers_below (length k.value.phases))
-      ∙ ap (λ (x : BookRecord). bytes_lost stays x.value c.pid.0 (numbers_below (length x.value.phases))) changes
-      ∙ lost_bytes trace c b can
+    pub marked_still : s.value.collection ≡ Marked
+    marked_still = ap (λ (y : HeapRecord). y.value.collection) sweeps ∙ n.can.collects.in_phase
 
-  pub lost_shares_now : shares_lost (ways_left e.value e.pid.0 k) k.value e.pid.0 (numbers_below (length k.value.phases)) ≡ dropped_shares trace (owners_now trace b) b.value c.value c.pid.0
-  lost_shares_now =
-      ap (λ (q : Pid). shares_lost (ways_left e.value q.0 k) k.value q.0 (numbers_below (length k.value.phases))) same_pid
-      ∙ same_shares_lost ways stays c.pid.0 k same_ways (numbers_below (length k.value.phases))
-      ∙ ap (λ (x : BookRecord). shares_lost stays x.value c.pid.0 (numbers_below (length x.value.phases))) changes
-      ∙ lost_shares trace c b can
+    pub entries_still : HasItsEntries s.value b.value
+    entries_still m there = entries_there trace (User c.pid) c.note c.value b can m (sym (ap (λ (y : HeapRecord). name_among m y.value.exits) sweeps) ∙ there)
 
-  module _ (m : BookRecord) (unshared : HasUnshared (ways_left e.value e.pid.0 k) e.pid.0 k m) where
-    unshared_own : HasUnshared stays c.pid.0 k m
-    unshared_own = same_unshared ways stays c.pid.0 k same_ways m (subst (λ (q : Pid). HasUnshared (ways_left e.value q.0 k) q.0 k m) same_pid unshared)
+    module _ (l e : HeapRecord) (k : BookRecord) (left_rest : l ≡ record s { value = l.value }) (left : HasLeftUnmarked s.value l.value) (distinct : AreDistinctNames s.value.exits) (changes : ChangesEntries b k)
+        (entries : HasLeft (dropped s.value) b.value k.value) (ends : e ≡ record l { value = without_marks l.value }) where
+      pub cell_alone : e ≡ record c { value = e.value }
+      cell_alone =
+          let is : e ≡ record c { value = without_marks l.value } =
+          ends ∙ ap (λ (x : HeapRecord). record x { value = without_marks l.value }) left_rest ∙ ap (λ (x : HeapRecord). record x { value = without_marks l.value }) sweeps in
+          is ∙ sym (ap (λ (x : HeapRecord). record c { value = x.value }) is)
 
-    -- rows and processes of the book are as they were, and what is charged
-    same_rows : m.rows ≡ b.rows
-    same_rows = ap (λ (x : BookRecord). x.rows) unshared.rest ∙ ap (λ (x : BookRecord). x.rows) changes
+      same_pid : e.pid ≡ c.pid
+      same_pid = ap (λ (x : HeapRecord). x.pid) cell_alone
 
-    same_procs : m.procs ≡ b.procs
-    same_procs = ap (λ (x : BookRecord). x.procs) unshared.rest ∙ ap (λ (x : BookRecord). x.procs) changes
+      pub cell_swept : IsSwept c.value e.value
+      cell_swept = swept_value c.value s.value l.value e.value (ap (λ (x : HeapRecord). x.value) sweeps) left distinct (ap (λ (x : HeapRecord). x.value) ends)
 
-    same_direct : m.value.direct ≡ b.value.direct
-    same_direct = ap (λ (x : BookRecord). x.value.direct) unshared.rest ∙ ap (λ (x : BookRecord). x.value.direct) changes
+      abbrev stays : ℕ → Bool
+      stays = keeps_way (owners_now trace b) b.value c.value c.pid.0
 
-    pub process_below : (pid : Pid) → pid ≡ e.pid → pid.0 < length m.procs
-    process_below pid is =
-        let count = ap length same_procs ∙ ap length can.book_stands.of_trace.procs in
-        let number = ap (λ (q : Pid). q.0) (is ∙ same_pid) in
-        let below = known trace c b can in
-        omega (arith, count, number, below)
+      abbrev ways : ℕ → Bool
+      ways = ways_left e.value c.pid.0 k
 
-    module _ (pid : Pid) (pid_is : pid ≡ e.pid) (limit : LimitId) (limit_is : limit ≡ get_or m.procs pid.0 (record { 0 = 0 })) where
-      pub limit_is_of : limit.0 ≡ limit_of trace c.pid.0
-      limit_is_of =
-          ap (λ (x : LimitId). x.0) (limit_is ∙ ap (λ (q : Pid). get_or m.procs q.0 (record { 0 = 0 })) (pid_is ∙ same_pid) ∙ ap (λ (procs : List LimitId). get_or procs c.pid.0 (record { 0 = 0 })) same_procs)
-          ∙ limit_told trace c b can
+      pub can_unshare_now : CanUnshare e.value e.pid.0 k
+      can_unshare_now = subst (λ (q : Pid). CanUnshare e.value q.0 k) (sym same_pid) (can_unshare trace c b can e.value k changes (ap (λ (x : CellValue). x.process) cell_swept.rest) cell_swept.exits)
 
-      pub limit_below : limit.0 < length m.rows
-      limit_below =
-          let rows = ap length same_rows in
-          let there = limit_there trace c b can in
-          omega (arith, rows, there, limit_is_of)
+      same_ways : (t : ℕ) → has_share k.value.shares c.pid.0 t ≡ true → ways t ≡ stays t
+      same_ways = ways_same trace c b can e.value k changes (ap (λ (x : CellValue). x.process) cell_swept.rest) cell_swept.exits
 
-      module _ (freed bytes : ℕ) (freed_is : freed ≡ freed_bytes c.value) (bytes_is : bytes ≡ bytes_lost (ways_left e.value e.pid.0 k) k.value e.pid.0 (numbers_below (length k.value.phases))) where
-        amount_is : freed + bytes ≡ freed_bytes c.value + bytes_unshared trace (owners_now trace b) b.value c.value c.pid.0
-        amount_is = ap₂ (λ x y. x + y) freed_is (bytes_is ∙ lost_bytes_now)
+      left_entries : HasLeft (dropped c.value) b.value k.value
+      left_entries = subst (λ (x : CellValue). HasLeft (dropped x) b.value k.value) (ap (λ (x : HeapRecord). x.value) sweeps) entries
 
-        pub sum_fits : freed + bytes < 2 ^ 64
-        sum_fits = let fits = credit_fits trace c b can in omega (arith, amount_is, fits)
+      lost_bytes_now : bytes_lost (ways_left e.value e.pid.0 k) k.value e.pid.0 (numbers_below (length k.value.phases)) ≡ bytes_unshared trace (owners_now trace b) b.value c.value c.pid.0
+      lost_bytes_now =
+          ap (λ (q : Pid). bytes_lost (ways_left e.value q.0 k) k.value q.0 (numbers_below (length k.value.phases))) same_pid
+          ∙ same_bytes_lost ways stays c.pid.0 k same_ways (numbers_below (length k.value.phases))
+          ∙ ap (λ (x : BookRecord). bytes_lost stays x.value c.pid.0 (numbers_below (length x.value.phases))) changes
+          ∙ lost_bytes trace c b can
 
-        pub credit_there : freed + bytes ≤ get_or m.value.direct limit.0 0
-        credit_there =
-            let within = credit_within trace c b can in
-            let direct = ap₂ (λ (d : List ℕ) (i : ℕ). get_or d i 0) same_direct limit_is_of in
-            omega (arith, amount_is, within, direct)
+      lost_shares_now : shares_lost (ways_left e.value e.pid.0 k) k.value e.pid.0 (numbers_below (length k.value.phases)) ≡ dropped_shares trace (owners_now trace b) b.value c.value c.pid.0
+      lost_shares_now =
+          ap (λ (q : Pid). shares_lost (ways_left e.value q.0 k) k.value q.0 (numbers_below (length k.value.phases))) same_pid
+          ∙ same_shares_lost ways stays c.pid.0 k same_ways (numbers_below (length k.value.phases))
+          ∙ ap (λ (x : BookRecord). shares_lost stays x.value c.pid.0 (numbers_below (length x.value.phases))) changes
+          ∙ lost_shares trace c b can
 
-        pub sweeps_heap : (last : BookRecord) → last ≡ record m { value = record m.value { direct = set m.value.direct limit.0 (get_or m.value.direct limit.0 0 - (freed + bytes)) } } →
-            (event : Event) → event ≡ Ended (User c.pid) (freed_objects c.value) (freed_bytes c.value) (dropped_exits c.value) (dropped_shares trace (owners_now trace b) b.value c.value c.pid.0) →
-            HasSweptHeap trace c e b last event
-        sweeps_heap last credits event is = record {
-          cell_is = cell_alone;
-          swept = cell_swept;
-          book_is = book_alone trace c b can k m last limit.0 (freed + bytes) changes left_entries unshared_own credits limit_is_of amount_is;
-          settled = settles trace c b can k m last limit.0 (freed + bytes) changes left_entries unshared_own credits limit_is_of amount_is;
-          event_is = is;
-        }
+      module _ (m : BookRecord) (unshared : HasUnshared (ways_left e.value e.pid.0 k) e.pid.0 k m) where
+        unshared_own : HasUnshared stays c.pid.0 k m
+        unshared_own = same_unshared ways stays c.pid.0 k same_ways m (subst (λ (q : Pid). HasUnshared (ways_left e.value q.0 k) q.0 k m) same_pid unshared)
+
+        -- rows and processes of the book are as they were, and what is charged
+        same_rows : m.rows ≡ b.rows
+        same_rows = ap (λ (x : BookRecord). x.rows) unshared.rest ∙ ap (λ (x : BookRecord). x.rows) changes
+
+        same_procs : m.procs ≡ b.procs
+        same_procs = ap (λ (x : BookRecord). x.procs) unshared.rest ∙ ap (λ (x : BookRecord). x.procs) changes
+
+        same_direct : m.value.direct ≡ b.value.direct
+        same_direct = ap (λ (x : BookRecord). x.value.direct) unshared.rest ∙ ap (λ (x : BookRecord). x.value.direct) changes
+
+        pub process_below : (pid : Pid) → pid ≡ e.pid → pid.0 < length m.procs
+        process_below pid is =
+            let count = ap length same_procs ∙ ap length can.book_stands.of_trace.procs in
+            let number = ap (λ (q : Pid). q.0) (is ∙ same_pid) in
+            let below = known trace c b can in
+            omega (arith, count, number, below)
+
+        module _ (pid : Pid) (pid_is : pid ≡ e.pid) (limit : LimitId) (limit_is : limit ≡ get_or m.procs pid.0 (record { 0 = 0 })) where
+          pub limit_is_of : limit.0 ≡ limit_of trace c.pid.0
+          limit_is_of =
+              ap (λ (x : LimitId). x.0) (limit_is ∙ ap (λ (q : Pid). get_or m.procs q.0 (record { 0 = 0 })) (pid_is ∙ same_pid) ∙ ap (λ (procs : List LimitId). get_or procs c.pid.0 (record { 0 = 0 })) same_procs)
+              ∙ limit_told trace c b can
+
+          pub limit_below : limit.0 < length m.rows
+          limit_below =
+              let rows = ap length same_rows in
+              let there = limit_there trace c b can in
+              omega (arith, rows, there, limit_is_of)
+
+          module _ (bytes : ℕ) (bytes_is : bytes ≡ bytes_lost (ways_left e.value e.pid.0 k) k.value e.pid.0 (numbers_below (length k.value.phases))) where
+            amount_is : freed.bytes + bytes ≡ freed_bytes c.value + bytes_unshared trace (owners_now trace b) b.value c.value c.pid.0
+            amount_is = ap₂ (λ i j. i + j) n.swept.bytes (bytes_is ∙ lost_bytes_now)
+
+            pub sum_fits : freed.bytes + bytes < 2 ^ 64
+            sum_fits = let fits = credit_fits trace c b can in omega (arith, amount_is, fits)
+
+            pub credit_there : freed.bytes + bytes ≤ get_or m.value.direct limit.0 0
+            credit_there =
+                let within = credit_within trace c b can in
+                let direct = ap₂ (λ (d : List ℕ) (i : ℕ). get_or d i 0) same_direct limit_is_of in
+                omega (arith, amount_is, within, direct)
+
+            module _ (last : BookRecord) (credits : last ≡ record m { value = record m.value { direct = set m.value.direct limit.0 (get_or m.value.direct limit.0 0 - (freed.bytes + bytes)) } })
+                (named : Pid) (named_is : named ≡ e.pid) (exits shares : ℕ) (exits_is : exits ≡ dropped_exits s.value)
+                (shares_is : shares ≡ shares_lost (ways_left e.value e.pid.0 k) k.value e.pid.0 (numbers_below (length k.value.phases))) where
+              abbrev event : Event
+              event = Ended (User named) freed.objects freed.bytes exits shares
+
+              goes : HasSweptHeap trace c e b last event
+              goes = record {
+                cell_is = cell_alone;
+                swept = cell_swept;
+                book_is = book_alone trace c b can k m last limit.0 (freed.bytes + bytes) changes left_entries unshared_own credits limit_is_of amount_is;
+                settled = settles trace c b can k m last limit.0 (freed.bytes + bytes) changes left_entries unshared_own credits limit_is_of amount_is;
+                event_is = ended_same (named_is ∙ same_pid) n.swept.objects n.swept.bytes (exits_is ∙ ap (λ (y : HeapRecord). dropped_exits y.value) sweeps) (shares_is ∙ lost_shares_now);
+              }
+
+              -- the same, beside the book before the meeting
+              goes_since : HasSweptHeap trace c e o last event
+              goes_since = subst (λ (y : BookRecord). HasSweptHeap trace c e y last event) met.book_is goes
+
+              pub can_append : CanAppendTo e last
+              can_append = record {
+                table = heap_table trace n.before o n.can told e last event goes_since;
+                list = heap_list trace n.before o n.can told e last event goes_since;
+                room = heap_room trace n.before o n.can told e last event goes_since;
+              }
+
+              abbrev then : HeapRecord
+              then = record e { note = note_after event e.note }
+
+              abbrev after : BookRecord
+              after = record last { journal = journal_after event (e.note.cell ∷ []) last.journal }
+
+              pub swept_has_ended : HasEndedHeap trace x then o after event
+              swept_has_ended =
+                  subst (λ (y : HeapRecord). HasEndedHeap trace y then o after event) (sym n.swept.cell_is)
+                  (ended_since trace n.before then n.before.note n.before.note n.before.value (with_black_alone n.before.value) o after event (heap_has_ended trace n.before o n.can told e last event goes_since))
 
 -- the kernel's
 module _ (trace : Trace) (c : HoldingsValue) (b : BookRecord) (s l e : HoldingsValue) (k : BookRecord) (sweeps : s ≡ record c { value = with_black_alone c.value })
@@ -165,10 +236,3 @@ module _ (trace : Trace) (c : HoldingsValue) (b : BookRecord) (s l e : HoldingsV
     left = subst (λ (x : CellValue). HasLeft (dropped x) b.value k.value) (ap (λ (x : HoldingsValue). x.value) sweeps) entries;
     event_is = is;
   }
-
--- the event with the same numbers
-pub ended_same : {q r : Pid} {a b c d u v w x : ℕ} → q ≡ r → a ≡ u → b ≡ v → c ≡ w → d ≡ x → Ended (User q) a b c d ≡ Ended (User r) u v w x
-ended_same p e f g h = cc
-
-pub kernel_ended_same : {a b c u v w : ℕ} → a ≡ u → b ≡ v → c ≡ w → Ended Kernel a b c 0 ≡ Ended Kernel u v w 0
-kernel_ended_same e f g = cc

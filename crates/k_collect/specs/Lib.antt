@@ -3,6 +3,7 @@ pub mod Leaving
 pub mod Marking
 pub mod Unsharing
 pub mod Collecting
+pub mod SweptAlone
 pub mod Begun
 pub mod Sweeping
 pub mod Ended

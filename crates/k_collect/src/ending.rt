@@ -1,11 +1,15 @@
 //! The ends of collections.
+ghost use Rattle.std.specs.Prelude.{◌≡◌};
 ghost use Rattle.k_types.specs.Trace.{Trace};
-ghost use Rattle.k_types.specs.declared.names.Heap.TheVariants.{Kernel, User};
+ghost use Rattle.k_types.specs.declared.names.Heap.TheVariants.{Kernel};
+ghost use Rattle.k_agree.specs.Meeting.{Fits};
 ghost use Rattle.k_collect.specs.Collecting.{CanEndHeap, CanEndKernel};
 ghost use Rattle.k_collect.specs.Ended.{HasEndedHeap, HasEndedKernel};
-ghost use Rattle.k_collect.specs.Sweeping.{CanSweep, HasSweptHeap, HasSweptKernel};
+ghost use Rattle.k_collect.specs.Sweeping.{CanSweep, HasSweptKernel};
+ghost use Rattle.k_collect.specs.SweptAlone.{CanEndSwept, NoteHasMet};
 
 use crate::leaving::{leave_kernel_unmarked, leave_unmarked};
+use crate::sweeping::sweep_heap;
 use crate::unsharing::drop_shares;
 use k_book::Book;
 use k_commit::{append_heap, append_kernel, meet_heap, meet_kernel};
@@ -14,30 +18,39 @@ use k_kernel::KernelCell;
 use k_mark::Swept;
 use k_types::{Event, Heap};
 
-/// Sweeps the process's heap, leaves its exit items that are not marked, drops its shares without a way and credits what goes. It
-/// answers the event that says so.
-fn sweep_heap(cell: &mut HeapCell, book: &mut Book) -> Event
-    ghost trace: { Trace }
-    requires { CanSweep trace (User cell.old.pid) cell.old.note cell.old.value book.old }
-    ensures { HasSweptHeap trace cell.old cell.new book.old book.new result }
+/// The note of the process's cell meets the journal, whatever the cell shows. Constant time.
+fn meet_note(cell: &mut HeapCell, book: &mut Book)
+    requires { cell.old.note.table ≡ book.old.journal.table }
+    ensures { NoteHasMet cell.old cell.new book.old book.new }
 {
-    let mut freed = Swept {
-        objects: 0,
-        bytes: 0,
-    };
-    cell.sweep(&mut freed);
+    book.meet(cell.note_mut());
+}
+
+/// Ends the collection of the process's heap, which is swept already: the exit items that are not marked go, with the shares into
+/// whose heaps no register and no exit item leads then, and the process's limit is credited what went. It answers the event that it
+/// appended, and tells that no event had touched the cell unseen. The cost is in proportion to the exit items, the number of shared
+/// heaps, and for each that the process shares the exit items that are left; it does not depend on the objects.
+pub fn end_swept_heap(cell: &mut HeapCell, book: &mut Book, freed: Swept) -> Event
+    ghost trace: { Trace }
+    requires { CanEndSwept trace cell.old book.old freed }
+    ensures ended { HasEndedHeap trace cell.old cell.new book.old book.new result }
+    ensures fits { Fits book.old.journal cell.old.note }
+{
+    meet_note(cell, book);
     let exits_dropped = leave_unmarked(cell, book);
     cell.end_collection();
     let unshared = drop_shares(cell, book);
     let limit = book.limit_of(cell.pid());
     book.credit(limit, freed.bytes + unshared.bytes);
-    Event::Ended {
+    let event = Event::Ended {
         heap: Heap::User(cell.pid()),
         freed_objects: freed.objects,
         freed_bytes: freed.bytes,
         exits_dropped,
         shares_dropped: unshared.shares,
-    }
+    };
+    append_heap(cell, book, event);
+    event
 }
 
 /// Ends the collection of the process's heap: what is not marked goes, with the shares into whose heaps no register and no exit
@@ -49,9 +62,8 @@ pub fn end_heap(cell: &mut HeapCell, book: &mut Book) -> Event
     ensures { HasEndedHeap trace cell.old cell.new book.old book.new result }
 {
     meet_heap(cell, book);
-    let event = sweep_heap(cell, book);
-    append_heap(cell, book, event);
-    event
+    let freed = sweep_heap(cell);
+    end_swept_heap(cell, book, freed)
 }
 
 /// Sweeps the kernel's heap and leaves its exit items that are not marked. It answers the event that says so.

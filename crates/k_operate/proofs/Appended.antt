@@ -1,5 +1,5 @@
 -- What one event more leaves of what the locks ask.
-use Rattle.std.proofs.Common.{◌≡◌, ◌<◌, ◌+◌, ◌≤◌, ℕ, ◌++◌, refl, sym, ap, ap₂, ◌∙◌, subst, List, [], ◌∷◌, append-nil, drop, length, map, cond, eq-eqb, arith, ◌≢◌, true, false, Option, None, is_some, set}
+use Rattle.std.proofs.Common.{◌≡◌, ◌<◌, ◌+◌, ◌-◌, ◌^◌, ◌≤◌, ℕ, ◌++◌, refl, sym, ap, ap₂, ◌∙◌, subst, List, [], ◌∷◌, append-nil, drop, length, map, cond, eq-eqb, arith, ◌≢◌, true, false, Option, None, is_some, set}
 use Rattle.std.proofs.lemmas.List.{get_or-set_other, length-append}
 use Rattle.std.proofs.Math.Seq.{drop-append_seam}
 use Rattle.atomic_table.specs.Seated.{TableId}
@@ -20,6 +20,7 @@ use Rattle.k_types.specs.Steps.{IsPossible, done_by, state_after}
 use Rattle.k_types.specs.Trace.{Trace, operations_of, process_count}
 use Rattle.k_bounds.proofs.ByProcess.{follows_own}
 use Rattle.k_bounds.proofs.Dones.{done_count}
+use Rattle.k_known.proofs.Counted.{all_ordered}
 use Rattle.k_frame.specs.PartUpdates.{done_in}
 use Rattle.k_frame.proofs.Constant.{step_maxima}
 use Rattle.k_frame.proofs.Histories.{done_append, state_next}
@@ -28,7 +29,7 @@ use Rattle.k_agree.specs.Agreement.{Agrees}
 use Rattle.k_agree.specs.Meeting.{Fits}
 use Rattle.k_agree.specs.Rooms.{AreFirst, IsInTurn, IsNext, event_room, exit_room}
 use Rattle.k_agree.proofs.Meetings.{meeting}
-use Rattle.k_agree.proofs.WithinRooms.{follows_after, room_after}
+use Rattle.k_agree.proofs.WithinRooms.{fits_rooms, follows_after, room_after}
 use Rattle.k_bodies.specs.Bodies.{bodies_of}
 use Rattle.k_book.specs.Books.{BookRecord, pin_room_of}
 use Rattle.k_heap.specs.Heaps.{HeapRecord}
@@ -113,6 +114,16 @@ heap_keeps_by trace tie w l k agrees table idle list none bodies rooms = record 
   bodies = bodies;
   rooms = rooms;
 }
+
+-- a journal that has first operations of the trace has few events
+pub journal_short : (trace : Trace) (b : BookRecord) → BookStands trace b → AreFirst trace b.journal.list → length b.journal.list < 2 ^ 32 - 1
+journal_short trace b k first =
+    let fits = fits_rooms trace b.journal.list k.keeps k.agrees.legal first in
+    let events = fits.events in
+    let all = all_ordered trace k.keeps.operations in
+    let ordered = k.keeps.operations.room in
+    let heaps = k.keeps.shared in
+    omega (arith, events, all, ordered, heaps)
 
 -- an event in turn has room, if it is possible
 pub room_for : (trace : Trace) (b : BookRecord) (event : Event) → BookStands trace b → AreFirst trace b.journal.list → event_room trace ≤ b.event_room → IsPossible trace (state_after trace b.journal.list) event →

@@ -1,5 +1,5 @@
 -- The pieces of a collection of a process's heap keep what the locks ask.
-use Rattle.std.proofs.Common.{◌≡◌, ◌<◌, ◌+◌, ◌≤◌, ℕ, ◌++◌, refl, sym, ap, ap₂, ◌∙◌, subst, List, [], ◌∷◌, length, append-nil, arith}
+use Rattle.std.proofs.Common.{◌≡◌, ◌<◌, ◌+◌, ◌-◌, ◌^◌, ◌≤◌, ℕ, ◌++◌, refl, sym, ap, ap₂, ◌∙◌, subst, List, [], ◌∷◌, length, append-nil, arith}
 use Rattle.k_types.specs.declared.event.Event.{Event}
 use Rattle.k_types.specs.declared.event.Event.TheVariants.{Done, Ended}
 use Rattle.k_types.specs.declared.event.Reply.TheVariants.{Done as DoneReply}
@@ -16,26 +16,30 @@ use Rattle.k_bounds.specs.Counts.{stores_in}
 use Rattle.k_bounds.proofs.Dones.{done_count}
 use Rattle.k_frame.specs.PartUpdates.{done_in}
 use Rattle.k_frame.proofs.Histories.{done_append}
+use Rattle.k_mark.specs.declared.sweeping.Swept.{Swept}
 use Rattle.k_agree.specs.Agreement.{Agrees}
 use Rattle.k_agree.specs.Marking.{marked}
 use Rattle.k_agree.specs.Meeting.{Fits}
+use Rattle.k_agree.proofs.Meetings.{meeting}
 use Rattle.k_bodies.specs.Bodies.{bodies_of}
 use Rattle.k_book.specs.Books.{BookRecord}
+use Rattle.k_cell.specs.Changes.{with_black_alone}
 use Rattle.k_heap.specs.Heaps.{HeapRecord, own_segment}
-use Rattle.k_commit.specs.Met.{CanMeet, HeapHasMet}
 use Rattle.k_collect.specs.Begun.{HasAppended, HasBegunHeap}
 use Rattle.k_collect.specs.Collecting.{CanBeginHeap, CanEndHeap}
 use Rattle.k_collect.specs.Ended.{HasEndedHeap}
 use Rattle.k_collect.specs.Marking.{CanMark, HasMarkedOn}
+use Rattle.k_collect.specs.SweptAlone.{CanEndSwept, CanSweepAlone, HasSweptAlone}
+use Rattle.k_collect.proofs.Ends.{ended_since}
 use Rattle.k_locked.specs.Keeping.{BookKeeps, CanGive, HasHeapRooms, operations_left}
 use Rattle.k_locked.proofs.CanDo.{done_of, event_left, heap_stands}
 use Rattle.k_process.specs.declared.process.Process.{Process}
 use Rattle.k_process.specs.Worlds.{WorldValue}
-use Rattle.k_operate.specs.Collecting.{CanEndCollection, Collects, HasBegunCollection, HasEndedCollection, HasMarkedCollection, HasSameLeft, IsNextAndSettled}
+use Rattle.k_operate.specs.Collecting.{CanEndCollection, Collects, HasBegunCollection, HasEndedCollection, HasMarkedCollection, HasSameLeft, HasSweptCollection, IsNextAndSettled}
 use Rattle.k_operate.specs.Steps.{HasDoneAlone}
 use Rattle.k_operate.specs.Adding.{AddsEnd, AddsOperation, known_to}
 use Rattle.k_operate.proofs.Added.{adds_known, adds_with_end}
-use Rattle.k_operate.proofs.Appended.{book_keeps_on, heap_keeps_by, in_turn, left_by_done, open_once_met, room_for_end}
+use Rattle.k_operate.proofs.Appended.{book_keeps_on, heap_keeps_by, in_turn, journal_short, left_by_done, open_once_met, room_for_end}
 
 -- the operation that comes next has room for its event
 pub room_for_next : (world : WorldValue) (p : Process) (b : BookRecord) (op : Op) → IsNextAndSettled world p b op → Fits b.journal p.cell.note → length b.journal.list < b.event_room
@@ -73,6 +77,10 @@ module _ (world : WorldValue) (p : Process) (b : BookRecord) (n : IsNextAndSettl
       table = s.heap_goes_on.table ∙ book_begun.table;
       settled = s.heap_goes_on.settled;
       in_phase = s.heap_goes_on.in_phase;
+      short =
+          let few = journal_short world.trace l book_begun.stands book_begun.follows.operations in
+          let same = ap length s.heap_goes_on.met.list in
+          omega (arith, few, same);
       bodies =
           ap (λ (x : HeapRecord). x.bodies) s.heap_goes_on.cell_is ∙ n.pair.process.cell.bodies ∙ ap (bodies_of world.trace.types) n.next.left
           ∙ ap (bodies_of world.trace.types) (sym left_then);
@@ -90,22 +98,6 @@ module _ (world : WorldValue) (p : Process) (b : BookRecord) (n : IsNextAndSettl
       events = record { said = DoneReply; new_is = journal_then };
     }
 
--- a process that differs only in the note and the value of its cell collects on, in the phase of the value
-collects_on : (world : WorldValue) (phase next : CellPhase) (p : Process) (c : HeapRecord) → Collects world phase p → c ≡ record p.cell { note = c.note; value = c.value } → c.note.table ≡ p.cell.note.table →
-    Agrees world.trace (User c.pid) c.note c.value → c.value.tail ≡ [] → c.value.collection ≡ next → operations_left world.trace c ≡ operations_left world.trace p.cell → Collects world next (record p { cell = c })
-collects_on world phase next p c h is table agrees settled in_phase left = record {
-  rules = h.rules;
-  agrees = agrees;
-  table = table ∙ h.table;
-  settled = settled;
-  in_phase = in_phase;
-  bodies = ap (λ (x : HeapRecord). x.bodies) is ∙ h.bodies ∙ ap (bodies_of world.trace.types) (sym left);
-  exits = subst (λ (x : HeapRecord). stores_in (operations_of world.trace x.pid.0) ≤ x.exit_room) (sym is) h.exits;
-  serials = subst (λ (x : HeapRecord). CanGive world.trace x.serial_rooms (own_segment x.pid)) (sym is) h.serials;
-  tail = subst (λ (x : HeapRecord). length (operations_of world.trace x.pid.0) ≤ x.tail_room) (sym is) h.tail;
-  operations = h.operations ∙ ap (λ (x : HeapRecord). operations_of world.trace x.pid.0) (sym is);
-}
-
 -- the marking
 module _ (world : WorldValue) (p : Process) (h : Collects world Begun p) where
   pub can_mark : CanMark world.trace (User p.cell.pid) p.cell.note p.cell.value
@@ -120,46 +112,39 @@ module _ (world : WorldValue) (p : Process) (h : Collects world Begun p) where
 
     pub has_marked : HasMarkedCollection world p (record p { cell = c })
     has_marked = record {
-      process = collects_on world Begun Marked p c h
-          (is ∙ ap (λ (x : HeapRecord). record p.cell { note = x.note; value = c.value }) (sym is))
-          (ap (λ (x : HeapRecord). x.note.table) is)
-          (subst (λ (x : HeapRecord). Agrees world.trace (User x.pid) x.note c.value) (sym is) m.agrees)
-          (ap (λ (v : CellValue). v.tail) m.rest ∙ h.settled)
-          m.phase same_left.left;
+      process = record {
+        rules = h.rules;
+        agrees = subst (λ (x : HeapRecord). Agrees world.trace (User x.pid) x.note c.value) (sym is) m.agrees;
+        table = ap (λ (x : HeapRecord). x.note.table) is ∙ h.table;
+        settled = ap (λ (v : CellValue). v.tail) m.rest ∙ h.settled;
+        in_phase = m.phase;
+        short = subst (λ (x : HeapRecord). length x.note.list < 2 ^ 32 - 1) (sym is) h.short;
+        bodies = ap (λ (x : HeapRecord). x.bodies) is ∙ h.bodies ∙ ap (bodies_of world.trace.types) (sym same_left.left);
+        exits = subst (λ (x : HeapRecord). stores_in (operations_of world.trace x.pid.0) ≤ x.exit_room) (sym is) h.exits;
+        serials = subst (λ (x : HeapRecord). CanGive world.trace x.serial_rooms (own_segment x.pid)) (sym is) h.serials;
+        tail = subst (λ (x : HeapRecord). length (operations_of world.trace x.pid.0) ≤ x.tail_room) (sym is) h.tail;
+        operations = h.operations ∙ ap (λ (x : HeapRecord). operations_of world.trace x.pid.0) (sym is);
+      };
       same = same_left;
     }
 
--- the meeting before the end
-module _ (world : WorldValue) (p : Process) (b : BookRecord) (n : CanEndCollection world p b) where
-  pub can_meet : CanMeet world.trace (User p.cell.pid) p.cell.note p.cell.value b
-  can_meet = record { agrees = n.process.agrees; book_agrees = n.book.stands.agrees; table = n.process.table ∙ sym n.book.table }
+-- the sweep
+module _ (world : WorldValue) (p : Process) (h : Collects world Marked p) where
+  pub can_sweep : CanSweepAlone world.trace (User p.cell.pid) p.cell.note p.cell.value
+  can_sweep = record {
+    keeps = h.rules;
+    agrees = h.agrees;
+    marked = h.in_phase;
+    short = let few = h.short in let none = ap length h.settled in omega (arith, few, none);
+  }
 
-  module _ (c : HeapRecord) (l : BookRecord) (s : HeapHasMet world.trace p.cell c b l) where
-    met_left : operations_left world.trace c ≡ operations_left world.trace p.cell
-    met_left = ap (operations_left world.trace) s.cell_is
+  pub has_swept : (c : HeapRecord) (freed : Swept) → HasSweptAlone p.cell c freed → HasSweptCollection world p (record p { cell = c }) freed
+  has_swept c freed s = record {
+    process = record { before = p.cell; process = h; swept = s };
+    same = record { pid = ap (λ (x : HeapRecord). x.pid) s.cell_is; left = ap (operations_left world.trace) s.cell_is };
+  }
 
-    met_agrees : Agrees world.trace (User c.pid) c.note c.value
-    met_agrees = subst (λ (x : HeapRecord). Agrees world.trace (User x.pid) x.note x.value) (sym s.cell_is) s.told.shows.agrees
-
-    pub met_process : Collects world Marked (record p { cell = c })
-    met_process = collects_on world Marked Marked p c n.process
-        (s.cell_is ∙ ap (λ (x : HeapRecord). record p.cell { note = x.note; value = x.value }) (sym s.cell_is))
-        (ap (λ (x : HeapRecord). x.note.table) s.cell_is)
-        met_agrees
-        (ap (λ (x : HeapRecord). x.value.tail) s.cell_is ∙ n.process.settled)
-        (ap (λ (x : HeapRecord). x.value.collection) s.cell_is ∙ n.process.in_phase)
-        met_left
-
-    pub met_book : BookKeeps world.trace world.table l
-    met_book = subst (BookKeeps world.trace world.table) (sym s.book_is) n.book
-
-    pub met_list : c.note.list ≡ l.journal.list
-    met_list = ap (λ (x : HeapRecord). x.note.list) s.cell_is ∙ ap (λ (x : BookRecord). x.journal.list) (sym s.book_is)
-
-    pub met_same : HasSameLeft world.trace p.cell c
-    met_same = record { pid = ap (λ (x : HeapRecord). x.pid) s.cell_is; left = met_left }
-
--- the end, with a cell that has met the journal
+-- the end, of a cell that was not swept yet
 module _ (world : WorldValue) (p : Process) (b : BookRecord) (h : Collects world Marked p) (k : BookKeeps world.trace world.table b) where
   pub can_end : CanEndHeap world.trace p.cell b
   can_end = record {
@@ -168,7 +153,7 @@ module _ (world : WorldValue) (p : Process) (b : BookRecord) (h : Collects world
     room = λ fits. room_for_end world.trace b (User p.cell.pid) k.stands k.follows.operations k.events (open_once_met world.trace b (User p.cell.pid) p.cell.note p.cell.value k.stands h.agrees h.settled h.in_phase fits);
   }
 
-  module _ (known : p.cell.note.list ≡ b.journal.list) (c : HeapRecord) (l : BookRecord) (event : Event) (s : HasEndedHeap world.trace p.cell c b l event) where
+  module _ (fits : Fits b.journal p.cell.note) (c : HeapRecord) (l : BookRecord) (event : Event) (s : HasEndedHeap world.trace p.cell c b l event) where
     abbrev end : Event
     end = Ended (User p.cell.pid) s.objects s.bytes s.exits s.shares
 
@@ -190,10 +175,13 @@ module _ (world : WorldValue) (p : Process) (b : BookRecord) (h : Collects world
         ap₂ (λ xs ys. xs ++ ys) s.heap_goes_on.met.list s.heap_goes_on.settled ∙ append-nil l.journal.list ∙ s.appended.journal ∙ ap (λ e. b.journal.list ++ e ∷ []) s.event_is in
         let same : done_by p.cell.pid.0 (c.note.list ++ c.value.tail) ≡ done_by p.cell.pid.0 b.journal.list =
         ap (done_by p.cell.pid.0) whole ∙ done_append p.cell.pid.0 b.journal.list (end ∷ []) ∙ append-nil (done_by p.cell.pid.0 b.journal.list) in
-        let knew : p.cell.note.list ++ p.cell.value.tail ≡ b.journal.list = ap₂ (λ xs ys. xs ++ ys) known h.settled ∙ append-nil b.journal.list in
+        let knew : p.cell.note.list ++ p.cell.value.tail ≡ p.cell.note.list = ap (λ ys. p.cell.note.list ++ ys) h.settled ∙ append-nil p.cell.note.list in
+        let since : done_by p.cell.pid.0 b.journal.list ≡ done_by p.cell.pid.0 p.cell.note.list =
+        (meeting world.trace b.journal b.value (User p.cell.pid) p.cell.note p.cell.value h.agrees k.stands.agrees fits).done p.cell.pid.0 refl in
         let lengths = ap length same in
         let knows = ap (λ xs. length (done_by p.cell.pid.0 xs)) knew in
-        omega (arith, after, count, before, counted, lengths, knows)
+        let sinces = ap length since in
+        omega (arith, after, count, before, counted, lengths, knows, sinces)
 
     left_kept : operations_left world.trace c ≡ operations_left world.trace p.cell
     left_kept = ap₂ (λ n (q : Pid). Rattle.std.proofs.Common.drop n (operations_of world.trace q.0)) done_kept pid_kept
@@ -214,24 +202,47 @@ module _ (world : WorldValue) (p : Process) (b : BookRecord) (h : Collects world
       events = record { objects = s.objects; bytes = s.bytes; exits = s.exits; shares = s.shares; new_is = s.appended.journal ∙ ap (λ e. b.journal.list ++ e ∷ []) s.event_is };
     }
 
--- the end after the meeting is the end
-pub ended_through : (world : WorldValue) (p q r : Process) (b m l : BookRecord) → HasSameLeft world.trace p.cell q.cell → m ≡ b → HasEndedCollection world q r m l → HasEndedCollection world p r b l
-ended_through world p q r b m l same is ends = record {
-  pair = ends.pair;
-  settled = ends.settled;
-  same = record { pid = ends.same.pid ∙ same.pid; left = ends.same.left ∙ same.left };
-  events = subst (λ (x : BookRecord). AddsEnd (User p.cell.pid) x.journal.list l.journal.list) is
-      (subst (λ (x : Pid). AddsEnd (User x) m.journal.list l.journal.list) same.pid ends.events);
-}
+-- the end after the sweep
+module _ (world : WorldValue) (p : Process) (b : BookRecord) (freed : Swept) (n : CanEndCollection world p b freed) where
+  -- the process as it was before the sweep
+  abbrev marked_one : Process
+  marked_one = record p { cell = n.process.before }
+
+  pub can_end_swept : CanEndSwept world.trace p.cell b freed
+  can_end_swept = record { before = n.process.before; can = can_end world marked_one b n.process.process n.book; swept = n.process.swept }
+
+  left_swept : HasSameLeft world.trace p.cell n.process.before
+  left_swept = record {
+    pid = sym (ap (λ (x : HeapRecord). x.pid) n.process.swept.cell_is);
+    left = sym (ap (operations_left world.trace) n.process.swept.cell_is);
+  }
+
+  module _ (c : HeapRecord) (l : BookRecord) (event : Event) (s : HasEndedHeap world.trace p.cell c b l event) (fits : Fits b.journal p.cell.note) where
+    ended_marked : HasEndedHeap world.trace n.process.before c b l event
+    ended_marked =
+        ended_since world.trace n.process.before c n.process.before.note n.process.before.note (with_black_alone n.process.before.value) n.process.before.value b l event
+        (subst (λ (x : HeapRecord). HasEndedHeap world.trace x c b l event) n.process.swept.cell_is s)
+
+    ends_marked : HasEndedCollection world marked_one (record p { cell = c }) b l
+    ends_marked = has_ended world marked_one b n.process.process n.book (subst (λ (x : HeapRecord). Fits b.journal x.note) n.process.swept.cell_is fits) c l event ended_marked
+
+    pub has_ended_swept : HasEndedCollection world p (record p { cell = c }) b l
+    has_ended_swept = record {
+      pair = ends_marked.pair;
+      settled = ends_marked.settled;
+      same = record { pid = ends_marked.same.pid ∙ left_swept.pid; left = ends_marked.same.left ∙ left_swept.left };
+      events = subst (λ (x : Pid). AddsEnd (User x) b.journal.list l.journal.list) left_swept.pid ends_marked.events;
+    }
 
 -- from the beginning to the end
-module _ (world : WorldValue) (p q r s : Process) (b m l : BookRecord) (begun : HasBegunCollection world p q b m) (marks : HasMarkedCollection world q r) (ends : HasEndedCollection world r s m l) where
+module _ (world : WorldValue) (p q r t s : Process) (freed : Swept) (b m l : BookRecord) (begun : HasBegunCollection world p q b m) (marks : HasMarkedCollection world q r)
+    (sweeps : HasSweptCollection world r t freed) (ends : HasEndedCollection world t s m l) where
   pub collected : HasDoneAlone world Collect p s l
   collected = record {
     pair = ends.pair;
     done = record {
-      pid = ends.same.pid ∙ marks.same.pid ∙ begun.done.pid;
-      left = begun.done.left ∙ ap (λ (ops : List Op). Collect ∷ ops) (sym (ends.same.left ∙ marks.same.left));
+      pid = ends.same.pid ∙ sweeps.same.pid ∙ marks.same.pid ∙ begun.done.pid;
+      left = begun.done.left ∙ ap (λ (ops : List Op). Collect ∷ ops) (sym (ends.same.left ∙ sweeps.same.left ∙ marks.same.left));
     };
   }
 
@@ -239,4 +250,4 @@ module _ (world : WorldValue) (p q r s : Process) (b m l : BookRecord) (begun : 
   collected_adds none =
       adds_known world.trace Collect p.cell.pid p s b l none ends.settled
       (adds_with_end world.trace p.cell.pid Collect (User p.cell.pid) b.journal.list b.journal.list m.journal.list l.journal.list refl (sym (append-nil b.journal.list)) begun.events
-      (subst (λ (x : Pid). AddsEnd (User x) m.journal.list l.journal.list) (marks.same.pid ∙ begun.done.pid) ends.events))
+      (subst (λ (x : Pid). AddsEnd (User x) m.journal.list l.journal.list) (sweeps.same.pid ∙ marks.same.pid ∙ begun.done.pid) ends.events))

@@ -1,5 +1,5 @@
 -- What the pieces of a collection, and the end of a process, ask and leave.
-use Rattle.std.specs.Prelude.{◌≡◌, ◌≤◌, None, [], length}
+use Rattle.std.specs.Prelude.{◌≡◌, ◌-◌, ◌<◌, ◌≤◌, ◌^◌, None, [], length}
 use Rattle.k_types.specs.declared.names.CellPhase.{CellPhase}
 use Rattle.k_types.specs.declared.names.CellPhase.TheVariants.{Begun, Marked}
 use Rattle.k_types.specs.declared.names.Heap.TheVariants.{Kernel, User}
@@ -8,6 +8,7 @@ use Rattle.k_types.specs.declared.op.Op.TheVariants.{Collect, Exit, KCollect}
 use Rattle.k_types.specs.Trace.{Trace, operations_of, segment_count}
 use Rattle.k_types.specs.TraceRules.{KeepsRules}
 use Rattle.k_bounds.specs.Counts.{stores_in}
+use Rattle.k_mark.specs.declared.sweeping.Swept.{Swept}
 use Rattle.k_agree.specs.Agreement.{Agrees}
 use Rattle.k_agree.specs.Rooms.{exit_room}
 use Rattle.k_bodies.specs.Bodies.{bodies_of}
@@ -15,6 +16,7 @@ use Rattle.k_book.specs.Books.{BookRecord}
 use Rattle.k_cell.specs.Holdings.{HoldingsValue}
 use Rattle.k_heap.specs.Heaps.{HeapRecord, own_segment}
 use Rattle.k_shares.specs.Sharers.{lowest_orphan}
+use Rattle.k_collect.specs.SweptAlone.{HasSweptAlone}
 use Rattle.k_locked.specs.Keeping.{BookKeeps, CanGive, KernelKeeps, operations_left}
 use Rattle.k_process.specs.declared.process.Process.{Process}
 use Rattle.k_process.specs.Standing.{ComesNext, HasDone}
@@ -28,13 +30,15 @@ pub record IsNextAndSettled (world : WorldValue) (p : Process) (b : BookRecord) 
   pub settled : p.cell.value.tail ≡ []
   pub next : ComesNext world.trace p.cell op
 
--- the process stands as between its operations, with nothing unpublished and room in the tables of its heap, but the heap's collection is in this phase
+-- the process stands as between its operations, with nothing unpublished and room in the tables of its heap, but the heap's collection is in this phase;
+-- and it has seen so few events that the objects of its heap can be counted
 pub record Collects (world : WorldValue) (phase : CellPhase) (p : Process) : Type 0 where
   pub rules : KeepsRules world.trace
   pub agrees : Agrees world.trace (User p.cell.pid) p.cell.note p.cell.value
   pub table : p.cell.note.table ≡ world.table
   pub settled : p.cell.value.tail ≡ []
   pub in_phase : p.cell.value.collection ≡ phase
+  pub short : length p.cell.note.list < 2 ^ 32 - 1
   pub bodies : p.cell.bodies ≡ bodies_of world.trace.types (operations_left world.trace p.cell)
   pub exits : stores_in (operations_of world.trace p.cell.pid.0) ≤ p.cell.exit_room
   pub serials : CanGive world.trace p.cell.serial_rooms (own_segment p.cell.pid)
@@ -58,9 +62,20 @@ pub record HasMarkedCollection (world : WorldValue) (old new : Process) : Type 0
   pub process : Collects world Marked new
   pub same : HasSameLeft world.trace old.cell new.cell
 
--- the process's heap is marked, and the book stands
-pub record CanEndCollection (world : WorldValue) (p : Process) (b : BookRecord) : Type 0 where
-  pub process : Collects world Marked p
+-- the process's heap was marked and then swept, and the numbers are those of the objects that went
+pub record CollectsSwept (world : WorldValue) (p : Process) (freed : Swept) : Type 0 where
+  pub before : HeapRecord
+  pub process : Collects world Marked (record p { cell = before })
+  pub swept : HasSweptAlone before p.cell freed
+
+-- the process's heap is swept, and nothing else has changed
+pub record HasSweptCollection (world : WorldValue) (old new : Process) (freed : Swept) : Type 0 where
+  pub process : CollectsSwept world new freed
+  pub same : HasSameLeft world.trace old.cell new.cell
+
+-- the process's heap is swept, and the book stands
+pub record CanEndCollection (world : WorldValue) (p : Process) (b : BookRecord) (freed : Swept) : Type 0 where
+  pub process : CollectsSwept world p freed
   pub book : BookKeeps world.trace world.table b
 
 -- the end of the heap's collection is in the journal; process and book stand, with nothing unpublished, and the process has done nothing since

@@ -1,21 +1,21 @@
 //! Collections of a process's heap and of the kernel's, from their beginning to their end.
 //!
-//! Each is made of three pieces. The book is needed for the first and the last; marking needs its cell alone, and the events of
-//! other processes may come in between.
+//! Each is made of pieces. The book is needed for the first and the last; between them a cell is marked alone, and a process's cell
+//! swept, and the events of other processes may come in between.
 ghost use Rattle.k_locked.specs.Keeping.{BookKeeps};
 ghost use Rattle.k_operate.specs.Adding.{AddsOperation, known_to};
-ghost use Rattle.k_operate.specs.Collecting.{CanBeginKernelCollection, CanEndCollection, CanEndKernelCollection, Collects, HasBegunCollection, HasBegunKernelCollection, HasEndedCollection, HasEndedKernelCollection, HasMarkedCollection, IsNextAndSettled, KernelCollects};
+ghost use Rattle.k_operate.specs.Collecting.{CanBeginKernelCollection, CanEndCollection, CanEndKernelCollection, Collects, HasBegunCollection, HasBegunKernelCollection, HasEndedCollection, HasEndedKernelCollection, HasMarkedCollection, HasSweptCollection, IsNextAndSettled, KernelCollects};
 ghost use Rattle.k_operate.specs.Steps.{HasDoneAlone};
 ghost use Rattle.k_process.specs.Worlds.{WorldValue};
 ghost use Rattle.k_types.specs.declared.names.CellPhase.TheVariants.{Begun, Marked};
 ghost use Rattle.k_types.specs.declared.op.Op.TheVariants.{Collect};
 
 use k_book::Book;
-use k_collect::{mark_heap, mark_kernel};
-use k_commit::meet_heap;
+use k_collect::{mark_heap, mark_kernel, sweep_heap};
 use k_kernel::KernelCell;
+use k_mark::Swept;
 use k_process::Process;
-use k_steps::{begin_heap, begin_kernel, end_heap, end_kernel};
+use k_steps::{begin_heap, begin_kernel, end_kernel, end_swept_heap};
 
 /// Does the operation `collect`, with which the collection of the process's heap begins. The cost is in proportion to the exit items
 /// of the heap and to its entered and pinned objects.
@@ -36,18 +36,28 @@ pub fn mark_collection(process: &mut Process)
     mark_heap(&mut process.cell);
 }
 
-/// Ends the collection of the process's heap: what is not marked goes. The book may have new events of other processes since the
-/// collection began. The cost is in proportion to the objects that were live and the exit items.
-pub fn end_collection(process: &mut Process, book: &mut Book)
+/// Frees the objects of the process's heap that are not marked, and answers what went. The cost is in proportion to the objects that
+/// were live.
+pub fn sweep_collection(process: &mut Process) -> Swept
     ghost world: { WorldValue }
-    requires { CanEndCollection world process.old book.old }
-    ensures { HasEndedCollection world process.old process.new book.old book.new }
+    requires { Collects world Marked process.old }
+    ensures { HasSweptCollection world process.old process.new result }
 {
-    meet_heap(&mut process.cell, book);
-    end_heap(&mut process.cell, book);
+    sweep_heap(&mut process.cell)
 }
 
-/// Does the operation `collect` from its beginning to its end. The cost is that of the three pieces.
+/// Ends the collection of the process's heap, which is swept already: the exit items that are not marked go, and the shares without a
+/// way. The book may have new events of other processes since the collection began. The cost is in proportion to the exit items, and
+/// for each shared heap that the process shares to those that are left; it does not depend on the objects.
+pub fn end_collection(process: &mut Process, book: &mut Book, freed: Swept)
+    ghost world: { WorldValue }
+    requires { CanEndCollection world process.old book.old freed }
+    ensures { HasEndedCollection world process.old process.new book.old book.new }
+{
+    end_swept_heap(&mut process.cell, book, freed);
+}
+
+/// Does the operation `collect` from its beginning to its end. The cost is that of the four pieces.
 pub fn do_collect(process: &mut Process, book: &mut Book)
     ghost world: { WorldValue }
     requires { IsNextAndSettled world process.old book.old Collect }
@@ -56,7 +66,8 @@ pub fn do_collect(process: &mut Process, book: &mut Book)
 {
     begin_collection(process, book);
     mark_collection(process);
-    end_collection(process, book);
+    let freed = sweep_collection(process);
+    end_collection(process, book, freed);
 }
 
 /// Does the operation `kcollect`, with which the collection of the kernel's heap begins, where no shared heap is an orphan. The cost

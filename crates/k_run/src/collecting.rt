@@ -1,7 +1,8 @@
-//! Collections, absorptions and ends of processes under locks. While a heap is marked its lock is held, and the book is free.
+//! Collections, absorptions and ends of processes under locks. While a heap is marked its lock is held, and the book is free; so it is
+//! while a process's heap is swept.
 ghost use Rattle.std.specs.Prelude.{IsFalse, IsTrue, ◌≡◌};
 ghost use Rattle.k_locked.specs.Keeping.{KernelKeeps};
-ghost use Rattle.k_operate.specs.Collecting.{Collects, HasSameLeft, KernelCollects};
+ghost use Rattle.k_operate.specs.Collecting.{Collects, CollectsSwept, HasSameLeft, KernelCollects};
 ghost use Rattle.k_process.specs.Standing.{ComesNext, HasDone, ProcessStands};
 ghost use Rattle.k_run.specs.Running.{HasBegunUnless, HasCollectedUnless, IsAbsorbedIfFirst, IsLeft};
 ghost use Rattle.k_types.specs.declared.names.CellPhase.TheVariants.{Begun, Marked};
@@ -14,9 +15,10 @@ use crate::world::Locks;
 use crate::worlds::WorldName;
 use k_io::{Gate, GatePlace};
 use k_kernel::KernelCell;
+use k_mark::Swept;
 use k_operate::{
     absorb_orphan, begin_collection, begin_kernel_collection, do_exit, end_collection,
-    end_kernel_collection, mark_collection, mark_kernel_collection, publish_all,
+    end_kernel_collection, mark_collection, mark_kernel_collection, publish_all, sweep_collection,
 };
 use k_process::Process;
 use k_types::SharedId;
@@ -34,18 +36,23 @@ fn begin<W: WorldName>(process: &mut Process, book: &mut LockedBook<W>, gate: &i
     begin_collection(process, &mut book.book);
 }
 
-/// Ends the collection of the process's heap.
-fn end<W: WorldName>(process: &mut Process, book: &mut LockedBook<W>, gate: &impl Gate)
-    requires { Collects W.world Marked process.old }
+/// Ends the collection of the process's heap, which is swept already.
+fn end<W: WorldName>(
+    process: &mut Process,
+    book: &mut LockedBook<W>,
+    freed: Swept,
+    gate: &impl Gate,
+)
+    requires { CollectsSwept W.world process.old freed }
     ensures stands { ProcessStands W.world process.new }
     ensures same { HasSameLeft W.world.trace process.old.cell process.new.cell }
 {
     tell(process, gate, GatePlace::InBook);
-    end_collection(process, &mut book.book);
+    end_collection(process, &mut book.book, freed);
 }
 
 impl<W: WorldName> LockedProcess<W> {
-    /// Does `collect`. It holds the book where the collection begins and where it ends.
+    /// Does `collect`. It holds the book where the collection begins and where it ends; the heap is marked and swept in between.
     pub(crate) fn collect(&mut self, rt: &impl Wait, book: &Mutex<LockedBook<W>>, gate: &impl Gate)
         requires { ComesNext W.world.trace self.old Collect }
         ensures { HasDone W.world.trace Collect self.old self.new }
@@ -53,7 +60,8 @@ impl<W: WorldName> LockedProcess<W> {
         begin(&mut self.process, &mut take(rt, book), gate);
         tell(&self.process, gate, GatePlace::Marking);
         mark_collection(&mut self.process);
-        end(&mut self.process, &mut take(rt, book), gate);
+        let freed = sweep_collection(&mut self.process);
+        end(&mut self.process, &mut take(rt, book), freed, gate);
     }
 
     /// Does `exit`.

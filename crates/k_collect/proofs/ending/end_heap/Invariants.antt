@@ -5,3 +5,6 @@ ghost-meet_heap g a = g.trace
 
 abbrev pub ghost-sweep_heap : goal.ghost-sweep_heap
 ghost-sweep_heap g a = g.trace
+
+abbrev pub ghost-end_swept_heap : goal.ghost-end_swept_heap
+ghost-end_swept_heap g a = g.trace

@@ -6,5 +6,8 @@ ghost-begin_collection g a = g.world'
 abbrev pub ghost-mark_collection : goal.ghost-mark_collection
 ghost-mark_collection g a = g.world'
 
+abbrev pub ghost-sweep_collection : goal.ghost-sweep_collection
+ghost-sweep_collection g a = g.world'
+
 abbrev pub ghost-end_collection : goal.ghost-end_collection
 ghost-end_collection g a = g.world'

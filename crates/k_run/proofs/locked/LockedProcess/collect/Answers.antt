@@ -8,6 +8,7 @@ use Rattle.k_run.proofs.locked.LockedProcess.collect.Goals as goal
 pub returns : goal.returns
 returns g c =
     let t = g.W.WorldName.world.trace in
-    subst (λ (x : HeapRecord). HasDone t Collect x c.end.new.process.cell) c.self.view_is
-    (done_before t Collect c.self.inside.process.cell c.mark_collection.new.process.cell c.end.new.process.cell
-    (done_before t Collect c.self.inside.process.cell c.begin.new.process.cell c.mark_collection.new.process.cell c.begin.ensures.done c.mark_collection.ensures.same) c.end.ensures.same)
+    let marked = done_before t Collect c.self.inside.process.cell c.begin.new.process.cell c.mark_collection.new.process.cell c.begin.ensures.done c.mark_collection.ensures.same in
+    let swept = done_before t Collect c.self.inside.process.cell c.mark_collection.new.process.cell c.sweep_collection-freed.new.process.cell marked c.sweep_collection-freed.ensures.same in
+    let ended = done_before t Collect c.self.inside.process.cell c.sweep_collection-freed.new.process.cell c.end.new.process.cell swept c.end.ensures.same in
+    subst (λ (x : HeapRecord). HasDone t Collect x c.end.new.process.cell) c.self.view_is ended

@@ -1,0 +1,60 @@
+-- A marked cell is swept alone, and its collection ends after it as it would have ended before.
+use Rattle.std.proofs.Common.{◌≡◌, ◌+◌, ◌-◌, ◌<◌, ◌^◌, sym, ap, ◌∙◌, subst, ◌++◌, length, arith}
+use Rattle.std.proofs.lemmas.List.{length-append}
+use Rattle.k_types.specs.declared.event.Event.{Event}
+use Rattle.k_types.specs.declared.names.Heap.TheVariants.{User}
+use Rattle.k_types.specs.Agree.{CellValue}
+use Rattle.k_types.specs.Cells.{Cell}
+use Rattle.k_types.specs.Trace.{Trace}
+use Rattle.k_mark.specs.declared.sweeping.Swept.{Swept}
+use Rattle.k_tie.specs.Values.{NoteValue}
+use Rattle.k_agree.specs.Ending.{freed_bytes, freed_objects}
+use Rattle.k_agree.specs.Meeting.{met_note}
+use Rattle.k_book.specs.Books.{BookRecord}
+use Rattle.k_cell.specs.Changes.{with_black_alone}
+use Rattle.k_heap.specs.Heaps.{HeapRecord}
+use Rattle.k_commit.specs.Met.{HeapHasMet}
+use Rattle.k_collect.specs.Collecting.{CanEndHeap}
+use Rattle.k_collect.specs.Ended.{HasEndedHeap}
+use Rattle.k_collect.specs.SweptAlone.{CanSweepAlone, HasSweptAlone}
+use Rattle.k_collect.proofs.Ends.{ended_since}
+use Rattle.k_collect.proofs.Sizes.{freed_few, freed_light}
+
+-- the numbers of what goes fit, by what the cell has seen
+module _ (trace : Trace) (cell : Cell) (note : NoteValue) (v : CellValue) (can : CanSweepAlone trace cell note v) where
+  seen_few : length (note.list ++ v.tail) < 2 ^ 32 - 1
+  seen_few = let both = length-append note.list v.tail in let short = can.short in omega (arith, both, short)
+
+  pub objects_alone : freed_objects v < 2 ^ 32
+  objects_alone = let most = freed_few trace (note.list ++ v.tail) can.keeps can.agrees.legal cell v can.agrees.shows in omega (arith, most, seen_few)
+
+  pub bytes_alone : freed_bytes v < 2 ^ 40
+  bytes_alone = let most = freed_light trace (note.list ++ v.tail) can.keeps can.agrees.legal cell v can.agrees.shows in omega (arith, most, seen_few)
+
+-- the cell meets the journal, is swept, and its collection ends
+module _ (trace : Trace) (c d : HeapRecord) (b k : BookRecord) (can : CanEndHeap trace c b) (met : HeapHasMet trace c d b k) where
+  short_met : length b.journal.list + length c.value.tail < 2 ^ 32 - 1
+  short_met = let none = ap length can.collects.settled in let few = met.told.few in let room = can.room met.told.fits in omega (arith, none, few, room)
+
+  pub can_sweep_met : CanSweepAlone trace (User d.pid) d.note d.value
+  can_sweep_met = subst (λ (y : HeapRecord). CanSweepAlone trace (User y.pid) y.note y.value) (sym met.cell_is)
+      (record { keeps = can.book_stands.keeps; agrees = met.told.shows.agrees; marked = can.collects.in_phase; short = short_met })
+
+  pub can_end_met : CanEndHeap trace d k
+  can_end_met = subst (λ (y : BookRecord). CanEndHeap trace d y) (sym met.book_is)
+      (subst (λ (y : HeapRecord). CanEndHeap trace y b) (sym met.cell_is)
+      (record {
+        book_stands = can.book_stands;
+        collects = record { agrees = met.told.shows.agrees; table = can.collects.table; settled = can.collects.settled; in_phase = can.collects.in_phase };
+        room = λ _. can.room met.told.fits;
+      }))
+
+  module _ (s w : HeapRecord) (l : BookRecord) (freed : Swept) (e : Event) (sweeps : HasSweptAlone d s freed) where
+    swept_since : s ≡ record c { note = met_note b.journal c.note; value = with_black_alone c.value }
+    swept_since = sweeps.cell_is ∙ ap (λ (y : HeapRecord). record y { value = with_black_alone y.value }) met.cell_is
+
+    pub ended_at_last : HasEndedHeap trace s w k l e → HasEndedHeap trace c w b l e
+    ended_at_last ended =
+        ended_since trace c w (met_note b.journal c.note) c.note (with_black_alone c.value) c.value b l e
+        (subst (λ (y : BookRecord). HasEndedHeap trace (record c { note = met_note b.journal c.note; value = with_black_alone c.value }) w y l e) met.book_is
+        (subst (λ (y : HeapRecord). HasEndedHeap trace y w k l e) swept_since ended))

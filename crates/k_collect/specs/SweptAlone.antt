@@ -1,0 +1,42 @@
+-- The sweep of a marked cell, and the end of its collection after it.
+use Rattle.std.specs.Prelude.{◌≡◌, ◌+◌, ◌-◌, ◌<◌, ◌^◌, length}
+use Rattle.k_types.specs.declared.names.CellPhase.TheVariants.{Marked}
+use Rattle.k_types.specs.Agree.{CellValue}
+use Rattle.k_types.specs.Cells.{Cell}
+use Rattle.k_types.specs.Trace.{Trace}
+use Rattle.k_types.specs.TraceRules.{KeepsRules}
+use Rattle.k_mark.specs.declared.sweeping.Swept.{Swept}
+use Rattle.k_tie.specs.Values.{NoteValue}
+use Rattle.k_agree.specs.Agreement.{Agrees}
+use Rattle.k_agree.specs.Ending.{freed_bytes, freed_objects}
+use Rattle.k_agree.specs.Meeting.{Fits, met_note}
+use Rattle.k_book.specs.Books.{BookRecord}
+use Rattle.k_cell.specs.Changes.{with_black_alone}
+use Rattle.k_heap.specs.Heaps.{HeapRecord}
+use Rattle.k_collect.specs.Collecting.{CanEndHeap}
+
+-- the cell agrees and is marked, and it has seen so few events that the objects of its heap can be counted
+pub record CanSweepAlone (trace : Trace) (cell : Cell) (note : NoteValue) (value : CellValue) : Type 0 where
+  pub keeps : KeepsRules trace
+  pub agrees : Agrees trace cell note value
+  pub marked : value.collection ≡ Marked
+  pub short : length note.list + length value.tail < 2 ^ 32 - 1
+
+-- the process's cell has its black objects alone, nothing else of it has changed, and the numbers are those of the objects that went
+pub record HasSweptAlone (old_cell cell : HeapRecord) (freed : Swept) : Type 0 where
+  pub cell_is : cell ≡ record old_cell { value = with_black_alone old_cell.value }
+  pub objects : freed.objects ≡ freed_objects old_cell.value
+  pub bytes : freed.bytes ≡ freed_bytes old_cell.value
+
+-- the process's cell is one with which the collection could end, swept since, and the numbers are those of the objects that went
+pub record CanEndSwept (trace : Trace) (cell : HeapRecord) (book : BookRecord) (freed : Swept) : Type 0 where
+  pub before : HeapRecord
+  pub can : CanEndHeap trace before book
+  pub swept : HasSweptAlone before cell freed
+
+-- the note of the process's cell has met the journal of the book, whatever the cell shows, and nothing else has changed
+pub record NoteHasMet (old_cell cell : HeapRecord) (old_book book : BookRecord) : Type 0 where
+  pub cell_is : cell ≡ record old_cell { note = met_note old_book.journal old_cell.note }
+  pub book_is : book ≡ old_book
+  pub fits : Fits old_book.journal old_cell.note
+  pub few : old_book.event_room < 2 ^ 32
