@@ -1,8 +1,8 @@
 -- A marked cell is swept alone, and its collection ends after it as it would have ended before.
-use Rattle.std.proofs.Common.{◌≡◌, ◌+◌, ◌-◌, ◌<◌, ◌^◌, sym, ap, ◌∙◌, subst, ◌++◌, length, arith}
+use Rattle.std.proofs.Common.{◌≡◌, ◌+◌, ◌-◌, ◌<◌, ◌^◌, sym, ap, ◌∙◌, subst, [], ◌++◌, length, arith}
 use Rattle.std.proofs.lemmas.List.{length-append}
 use Rattle.k_types.specs.declared.event.Event.{Event}
-use Rattle.k_types.specs.declared.names.Heap.TheVariants.{User}
+use Rattle.k_types.specs.declared.names.Heap.TheVariants.{Kernel, User}
 use Rattle.k_types.specs.Agree.{CellValue}
 use Rattle.k_types.specs.Cells.{Cell}
 use Rattle.k_types.specs.Trace.{Trace}
@@ -12,12 +12,13 @@ use Rattle.k_agree.specs.Ending.{freed_bytes, freed_objects}
 use Rattle.k_agree.specs.Meeting.{met_note}
 use Rattle.k_book.specs.Books.{BookRecord}
 use Rattle.k_cell.specs.Changes.{with_black_alone}
+use Rattle.k_cell.specs.Holdings.{HoldingsValue}
 use Rattle.k_heap.specs.Heaps.{HeapRecord}
-use Rattle.k_commit.specs.Met.{HeapHasMet}
-use Rattle.k_collect.specs.Collecting.{CanEndHeap}
-use Rattle.k_collect.specs.Ended.{HasEndedHeap}
-use Rattle.k_collect.specs.SweptAlone.{CanSweepAlone, HasSweptAlone}
-use Rattle.k_collect.proofs.Ends.{ended_since}
+use Rattle.k_commit.specs.Met.{HeapHasMet, KernelHasMet}
+use Rattle.k_collect.specs.Collecting.{CanEndHeap, CanEndKernel}
+use Rattle.k_collect.specs.Ended.{HasEndedHeap, HasEndedKernel}
+use Rattle.k_collect.specs.SweptAlone.{CanSweepAlone, HasSweptAlone, KernelHasSweptAlone}
+use Rattle.k_collect.proofs.Ends.{ended_since, kernel_ended_since}
 use Rattle.k_collect.proofs.Sizes.{freed_few, freed_light}
 
 -- the numbers of what goes fit, by what the cell has seen
@@ -31,7 +32,7 @@ module _ (trace : Trace) (cell : Cell) (note : NoteValue) (v : CellValue) (can :
   pub bytes_alone : freed_bytes v < 2 ^ 40
   bytes_alone = let most = freed_light trace (note.list ++ v.tail) can.keeps can.agrees.legal cell v can.agrees.shows in omega (arith, most, seen_few)
 
--- the cell meets the journal, is swept, and its collection ends
+-- a process's cell meets the journal, is swept, and its collection ends
 module _ (trace : Trace) (c d : HeapRecord) (b k : BookRecord) (can : CanEndHeap trace c b) (met : HeapHasMet trace c d b k) where
   short_met : length b.journal.list + length c.value.tail < 2 ^ 32 - 1
   short_met = let none = ap length can.collects.settled in let few = met.told.few in let room = can.room met.told.fits in omega (arith, none, few, room)
@@ -58,3 +59,34 @@ module _ (trace : Trace) (c d : HeapRecord) (b k : BookRecord) (can : CanEndHeap
         ended_since trace c w (met_note b.journal c.note) c.note (with_black_alone c.value) c.value b l e
         (subst (λ (y : BookRecord). HasEndedHeap trace (record c { note = met_note b.journal c.note; value = with_black_alone c.value }) w y l e) met.book_is
         (subst (λ (y : HeapRecord). HasEndedHeap trace y w k l e) swept_since ended))
+
+-- the same of the kernel's cell
+module _ (trace : Trace) (c d : HoldingsValue) (b k : BookRecord) (can : CanEndKernel trace c b) (met : KernelHasMet trace c d b k) where
+  kernel_settled : c.value.tail ≡ []
+  kernel_settled = can.collects.agrees.tail
+
+  kernel_short : length b.journal.list + length c.value.tail < 2 ^ 32 - 1
+  kernel_short = let none = ap length kernel_settled in let few = met.told.few in let room = can.room met.told.fits in omega (arith, none, few, room)
+
+  pub kernel_can_sweep_met : CanSweepAlone trace Kernel d.note d.value
+  kernel_can_sweep_met = subst (λ (y : HoldingsValue). CanSweepAlone trace Kernel y.note y.value) (sym met.kernel_is)
+      (record { keeps = can.book_stands.keeps; agrees = met.told.shows.agrees; marked = can.collects.in_phase; short = kernel_short })
+
+  pub kernel_can_end_met : CanEndKernel trace d k
+  kernel_can_end_met = subst (λ (y : BookRecord). CanEndKernel trace d y) (sym met.book_is)
+      (subst (λ (y : HoldingsValue). CanEndKernel trace y b) (sym met.kernel_is)
+      (record {
+        book_stands = can.book_stands;
+        collects = record { agrees = met.told.shows.agrees; table = can.collects.table; in_phase = can.collects.in_phase };
+        room = λ _. can.room met.told.fits;
+      }))
+
+  module _ (s w : HoldingsValue) (l : BookRecord) (freed : Swept) (e : Event) (sweeps : KernelHasSweptAlone d s freed) where
+    kernel_swept_since : s ≡ record c { note = met_note b.journal c.note; value = with_black_alone c.value }
+    kernel_swept_since = sweeps.kernel_is ∙ ap (λ (y : HoldingsValue). record y { value = with_black_alone y.value }) met.kernel_is
+
+    pub kernel_ended_at_last : HasEndedKernel trace s w k l e → HasEndedKernel trace c w b l e
+    kernel_ended_at_last ended =
+        kernel_ended_since trace c w (met_note b.journal c.note) c.note (with_black_alone c.value) c.value b l e
+        (subst (λ (y : BookRecord). HasEndedKernel trace (record c { note = met_note b.journal c.note; value = with_black_alone c.value }) w y l e) met.book_is
+        (subst (λ (y : HoldingsValue). HasEndedKernel trace y w k l e) kernel_swept_since ended))

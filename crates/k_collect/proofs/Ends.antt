@@ -44,10 +44,10 @@ use Rattle.k_commit.specs.Met.{FitsTheBook}
 use Rattle.k_collect.specs.Collecting.{CanEndHeap, CanEndKernel}
 use Rattle.k_collect.specs.Ended.{HasEndedHeap, HasEndedKernel, HaveWhatIsLeft}
 use Rattle.k_collect.specs.Leaving.{HasItsEntries}
-use Rattle.k_collect.specs.Sweeping.{CanSweep, HasSweptKernel, IsSwept, owners_now}
 use Rattle.k_collect.specs.Unsharing.{CanUnshare, HasUnshared, bytes_lost, has_way_by, shares_lost, ways_left}
+use Rattle.k_collect.proofs.WhatGoes.{CanSweep, HasSweptHeap, HasSweptKernel, IsSwept, owners_now}
 use Rattle.k_collect.proofs.Roots.{registers_all}
-use Rattle.k_collect.proofs.Sizes.{credit_is_charged, freed_few, freed_light, freed_own, unshared_light}
+use Rattle.k_collect.proofs.Sizes.{credit_is_charged, freed_light, freed_own, unshared_light}
 use Rattle.k_collect.proofs.Unshared.{same_bytes_lost}
 use Rattle.k_collect.proofs.Ways.{way_kept}
 use Rattle.k_types.specs.declared.names.LimitId.{LimitId}
@@ -57,15 +57,6 @@ absorbed_is Unmade e = absurd (false≢true e)
 absorbed_is (Populating q) e = absurd (false≢true e)
 absorbed_is (Frozen root) e = absurd (false≢true e)
 absorbed_is Absorbed e = refl
-
--- the process's cell is swept, the book has settled with it, and the event has the numbers of what went
-pub record HasSweptHeap (trace : Trace) (old_cell cell : HeapRecord) (old_book book : BookRecord) (event : Event) : Type 0 where
-  pub cell_is : cell ≡ record old_cell { value = cell.value }
-  pub swept : IsSwept old_cell.value cell.value
-  pub book_is : book ≡ record old_book { value = book.value }
-  pub settled : HasSettledWith trace (owners_now trace old_book) old_cell.pid.0 old_cell.value old_book.value book.value
-  pub event_is : event ≡ Ended (User old_cell.pid) (freed_objects old_cell.value) (freed_bytes old_cell.value) (dropped_exits old_cell.value)
-      (dropped_shares trace (owners_now trace old_book) old_book.value old_cell.value old_cell.pid.0)
 
 -- a cell that has met the journal and is marked, of whatever heap
 module _ (trace : Trace) (cell : Cell) (note : NoteValue) (v : CellValue) (b : BookRecord) (can : CanSweep trace cell note v b) where
@@ -77,9 +68,6 @@ module _ (trace : Trace) (cell : Cell) (note : NoteValue) (v : CellValue) (b : B
 
   pub events_few : length b.journal.list < 2 ^ 32 - 1
   events_few = let few = can.few in let room = can.room in omega (arith, few, room)
-
-  pub objects_fit : freed_objects v < 2 ^ 32
-  objects_fit = let most = freed_few trace b.journal.list can.book_stands.keeps can.book_stands.agrees.legal cell v can.after.shows in omega (arith, most, events_few)
 
   pub bytes_small : freed_bytes v < 2 ^ 40
   bytes_small = let most = freed_light trace b.journal.list can.book_stands.keeps can.book_stands.agrees.legal cell v can.after.shows in omega (arith, most, events_few)
@@ -403,8 +391,9 @@ ended_since trace c w n m u v b k e h = record {
   left = h.left;
 }
 
-kernel_since_met : (trace : Trace) (c w : HoldingsValue) (note : NoteValue) (b k : BookRecord) (e : Event) → HasEndedKernel trace (record c { note = note }) w b k e → HasEndedKernel trace c w b k e
-kernel_since_met trace c w note b k e h = record {
+pub kernel_ended_since : (trace : Trace) (c w : HoldingsValue) (n m : NoteValue) (u v : CellValue) (b k : BookRecord) (e : Event) → HasEndedKernel trace (record c { note = n; value = u }) w b k e →
+    HasEndedKernel trace (record c { note = m; value = v }) w b k e
+kernel_ended_since trace c w n m u v b k e h = record {
   objects = h.objects;
   bytes = h.bytes;
   exits = h.exits;
@@ -449,5 +438,5 @@ module _ (trace : Trace) (c : HoldingsValue) (b : BookRecord) (can : CanEndKerne
 
   pub kernel_has_ended : HasEndedKernel trace c (record w { note = note_after event w.note }) b (record k { journal = journal_after event (w.note.cell ∷ []) k.journal }) event
   kernel_has_ended =
-      kernel_since_met trace c (record w { note = note_after event w.note }) (met_note b.journal c.note) b (record k { journal = journal_after event (w.note.cell ∷ []) k.journal }) event
+      kernel_ended_since trace c (record w { note = note_after event w.note }) (met_note b.journal c.note) c.note c.value c.value b (record k { journal = journal_after event (w.note.cell ∷ []) k.journal }) event
       (kernel_ends_so trace (record c { note = met_note b.journal c.note }) b (kernel_can_be_swept trace c b can told) w k event swept_is can.collects.table can.collects.agrees.tail)

@@ -8,6 +8,7 @@ pub mod Ways
 pub mod Sizes
 pub mod Begins
 pub mod KernelBegins
+pub mod WhatGoes
 pub mod Ends
 pub mod Alone
 pub mod Settles

@@ -13,6 +13,7 @@ use Rattle.k_types.specs.State.{has_share}
 use Rattle.k_types.specs.Trace.{Trace, limit_of}
 use Rattle.k_base.specs.Distinct.{AreDistinctNames}
 use Rattle.k_mark.specs.declared.sweeping.Swept.{Swept}
+use Rattle.k_tie.specs.Values.{NoteValue}
 use Rattle.k_agree.specs.Committing.{journal_after, note_after}
 use Rattle.k_agree.specs.Ending.{HasLeft, bytes_unshared, dropped, dropped_exits, dropped_shares, freed_bytes, freed_objects, keeps_way, swept}
 use Rattle.k_agree.specs.Meeting.{Fits, met_note}
@@ -24,12 +25,12 @@ use Rattle.k_cell.specs.Holdings.{HoldingsValue}
 use Rattle.k_heap.specs.Heaps.{HeapRecord}
 use Rattle.k_commit.specs.Met.{FitsTheBook}
 use Rattle.k_commit.proofs.Meetings.{told_by}
-use Rattle.k_collect.specs.Ended.{HasEndedHeap}
+use Rattle.k_collect.specs.Ended.{HasEndedHeap, HasEndedKernel}
 use Rattle.k_collect.specs.Leaving.{HasItsEntries, HasLeftUnmarked}
-use Rattle.k_collect.specs.Sweeping.{CanSweep, HasSweptKernel, IsSwept, owners_now}
-use Rattle.k_collect.specs.SweptAlone.{CanEndSwept, NoteHasMet}
+use Rattle.k_collect.specs.SweptAlone.{CanEndSwept, CanEndSweptKernel, KernelNoteHasMet, NoteHasMet}
 use Rattle.k_collect.specs.Unsharing.{CanUnshare, HasUnshared, bytes_lost, shares_lost, ways_left}
-use Rattle.k_collect.proofs.Ends.{HasSweptHeap, book_alone, can_unshare, credit_fits, credit_within, ended_since, entries_there, heap_can_be_swept, heap_has_ended, heap_list, heap_room, heap_table, known, limit_there, limit_told, lost_bytes, lost_shares, settles, ways_same}
+use Rattle.k_collect.proofs.WhatGoes.{CanSweep, HasSweptHeap, HasSweptKernel, IsSwept, owners_now}
+use Rattle.k_collect.proofs.Ends.{book_alone, can_unshare, credit_fits, credit_within, ended_since, entries_there, heap_can_be_swept, heap_has_ended, heap_list, heap_room, heap_table, kernel_can_be_swept, kernel_ended_since, kernel_has_ended, kernel_list, kernel_room, kernel_table, known, limit_there, limit_told, lost_bytes, lost_shares, settles, ways_same}
 use Rattle.k_collect.proofs.Unshared.{same_bytes_lost, same_shares_lost, same_unshared}
 
 -- the cell without marks
@@ -61,9 +62,9 @@ pub kernel_ended_same : {a b c u v w : ℕ} → a ≡ u → b ≡ v → c ≡ w 
 kernel_ended_same e f g = cc
 
 -- what the append of the end asks of cell and book
-pub record CanAppendTo (cell : HeapRecord) (book : BookRecord) : Type 0 where
-  pub table : cell.note.table ≡ book.journal.table
-  pub list : cell.note.list ≡ book.journal.list
+pub record CanAppendTo (note : NoteValue) (book : BookRecord) : Type 0 where
+  pub table : note.table ≡ book.journal.table
+  pub list : note.list ≡ book.journal.list
   pub room : length book.journal.list < book.event_room
 
 -- a process's cell that was swept alone and then met the journal
@@ -200,7 +201,7 @@ module _ (trace : Trace) (x : HeapRecord) (o : BookRecord) (freed : Swept) (n : 
               goes_since : HasSweptHeap trace c e o last event
               goes_since = subst (λ (y : BookRecord). HasSweptHeap trace c e y last event) met.book_is goes
 
-              pub can_append : CanAppendTo e last
+              pub can_append : CanAppendTo e.note last
               can_append = record {
                 table = heap_table trace n.before o n.can told e last event goes_since;
                 list = heap_list trace n.before o n.can told e last event goes_since;
@@ -218,21 +219,69 @@ module _ (trace : Trace) (x : HeapRecord) (o : BookRecord) (freed : Swept) (n : 
                   subst (λ (y : HeapRecord). HasEndedHeap trace y then o after event) (sym n.swept.cell_is)
                   (ended_since trace n.before then n.before.note n.before.note n.before.value (with_black_alone n.before.value) o after event (heap_has_ended trace n.before o n.can told e last event goes_since))
 
--- the kernel's
-module _ (trace : Trace) (c : HoldingsValue) (b : BookRecord) (s l e : HoldingsValue) (k : BookRecord) (sweeps : s ≡ record c { value = with_black_alone c.value })
-    (left_rest : l ≡ record s { value = l.value }) (left : HasLeftUnmarked s.value l.value) (distinct : AreDistinctNames s.value.exits) (changes : ChangesEntries b k)
-    (entries : HasLeft (dropped s.value) b.value k.value) (ends : e ≡ record l { value = without_marks l.value }) where
-  kernel_alone : e ≡ record c { value = e.value }
-  kernel_alone =
-      let is : e ≡ record c { value = without_marks l.value } =
-      ends ∙ ap (λ (x : HoldingsValue). record x { value = without_marks l.value }) left_rest ∙ ap (λ (x : HoldingsValue). record x { value = without_marks l.value }) sweeps in
-      is ∙ sym (ap (λ (x : HoldingsValue). record c { value = x.value }) is)
+-- the same of the kernel's cell
+module _ (trace : Trace) (x : HoldingsValue) (o : BookRecord) (freed : Swept) (n : CanEndSweptKernel trace x o freed) where
+  pub kernel_note_table : x.note.table ≡ o.journal.table
+  kernel_note_table = ap (λ (y : HoldingsValue). y.note.table) n.swept.kernel_is ∙ n.can.collects.table
 
-  pub sweeps_kernel : (event : Event) → event ≡ Ended Kernel (freed_objects c.value) (freed_bytes c.value) (dropped_exits c.value) 0 → HasSweptKernel trace c e b k event
-  sweeps_kernel event is = record {
-    kernel_is = kernel_alone;
-    swept = swept_value c.value s.value l.value e.value (ap (λ (x : HoldingsValue). x.value) sweeps) left distinct (ap (λ (x : HoldingsValue). x.value) ends);
-    book_is = changes;
-    left = subst (λ (x : CellValue). HasLeft (dropped x) b.value k.value) (ap (λ (x : HoldingsValue). x.value) sweeps) entries;
-    event_is = is;
-  }
+  module _ (s : HoldingsValue) (b : BookRecord) (met : KernelNoteHasMet x s o b) where
+    abbrev kernel : HoldingsValue
+    kernel = record n.before { note = met_note o.journal n.before.note }
+
+    kernel_told : FitsTheBook trace Kernel n.before.note n.before.value o
+    kernel_told = told_by trace Kernel n.before.note n.before.value o (record { agrees = n.can.collects.agrees; book_agrees = n.can.book_stands.agrees; table = n.can.collects.table })
+        (subst (λ (y : HoldingsValue). Fits o.journal y.note) n.swept.kernel_is met.fits) met.few
+
+    kernel_can : CanSweep trace Kernel kernel.note kernel.value b
+    kernel_can = subst (λ (y : BookRecord). CanSweep trace Kernel (met_note o.journal n.before.note) n.before.value y) (sym met.book_is) (kernel_can_be_swept trace n.before o n.can kernel_told)
+
+    kernel_sweeps : s ≡ record kernel { value = with_black_alone kernel.value }
+    kernel_sweeps = met.kernel_is ∙ ap (λ (y : HoldingsValue). record y { note = met_note o.journal y.note }) n.swept.kernel_is
+
+    pub kernel_marked_still : s.value.collection ≡ Marked
+    kernel_marked_still = ap (λ (y : HoldingsValue). y.value.collection) kernel_sweeps ∙ n.can.collects.in_phase
+
+    pub kernel_entries_still : HasItsEntries s.value b.value
+    kernel_entries_still m there = entries_there trace Kernel kernel.note kernel.value b kernel_can m (sym (ap (λ (y : HoldingsValue). name_among m y.value.exits) kernel_sweeps) ∙ there)
+
+    module _ (l e : HoldingsValue) (k : BookRecord) (left_rest : l ≡ record s { value = l.value }) (left : HasLeftUnmarked s.value l.value) (distinct : AreDistinctNames s.value.exits) (changes : ChangesEntries b k)
+        (entries : HasLeft (dropped s.value) b.value k.value) (ends : e ≡ record l { value = without_marks l.value }) (exits : ℕ) (exits_is : exits ≡ dropped_exits s.value) where
+      kernel_alone : e ≡ record kernel { value = e.value }
+      kernel_alone =
+          let is : e ≡ record kernel { value = without_marks l.value } =
+          ends ∙ ap (λ (x : HoldingsValue). record x { value = without_marks l.value }) left_rest ∙ ap (λ (x : HoldingsValue). record x { value = without_marks l.value }) kernel_sweeps in
+          is ∙ sym (ap (λ (x : HoldingsValue). record kernel { value = x.value }) is)
+
+      abbrev kernel_event : Event
+      kernel_event = Ended Kernel freed.objects freed.bytes exits 0
+
+      kernel_goes : HasSweptKernel trace kernel e b k kernel_event
+      kernel_goes = record {
+        kernel_is = kernel_alone;
+        swept = swept_value kernel.value s.value l.value e.value (ap (λ (x : HoldingsValue). x.value) kernel_sweeps) left distinct (ap (λ (x : HoldingsValue). x.value) ends);
+        book_is = changes;
+        left = subst (λ (x : CellValue). HasLeft (dropped x) b.value k.value) (ap (λ (x : HoldingsValue). x.value) kernel_sweeps) entries;
+        event_is = kernel_ended_same n.swept.objects n.swept.bytes (exits_is ∙ ap (λ (y : HoldingsValue). dropped_exits y.value) kernel_sweeps);
+      }
+
+      kernel_goes_since : HasSweptKernel trace kernel e o k kernel_event
+      kernel_goes_since = subst (λ (y : BookRecord). HasSweptKernel trace kernel e y k kernel_event) met.book_is kernel_goes
+
+      pub kernel_can_append : CanAppendTo e.note k
+      kernel_can_append = record {
+        table = kernel_table trace n.before o n.can kernel_told e k kernel_event kernel_goes_since;
+        list = kernel_list trace n.before o n.can kernel_told e k kernel_event kernel_goes_since;
+        room = kernel_room trace n.before o n.can kernel_told e k kernel_event kernel_goes_since;
+      }
+
+      abbrev kernel_then : HoldingsValue
+      kernel_then = record e { note = note_after kernel_event e.note }
+
+      abbrev kernel_after : BookRecord
+      kernel_after = record k { journal = journal_after kernel_event (e.note.cell ∷ []) k.journal }
+
+      pub kernel_swept_has_ended : HasEndedKernel trace x kernel_then o kernel_after kernel_event
+      kernel_swept_has_ended =
+          subst (λ (y : HoldingsValue). HasEndedKernel trace y kernel_then o kernel_after kernel_event) (sym n.swept.kernel_is)
+          (kernel_ended_since trace n.before kernel_then n.before.note n.before.note n.before.value (with_black_alone n.before.value) o kernel_after kernel_event
+          (kernel_has_ended trace n.before o n.can kernel_told e k kernel_event kernel_goes_since))

@@ -5,6 +5,5 @@ pub mod Unsharing
 pub mod Collecting
 pub mod SweptAlone
 pub mod Begun
-pub mod Sweeping
 pub mod Ended
 pub mod Settling

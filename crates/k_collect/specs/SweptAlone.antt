@@ -12,8 +12,9 @@ use Rattle.k_agree.specs.Ending.{freed_bytes, freed_objects}
 use Rattle.k_agree.specs.Meeting.{Fits, met_note}
 use Rattle.k_book.specs.Books.{BookRecord}
 use Rattle.k_cell.specs.Changes.{with_black_alone}
+use Rattle.k_cell.specs.Holdings.{HoldingsValue}
 use Rattle.k_heap.specs.Heaps.{HeapRecord}
-use Rattle.k_collect.specs.Collecting.{CanEndHeap}
+use Rattle.k_collect.specs.Collecting.{CanEndHeap, CanEndKernel}
 
 -- the cell agrees and is marked, and it has seen so few events that the objects of its heap can be counted
 pub record CanSweepAlone (trace : Trace) (cell : Cell) (note : NoteValue) (value : CellValue) : Type 0 where
@@ -28,15 +29,34 @@ pub record HasSweptAlone (old_cell cell : HeapRecord) (freed : Swept) : Type 0 w
   pub objects : freed.objects ≡ freed_objects old_cell.value
   pub bytes : freed.bytes ≡ freed_bytes old_cell.value
 
+-- the same of the kernel's cell
+pub record KernelHasSweptAlone (old_kernel kernel : HoldingsValue) (freed : Swept) : Type 0 where
+  pub kernel_is : kernel ≡ record old_kernel { value = with_black_alone old_kernel.value }
+  pub objects : freed.objects ≡ freed_objects old_kernel.value
+  pub bytes : freed.bytes ≡ freed_bytes old_kernel.value
+
 -- the process's cell is one with which the collection could end, swept since, and the numbers are those of the objects that went
 pub record CanEndSwept (trace : Trace) (cell : HeapRecord) (book : BookRecord) (freed : Swept) : Type 0 where
   pub before : HeapRecord
   pub can : CanEndHeap trace before book
   pub swept : HasSweptAlone before cell freed
 
+-- the same of the kernel's cell
+pub record CanEndSweptKernel (trace : Trace) (kernel : HoldingsValue) (book : BookRecord) (freed : Swept) : Type 0 where
+  pub before : HoldingsValue
+  pub can : CanEndKernel trace before book
+  pub swept : KernelHasSweptAlone before kernel freed
+
 -- the note of the process's cell has met the journal of the book, whatever the cell shows, and nothing else has changed
 pub record NoteHasMet (old_cell cell : HeapRecord) (old_book book : BookRecord) : Type 0 where
   pub cell_is : cell ≡ record old_cell { note = met_note old_book.journal old_cell.note }
   pub book_is : book ≡ old_book
   pub fits : Fits old_book.journal old_cell.note
+  pub few : old_book.event_room < 2 ^ 32
+
+-- the note of the kernel's cell has met it, and nothing else has changed
+pub record KernelNoteHasMet (old_kernel kernel : HoldingsValue) (old_book book : BookRecord) : Type 0 where
+  pub kernel_is : kernel ≡ record old_kernel { note = met_note old_book.journal old_kernel.note }
+  pub book_is : book ≡ old_book
+  pub fits : Fits old_book.journal old_kernel.note
   pub few : old_book.event_room < 2 ^ 32

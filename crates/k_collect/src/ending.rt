@@ -1,15 +1,13 @@
 //! The ends of collections.
 ghost use Rattle.std.specs.Prelude.{◌≡◌};
 ghost use Rattle.k_types.specs.Trace.{Trace};
-ghost use Rattle.k_types.specs.declared.names.Heap.TheVariants.{Kernel};
 ghost use Rattle.k_agree.specs.Meeting.{Fits};
 ghost use Rattle.k_collect.specs.Collecting.{CanEndHeap, CanEndKernel};
 ghost use Rattle.k_collect.specs.Ended.{HasEndedHeap, HasEndedKernel};
-ghost use Rattle.k_collect.specs.Sweeping.{CanSweep, HasSweptKernel};
-ghost use Rattle.k_collect.specs.SweptAlone.{CanEndSwept, NoteHasMet};
+ghost use Rattle.k_collect.specs.SweptAlone.{CanEndSwept, CanEndSweptKernel, KernelNoteHasMet, NoteHasMet};
 
 use crate::leaving::{leave_kernel_unmarked, leave_unmarked};
-use crate::sweeping::sweep_heap;
+use crate::sweeping::{sweep_heap, sweep_kernel};
 use crate::unsharing::drop_shares;
 use k_book::Book;
 use k_commit::{append_heap, append_kernel, meet_heap, meet_kernel};
@@ -66,26 +64,33 @@ pub fn end_heap(cell: &mut HeapCell, book: &mut Book) -> Event
     end_swept_heap(cell, book, freed)
 }
 
-/// Sweeps the kernel's heap and leaves its exit items that are not marked. It answers the event that says so.
-fn sweep_kernel(kernel: &mut KernelCell, book: &mut Book) -> Event
-    ghost trace: { Trace }
-    requires { CanSweep trace Kernel kernel.old.note kernel.old.value book.old }
-    ensures { HasSweptKernel trace kernel.old kernel.new book.old book.new result }
+/// The note of the kernel's cell meets the journal, whatever the cell shows. Constant time.
+fn meet_kernel_note(kernel: &mut KernelCell, book: &mut Book)
+    requires { kernel.old.note.table ≡ book.old.journal.table }
+    ensures { KernelNoteHasMet kernel.old kernel.new book.old book.new }
 {
-    let mut freed = Swept {
-        objects: 0,
-        bytes: 0,
-    };
-    kernel.sweep(&mut freed);
+    book.meet(kernel.note_mut());
+}
+
+/// Ends the collection of the kernel's heap, which is swept already: the exit items that are not marked go. It answers the event that
+/// it appended. The cost is in proportion to the exit items; it does not depend on the objects.
+pub fn end_swept_kernel(kernel: &mut KernelCell, book: &mut Book, freed: Swept) -> Event
+    ghost trace: { Trace }
+    requires { CanEndSweptKernel trace kernel.old book.old freed }
+    ensures { HasEndedKernel trace kernel.old kernel.new book.old book.new result }
+{
+    meet_kernel_note(kernel, book);
     let exits_dropped = leave_kernel_unmarked(kernel, book);
     kernel.end_collection();
-    Event::Ended {
+    let event = Event::Ended {
         heap: Heap::Kernel,
         freed_objects: freed.objects,
         freed_bytes: freed.bytes,
         exits_dropped,
         shares_dropped: 0,
-    }
+    };
+    append_kernel(kernel, book, event);
+    event
 }
 
 /// Ends the collection of the kernel's heap: what is not marked goes. It answers the event that it appended. The cost is in
@@ -96,7 +101,6 @@ pub fn end_kernel(kernel: &mut KernelCell, book: &mut Book) -> Event
     ensures { HasEndedKernel trace kernel.old kernel.new book.old book.new result }
 {
     meet_kernel(kernel, book);
-    let event = sweep_kernel(kernel, book);
-    append_kernel(kernel, book, event);
-    event
+    let freed = sweep_kernel(kernel);
+    end_swept_kernel(kernel, book, freed)
 }

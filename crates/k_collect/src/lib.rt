@@ -3,8 +3,8 @@
 //!
 //! [`begin_heap`], [`begin_kernel`] and [`close_kernel`] make the roots gray while they are walked, and append the event that
 //! begins the collection. Marking is the cell's own work, under the lock of its heap alone ([`mark_heap`], [`mark_kernel`]), and so
-//! is the sweep of a process's heap ([`sweep_heap`]). [`end_swept_heap`] leaves the exit items that are not needed, drops shares
-//! without a way, credits what went, and appends the end; [`end_heap`] sweeps and does this, and so does [`end_kernel`].
+//! is the sweep ([`sweep_heap`], [`sweep_kernel`]). [`end_swept_heap`] and [`end_swept_kernel`] leave the exit items that are not
+//! needed, drop shares without a way and credit what went, and append the end; [`end_heap`] and [`end_kernel`] sweep first.
 //! [`settle_heap`] and [`settle_kernel`] end what is still open. No call takes memory.
 #![tactic(auto)]
 
@@ -18,7 +18,7 @@ mod sweeping;
 mod unsharing;
 
 pub use beginning::{begin_heap, begin_kernel, close_kernel};
-pub use ending::{end_heap, end_kernel, end_swept_heap};
+pub use ending::{end_heap, end_kernel, end_swept_heap, end_swept_kernel};
 pub use marking::{mark_heap, mark_kernel};
 pub use settling::{settle_heap, settle_kernel};
-pub use sweeping::sweep_heap;
+pub use sweeping::{sweep_heap, sweep_kernel};

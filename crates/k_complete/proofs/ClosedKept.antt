@@ -1,5 +1,5 @@
 -- The last collection of the kernel keeps what is asked at the end.
-use Rattle.std.proofs.Common.{◌≡◌, ◌≤◌, ◌++◌, ℕ, true, false, sym, ap, ap₂, ◌∙◌, subst, List, [], ◌∷◌, length, append-nil, append_assoc, filter, find, Some, None, is_some, IsTrue, if◌then◌else◌}
+use Rattle.std.proofs.Common.{◌≡◌, ◌≤◌, ◌++◌, ℕ, true, false, sym, ap, ap₂, ◌∙◌, subst, List, [], ◌∷◌, length, append-nil, append_assoc, filter, find, Some, None, is_some, IsTrue, if◌then◌else◌, arith}
 use Rattle.std.specs.List.{list_all}
 use Rattle.std.proofs.Math.Path.{fun_ext}
 use Rattle.std.proofs.lemmas.Bool.{false≢true}
@@ -39,7 +39,7 @@ use Rattle.k_process.specs.Worlds.{WorldValue}
 use Rattle.k_operate.specs.Absorbing.{HasAbsorbedOrphans}
 use Rattle.k_operate.specs.Collecting.{KernelCollects}
 use Rattle.k_operate.proofs.AbsorbKept.{first_is, first_told, sound_at_last}
-use Rattle.k_operate.proofs.Appended.{open_once_met, room_for, room_for_end, stands_on}
+use Rattle.k_operate.proofs.Appended.{journal_short, open_once_met, room_for, room_for_end, stands_on}
 use Rattle.k_collect.proofs.KernelBegins.{none_found}
 use Rattle.k_complete.specs.Closing.{CanCollectLast, HasClosedAll, HasCollectedLast}
 use Rattle.k_process.specs.Over.{BookEnds}
@@ -114,6 +114,10 @@ module _ (world : WorldValue) (k : HoldingsValue) (b : BookRecord) (can : CanCol
       agrees = s.kernel_goes_on.agrees;
       table = s.kernel_goes_on.table ∙ table_closed;
       in_phase = s.kernel_goes_on.in_phase;
+      short =
+          let few = journal_short world.trace l stands_closed first_closed in
+          let same = ap length s.kernel_goes_on.met.list in
+          omega (arith, few, same);
       exits = subst (λ (y : HoldingsValue). exit_room world.trace ≤ y.exit_room) (sym s.kernel_goes_on.kernel_is) can.kernel.exits;
       serials = subst (λ (y : HoldingsValue). CanGive world.trace y.serial_rooms 0) (sym s.kernel_goes_on.kernel_is) can.kernel.serials;
       numbers = subst (λ (y : HoldingsValue). segment_count world.trace ≤ y.bound) (sym s.kernel_goes_on.kernel_is) can.kernel.numbers;

@@ -1,5 +1,5 @@
 -- The pieces of a collection of the kernel's heap keep what the locks ask.
-use Rattle.std.proofs.Common.{◌≡◌, ◌≤◌, ◌++◌, refl, sym, ap, ◌∙◌, subst, List, [], ◌∷◌}
+use Rattle.std.proofs.Common.{◌≡◌, ◌-◌, ◌<◌, ◌^◌, ◌≤◌, ◌++◌, refl, sym, ap, ◌∙◌, subst, List, [], ◌∷◌, length, arith}
 use Rattle.k_types.specs.declared.event.Event.{Event}
 use Rattle.k_types.specs.declared.event.Event.TheVariants.{Done, Ended}
 use Rattle.k_types.specs.declared.event.Reply.TheVariants.{Done as DoneReply}
@@ -8,22 +8,26 @@ use Rattle.k_types.specs.declared.names.Heap.TheVariants.{Kernel}
 use Rattle.k_types.specs.declared.op.Op.{Op}
 use Rattle.k_types.specs.declared.op.Op.TheVariants.{KCollect}
 use Rattle.k_types.specs.Trace.{operations_of, segment_count}
+use Rattle.k_mark.specs.declared.sweeping.Swept.{Swept}
 use Rattle.k_agree.specs.Agreement.{Agrees}
 use Rattle.k_agree.specs.Rooms.{exit_room}
 use Rattle.k_bodies.specs.Bodies.{bodies_of}
 use Rattle.k_book.specs.Books.{BookRecord}
+use Rattle.k_cell.specs.Changes.{with_black_alone}
 use Rattle.k_cell.specs.Holdings.{HoldingsValue}
 use Rattle.k_heap.specs.Heaps.{HeapRecord}
 use Rattle.k_collect.specs.Begun.{HasAppended, HasBegunKernel}
 use Rattle.k_collect.specs.Collecting.{CanBeginKernel, CanEndKernel}
 use Rattle.k_collect.specs.Ended.{HasEndedKernel}
 use Rattle.k_collect.specs.Marking.{CanMark, HasMarkedOn}
+use Rattle.k_collect.specs.SweptAlone.{CanEndSweptKernel, CanSweepAlone, KernelHasSweptAlone}
+use Rattle.k_collect.proofs.Ends.{kernel_ended_since}
 use Rattle.k_locked.specs.Keeping.{BookKeeps, CanGive, HasHeapRooms, operations_left}
 use Rattle.k_locked.proofs.CanDo.{heap_stands}
 use Rattle.k_process.specs.declared.process.Process.{Process}
 use Rattle.k_process.specs.Worlds.{WorldValue}
-use Rattle.k_operate.specs.Collecting.{CanBeginKernelCollection, CanEndKernelCollection, HasBegunKernelCollection, HasEndedKernelCollection, KernelCollects}
-use Rattle.k_operate.proofs.Appended.{book_keeps_on, heap_keeps_by, in_turn, left_by_done, open_once_met, room_for_end}
+use Rattle.k_operate.specs.Collecting.{CanBeginKernelCollection, CanEndKernelCollection, HasBegunKernelCollection, HasEndedKernelCollection, KernelCollects, KernelCollectsSwept}
+use Rattle.k_operate.proofs.Appended.{book_keeps_on, heap_keeps_by, in_turn, journal_short, left_by_done, open_once_met, room_for_end}
 use Rattle.k_operate.proofs.Collected.{room_for_next}
 
 -- the beginning
@@ -59,6 +63,10 @@ module _ (world : WorldValue) (p : Process) (k : HoldingsValue) (b : BookRecord)
       agrees = s.kernel_goes_on.agrees;
       table = s.kernel_goes_on.table ∙ book_begun.table;
       in_phase = s.kernel_goes_on.in_phase;
+      short =
+          let few = journal_short world.trace l book_begun.stands book_begun.follows.operations in
+          let same = ap length s.kernel_goes_on.met.list in
+          omega (arith, few, same);
       exits = subst (λ (y : HoldingsValue). exit_room world.trace ≤ y.exit_room) (sym s.kernel_goes_on.kernel_is) n.kernel.exits;
       serials = subst (λ (y : HoldingsValue). CanGive world.trace y.serial_rooms 0) (sym s.kernel_goes_on.kernel_is) n.kernel.serials;
       numbers = subst (λ (y : HoldingsValue). segment_count world.trace ≤ y.bound) (sym s.kernel_goes_on.kernel_is) n.kernel.numbers;
@@ -94,36 +102,62 @@ module _ (world : WorldValue) (k : HoldingsValue) (h : KernelCollects world Begu
     agrees = subst (λ (y : HoldingsValue). Agrees world.trace Kernel y.note x.value) (sym is) m.agrees;
     table = ap (λ (y : HoldingsValue). y.note.table) is ∙ h.table;
     in_phase = m.phase;
+    short = subst (λ (y : HoldingsValue). length y.note.list < 2 ^ 32 - 1) (sym is) h.short;
     exits = subst (λ (y : HoldingsValue). exit_room world.trace ≤ y.exit_room) (sym is) h.exits;
     serials = subst (λ (y : HoldingsValue). CanGive world.trace y.serial_rooms 0) (sym is) h.serials;
     numbers = subst (λ (y : HoldingsValue). segment_count world.trace ≤ y.bound) (sym is) h.numbers;
   }
 
--- the end
-module _ (world : WorldValue) (k : HoldingsValue) (b : BookRecord) (n : CanEndKernelCollection world k b) where
-  pub can_end_kernel : CanEndKernel world.trace k b
-  can_end_kernel = record {
-    book_stands = n.book.stands;
-    collects = record { agrees = n.kernel.agrees; table = n.kernel.table ∙ sym n.book.table; in_phase = n.kernel.in_phase };
-    room = λ fits. room_for_end world.trace b Kernel n.book.stands n.book.follows.operations n.book.events (open_once_met world.trace b Kernel k.note k.value n.book.stands n.kernel.agrees n.kernel.agrees.tail n.kernel.in_phase fits);
+-- the sweep
+module _ (world : WorldValue) (k : HoldingsValue) (h : KernelCollects world Marked k) where
+  pub can_sweep_kernel : CanSweepAlone world.trace Kernel k.note k.value
+  can_sweep_kernel = record {
+    keeps = h.rules;
+    agrees = h.agrees;
+    marked = h.in_phase;
+    short =
+        let settled : k.value.tail ≡ [] = h.agrees.tail in
+        let none = ap length settled in
+        let few = h.short in
+        omega (arith, few, none);
+  }
+
+-- the end, of a cell that was not swept yet
+module _ (world : WorldValue) (k : HoldingsValue) (b : BookRecord) (h : KernelCollects world Marked k) (keeps : BookKeeps world.trace world.table b) where
+  can_end_unswept : CanEndKernel world.trace k b
+  can_end_unswept = record {
+    book_stands = keeps.stands;
+    collects = record { agrees = h.agrees; table = h.table ∙ sym keeps.table; in_phase = h.in_phase };
+    room = λ fits. room_for_end world.trace b Kernel keeps.stands keeps.follows.operations keeps.events (open_once_met world.trace b Kernel k.note k.value keeps.stands h.agrees h.agrees.tail h.in_phase fits);
   }
 
   module _ (x : HoldingsValue) (l : BookRecord) (event : Event) (s : HasEndedKernel world.trace k x b l event) where
     book_ended : BookKeeps world.trace world.table l
     book_ended = subst (λ e. HasAppended world.trace b l e → BookKeeps world.trace world.table l) (sym s.event_is)
-        (λ a. book_keeps_on world.trace world.table b l (Ended Kernel s.objects s.bytes s.exits 0) n.book a tt refl) s.appended
+        (λ a. book_keeps_on world.trace world.table b l (Ended Kernel s.objects s.bytes s.exits 0) keeps a tt refl) s.appended
 
-    pub has_ended_kernel : HasEndedKernelCollection world x b l
-    has_ended_kernel = record {
+    ended_unswept : HasEndedKernelCollection world x b l
+    ended_unswept = record {
       kernel = record {
-        rules = n.kernel.rules;
+        rules = h.rules;
         agrees = s.kernel_goes_on.agrees;
         table = s.kernel_goes_on.table ∙ book_ended.table;
         idle = s.kernel_goes_on.in_phase;
-        exits = subst (λ (y : HoldingsValue). exit_room world.trace ≤ y.exit_room) (sym s.kernel_goes_on.kernel_is) n.kernel.exits;
-        serials = subst (λ (y : HoldingsValue). CanGive world.trace y.serial_rooms 0) (sym s.kernel_goes_on.kernel_is) n.kernel.serials;
-        numbers = subst (λ (y : HoldingsValue). segment_count world.trace ≤ y.bound) (sym s.kernel_goes_on.kernel_is) n.kernel.numbers;
+        exits = subst (λ (y : HoldingsValue). exit_room world.trace ≤ y.exit_room) (sym s.kernel_goes_on.kernel_is) h.exits;
+        serials = subst (λ (y : HoldingsValue). CanGive world.trace y.serial_rooms 0) (sym s.kernel_goes_on.kernel_is) h.serials;
+        numbers = subst (λ (y : HoldingsValue). segment_count world.trace ≤ y.bound) (sym s.kernel_goes_on.kernel_is) h.numbers;
       };
       book = book_ended;
       events = record { objects = s.objects; bytes = s.bytes; exits = s.exits; shares = 0; new_is = s.appended.journal ∙ ap (λ e. b.journal.list ++ e ∷ []) s.event_is };
     }
+
+-- the end after the sweep
+module _ (world : WorldValue) (k : HoldingsValue) (b : BookRecord) (freed : Swept) (n : CanEndKernelCollection world k b freed) where
+  pub can_end_kernel : CanEndSweptKernel world.trace k b freed
+  can_end_kernel = record { before = n.kernel.before; can = can_end_unswept world n.kernel.before b n.kernel.kernel n.book; swept = n.kernel.swept }
+
+  pub has_ended_kernel : (x : HoldingsValue) (l : BookRecord) (event : Event) → HasEndedKernel world.trace k x b l event → HasEndedKernelCollection world x b l
+  has_ended_kernel x l event s =
+      ended_unswept world n.kernel.before b n.kernel.kernel n.book x l event
+      (kernel_ended_since world.trace n.kernel.before x n.kernel.before.note n.kernel.before.note (with_black_alone n.kernel.before.value) n.kernel.before.value b l event
+      (subst (λ (y : HoldingsValue). HasEndedKernel world.trace y x b l event) n.kernel.swept.kernel_is s))

@@ -16,7 +16,7 @@ use Rattle.k_book.specs.Books.{BookRecord}
 use Rattle.k_cell.specs.Holdings.{HoldingsValue}
 use Rattle.k_heap.specs.Heaps.{HeapRecord, own_segment}
 use Rattle.k_shares.specs.Sharers.{lowest_orphan}
-use Rattle.k_collect.specs.SweptAlone.{HasSweptAlone}
+use Rattle.k_collect.specs.SweptAlone.{HasSweptAlone, KernelHasSweptAlone}
 use Rattle.k_locked.specs.Keeping.{BookKeeps, CanGive, KernelKeeps, operations_left}
 use Rattle.k_process.specs.declared.process.Process.{Process}
 use Rattle.k_process.specs.Standing.{ComesNext, HasDone}
@@ -85,12 +85,14 @@ pub record HasEndedCollection (world : WorldValue) (old new : Process) (old_b b 
   pub same : HasSameLeft world.trace old.cell new.cell
   pub events : AddsEnd (User old.cell.pid) old_b.journal.list b.journal.list
 
--- the kernel stands as between operations, but its heap's collection is in this phase
+-- the kernel stands as between operations, but its heap's collection is in this phase; and it has seen so few events that the objects of its
+-- heap can be counted
 pub record KernelCollects (world : WorldValue) (phase : CellPhase) (k : HoldingsValue) : Type 0 where
   pub rules : KeepsRules world.trace
   pub agrees : Agrees world.trace Kernel k.note k.value
   pub table : k.note.table ≡ world.table
   pub in_phase : k.value.collection ≡ phase
+  pub short : length k.note.list < 2 ^ 32 - 1
   pub exits : exit_room world.trace ≤ k.exit_room
   pub serials : CanGive world.trace k.serial_rooms 0
   pub numbers : segment_count world.trace ≤ k.bound
@@ -109,9 +111,15 @@ pub record HasBegunKernelCollection (world : WorldValue) (old new : Process) (k 
   pub kernel : KernelCollects world Begun k
   pub events : AddsOne old.cell.pid KCollect old_b.journal.list b.journal.list
 
--- the kernel's heap is marked, and the book stands
-pub record CanEndKernelCollection (world : WorldValue) (k : HoldingsValue) (b : BookRecord) : Type 0 where
-  pub kernel : KernelCollects world Marked k
+-- the kernel's heap was marked and then swept, and the numbers are those of the objects that went
+pub record KernelCollectsSwept (world : WorldValue) (k : HoldingsValue) (freed : Swept) : Type 0 where
+  pub before : HoldingsValue
+  pub kernel : KernelCollects world Marked before
+  pub swept : KernelHasSweptAlone before k freed
+
+-- the kernel's heap is swept, and the book stands
+pub record CanEndKernelCollection (world : WorldValue) (k : HoldingsValue) (b : BookRecord) (freed : Swept) : Type 0 where
+  pub kernel : KernelCollectsSwept world k freed
   pub book : BookKeeps world.trace world.table b
 
 -- the end of the collection of the kernel's heap is in the journal, and kernel and book stand

@@ -6,7 +6,9 @@ ghost use Rattle.k_process.specs.Standing.{RestStands};
 ghost use Rattle.k_process.specs.Worlds.{WorldValue};
 ghost use Rattle.k_types.specs.declared.op.Op.TheVariants.{KCollect};
 
-use crate::collecting::{begin_kernel_collection, end_kernel_collection, mark_kernel_collection};
+use crate::collecting::{
+    begin_kernel_collection, end_kernel_collection, mark_kernel_collection, sweep_kernel_collection,
+};
 use k_book::Book;
 use k_kernel::KernelCell;
 use k_process::Process;
@@ -51,5 +53,6 @@ pub fn do_collect_kernel(
     absorb_orphans(shared, kernel, book);
     begin_kernel_collection(process, kernel, book);
     mark_kernel_collection(kernel);
-    end_kernel_collection(kernel, book);
+    let freed = sweep_kernel_collection(kernel);
+    end_kernel_collection(kernel, book, freed);
 }

@@ -1,21 +1,21 @@
 //! Collections of a process's heap and of the kernel's, from their beginning to their end.
 //!
-//! Each is made of pieces. The book is needed for the first and the last; between them a cell is marked alone, and a process's cell
-//! swept, and the events of other processes may come in between.
+//! Each is made of four pieces. The book is needed for the first and the last; marking and sweeping need their cell alone, and the
+//! events of other processes may come in between.
 ghost use Rattle.k_locked.specs.Keeping.{BookKeeps};
 ghost use Rattle.k_operate.specs.Adding.{AddsOperation, known_to};
-ghost use Rattle.k_operate.specs.Collecting.{CanBeginKernelCollection, CanEndCollection, CanEndKernelCollection, Collects, HasBegunCollection, HasBegunKernelCollection, HasEndedCollection, HasEndedKernelCollection, HasMarkedCollection, HasSweptCollection, IsNextAndSettled, KernelCollects};
+ghost use Rattle.k_operate.specs.Collecting.{CanBeginKernelCollection, CanEndCollection, CanEndKernelCollection, Collects, HasBegunCollection, HasBegunKernelCollection, HasEndedCollection, HasEndedKernelCollection, HasMarkedCollection, HasSweptCollection, IsNextAndSettled, KernelCollects, KernelCollectsSwept};
 ghost use Rattle.k_operate.specs.Steps.{HasDoneAlone};
 ghost use Rattle.k_process.specs.Worlds.{WorldValue};
 ghost use Rattle.k_types.specs.declared.names.CellPhase.TheVariants.{Begun, Marked};
 ghost use Rattle.k_types.specs.declared.op.Op.TheVariants.{Collect};
 
 use k_book::Book;
-use k_collect::{mark_heap, mark_kernel, sweep_heap};
+use k_collect::{mark_heap, mark_kernel, sweep_heap, sweep_kernel};
 use k_kernel::KernelCell;
 use k_mark::Swept;
 use k_process::Process;
-use k_steps::{begin_heap, begin_kernel, end_kernel, end_swept_heap};
+use k_steps::{begin_heap, begin_kernel, end_swept_heap, end_swept_kernel};
 
 /// Does the operation `collect`, with which the collection of the process's heap begins. The cost is in proportion to the exit items
 /// of the heap and to its entered and pinned objects.
@@ -89,12 +89,23 @@ pub fn mark_kernel_collection(kernel: &mut KernelCell)
     mark_kernel(kernel);
 }
 
-/// Ends the collection of the kernel's heap: what is not marked goes. The book may have new events of other processes since the
-/// collection began. The cost is in proportion to the objects that were live and the exit items.
-pub fn end_kernel_collection(kernel: &mut KernelCell, book: &mut Book)
+/// Frees the objects of the kernel's heap that are not marked, and answers what went. The cost is in proportion to the objects that
+/// were live.
+pub fn sweep_kernel_collection(kernel: &mut KernelCell) -> Swept
     ghost world: { WorldValue }
-    requires { CanEndKernelCollection world kernel.old book.old }
+    requires { KernelCollects world Marked kernel.old }
+    ensures { KernelCollectsSwept world kernel.new result }
+{
+    sweep_kernel(kernel)
+}
+
+/// Ends the collection of the kernel's heap, which is swept already: the exit items that are not marked go. The book may have new
+/// events of other processes since the collection began. The cost is in proportion to the exit items; it does not depend on the
+/// objects.
+pub fn end_kernel_collection(kernel: &mut KernelCell, book: &mut Book, freed: Swept)
+    ghost world: { WorldValue }
+    requires { CanEndKernelCollection world kernel.old book.old freed }
     ensures { HasEndedKernelCollection world kernel.new book.old book.new }
 {
-    end_kernel(kernel, book);
+    end_swept_kernel(kernel, book, freed);
 }

@@ -3,8 +3,8 @@
 //! [`do_inside`] does what needs the process's own heap alone and leaves its event unpublished; [`publish_all`] appends such events to
 //! the journal. All else needs the book: [`do_alone`], [`do_with_kernel`] and [`do_with_shared`] do an operation by a step,
 //! [`do_exit`] ends the process, and a collection is begun, marked, swept and ended by four calls, so that the book is free while the
-//! heap is marked and swept; that of the kernel's heap by three, of which the last sweeps. [`do_collect`] and [`do_collect_kernel`] join
-//! them, and [`do_next`] does any operation from its beginning to its end.
+//! heap is marked and swept. [`do_collect`] and [`do_collect_kernel`] join the four, and [`do_next`] does any operation from its
+//! beginning to its end.
 //! Each keeps what the locks ask of cells and book, and tells which events it adds.
 #![tactic(auto)]
 
@@ -17,7 +17,7 @@ mod stepping;
 pub use absorbing::{absorb_orphan, absorb_orphans, do_collect_kernel};
 pub use collecting::{
     begin_collection, begin_kernel_collection, do_collect, end_collection, end_kernel_collection,
-    mark_collection, mark_kernel_collection, sweep_collection,
+    mark_collection, mark_kernel_collection, sweep_collection, sweep_kernel_collection,
 };
 pub use exiting::do_exit;
 pub use stepping::{do_alone, do_inside, do_next, do_with_kernel, do_with_shared, publish_all};

@@ -1,11 +1,10 @@
-//! Collections, absorptions and ends of processes under locks. While a heap is marked its lock is held, and the book is free; so it is
-//! while a process's heap is swept.
+//! Collections, absorptions and ends of processes under locks. While a heap is marked and swept its lock is held, and the book is free.
 ghost use Rattle.std.specs.Prelude.{IsFalse, IsTrue, ◌≡◌};
 ghost use Rattle.k_locked.specs.Keeping.{KernelKeeps};
-ghost use Rattle.k_operate.specs.Collecting.{Collects, CollectsSwept, HasSameLeft, KernelCollects};
+ghost use Rattle.k_operate.specs.Collecting.{Collects, CollectsSwept, HasSameLeft, KernelCollectsSwept};
 ghost use Rattle.k_process.specs.Standing.{ComesNext, HasDone, ProcessStands};
 ghost use Rattle.k_run.specs.Running.{HasBegunUnless, HasCollectedUnless, IsAbsorbedIfFirst, IsLeft};
-ghost use Rattle.k_types.specs.declared.names.CellPhase.TheVariants.{Begun, Marked};
+ghost use Rattle.k_types.specs.declared.names.CellPhase.TheVariants.{Begun};
 ghost use Rattle.k_types.specs.declared.op.Op.TheVariants.{Collect, Exit, KCollect};
 
 use crate::locked::{LockedBook, LockedKernel, LockedProcess, LockedShared};
@@ -19,6 +18,7 @@ use k_mark::Swept;
 use k_operate::{
     absorb_orphan, begin_collection, begin_kernel_collection, do_exit, end_collection,
     end_kernel_collection, mark_collection, mark_kernel_collection, publish_all, sweep_collection,
+    sweep_kernel_collection,
 };
 use k_process::Process;
 use k_types::SharedId;
@@ -103,23 +103,24 @@ fn begin_kernel<W: WorldName>(
     }
 }
 
-/// Ends the collection of the kernel's heap, which the process began.
+/// Ends the collection of the kernel's heap, which the process began, and which is swept already.
 fn end_kernel<W: WorldName>(
     process: &LockedProcess<W>,
     kernel: &mut KernelCell,
     book: &mut LockedBook<W>,
+    freed: Swept,
     gate: &impl Gate,
 )
-    requires { KernelCollects W.world Marked kernel.old }
+    requires { KernelCollectsSwept W.world kernel.old freed }
     ensures { KernelKeeps W.world.trace W.world.table kernel.new }
 {
     tell(&process.process, gate, GatePlace::InBook);
-    end_kernel_collection(kernel, &mut book.book);
+    end_kernel_collection(kernel, &mut book.book, freed);
 }
 
 impl<W: WorldName> LockedKernel<W> {
     /// Does `kcollect` unless a shared heap is an orphan: it answers the first one then. It holds the book where the collection begins
-    /// and where it ends.
+    /// and where it ends; the heap is marked and swept in between.
     fn collect(
         &mut self,
         rt: &impl Wait,
@@ -135,7 +136,8 @@ impl<W: WorldName> LockedKernel<W> {
             Some(orphan) => Some(orphan),
             None => {
                 mark_kernel_collection(&mut self.kernel);
-                end_kernel(process, &mut self.kernel, &mut take(rt, book), gate);
+                let freed = sweep_kernel_collection(&mut self.kernel);
+                end_kernel(process, &mut self.kernel, &mut take(rt, book), freed, gate);
                 None
             }
         }

@@ -3,9 +3,9 @@
 //! [`reach`] tells which cell an operation touches beside its process's own, and so which call does it: [`step_own`],
 //! [`step_kernel`] or [`step_shared`]. The end of a process is [`exit`], and the absorption of a shared heap that nobody shares is
 //! [`absorb`]. Collections begin with [`begin_heap`], [`begin_kernel`] and [`close_kernel`], and end with [`end_heap`] and
-//! [`end_kernel`]; between the two a cell is marked alone. A process's cell can be swept alone too, and then [`end_swept_heap`] ends
-//! its collection. [`publish`] appends what a process did inside its heap, and [`settle_heap`] and [`settle_kernel`] end what is
-//! still open.
+//! [`end_kernel`]; between the two a cell is marked alone. It can be swept alone too, and then its collection ends with
+//! [`end_swept_heap`] or [`end_swept_kernel`]. [`publish`] appends what a process did inside its heap, and [`settle_heap`] and
+//! [`settle_kernel`] end what is still open.
 //!
 //! A call meets the journal first, so that each cell speaks of all of it, then changes cells and book, and then appends the event,
 //! touches its cells and meets again. No call takes memory.
@@ -16,8 +16,8 @@ mod reached;
 mod reaching;
 
 pub use k_collect::{
-    begin_heap, begin_kernel, close_kernel, end_heap, end_kernel, end_swept_heap, settle_heap,
-    settle_kernel,
+    begin_heap, begin_kernel, close_kernel, end_heap, end_kernel, end_swept_heap, end_swept_kernel,
+    settle_heap, settle_kernel,
 };
 pub use k_commit::publish;
 pub use k_depart::{absorb, exit};

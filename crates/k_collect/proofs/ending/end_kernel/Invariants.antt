@@ -5,3 +5,6 @@ ghost-meet_kernel g a = g.trace
 
 abbrev pub ghost-sweep_kernel : goal.ghost-sweep_kernel
 ghost-sweep_kernel g a = g.trace
+
+abbrev pub ghost-end_swept_kernel : goal.ghost-end_swept_kernel
+ghost-end_swept_kernel g a = g.trace

@@ -21,8 +21,11 @@ begin_kernel_collection-requires g c = record {
 pub mark_kernel_collection-requires : goal.mark_kernel_collection-requires
 mark_kernel_collection-requires g c = c.begin_kernel_collection.ensures.kernel
 
+pub sweep_kernel_collection-freed-requires : goal.sweep_kernel_collection-freed-requires
+sweep_kernel_collection-freed-requires g c = c.mark_kernel_collection.ensures
+
 pub end_kernel_collection-requires : goal.end_kernel_collection-requires
-end_kernel_collection-requires g c = record { kernel = c.mark_kernel_collection.ensures; book = c.begin_kernel_collection.ensures.own.pair.book }
+end_kernel_collection-requires g c = record { kernel = c.sweep_kernel_collection-freed.ensures; book = c.begin_kernel_collection.ensures.own.pair.book }
 
 pub returns : goal.returns
 returns g c = record {

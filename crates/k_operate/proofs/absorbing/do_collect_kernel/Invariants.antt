@@ -9,5 +9,8 @@ ghost-begin_kernel_collection g a = g.world'
 abbrev pub ghost-mark_kernel_collection : goal.ghost-mark_kernel_collection
 ghost-mark_kernel_collection g a = g.world'
 
+abbrev pub ghost-sweep_kernel_collection : goal.ghost-sweep_kernel_collection
+ghost-sweep_kernel_collection g a = g.world'
+
 abbrev pub ghost-end_kernel_collection : goal.ghost-end_kernel_collection
 ghost-end_kernel_collection g a = g.world'
