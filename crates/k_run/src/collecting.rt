@@ -9,6 +9,7 @@ ghost use Rattle.k_types.specs.declared.op.Op.TheVariants.{Collect, Exit, KColle
 
 use crate::locked::{LockedBook, LockedKernel, LockedProcess, LockedShared};
 use crate::stepping::tell;
+use crate::stretching::follow;
 use crate::waiting::take;
 use crate::world::Locks;
 use crate::worlds::WorldName;
@@ -21,7 +22,7 @@ use k_operate::{
     sweep_kernel_collection,
 };
 use k_process::Process;
-use k_types::SharedId;
+use k_types::{Op, SharedId};
 use std::sync::{Mutex, Wait};
 
 /// Publishes what the process did inside its heap, and begins the heap's collection.
@@ -62,6 +63,30 @@ impl<W: WorldName> LockedProcess<W> {
         mark_collection(&mut self.process);
         let freed = sweep_collection(&mut self.process);
         end(&mut self.process, &mut take(rt, book), freed, gate);
+    }
+
+    /// Goes on under one hold of the book: it does so many operations at most, and begins a collection of the heap if that comes next
+    /// then. It marks, sweeps and ends the collection, and says whether there was one.
+    pub(crate) fn go_on(
+        &mut self,
+        rt: &impl Wait,
+        locks: &Locks<W>,
+        most: u32,
+        gate: &impl Gate,
+    ) -> bool {
+        {
+            let mut book = take(rt, &locks.book);
+            follow(locks, self, &mut book, most, gate);
+            match self.next() {
+                Some(Op::Collect) => begin(&mut self.process, &mut book, gate),
+                _ => return false,
+            }
+        }
+        tell(&self.process, gate, GatePlace::Marking);
+        mark_collection(&mut self.process);
+        let freed = sweep_collection(&mut self.process);
+        end(&mut self.process, &mut take(rt, &locks.book), freed, gate);
+        true
     }
 
     /// Does `exit`.

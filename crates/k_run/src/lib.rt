@@ -16,6 +16,7 @@ mod rooms;
 mod running;
 mod stepping;
 mod still;
+mod stretching;
 mod turning;
 mod waiting;
 mod whole;

@@ -13,8 +13,11 @@ use std::sync::Wait;
 use std::thread;
 use std::thread::Threads;
 
-/// The most operations that a worker does of a process before others have their turn.
-const OPERATIONS_A_TURN: u32 = 64;
+/// How often a worker goes on with a process before others have their turn.
+const STEPS_A_TURN: u32 = 64;
+
+/// So many operations of a process end a turn. The last stretch of them may go beyond.
+const OPERATIONS_A_TURN: u32 = 1_024;
 
 /// The most workers of a run.
 pub(crate) const MOST_WORKERS: u32 = 4;
@@ -25,6 +28,8 @@ pub(crate) struct Hall<'a, W: WorldName, G: Gate> {
     pub(crate) locks: &'a Locks<W>,
     pub(crate) turns: &'a Turns,
     pub(crate) gate: &'a G,
+    // The most operations of one kind of a stretch.
+    pub(crate) stretch: u32,
 }
 
 impl<'a, W: WorldName, G: Gate> Model for Hall<'a, W, G> {
@@ -36,13 +41,14 @@ impl<'a, W: WorldName, G: Gate> Model for Hall<'a, W, G> {
 }
 
 /// Does what the processes have to do, by as many workers as there are processes and at most four. Each draws the process that has
-/// waited longest, does up to 64 of its operations, and gives it back, or lets it go where nothing is left to do; where no thread can
-/// be made for a worker, the caller does its work. The gate is told of each operation and of each step. It waits for locks and for the
-/// queue, and takes no memory. What it leaves, `finish` does.
+/// waited longest, does a thousand of its operations or somewhat more, and gives it back, or lets it go where nothing is left to do; where
+/// no thread can be made for a worker, the caller does its work. The gate is told of each step, and of each operation but those of a
+/// stretch; with a stretch of 0 there are none. It waits for locks and for the queue, and takes no memory. What it leaves, `finish` does.
 pub fn run<W: WorldName + Send + Sync, G: Gate, R: Threads + Wait + Sync>(
     rt: &R,
     world: &mut World<W>,
     gate: &G,
+    stretch: u32,
 )
     ensures { world.new ≡ world.old }
 {
@@ -50,6 +56,7 @@ pub fn run<W: WorldName + Send + Sync, G: Gate, R: Threads + Wait + Sync>(
         locks: &world.locks,
         turns: &world.turns,
         gate,
+        stretch,
     };
     work_all(rt, &hall, world.passes.as_mut_slice());
 }
@@ -94,7 +101,7 @@ fn work<W: WorldName, G: Gate>(rt: &impl Wait, hall: &Hall<W, G>, pass: &mut Tur
     unreachable!()
 }
 
-/// One turn of the process, and whether it may have more to do. Before each operation the gate is told with no lock held; how many are
+/// One turn of the process, and whether it may have more to do. Before each operation and the stretch behind it the gate is told with no lock held; how many are
 /// done by then is seen once before the turn, and then under the hold of the operation before.
 fn take_turn<W: WorldName, G: Gate>(rt: &impl Wait, hall: &Hall<W, G>, pid: Pid) -> bool {
     let Some(lock) = hall.locks.processes.get(pid.0 as usize) else {
@@ -104,12 +111,15 @@ fn take_turn<W: WorldName, G: Gate>(rt: &impl Wait, hall: &Hall<W, G>, pid: Pid)
         return false;
     };
     let mut done = first;
-    for _ in 0..OPERATIONS_A_TURN {
+    for _ in 0..STEPS_A_TURN {
         hall.gate.pass(pid.0, done, GatePlace::BeforeOp);
-        let Some(next) = turn_behind(rt, hall.locks, lock, pid, hall.gate) else {
+        let Some(next) = turn_behind(rt, hall.locks, lock, pid, hall.stretch, hall.gate) else {
             return false;
         };
         done = next;
+        if done >= first && done - first >= OPERATIONS_A_TURN {
+            return true;
+        }
     }
     true
 }

@@ -7,6 +7,7 @@ ghost use Rattle.k_run.specs.Running.{HasTakenTurn, IsLeft};
 
 use crate::collecting::collect_kernel;
 use crate::locked::LockedProcess;
+use crate::stretching::go_inside;
 use crate::waiting::take;
 use crate::world::Locks;
 use crate::worlds::WorldName;
@@ -14,6 +15,9 @@ use k_io::Gate;
 use k_steps::Reach;
 use k_types::{Op, Pid};
 use std::sync::{Mutex, Wait};
+
+/// The most stretches behind one operation.
+const STRETCHES: u32 = 4;
 
 /// How many operations the process has done; none where no other one comes next, or where another process stands behind the lock.
 pub(crate) fn done_behind<W: WorldName>(
@@ -101,18 +105,36 @@ fn turn<W: WorldName>(
     }
 }
 
-/// Has the process behind the lock do its next operation, and says how many it has done then; none where it did not, where no other one
-/// comes next, or where another process stands behind the lock.
+/// Does more operations of the process whose lock is held: those inside its heap, and then, under one hold of the book, what follows up to
+/// and with a collection. The gate is not told before them.
+fn stretch<W: WorldName>(
+    rt: &impl Wait,
+    locks: &Locks<W>,
+    process: &mut LockedProcess<W>,
+    most: u32,
+    gate: &impl Gate,
+) {
+    for _ in 0..STRETCHES {
+        if !go_inside(process, most) || !process.go_on(rt, locks, most, gate) {
+            return;
+        }
+    }
+}
+
+/// Has the process behind the lock do its next operation and a stretch of more, and says how many it has done then; none where it did not,
+/// where no other one comes next, or where another process stands behind the lock.
 pub(crate) fn turn_behind<W: WorldName>(
     rt: &impl Wait,
     locks: &Locks<W>,
     lock: &Mutex<LockedProcess<W>>,
     pid: Pid,
+    most: u32,
     gate: &impl Gate,
 ) -> Option<u32> {
     let mut process = lock.lock(rt);
     if !turn(rt, locks, &mut process, gate) {
         return None;
     }
+    stretch(rt, locks, &mut process, most, gate);
     process.done_before_next(pid)
 }

@@ -28,6 +28,7 @@ fn run_still<W: WorldName + Send + Sync, G: Gate, R: Threads + Wait + Sync>(
     alloc: Global,
     still: Still,
     gate: &G,
+    stretch: u32,
 ) -> Result<Outcome, NoMemory>
     requires stands { FirstCellsStand W.world still.cells }
     requires setup { IsSetupOf still.cells.setup W.world }
@@ -35,7 +36,7 @@ fn run_still<W: WorldName + Send + Sync, G: Gate, R: Threads + Wait + Sync>(
     ensures { IfOk result (λ outcome. IsRunOf (record { names = still.cells.names; trace = W.world.trace }) outcome) }
 {
     let mut world: World<W> = open(rt, alloc, still)?;
-    run(rt, &mut world, gate);
+    run(rt, &mut world, gate, stretch);
     Ok(finish(world))
 }
 
@@ -52,12 +53,13 @@ pub fn run_trace<G: Gate, R: Threads + Wait + Sync>(
     alloc: Global,
     trace: Trace,
     gate: &G,
+    stretch: u32,
 ) -> Result<Outcome, NoMemory>
     requires { IsTrace (meaning_of trace) }
     ensures { IfOk result (IsRunOf (meaning_of trace)) }
 {
     let still = open_still(alloc, trace)?;
-    run_still::<Brand, G, R>(rt, alloc, still, gate)
+    run_still::<Brand, G, R>(rt, alloc, still, gate, stretch)
 }
 
 /// Does the operations of the trace in the order of the file, on the caller's thread and with no lock. What comes back is a run of the

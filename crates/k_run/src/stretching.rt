@@ -1,0 +1,89 @@
+//! Operations that follow one another under one hold of the book.
+ghost use Rattle.std.specs.Prelude.{IsFalse};
+ghost use Rattle.k_operate.specs.Readiness.{begins_or_ends};
+ghost use Rattle.k_process.specs.Standing.{ComesNext};
+
+use crate::locked::{LockedBook, LockedProcess};
+use crate::world::Locks;
+use crate::worlds::WorldName;
+use k_io::Gate;
+use k_steps::Reach;
+use k_types::Op;
+
+/// Does the operation, and says whether it did. The lock of the kernel's heap comes before the book's, which is held: so nobody waits for
+/// it here, and where another worker has it the operation is left for a turn of its own.
+fn follow_step<W: WorldName>(
+    locks: &Locks<W>,
+    process: &mut LockedProcess<W>,
+    book: &mut LockedBook<W>,
+    op: &Op,
+    gate: &impl Gate,
+) -> bool
+    requires next { ComesNext W.world.trace process.old op.now }
+    requires steps { IsFalse (begins_or_ends op.now) }
+{
+    if process.do_inside(op) {
+        return true;
+    }
+    match process.do_under_book(book, op, gate) {
+        Reach::Own => true,
+        Reach::Kernel => match locks.kernel.try_lock() {
+            Some(mut kernel) => process.do_under_kernel(&mut kernel, book, op, gate),
+            None => false,
+        },
+        Reach::Shared(_) => false,
+    }
+}
+
+/// The same of any operation: one that begins a collection or ends its process is left.
+fn follow_any<W: WorldName>(
+    locks: &Locks<W>,
+    process: &mut LockedProcess<W>,
+    book: &mut LockedBook<W>,
+    op: &Op,
+    gate: &impl Gate,
+) -> bool
+    requires { ComesNext W.world.trace process.old op.now }
+{
+    match *op {
+        Op::Collect => false,
+        Op::KCollect => false,
+        Op::Exit => false,
+        _ => follow_step(locks, process, book, op, gate),
+    }
+}
+
+/// Does what comes next of the process under the hold of the book, so many operations at most.
+pub(crate) fn follow<W: WorldName>(
+    locks: &Locks<W>,
+    process: &mut LockedProcess<W>,
+    book: &mut LockedBook<W>,
+    most: u32,
+    gate: &impl Gate,
+) {
+    for _ in 0..most {
+        match process.next() {
+            Some(op) => {
+                if !follow_any(locks, process, book, &op, gate) {
+                    return;
+                }
+            }
+            None => return,
+        }
+    }
+}
+
+/// Does what comes next inside the heap of the process, so many operations at most, and says whether one comes then that needs more.
+pub(crate) fn go_inside<W: WorldName>(process: &mut LockedProcess<W>, most: u32) -> bool {
+    for _ in 0..most {
+        match process.next() {
+            Some(op) => {
+                if !process.do_inside(&op) {
+                    return true;
+                }
+            }
+            None => return false,
+        }
+    }
+    false
+}
