@@ -10,6 +10,7 @@ pub mod AreaRows
 pub mod Segs
 pub mod Hinted
 pub mod Bytes
+pub mod Blackened
 pub mod Soundness
 pub mod Numbers
 pub mod Fields

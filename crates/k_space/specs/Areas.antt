@@ -3,7 +3,7 @@ use Rattle.std.specs.Prelude.{◌≡◌, ℕ, ◌==◌, not, Bool, false, List, 
 use Rattle.std.specs.List.{position_or_len, sum_by}
 use Rattle.k_types.specs.declared.names.Name.{Name}
 use Rattle.k_types.specs.State.{Content}
-use Rattle.k_space.specs.Segments.{SegmentValue, Row, Black, Gray, row_at, with_row, some_gray, some_black, some_marked, unmarked_segment, gray_or_black}
+use Rattle.k_space.specs.Segments.{SegmentValue, Row, Black, Gray, row_at, with_row, some_gray, some_black, some_marked, unmarked_segment, blackened_segment, gray_or_black}
 
 -- the segments, and how many there can be
 pub record AreaValue : Type 0 where
@@ -72,6 +72,10 @@ marked_at a n = some_marked (row_of_name a.segments n)
 -- the area with no marks
 abbrev pub unmarked : AreaValue → AreaValue
 unmarked a = record a { segments = map unmarked_segment a.segments }
+
+-- the area where the objects with a lower serial are black
+abbrev pub blackened : ℕ → AreaValue → AreaValue
+blackened below a = record a { segments = map (blackened_segment below) a.segments }
 
 -- the area where that row, if there is one, is gray in place of white
 abbrev pub grayed_row : AreaValue → Name → Option Row → AreaValue

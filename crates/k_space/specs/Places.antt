@@ -1,5 +1,5 @@
 -- How a segment keeps its objects. No public clause cites this file.
-use Rattle.std.specs.Prelude.{◌≡◌, ℕ, zero, suc, ◌+◌, ◌-◌, ◌*◌, ◌<◌, ◌≤◌, ◌^◌, Bool, true, false, List, length, map, count_by, slice_index_or, Option, Some, None}
+use Rattle.std.specs.Prelude.{◌≡◌, ℕ, zero, suc, ◌+◌, ◌-◌, ◌*◌, ◌<◌, ◌≤◌, ◌^◌, Bool, true, false, List, [], ◌∷◌, length, map, count_by, slice_index_or, Option, Some, None}
 use Rattle.slab.specs.Slab.{Slab, get, slab_len}
 use Rattle.k_types.specs.Totals.{total}
 use Rattle.k_types.specs.Types.{object_size}
@@ -99,3 +99,14 @@ is_white_place _ = false
 abbrev pub is_empty_place : Place → Bool
 is_empty_place Empty = true
 is_empty_place (At slot mark) = false
+
+-- the place of a black object
+abbrev pub black_place : Place → Place
+black_place Empty = Empty
+black_place (At slot mark) = At slot MarkBlack
+
+-- the places of so many serials from the first are black
+abbrev pub black_places : ℕ → List Place → List Place
+black_places zero places = places
+black_places (suc n) [] = []
+black_places (suc n) (p ∷ places) = black_place p ∷ black_places n places

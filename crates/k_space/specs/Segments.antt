@@ -1,5 +1,5 @@
 -- What a contract sees of a segment.
-use Rattle.std.specs.Prelude.{◌≡◌, ℕ, ◌+◌, ◌-◌, ◌*◌, ◌<◌, ◌≤◌, ◌^◌, Bool, true, false, List, [], ◌∷◌, ◌++◌, length, map, slice_index_or, slice_set, Option, Some, None}
+use Rattle.std.specs.Prelude.{◌≡◌, ℕ, zero, suc, ◌+◌, ◌-◌, ◌*◌, ◌<◌, ◌≤◌, ◌^◌, Bool, true, false, List, [], ◌∷◌, ◌++◌, length, map, slice_index_or, slice_set, Option, Some, None}
 use Rattle.k_types.specs.declared.names.TypeId.{TypeId}
 use Rattle.k_types.specs.State.{Content, Object}
 use Rattle.k_types.specs.Totals.{total}
@@ -126,6 +126,21 @@ unmarked_row (Some row) = Some (record row { color = White })
 -- the segment with no marks
 abbrev pub unmarked_segment : SegmentValue → SegmentValue
 unmarked_segment s = record s { rows = map unmarked_row s.rows }
+
+-- the object, black
+abbrev pub blackened_row : Option Row → Option Row
+blackened_row None = None
+blackened_row (Some row) = Some (record row { color = Black })
+
+-- the objects of so many serials from the first are black
+abbrev pub blackened_rows : ℕ → List (Option Row) → List (Option Row)
+blackened_rows zero rows = rows
+blackened_rows (suc n) [] = []
+blackened_rows (suc n) (row ∷ rows) = blackened_row row ∷ blackened_rows n rows
+
+-- the segment where the objects with a lower serial are black
+abbrev pub blackened_segment : ℕ → SegmentValue → SegmentValue
+blackened_segment below s = record s { rows = blackened_rows below s.rows }
 
 -- what holds of every segment: the serials from 1 on were given, within the room; an object has at most 16 fields; no two objects lie in one slot
 pub record IsSegment (s : SegmentValue) : Type 0 where

@@ -3,10 +3,11 @@ ghost use Rattle.std.specs.Prelude.{◌≡◌, ◌≢◌, ◌<◌, ◌≤◌, �
 ghost use Rattle.std.specs.Option.{option_copied_mut};
 ghost use Rattle.std.specs.Borrow.{sem};
 ghost use Rattle.std.specs.List.{position_or_len};
-ghost use Rattle.k_space.specs.Segments.{SegmentValue, row_at, some_gray, unmarked_segment};
+ghost use Rattle.k_space.specs.Segments.{Row, SegmentValue, row_at, some_gray, unmarked_segment, blackened_segment};
 ghost use Rattle.k_space.specs.Hints.{AreExact, numbers};
 ghost use Rattle.k_space.specs.Visiting.{IsVisited};
-ghost use Rattle.k_space.specs.Areas.{place_of, segment_at, HasDistinct, is_foreign, gray_at, grayed, has_number, unmarked};
+ghost use Rattle.k_types.specs.declared.names.Name.{Name as Named};
+ghost use Rattle.k_space.specs.Areas.{place_of, row_of_name, segment_at, HasDistinct, is_foreign, gray_at, grayed, has_number, unmarked, blackened};
 
 use crate::body::Stored;
 use crate::segment::{Segment, Visited};
@@ -115,6 +116,16 @@ fn unmark(segments: &mut [Segment])
 {
     for segment in segments.iter_mut() {
         segment.unmark_all();
+    }
+}
+
+/// Makes the objects with a lower serial black.
+fn blacken(segments: &mut [Segment], below: u64)
+    requires { (i : ℕ) (s : SegmentValue) → slice_get segments.old i ≡ Some s → (serial : ℕ) → IsFalse (some_gray (row_at s serial)) }
+    ensures { segments.new ≡ map (blackened_segment below) segments.old }
+{
+    for segment in segments.iter_mut() {
+        segment.blacken_below(below);
     }
 }
 
@@ -291,6 +302,38 @@ impl Area {
         }
         let found = self.segments[at].visit_gray(into)?;
         Some(found)
+    }
+
+    /// Whether that object is one of the area's, and gray. It costs as much as `get`.
+    pub fn is_gray(&self, target: Name) -> bool
+        requires { HasDistinct self.now.segments }
+        ensures { result ≡ gray_at self.now target }
+    {
+        match self.get(target.seg) {
+            Some(segment) => segment.is_gray(target.serial),
+            None => false,
+        }
+    }
+
+    /// A number above the serials of all objects. It passes the segments.
+    pub fn next_serial(&self) -> u64
+        ensures { (n : Named) (row : Row) → row_of_name self.now.segments n ≡ Some row → n.serial.0 < result }
+    {
+        let mut next = 0;
+        for segment in self.segments.iter() {
+            next = next.max(u64::from(segment.made()) + 1);
+        }
+        next
+    }
+
+    /// Makes the objects with a lower serial black, where none is gray. It looks once at each live object.
+    pub fn blacken_below(&mut self, below: u64)
+        requires distinct { HasDistinct self.old.segments }
+        requires none { (n : Named) → IsFalse (gray_at self.old n) }
+        ensures { self.new ≡ blackened below self.old }
+    {
+        self.hints.exact = false;
+        blacken(&mut self.segments, below);
     }
 
     /// Takes the marks of all objects away. It passes the segments, each in constant time as

@@ -1,8 +1,8 @@
 //! The list of live objects, and a sweep along it.
-ghost use Rattle.std.specs.Prelude.{◌≡◌, ◌<◌, ◌≤◌, length, vec_capacity, slice_index_or, IsTrue};
+ghost use Rattle.std.specs.Prelude.{ℕ, ◌≡◌, ◌<◌, ◌≤◌, length, vec_capacity, slice_index_or, IsTrue};
 ghost use Rattle.k_space.specs.declared.marks.Place.TheVariants.{Empty as NoPlace};
 ghost use Rattle.k_space.specs.Places.{is_white_place};
-ghost use Rattle.k_space.specs.Listed.{IsListed};
+ghost use Rattle.k_space.specs.Listed.{AreBlackened, AreInFront, IsListed};
 
 use crate::marks::Places;
 
@@ -55,4 +55,24 @@ pub(crate) fn passed(live: &[u32], places: &Places, pass: Pass, serial: u32) -> 
     } else {
         pass
     }
+}
+
+/// Makes the objects of the listed serials below that one black, and tells how many of the front of the list those are.
+pub(crate) fn blacken(live: &[u32], places: &mut Places, below: u64) -> usize
+    requires { (k : ℕ) → k < length live.now → slice_index_or live.now k 0 < length places.old.items }
+    ensures black { AreBlackened live.now below (length live.now) places.old.items places.new.items }
+    ensures capacity { places.new.capacity ≡ places.old.capacity }
+    ensures front { AreInFront live.now below result }
+{
+    let mut front = 0;
+    for i in 0..live.len() {
+        let serial = live[i];
+        if u64::from(serial) < below {
+            places.blacken(serial as usize);
+            if front == i {
+                front += 1;
+            }
+        }
+    }
+    front
 }

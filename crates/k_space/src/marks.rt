@@ -2,7 +2,7 @@
 ghost use Rattle.std.specs.Prelude.{◌≡◌, ◌<◌, ◌≤◌, ◌+◌, ◌^◌, ◌++◌, ◌∷◌, [], length, map, slice_set, slice_index_or, IfOk, ℕ};
 ghost use Rattle.k_space.specs.declared.marks.Place.TheVariants.{Empty as NoPlace, At as PlaceAt};
 ghost use Rattle.k_space.specs.declared.marks.Mark.TheVariants.{Gray as MarkGray};
-ghost use Rattle.k_space.specs.Places.{white_place, is_white_place, is_empty_place, IsGrayEnd};
+ghost use Rattle.k_space.specs.Places.{white_place, black_place, is_white_place, is_empty_place, is_gray_place, IsGrayEnd};
 ghost use Rattle.k_space.specs.Stamps.{seen, plain};
 
 use k_io::NoMemory;
@@ -31,6 +31,13 @@ impl Place {
         ensures { result ≡ is_white_place self }
     {
         matches!(self, Place::At(_, Mark::White))
+    }
+
+    /// Whether it has a gray object.
+    pub(crate) fn is_gray(self) -> bool
+        ensures { result ≡ is_gray_place self }
+    {
+        matches!(self, Place::At(_, Mark::Gray(_)))
     }
 
     /// Whether it has no object.
@@ -172,6 +179,17 @@ impl Places {
         ensures { self.new ≡ record self.old { items = slice_set self.old.items serial place } }
     {
         self.spots[serial] = Spot::of(place, self.epoch);
+    }
+
+    /// Makes the place of that serial black, if it has an object.
+    pub(crate) fn blacken(&mut self, serial: usize)
+        requires { serial < length self.old.items }
+        ensures { self.new ≡ record self.old { items = slice_set self.old.items serial (black_place (slice_index_or self.old.items serial NoPlace)) } }
+    {
+        match self.at(serial) {
+            Place::At(slot, _) => self.set(serial, Place::At(slot, Mark::Black)),
+            Place::Empty => {}
+        }
     }
 
     /// Has the gray place of the one serial, which names no next one, name the other.

@@ -4,12 +4,12 @@ ghost use Rattle.k_types.specs.State.{Refers, Holds, field_kind};
 ghost use Rattle.k_types.specs.Types.{object_size};
 ghost use Rattle.k_space.specs.Objects.{HasRef, HasInt, content_of};
 ghost use Rattle.k_types.specs.Names.{name_of};
-ghost use Rattle.k_space.specs.Segments.{Row, White, LiesAt, IsLive, row_at, made, with_row, IsSegment, placed, some_gray, is_gray, is_marked, gray_or_black, segment_bytes, unmarked_segment, body_of};
+ghost use Rattle.k_space.specs.Segments.{Row, White, LiesAt, IsLive, row_at, made, with_row, IsSegment, placed, some_gray, is_gray, is_marked, gray_or_black, segment_bytes, unmarked_segment, blackened_segment, body_of};
 ghost use Rattle.k_space.specs.Sweeping.{IsFreed, IsFree, IsFirstUnmarked, IsTakenAway, IsUnmarkedAt};
 ghost use Rattle.k_space.specs.Visiting.{IsVisitedIn};
 
 use crate::body::{Body, Stored};
-use crate::live::{Pass, next_white, passed};
+use crate::live::{Pass, blacken, next_white, passed};
 use crate::marks::{Mark, Place, Places};
 use k_io::NoMemory;
 use k_types::{Field, Link, Name, Seg, Serial, Slot, TypeId};
@@ -344,6 +344,31 @@ impl Segment {
         }
     }
 
+    /// Whether there is an object of that serial, and it is gray. Constant time.
+    pub fn is_gray(&self, serial: Serial) -> bool
+        ensures { result ≡ some_gray (row_at self.now serial.0) }
+    {
+        let at = serial.0 as usize;
+        if at >= self.places.len() {
+            return false;
+        }
+        self.places.at(at).is_gray()
+    }
+
+    /// Makes the objects with a lower serial black, where none is gray. It looks once at each object that is live.
+    pub fn blacken_below(&mut self, below: u64)
+        requires { (serial : ℕ) → IsFalse (some_gray (row_at self.old serial)) }
+        ensures { self.new ≡ blackened_segment below self.old }
+    {
+        let front = blacken(&self.live, &mut self.places, below);
+        self.gray = 0;
+        // A sweep keeps these without a look at them.
+        self.pass = Pass {
+            kept: front,
+            next: front,
+        };
+    }
+
     /// Takes the marks of all objects away. Constant time, however many objects were ever made, but for one pass
     /// of the serials at each 2,000,000,000th call.
     pub fn unmark_all(&mut self)
@@ -368,8 +393,8 @@ impl Segment {
         }
     }
 
-    /// Frees an object that isn't marked. All calls up to the one that frees nothing look once at each object that
-    /// was live, freed or not, and at none that were freed before: a sweep costs no more than that.
+    /// Frees an object that isn't marked. All calls up to the one that frees nothing look once, at most, at each object
+    /// that was live, freed or not, and at none that were freed before: a sweep costs no more than that.
     pub fn free_unmarked(&mut self) -> Option<Gone>
         ensures freed { IfSome result (λ gone. IsTakenAway self.old self.new gone) }
         ensures none { IfNone result ((serial : ℕ) (row : Row) → row_at self.old serial ≡ Some row → IsTrue (is_marked row.color)) }
