@@ -1,6 +1,8 @@
 pub mod Left
 pub mod Looks
 pub mod Marked
+pub mod KeptMarked
+pub mod Lower
 pub mod Traces
 pub mod Work
 pub mod SweepSteps

@@ -1,5 +1,5 @@
 -- What marking keeps.
-use Rattle.std.proofs.Common.{◌≡◌, ◌+◌, ◌⊎◌, ◌↔◌, cond, true, false, refl, sym, ap, subst, ◌∙◌, inl, inr, List, count_by, Option, Some, None, is_some, option_map, arith}
+use Rattle.std.proofs.Common.{◌≡◌, ◌+◌, ◌⊎◌, ◌↔◌, cond, Bool, true, false, refl, sym, ap, subst, ◌∙◌, inl, inr, List, count_by, Option, Some, None, is_some, option_map, arith}
 use Rattle.std.proofs.lemmas.Bool.{false≢true}
 use Rattle.k_types.specs.declared.names.Name.{Name}
 use Rattle.k_mark.proofs.Looks.{Looked, looked_list, test_after, recolored_shape}
@@ -13,7 +13,8 @@ use Rattle.k_base.proofs.NameTests.{name_eq-true}
 use Rattle.k_space.proofs.AreaRows.{found, after_same, after_foreign, after_distinct, after_total, same_unmarked}
 use Rattle.k_mark.proofs.Left.{left, todo_row, black_work, black_row}
 
-pub record IsMarking (old now : AreaValue) (exits items : List ExitRow) : Type 0 where
+-- marking has come so far, where those that are skipped are never looked into
+pub record IsMarking (skip : Name → Bool) (old now : AreaValue) (exits items : List ExitRow) : Type 0 where
   pub same : unmarked now ≡ unmarked old
   pub names : targets items ≡ targets exits
   pub distinct : HasDistinct now.segments
@@ -22,9 +23,9 @@ pub record IsMarking (old now : AreaValue) (exits items : List ExitRow) : Type 0
   pub has : (t : Name) → has_target items t ≡ has_target exits t
   pub sound : (n : Name) → marked_at now n ≡ true → IsReachedIn old n
   pub roots : (n : Name) → gray_at old n ≡ true → marked_at now n ≡ true
-  pub closed : (a b : Name) (fields : List Content) → black_at now a ≡ true → fields_at old a ≡ Some fields → fields_lead_to fields b ≡ true → is_some (fields_at old b) ≡ true → marked_at now b ≡ true
+  pub closed : (a b : Name) (fields : List Content) → skip a ≡ false → black_at now a ≡ true → fields_at old a ≡ Some fields → fields_lead_to fields b ≡ true → is_some (fields_at old b) ≡ true → marked_at now b ≡ true
   pub exits_sound : (t : Name) → target_marked items t ≡ true → IsExit old t
-  pub exits_closed : (a t : Name) (fields : List Content) → black_at now a ≡ true → fields_at old a ≡ Some fields → fields_lead_to fields t ≡ true → is_foreign old t ≡ true → target_marked items t ≡ true
+  pub exits_closed : (a t : Name) (fields : List Content) → skip a ≡ false → black_at now a ≡ true → fields_at old a ≡ Some fields → fields_lead_to fields t ≡ true → is_foreign old t ≡ true → target_marked items t ≡ true
 
 marked_from_gray : (o : Option Row) → some_gray o ≡ true → some_marked o ≡ true
 marked_from_gray None e = e
@@ -44,7 +45,7 @@ gray_or_else_black (Some row) e n = by_color row.color e n
     by_color Gray e n = e
     by_color Black e n = sym n
 
-black_from_marked : (o : Option Row) → some_marked o ≡ true → some_gray o ≡ false → some_black o ≡ true
+pub black_from_marked : (o : Option Row) → some_marked o ≡ true → some_gray o ≡ false → some_black o ≡ true
 black_from_marked None e n = e
 black_from_marked (Some row) e n = by_color row.color e n
   where
@@ -53,7 +54,7 @@ black_from_marked (Some row) e n = by_color row.color e n
     by_color Gray e n = sym n
     by_color Black e n = refl
 
-marked_lives : (o : Option Row) → some_marked o ≡ true → is_some (option_map (λ (row : Row). row.fields) o) ≡ true
+pub marked_lives : (o : Option Row) → some_marked o ≡ true → is_some (option_map (λ (row : Row). row.fields) o) ≡ true
 marked_lives None e = e
 marked_lives (Some row) e = refl
 
@@ -70,8 +71,8 @@ pub demands : (old : AreaValue) (exits : List ExitRow) → ((a n : Name) → ref
     (a t : Name) (fields : List Content) → fields_at old a ≡ Some fields → fields_lead_to fields t ≡ true → is_foreign old t ≡ true → has_target exits t ≡ true
 demands old exits h a t fields is leads far = h a t (ap (λ o. some_lead_to o t) is ∙ leads) far
 
-pub begun : (old : AreaValue) (exits : List ExitRow) → HasDistinct old.segments → ((n : Name) → black_at old n ≡ false) → ((t : Name) → target_marked exits t ≡ false) → IsMarking old old exits exits
-begun old exits distinct clean unmarked =
+pub begun : (skip : Name → Bool) (old : AreaValue) (exits : List ExitRow) → HasDistinct old.segments → ((n : Name) → black_at old n ≡ false) → ((t : Name) → target_marked exits t ≡ false) → IsMarking skip old old exits exits
+begun skip old exits distinct clean unmarked =
     record {
       same = refl;
       names = refl;
@@ -81,17 +82,18 @@ begun old exits distinct clean unmarked =
       has = λ t. refl;
       sound = λ n e. begins n (gray_or_else_black (row_of_name old.segments n) e (clean n)) (marked_lives (row_of_name old.segments n) e);
       roots = λ n e. marked_from_gray (row_of_name old.segments n) e;
-      closed = λ a b fields e is leads live. absurd (false≢true (sym (clean a) ∙ e));
+      closed = λ a b fields plain e is leads live. absurd (false≢true (sym (clean a) ∙ e));
       exits_sound = λ t e. absurd (false≢true (sym (unmarked t) ∙ e));
-      exits_closed = λ a t fields e is leads far. absurd (false≢true (sym (clean a) ∙ e));
+      exits_closed = λ a t fields plain e is leads far. absurd (false≢true (sym (clean a) ∙ e));
     }
 
 same_fields : {x y : List Content} → ◌≡◌ {A = Option (List Content)} (Some x) (Some y) → x ≡ y
 same_fields e = cc
 
-module _ (old now after : AreaValue) (exits items later : List ExitRow) (n : Name) (row : Row) (marking : IsMarking old now exits items) (there : row_of_name now.segments n ≡ Some row) (gray : row.color ≡ Gray)
+module _ (skip : Name → Bool) (old now after : AreaValue) (exits items later : List ExitRow) (n : Name) (row : Row) (cs : List Content) (marking : IsMarking skip old now exits items) (there : row_of_name now.segments n ≡ Some row) (gray : row.color ≡ Gray)
     (demand : (a t : Name) (fields : List Content) → fields_at old a ≡ Some fields → fields_lead_to fields t ≡ true → is_foreign old t ≡ true → has_target exits t ≡ true)
-    (looked : Looked (record { area = with_row_of now n (Some (record row { color = Black })); exits = items }) (record { area = after; exits = later }) row.fields) where
+    (looked : Looked (record { area = with_row_of now n (Some (record row { color = Black })); exits = items }) (record { area = after; exits = later }) cs)
+    (part : (k : Name) → fields_lead_to cs k ≡ true → fields_lead_to row.fields k ≡ true) (whole : skip n ≡ false → cs ≡ row.fields) where
   marked_same : (k : Name) → marked_at (with_row_of now n (Some (record row { color = Black }))) k ≡ marked_at now k
   marked_same k =
       elim (test_after some_marked now n row Black there k) [
@@ -99,7 +101,7 @@ module _ (old now after : AreaValue) (exits items later : List ExitRow) (n : Nam
         | inr h ↦ h.1
       ]
 
-  black_cases : (k : Name) → black_at after k ≡ true → (n ≡ k) ⊎ (black_at now k ≡ true)
+  pub black_cases : (k : Name) → black_at after k ≡ true → (n ≡ k) ⊎ (black_at now k ≡ true)
   black_cases k e =
       elim (test_after some_black now n row Black there k) [
         | inl h ↦ inl (name_eq-true n k h.0)
@@ -109,7 +111,7 @@ module _ (old now after : AreaValue) (exits items later : List ExitRow) (n : Nam
   was_marked : marked_at now n ≡ true
   was_marked = ap some_marked there ∙ ap is_marked gray
 
-  fields_were : fields_at old n ≡ Some row.fields
+  pub fields_were : fields_at old n ≡ Some row.fields
   fields_were = sym (marking.shape n) ∙ ap (option_map (λ (r : Row). r.fields)) there
 
   shape_was : (k : Name) → fields_at (with_row_of now n (Some (record row { color = Black }))) k ≡ fields_at old k
@@ -118,7 +120,7 @@ module _ (old now after : AreaValue) (exits items later : List ExitRow) (n : Nam
   foreign_was : (k : Name) → is_foreign (with_row_of now n (Some (record row { color = Black }))) k ≡ is_foreign old k
   foreign_was k = after_foreign now n row (record row { color = Black }) (found now n row there) k ∙ marking.foreign k
 
-  pub stepped : IsMarking old after exits later
+  pub stepped : IsMarking skip old after exits later
   stepped = record {
     same = looked.same ∙ same_unmarked now n row Black there ∙ marking.same;
     names = looked.names ∙ marking.names;
@@ -129,27 +131,27 @@ module _ (old now after : AreaValue) (exits items later : List ExitRow) (n : Nam
     sound = λ k e.
         elim (looked.only k e) [
           | inl h ↦ marking.sound k (sym (marked_same k) ∙ h)
-          | inr h ↦ follows n k (marking.sound n was_marked) (ap (λ o. some_lead_to o k) fields_were ∙ h.0) (ap is_some (sym (shape_was k)) ∙ h.1)
+          | inr h ↦ follows n k (marking.sound n was_marked) (ap (λ o. some_lead_to o k) fields_were ∙ part k h.0) (ap is_some (sym (shape_was k)) ∙ h.1)
         ];
     roots = λ k e. looked.more k (marked_same k ∙ marking.roots k e);
-    closed = λ a b fields e is leads live.
+    closed = λ a b fields plain e is leads live.
         elim (black_cases a e) [
           | inl same ↦
-              let held : fields ≡ row.fields = same_fields (sym is ∙ ap (fields_at old) (sym same) ∙ fields_were) in
+              let held : fields ≡ cs = same_fields (sym is ∙ ap (fields_at old) (sym same) ∙ fields_were) ∙ sym (whole (ap skip same ∙ plain)) in
               looked.all b (ap (λ f. fields_lead_to f b) (sym held) ∙ leads) (ap is_some (shape_was b) ∙ live)
-          | inr h ↦ looked.more b (marked_same b ∙ marking.closed a b fields h is leads live)
+          | inr h ↦ looked.more b (marked_same b ∙ marking.closed a b fields plain h is leads live)
         ];
     exits_sound = λ t e.
         elim (looked.exit_only t e) [
           | inl h ↦ marking.exits_sound t h
-          | inr h ↦ record { from = n; reached = marking.sound n was_marked; refers = ap (λ o. some_lead_to o t) fields_were ∙ h.0; foreign = sym (foreign_was t) ∙ h.1 }
+          | inr h ↦ record { from = n; reached = marking.sound n was_marked; refers = ap (λ o. some_lead_to o t) fields_were ∙ part t h.0; foreign = sym (foreign_was t) ∙ h.1 }
         ];
-    exits_closed = λ a t fields e is leads far.
+    exits_closed = λ a t fields plain e is leads far.
         elim (black_cases a e) [
           | inl same ↦
-              let held : fields ≡ row.fields = same_fields (sym is ∙ ap (fields_at old) (sym same) ∙ fields_were) in
+              let held : fields ≡ cs = same_fields (sym is ∙ ap (fields_at old) (sym same) ∙ fields_were) ∙ sym (whole (ap skip same ∙ plain)) in
               looked.exit_all t (ap (λ f. fields_lead_to f t) (sym held) ∙ leads) (foreign_was t ∙ far) (marking.has t ∙ demand a t fields is leads far)
-          | inr h ↦ looked.exit_more t (marking.exits_closed a t fields h is leads far)
+          | inr h ↦ looked.exit_more t (marking.exits_closed a t fields plain h is leads far)
         ];
   }
 
@@ -165,7 +167,7 @@ module _ (old now after : AreaValue) (exits items later : List ExitRow) (n : Nam
       let off : black_row (Some row) ≡ 0 = ap (λ c. cond (is_black c) (count_by is_ref row.fields + 1) 0) gray in
       omega (arith, sums, off, looked.worked)
 
-module _ (old now : AreaValue) (exits items : List ExitRow) (marking : IsMarking old now exits items) (done : (n : Name) → gray_at now n ≡ false) where
+module _ (old now : AreaValue) (exits items : List ExitRow) (marking : IsMarking (λ n. false) old now exits items) (done : (n : Name) → gray_at now n ≡ false) where
   black_now : (n : Name) → marked_at now n ≡ true → black_at now n ≡ true
   black_now n e = black_from_marked (row_of_name now.segments n) e (done n)
 
@@ -173,7 +175,7 @@ module _ (old now : AreaValue) (exits items : List ExitRow) (marking : IsMarking
   reached_marked _ (begins n e l) = marking.roots n e
   reached_marked _ (follows a n r ref live) =
       let held = refers_fields old a n ref in
-      marking.closed a n held.0 (black_now a (reached_marked a r)) held.1 held.2 live
+      marking.closed a n held.0 refl (black_now a (reached_marked a r)) held.1 held.2 live
 
   pub marked_is : (n : Name) → (marked_at now n ≡ true) ↔ IsReachedIn old n
   marked_is n = (marking.sound n, reached_marked n)
@@ -181,10 +183,10 @@ module _ (old now : AreaValue) (exits items : List ExitRow) (marking : IsMarking
   pub exits_is : (t : Name) → (target_marked items t ≡ true) ↔ IsExit old t
   exits_is t = (
     marking.exits_sound t,
-    λ e. let held = refers_fields old e.from t e.refers in marking.exits_closed e.from t held.0 (black_now e.from (reached_marked e.from e.reached)) held.1 held.2 e.foreign,
+    λ e. let held = refers_fields old e.from t e.refers in marking.exits_closed e.from t held.0 refl (black_now e.from (reached_marked e.from e.reached)) held.1 held.2 e.foreign,
   )
 
-module _ (old now black after : AreaValue) (exits items later : List ExitRow) (n : Name) (row : Row) (marking : IsMarking old now exits items) (there : row_of_name now.segments n ≡ Some row) (gray : row.color ≡ Gray)
+module _ (skip : Name → Bool) (old now black after : AreaValue) (exits items later : List ExitRow) (n : Name) (row : Row) (marking : IsMarking skip old now exits items) (there : row_of_name now.segments n ≡ Some row) (gray : row.color ≡ Gray)
     (is : black ≡ with_row_of now n (Some (record row { color = Black })))
     (demand : (a t : Name) (fields : List Content) → fields_at old a ≡ Some fields → fields_lead_to fields t ≡ true → is_foreign old t ≡ true → has_target exits t ≡ true) where
   row_black : row_of_name black.segments n ≡ Some (record row { color = Black })

@@ -1,4 +1,5 @@
 pub mod Reached
 pub mod Marking
+pub mod Kept
 pub mod Sweeping
 pub mod Example

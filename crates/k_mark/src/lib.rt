@@ -3,13 +3,15 @@
 //! After [`clear`], any calls of [`root`] and [`mark`] the marked objects are exactly those that the
 //! roots reach by references inside the area, and the marked exit items exactly the foreign targets
 //! of marked objects. The counter that `mark` takes has risen by the number of marked objects and of
-//! their reference fields. [`sweep`] frees exactly the objects that aren't marked, and adds up how
+//! their reference fields. [`mark_kept`] marks the same and does not trace what an earlier collection kept, where
+//! that is reached still. [`sweep`] frees exactly the objects that aren't marked, and adds up how
 //! many they were and what they took. No call takes memory.
 //!
 //! The crate stands on `k_space` for segments and on `k_exit` for exit items. A law ties what is
 //! reached here, by steps along references, to the closure by which the machine has it.
 #![tactic(auto)]
 
+mod keeping;
 mod laws;
 mod marking;
 mod steps;
@@ -17,6 +19,7 @@ mod sweeping;
 #[cfg(test)]
 mod tests;
 
+pub use keeping::mark_kept;
 pub use laws::{marked_is_the_closure, reached_is_the_closure};
 pub use marking::{clear, mark, mark_uncounted, root};
 pub use steps::Steps;

@@ -57,7 +57,7 @@ fn look<L: Ledger>(area: &mut Area, exits: &mut ExitTable, steps: &mut Steps<L>,
 }
 
 /// Looks at each field of the object. The front of the list has what they hold.
-fn trace<L: Ledger>(
+pub(crate) fn trace<L: Ledger>(
     area: &mut Area,
     exits: &mut ExitTable,
     steps: &mut Steps<L>,

@@ -1,4 +1,4 @@
-use Rattle.std.proofs.Common.{◌≡◌, ◌+◌, List, refl, sym, ap, subst, ◌∙◌, arith}
+use Rattle.std.proofs.Common.{◌≡◌, ◌+◌, List, false, refl, sym, ap, subst, ◌∙◌, arith}
 use Rattle.k_base.proofs.Lists.{some_one}
 use Rattle.k_types.specs.State.{Content}
 use Rattle.k_space.specs.Visiting.{AreHeld}
@@ -13,7 +13,7 @@ use Rattle.k_mark.proofs.marking.mark.Goals as goal
 
 pub loop-found-init : goal.loop-found-init
 loop-found-init g c = record {
-  marking = begun c.args.area.now c.args.exits.now.items c.requires.distinct c.requires.clean c.requires.unmarked;
+  marking = begun (λ n. false) c.args.area.now c.args.exits.now.items c.requires.distinct c.requires.clean c.requires.unmarked;
   steps = omega (arith, none_black c.args.area.now c.requires.distinct c.requires.clean);
   room = refl;
 }
@@ -21,34 +21,34 @@ loop-found-init g c = record {
 pub trace-requires-clause-live : goal.trace-requires-clause-live
 trace-requires-clause-live g c =
     let t = c.in-Some.ensures.some.black in
-    still_live c.args.area.now c.loop-found.area c.visit_gray.new.self c.visit_gray.new.self c.args.exits.now.items c.loop-found.exits.items c.loop-found.exits.items c.in-Some.found.name t.row c.loop-found.invariant.marking t.there t.was t.now (demands c.args.area.now c.args.exits.now.items c.requires.exits)
+    still_live (λ n. false) c.args.area.now c.loop-found.area c.visit_gray.new.self c.visit_gray.new.self c.args.exits.now.items c.loop-found.exits.items c.loop-found.exits.items c.in-Some.found.name t.row c.loop-found.invariant.marking t.there t.was t.now (demands c.args.area.now c.args.exits.now.items c.requires.exits)
 
 pub trace-requires-clause-held : goal.trace-requires-clause-held
 trace-requires-clause-held g c = λ fields is.
     let t = c.in-Some.ensures.some.black in
-    let now = fields_now c.args.area.now c.loop-found.area c.visit_gray.new.self c.visit_gray.new.self c.args.exits.now.items c.loop-found.exits.items c.loop-found.exits.items c.in-Some.found.name t.row c.loop-found.invariant.marking t.there t.was t.now (demands c.args.area.now c.args.exits.now.items c.requires.exits) in
+    let now = fields_now (λ n. false) c.args.area.now c.loop-found.area c.visit_gray.new.self c.visit_gray.new.self c.args.exits.now.items c.loop-found.exits.items c.loop-found.exits.items c.in-Some.found.name t.row c.loop-found.invariant.marking t.there t.was t.now (demands c.args.area.now c.args.exits.now.items c.requires.exits) in
     subst (λ (f : List Content). AreHeld f c.in-Some.found.fields c.visit_gray.new.into) (some_one (sym now ∙ is)) c.in-Some.ensures.some.held
 
 pub trace-requires-clause-exits : goal.trace-requires-clause-exits
 trace-requires-clause-exits g c =
     let t = c.in-Some.ensures.some.black in
-    demand_now c.args.area.now c.loop-found.area c.visit_gray.new.self c.visit_gray.new.self c.args.exits.now.items c.loop-found.exits.items c.loop-found.exits.items c.in-Some.found.name t.row c.loop-found.invariant.marking t.there t.was t.now (demands c.args.area.now c.args.exits.now.items c.requires.exits)
+    demand_now (λ n. false) c.args.area.now c.loop-found.area c.visit_gray.new.self c.visit_gray.new.self c.args.exits.now.items c.loop-found.exits.items c.loop-found.exits.items c.in-Some.found.name t.row c.loop-found.invariant.marking t.there t.was t.now (demands c.args.area.now c.args.exits.now.items c.requires.exits)
 
 pub loop-found-smaller : goal.loop-found-smaller
 loop-found-smaller g c =
     let t = c.in-Some.ensures.some.black in
-    let looked = looked_now c.args.area.now c.loop-found.area c.visit_gray.new.self c.trace.new.area c.args.exits.now.items c.loop-found.exits.items c.trace.new.exits.items c.in-Some.found.name t.row c.loop-found.invariant.marking t.there t.was t.now (demands c.args.area.now c.args.exits.now.items c.requires.exits) c.trace.ensures.looked in
-    let less : left c.trace.new.area + 1 ≡ left c.loop-found.area = less_left c.args.area.now c.loop-found.area c.trace.new.area c.args.exits.now.items c.loop-found.exits.items c.trace.new.exits.items c.in-Some.found.name t.row c.loop-found.invariant.marking t.there t.was (demands c.args.area.now c.args.exits.now.items c.requires.exits) looked in
+    let looked = looked_now (λ n. false) c.args.area.now c.loop-found.area c.visit_gray.new.self c.trace.new.area c.args.exits.now.items c.loop-found.exits.items c.trace.new.exits.items c.in-Some.found.name t.row c.loop-found.invariant.marking t.there t.was t.now (demands c.args.area.now c.args.exits.now.items c.requires.exits) c.trace.ensures.looked in
+    let less : left c.trace.new.area + 1 ≡ left c.loop-found.area = less_left (λ n. false) c.args.area.now c.loop-found.area c.trace.new.area c.args.exits.now.items c.loop-found.exits.items c.trace.new.exits.items c.in-Some.found.name t.row t.row.fields c.loop-found.invariant.marking t.there t.was (demands c.args.area.now c.args.exits.now.items c.requires.exits) looked (λ k e. e) (λ e. refl) in
     omega (arith, less)
 
 pub loop-found-preserved : goal.loop-found-preserved
 loop-found-preserved g c =
     let t = c.in-Some.ensures.some.black in
-    let looked = looked_now c.args.area.now c.loop-found.area c.visit_gray.new.self c.trace.new.area c.args.exits.now.items c.loop-found.exits.items c.trace.new.exits.items c.in-Some.found.name t.row c.loop-found.invariant.marking t.there t.was t.now (demands c.args.area.now c.args.exits.now.items c.requires.exits) c.trace.ensures.looked in
-    let worked = more_work c.args.area.now c.loop-found.area c.trace.new.area c.args.exits.now.items c.loop-found.exits.items c.trace.new.exits.items c.in-Some.found.name t.row c.loop-found.invariant.marking t.there t.was (demands c.args.area.now c.args.exits.now.items c.requires.exits) looked in
-    let traced = c.trace.ensures.steps t.row.fields (fields_now c.args.area.now c.loop-found.area c.visit_gray.new.self c.trace.new.area c.args.exits.now.items c.loop-found.exits.items c.trace.new.exits.items c.in-Some.found.name t.row c.loop-found.invariant.marking t.there t.was t.now (demands c.args.area.now c.args.exits.now.items c.requires.exits)) in
+    let looked = looked_now (λ n. false) c.args.area.now c.loop-found.area c.visit_gray.new.self c.trace.new.area c.args.exits.now.items c.loop-found.exits.items c.trace.new.exits.items c.in-Some.found.name t.row c.loop-found.invariant.marking t.there t.was t.now (demands c.args.area.now c.args.exits.now.items c.requires.exits) c.trace.ensures.looked in
+    let worked = more_work (λ n. false) c.args.area.now c.loop-found.area c.trace.new.area c.args.exits.now.items c.loop-found.exits.items c.trace.new.exits.items c.in-Some.found.name t.row t.row.fields c.loop-found.invariant.marking t.there t.was (demands c.args.area.now c.args.exits.now.items c.requires.exits) looked (λ k e. e) (λ e. refl) in
+    let traced = c.trace.ensures.steps t.row.fields (fields_now (λ n. false) c.args.area.now c.loop-found.area c.visit_gray.new.self c.trace.new.area c.args.exits.now.items c.loop-found.exits.items c.trace.new.exits.items c.in-Some.found.name t.row c.loop-found.invariant.marking t.there t.was t.now (demands c.args.area.now c.args.exits.now.items c.requires.exits)) in
     record {
-      marking = stepped c.args.area.now c.loop-found.area c.trace.new.area c.args.exits.now.items c.loop-found.exits.items c.trace.new.exits.items c.in-Some.found.name t.row c.loop-found.invariant.marking t.there t.was (demands c.args.area.now c.args.exits.now.items c.requires.exits) looked;
+      marking = stepped (λ n. false) c.args.area.now c.loop-found.area c.trace.new.area c.args.exits.now.items c.loop-found.exits.items c.trace.new.exits.items c.in-Some.found.name t.row t.row.fields c.loop-found.invariant.marking t.there t.was (demands c.args.area.now c.args.exits.now.items c.requires.exits) looked (λ k e. e) (λ e. refl);
       steps = omega (arith, worked, traced, c.tick.ensures, c.loop-found.invariant.steps);
       room = c.trace.ensures.room ∙ c.loop-found.invariant.room;
     }
@@ -56,7 +56,7 @@ loop-found-preserved g c =
 pub returns-clause-reached : goal.returns-clause-reached
 returns-clause-reached g c =
     marked_is c.args.area.now c.visit_gray.new.self c.args.exits.now.items c.loop-found.exits.items
-    (subst (λ (a : AreaValue). IsMarking c.args.area.now a c.args.exits.now.items c.loop-found.exits.items) (sym c.in_default.ensures.kept) c.loop-found.invariant.marking)
+    (subst (λ (a : AreaValue). IsMarking (λ n. false) c.args.area.now a c.args.exits.now.items c.loop-found.exits.items) (sym c.in_default.ensures.kept) c.loop-found.invariant.marking)
     (λ n. ap (λ (a : AreaValue). gray_at a n) c.in_default.ensures.kept ∙ c.in_default.ensures.none n)
 
 pub returns-clause-exits : goal.returns-clause-exits

@@ -1,11 +1,11 @@
-use Rattle.std.proofs.Common.{◌≡◌, ◌+◌}
+use Rattle.std.proofs.Common.{◌≡◌, ◌+◌, false}
 use Rattle.k_mark.proofs.Left.{left, black_work}
 use Rattle.k_mark.proofs.Marked.{IsMarking}
 use Rattle.k_mark.proofs.marking.mark.Given as goal
 
 abbrev pub invariant-loop-found : goal.invariant-loop-found
 invariant-loop-found g l = record {
-  marking : IsMarking l.fn.area l.area l.fn.exits.items l.exits.items;
+  marking : IsMarking (λ n. false) l.fn.area l.area l.fn.exits.items l.exits.items;
   steps : l.steps ≡ l.fn.steps + black_work l.area;
   room : l.exits.room ≡ l.fn.exits.room;
 }
