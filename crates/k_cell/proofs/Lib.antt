@@ -4,3 +4,4 @@ pub mod Lists
 pub mod Seen
 pub mod Marks
 pub mod Moved
+pub mod Carried

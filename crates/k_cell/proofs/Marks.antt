@@ -1,8 +1,7 @@
 -- What holdings show while a collection is open.
-use Rattle.std.proofs.Common.{◌≡◌, ◌↔◌, ◌&&◌, ◌||◌, not, ℕ, ◌+◌, ◌-◌, ◌<◌, ◌≤◌, Bool, true, false, cond, refl, sym, ap, ap₂, subst, ◌∙◌, List, [], ◌∷◌, length, map, filter, get_or, slice_get, IsTrue, IsFalse, Option, Some, None, is_some, option_map, arith}
+use Rattle.std.proofs.Common.{◌≡◌, ◌↔◌, ◌&&◌, ◌||◌, not, ℕ, ◌+◌, ◌-◌, ◌≤◌, Bool, true, false, cond, refl, sym, ap, ap₂, subst, ◌∙◌, List, [], ◌∷◌, length, map, filter, get_or, slice_get, IsTrue, IsFalse, Option, Some, None, is_some, option_map, arith}
 use Rattle.std.specs.List.{list_any}
 use Rattle.std.proofs.Math.Path.{fun_ext}
-use Rattle.std.proofs.lemmas.Bool.{false≢true}
 use Rattle.std.proofs.lemmas.List.{length-map}
 use Rattle.std.proofs.lemmas.List.Sorted.{list_any-IsPermutation}
 use Rattle.k_types.specs.declared.names.Name.{Name}
@@ -10,37 +9,36 @@ use Rattle.k_types.specs.declared.names.Link.{Link}
 use Rattle.k_types.specs.declared.names.CellPhase.{CellPhase}
 use Rattle.k_types.specs.declared.names.CellPhase.TheVariants.{Idle, Begun, Marked}
 use Rattle.k_types.specs.Names.{name_among, name_eq, name_of}
-use Rattle.k_types.specs.Cells.{CellPart}
 use Rattle.k_types.specs.Owners.{object_bytes}
 use Rattle.k_types.specs.Reach.{reach_among}
-use Rattle.k_types.specs.State.{Object, has, refers, refers_in}
+use Rattle.k_types.specs.State.{Object, refers, refers_in}
 use Rattle.k_types.specs.Totals.{total}
 use Rattle.k_base.proofs.NameTests.{name_eq_refl, name_eq-same}
 use Rattle.k_space.specs.Segments.{Color, White, Gray, Black, Row, SegmentValue, is_black, is_gray, is_marked, gray_or_black, made, object_of, some_black, some_gray, some_marked, unmarked_row, unmarked_segment}
 use Rattle.k_space.specs.Areas.{AreaValue, black_at, gray_at, grayed, grayed_row, is_foreign, marked_at, row_of_name, segment_at, unmarked}
 use Rattle.k_space.proofs.AreaRows.{same_unmarked}
-use Rattle.k_exit.specs.Exits.{ExitList, ExitRow, IsTaken, has_target, target_marked, targets, unmarked as unmarked_exits, unmarked_row as unmarked_exit}
+use Rattle.k_exit.specs.Exits.{ExitList, ExitRow, IsTaken, has_target, target_marked, targets, unmarked as unmarked_exits}
 use Rattle.k_exit.proofs.Takes.{targets_distinct}
 use Rattle.k_mark.specs.Marking.{IsExit, IsReachedIn, refers_at, some_lead_to}
 use Rattle.k_mark.specs.Sweeping.{dead_bytes, dead_objects, survivor, swept, swept_segment}
 use Rattle.k_tie.specs.Values.{NoteValue}
-use Rattle.k_agree.specs.Marking.{begun, marked, is_foreign_in}
+use Rattle.k_agree.specs.Marking.{begun, marked}
 use Rattle.k_areas.specs.Shown.{area_objects, AreNumberedBelow, HasNoneFrom}
-use Rattle.k_areas.specs.Lists.{black_names, gray_names, made_list, marked_targets}
+use Rattle.k_areas.specs.Lists.{black_names, gray_names, made_list}
 use Rattle.k_areas.specs.Parts.{IsMarkedPart}
 use Rattle.k_areas.proofs.Changed.{swept_objects}
 use Rattle.k_areas.proofs.Foreign.{area_has}
 use Rattle.k_areas.proofs.Found.{at_map, map_number, same_numbered}
-use Rattle.k_areas.proofs.Looked.{black_same, gray_one, gray_swept, none_marked, row_swept, row_unmarked}
+use Rattle.k_areas.proofs.Looked.{black_same, gray_one, gray_swept, row_swept, row_unmarked}
 use Rattle.k_areas.proofs.Named.{black_named, gray_named, made_listed, marked_named, targets_named, unmarked_gray_empty}
 use Rattle.k_areas.proofs.OfParts.{black_reached, exits_reached, map_begun}
 use Rattle.k_areas.proofs.Shown.{any_area, at_row}
 use Rattle.k_areas.proofs.Sums.{dead_counted, dead_weighed}
 use Rattle.k_cell.specs.Changes.{HasDroppedExit, HasItsExits, HasMarked, HasRoot, with_black_alone}
-use Rattle.k_cell.specs.Holdings.{HoldingsValue, AreBegun, AreHoldings, AreMarksKept, cell_seen, holdings_seen, serial_rooms_of}
+use Rattle.k_cell.specs.Holdings.{AreBegun, AreHoldings, AreMarksKept, cell_seen, holdings_seen, serial_rooms_of}
 use Rattle.k_cell.proofs.Areas.{AreAlike, alike, same_below}
 use Rattle.k_cell.proofs.Lists.{all_rows_marked, filter_stronger, none_target_marked, total_split, unmarked_targets}
-use Rattle.k_cell.proofs.Seen.{cell_of_lists, same_cell, same_holdings}
+use Rattle.k_cell.proofs.Seen.{same_cell, same_holdings}
 
 -- marks are taken away once
 row_twice : (rows : List (Option Row)) → map unmarked_row (map unmarked_row rows) ≡ map unmarked_row rows
@@ -85,7 +83,7 @@ module _ (bound : ℕ) (phase : CellPhase) (a new : AreaValue) (e added : ExitLi
       not_marked n = ap (λ (x : ExitList). target_marked x.items n) exits_is ∙ none_target_marked e.items n
 
 -- a root
-grayed_same : (a : AreaValue) (n : Name) → unmarked (grayed a n) ≡ unmarked a
+pub grayed_same : (a : AreaValue) (n : Name) → unmarked (grayed a n) ≡ unmarked a
 grayed_same a n = by_row (row_of_name a.segments n) refl
   where
     by_row : (o : Option Row) → row_of_name a.segments n ≡ o → unmarked (grayed_row a n o) ≡ unmarked a
@@ -202,7 +200,7 @@ marked_rest bound phase a new e after note m =
     same_holdings note bound refl like.room like.rooms m.room
 
 -- what is black is what is marked, where nothing is gray
-black_marked : (a : AreaValue) → ((n : Name) → gray_at a n ≡ false) → (n : Name) → black_at a n ≡ marked_at a n
+pub black_marked : (a : AreaValue) → ((n : Name) → gray_at a n ≡ false) → (n : Name) → black_at a n ≡ marked_at a n
 black_marked a off n = by_row (row_of_name a.segments n) (off n)
   where
     by_color : (color : Color) → is_gray color ≡ false → is_black color ≡ is_marked color

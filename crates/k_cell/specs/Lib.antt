@@ -1,4 +1,5 @@
 pub mod Holdings
+pub mod Carried
 pub mod Changes
 pub mod Looks
 pub mod Placed

@@ -21,17 +21,19 @@ ghost use Rattle.k_cell.specs.Looks.{field_among, field_count_among, type_among}
 ghost use Rattle.k_cell.specs.Changes.{HasDroppedExit, HasItsExits, HasMarked, HasRoot, next_in, with_black_alone, with_body, with_exit_item, with_field};
 ghost use Rattle.k_cell.specs.Holdings.{HasGivenSegment, HasSerialLeft, fresh_holdings, with_segment_added};
 
+use crate::carrying::{Carried, kept_below, marked_below, note, still_whole};
 use crate::looking::{count_at, field_at, lives_at, type_at};
 use crate::rooms::HoldingRooms;
 use crate::writing::{place_in, write_int_in, write_ref_in};
 use k_exit::ExitTable;
 use k_io::NoMemory;
-use k_mark::{Swept, clear, mark_uncounted, root, sweep};
+use k_mark::{Swept, clear, mark_kept, root, sweep};
 use k_space::{Area, Body, Segment, Stored};
 use k_tie::Note;
 use k_types::{CellPhase, Link, Name, Seg, TypeId};
 use std::alloc::Global;
 use std::marker::Model;
+use std::mem::swap;
 
 /// The objects of a heap in their segments, its exit items, how far its collection has come, and what the cell knows of the
 /// journal.
@@ -44,6 +46,8 @@ pub struct Holdings {
     exits: ExitTable,
     phase: CellPhase,
     note: Note,
+    // What is known of the last collection. No contract speaks of it.
+    carried: Carried,
 }
 
 impl Drop for Holdings {
@@ -66,7 +70,15 @@ impl Model for Holdings {
 
     ghost view = { λ h. holdings_seen h.bound h.phase h.area h.exits h.note };
 
-    ghost invariant = { λ h. AreHoldings h.bound h.bytes h.phase h.area h.exits.items };
+    ghost use Rattle.std.specs.Prelude.{◌≡◌, vec_capacity};
+    ghost use Rattle.k_cell.specs.Carried.{IsCarried};
+
+    ghost invariant = { λ h. record {
+      tables : AreHoldings h.bound h.bytes h.phase h.area h.exits.items;
+      carried : IsCarried h.phase h.area h.carried.whole h.carried.noted h.carried.below h.carried.next h.carried.roots.items h.carried.pending.items;
+      roots : vec_capacity h.carried.roots ≡ h.carried.room;
+      pending : vec_capacity h.carried.pending ≡ h.carried.room;
+    } };
 }
 
 impl Holdings {
@@ -88,6 +100,15 @@ impl Holdings {
         let segment = Segment::make(alloc, seg, rooms.objects)?;
         area.add(segment);
         let exits = ExitTable::make(alloc, rooms.exits)?;
+        let carried = Carried {
+            whole: false,
+            below: 0,
+            roots: Vec::with_capacity(alloc, rooms.objects as usize)?,
+            noted: false,
+            next: 0,
+            pending: Vec::with_capacity(alloc, rooms.objects as usize)?,
+            room: rooms.objects,
+        };
         Ok(Holdings {
             bound: rooms.bound,
             area,
@@ -95,6 +116,7 @@ impl Holdings {
             exits,
             phase: CellPhase::Idle,
             note,
+            carried,
         })
     }
 
@@ -188,7 +210,9 @@ impl Holdings {
         ensures placed { self.new ≡ record self.old { value = with_body seg.0 body self.old.value } }
     {
         self.bytes += body.bytes();
-        place_in(&mut self.area, seg, body)
+        let link = place_in(&mut self.area, seg, body);
+        self.carried.whole = still_whole(self.carried.whole, self.carried.below, link.serial.0);
+        link
     }
 
     /// Writes a reference, or null, into the field of the object. It asks no write barrier, and adds no exit item: both are the
@@ -199,6 +223,7 @@ impl Holdings {
         ensures { self.new ≡ record self.old { value = with_field at field (Refers (option_map name_of value)) self.old.value } }
     {
         write_ref_in(&mut self.area, at, field, value);
+        self.carried.whole = still_whole(self.carried.whole, self.carried.below, at.serial.0);
     }
 
     /// Writes a number into the field of the object. Constant time, and no memory.
@@ -228,6 +253,8 @@ impl Holdings {
     {
         clear(&mut self.area, &mut self.exits);
         self.phase = CellPhase::Begun;
+        self.carried.noted = true;
+        self.carried.pending.clear();
     }
 
     /// Makes an object of the heap gray; any other name changes nothing. Constant time.
@@ -237,17 +264,32 @@ impl Holdings {
         ensures root { HasRoot self.old.value self.new.value (name_of target) }
     {
         root(&mut self.area, target);
+        self.carried.noted = note(
+            &mut self.carried.pending,
+            self.carried.room,
+            self.carried.noted,
+            target.name(),
+        );
     }
 
     /// Marks what the gray objects reach inside the heap, and the exit items to which that refers. The cost is in proportion to
-    /// the marked objects, their fields and the segments.
+    /// the marked objects, their fields and the segments. What the last collection kept is not traced again, where no
+    /// reference of it was written since, its roots are roots still, and there is no exit item.
     pub fn mark(&mut self)
         requires begun { self.old.value.collection ≡ Begun }
         requires exits { HasItsExits self.old.value }
         ensures rest { self.new ≡ record self.old { value = self.new.value } }
         ensures marked { HasMarked self.old.value self.new.value }
     {
-        mark_uncounted(&mut self.area, &mut self.exits);
+        let below = kept_below(
+            &self.area,
+            &self.exits,
+            self.carried.whole,
+            self.carried.below,
+            &self.carried.roots,
+        );
+        let kept = mark_kept(&mut self.area, &mut self.exits, below);
+        (self.carried.noted, self.carried.next) = marked_below(self.carried.noted, kept);
         self.phase = CellPhase::Marked;
     }
 
@@ -263,6 +305,11 @@ impl Holdings {
         let before = into.bytes;
         sweep(&mut self.area, into);
         self.bytes -= into.bytes - before;
+        // What is left is what this collection kept.
+        swap(&mut self.carried.roots, &mut self.carried.pending);
+        self.carried.whole = self.carried.noted;
+        self.carried.below = self.carried.next;
+        self.carried.noted = false;
     }
 
     /// Ends the collection, of which no mark is left. Constant time.
@@ -321,6 +368,7 @@ impl Holdings {
     {
         let segment = self.area.take(seg)?;
         self.bytes -= segment.bytes();
+        self.carried.whole = false;
         Some(segment)
     }
 
@@ -335,6 +383,7 @@ impl Holdings {
         ensures there { slice_index_or self.new.value.made segment.number None ≡ Some (made segment) }
     {
         self.bytes += segment.bytes();
+        self.carried.whole = false;
         self.area.add(segment);
     }
 }

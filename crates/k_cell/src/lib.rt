@@ -2,6 +2,7 @@
 //! exit items, the marks of a collection, and the note of the journal.
 #![tactic(auto)]
 
+mod carrying;
 mod holding;
 mod looking;
 mod rooms;

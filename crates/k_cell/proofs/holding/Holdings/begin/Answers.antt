@@ -1,10 +1,18 @@
-use Rattle.std.proofs.Common.{◌≡◌}
+use Rattle.std.proofs.Common.{◌∙◌}
 use Rattle.k_cell.proofs.Marks.{begun_kept, begun_seen}
+use Rattle.k_cell.proofs.Carried.{begun_carried}
 use Rattle.k_cell.proofs.holding.Holdings.begin.Goals as goal
 
 pub invariant_of-self : goal.invariant_of-self
 invariant_of-self c =
-    begun_kept c.self.inside.bound c.self.inside.phase c.self.inside.area c.clear.new.area c.self.inside.exits c.clear.new.exits c.clear.ensures.area c.clear.ensures.exits c.self.inside.bytes c.self.invariant
+    record {
+      tables =
+          begun_kept c.self.inside.bound c.self.inside.phase c.self.inside.area c.clear.new.area c.self.inside.exits c.clear.new.exits c.clear.ensures.area c.clear.ensures.exits c.self.inside.bytes c.self.invariant.tables;
+      carried =
+          begun_carried c.self.inside.phase c.self.inside.area c.clear.new.area c.self.inside.carried.whole c.self.inside.carried.noted c.self.inside.carried.below c.self.inside.carried.next c.self.inside.carried.roots.items c.self.inside.carried.pending.items _ c.self.invariant.carried c.clear.ensures.area;
+      roots = c.self.invariant.roots;
+      pending = c.clear-2.ensures.capacity ∙ c.self.invariant.pending;
+    }
 
 pub returns : goal.returns
 returns c =

@@ -1,4 +1,4 @@
-use Rattle.std.proofs.Common.{◌≡◌, List, length, sym, ap, ◌∙◌}
+use Rattle.std.proofs.Common.{List, length, sym, ap, ◌∙◌}
 use Rattle.k_types.specs.State.{Content}
 use Rattle.k_cell.proofs.Found.{fields_found}
 use Rattle.k_cell.proofs.holding.Holdings.field_count.Goals as goal
@@ -6,4 +6,4 @@ use Rattle.k_cell.proofs.holding.Holdings.field_count.Goals as goal
 pub returns : goal.returns
 returns c =
     rw (← c.self.view_is)
-    (c.count_at.ensures ∙ sym (ap (λ (xs : List Content). length xs) (fields_found c.args.at c.self.inside.area.segments c.self.inside.bound c.self.invariant.numbered.none)))
+    (c.count_at.ensures ∙ sym (ap (λ (xs : List Content). length xs) (fields_found c.args.at c.self.inside.area.segments c.self.inside.bound c.self.invariant.tables.numbered.none)))

@@ -1,8 +1,8 @@
-use Rattle.std.proofs.Common.{◌≡◌, List, [], ◌∷◌, ◌++◌, Option, None, ap, ◌∙◌}
+use Rattle.std.proofs.Common.{◌≡◌, [], ◌∷◌, ◌++◌, None, false, refl, ap, ◌∙◌}
+use Rattle.k_types.specs.declared.names.CellPhase.TheVariants.{Idle}
 use Rattle.k_space.specs.Areas.{AreaValue}
-use Rattle.k_space.specs.Segments.{Row}
-use Rattle.k_exit.specs.Exits.{ExitList}
 use Rattle.k_cell.proofs.Moved.{fresh_kept, fresh_seen}
+use Rattle.k_cell.proofs.Carried.{idle_carried}
 use Rattle.k_cell.proofs.holding.Holdings.make.Goals as goal
 
 pub invariant_of-result : goal.invariant_of-result
@@ -10,7 +10,14 @@ invariant_of-result c =
     let is : c.in_ok-segment.segment ≡ record { number = c.args.seg.0; room = c.args.rooms.objects; rows = None ∷ [] } = c.in_ok-segment.ensures in
     let empty : c.in_ok-area.area ≡ record { segments = []; room = c.args.rooms.segments } = c.in_ok-area.ensures in
     let area : c.add.new.self ≡ record { segments = c.in_ok-segment.segment ∷ []; room = c.args.rooms.segments } = c.add.ensures.added ∙ ap (λ (a : AreaValue). record a { segments = a.segments ++ c.in_ok-segment.segment ∷ [] }) empty in
-    fresh_kept c.args.seg.0 c.args.rooms c.in_ok-segment.segment is c.requires.seg c.add.new.self c.in_ok-exits.exits.items area c.add.ensures.distinct
+    record {
+      tables =
+          fresh_kept c.args.seg.0 c.args.rooms c.in_ok-segment.segment is c.requires.seg c.add.new.self c.in_ok-exits.exits.items area c.add.ensures.distinct;
+      carried =
+          idle_carried Idle c.add.new.self false 0 0 _ _ refl;
+      roots = c.in_ok-with_capacity.ensures.exact;
+      pending = c.in_ok-with_capacity-2.ensures.exact;
+    }
 
 pub returns : goal.returns
 returns c =

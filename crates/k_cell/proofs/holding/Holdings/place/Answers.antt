@@ -1,28 +1,35 @@
-use Rattle.std.proofs.Common.{◌≡◌, ◌+◌, length, sym, ap, subst, ◌∙◌, arith}
+use Rattle.std.proofs.Common.{◌≡◌, sym, ap, subst, ◌∙◌}
 use Rattle.k_types.specs.declared.names.CellPhase.TheVariants.{Idle}
-use Rattle.k_types.specs.Types.{object_size}
-use Rattle.k_cell.specs.Holdings.{HoldingsValue, AreHoldings, HasSerialLeft}
+use Rattle.k_cell.specs.Holdings.{HoldingsValue, HasSerialLeft}
 use Rattle.k_cell.proofs.Seen.{can_place, placed_kept, placed_name, placed_seen}
+use Rattle.k_cell.proofs.Carried.{placed_carried}
 use Rattle.k_cell.proofs.holding.Holdings.place.Goals as goal
 
-pub place_in-requires-clause-room : goal.place_in-requires-clause-room
-place_in-requires-clause-room c =
-    can_place c.self.inside.bound c.args.seg.0 c.self.inside.phase c.self.inside.area c.self.inside.exits c.self.inside.note c.self.invariant.numbered.none
+pub place_in-link-requires-clause-room : goal.place_in-link-requires-clause-room
+place_in-link-requires-clause-room c =
+    can_place c.self.inside.bound c.args.seg.0 c.self.inside.phase c.self.inside.area c.self.inside.exits c.self.inside.note c.self.invariant.tables.numbered.none
     (subst (λ (h : HoldingsValue). HasSerialLeft h c.args.seg.0) (sym c.self.view_is) c.requires.left)
 
 pub invariant_of-self : goal.invariant_of-self
 invariant_of-self c =
     let idle : c.self.inside.phase ≡ Idle = ap (λ (h : HoldingsValue). h.value.collection) c.self.view_is ∙ c.requires.idle in
-    rw c.bytes.ensures.size
-    (placed_kept c.self.inside.bound c.self.inside.area c.place_in.new.area c.self.inside.exits.items c.args.seg.0 c.args.body c.place_in.result c.self.invariant.numbered c.place_in.ensures c.self.inside.bytes c.self.inside.phase c.self.invariant idle)
+    record {
+      tables =
+          rw c.bytes.ensures.size
+          (placed_kept c.self.inside.bound c.self.inside.area c.place_in-link.new.area c.self.inside.exits.items c.args.seg.0 c.args.body c.place_in-link.result c.self.invariant.tables.numbered c.place_in-link.ensures c.self.inside.bytes c.self.inside.phase c.self.invariant.tables idle);
+      carried =
+          placed_carried c.self.inside.phase c.self.inside.area c.place_in-link.new.area c.self.inside.carried.whole _ c.self.inside.carried.noted c.args.seg.0 c.self.inside.carried.below c.self.inside.carried.next c.self.inside.carried.roots.items c.self.inside.carried.pending.items c.args.body c.place_in-link.result c.self.invariant.carried idle c.place_in-link.ensures c.still_whole-self-inside.ensures;
+      roots = c.self.invariant.roots;
+      pending = c.self.invariant.pending;
+    }
 
 pub returns-clause-name : goal.returns-clause-name
 returns-clause-name c =
     rw (← c.self.view_is)
-    (placed_name c.self.inside.bound c.self.inside.area c.place_in.new.area c.self.inside.exits.items c.args.seg.0 c.args.body c.place_in.result c.self.invariant.numbered c.place_in.ensures c.self.inside.phase)
+    (placed_name c.self.inside.bound c.self.inside.area c.place_in-link.new.area c.self.inside.exits.items c.args.seg.0 c.args.body c.place_in-link.result c.self.invariant.tables.numbered c.place_in-link.ensures c.self.inside.phase)
 
 pub returns-clause-placed : goal.returns-clause-placed
 returns-clause-placed c =
     let idle : c.self.inside.phase ≡ Idle = ap (λ (h : HoldingsValue). h.value.collection) c.self.view_is ∙ c.requires.idle in
     rw (← c.self.view_is)
-    (placed_seen c.self.inside.bound c.self.inside.area c.place_in.new.area c.self.inside.exits.items c.args.seg.0 c.args.body c.place_in.result c.self.invariant.numbered c.place_in.ensures c.self.inside.phase c.self.inside.exits c.self.inside.note idle)
+    (placed_seen c.self.inside.bound c.self.inside.area c.place_in-link.new.area c.self.inside.exits.items c.args.seg.0 c.args.body c.place_in-link.result c.self.invariant.tables.numbered c.place_in-link.ensures c.self.inside.phase c.self.inside.exits c.self.inside.note idle)

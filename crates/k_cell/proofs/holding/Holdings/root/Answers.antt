@@ -1,14 +1,24 @@
-use Rattle.std.proofs.Common.{◌≡◌, ap, ◌∙◌}
+use Rattle.std.proofs.Common.{◌≡◌, [], ◌∷◌, ◌++◌, ap, ◌∙◌}
 use Rattle.k_types.specs.declared.names.CellPhase.TheVariants.{Begun}
+use Rattle.k_types.specs.declared.names.Name.{Name}
 use Rattle.k_types.specs.Names.{name_of}
 use Rattle.k_cell.specs.Holdings.{HoldingsValue}
 use Rattle.k_cell.proofs.Marks.{rooted, rooted_kept, rooted_rest}
+use Rattle.k_cell.proofs.Carried.{rooted_carried}
 use Rattle.k_cell.proofs.holding.Holdings.root.Goals as goal
 
 pub invariant_of-self : goal.invariant_of-self
 invariant_of-self c =
     let begun : c.self.inside.phase ≡ Begun = ap (λ (h : HoldingsValue). h.value.collection) c.self.view_is ∙ c.requires in
-    rooted_kept c.self.inside.bound c.self.inside.bytes c.self.inside.phase c.self.inside.area c.root.new.area c.self.inside.exits.items (name_of c.args.target) c.self.invariant begun c.root.ensures
+    record {
+      tables =
+          rooted_kept c.self.inside.bound c.self.inside.bytes c.self.inside.phase c.self.inside.area c.root.new.area c.self.inside.exits.items (name_of c.args.target) c.self.invariant.tables begun c.root.ensures;
+      carried =
+          rooted_carried c.self.inside.phase c.self.inside.area c.root.new.area c.self.inside.carried.whole c.self.inside.carried.noted c.note-self-inside.result c.self.inside.carried.below c.self.inside.carried.next c.self.inside.carried.roots.items c.self.inside.carried.pending.items _ (name_of c.args.target) c.self.invariant.carried begun c.root.ensures
+          (λ t. let e = c.note-self-inside.ensures.noted t in (e.0, e.1 ∙ ap (λ (n : Name). c.self.inside.carried.pending.items ++ n ∷ []) c.name.ensures));
+      roots = c.self.invariant.roots;
+      pending = c.note-self-inside.ensures.capacity ∙ c.self.invariant.pending;
+    }
 
 pub returns-clause-rest : goal.returns-clause-rest
 returns-clause-rest c =
@@ -19,4 +29,4 @@ pub returns-clause-root : goal.returns-clause-root
 returns-clause-root c =
     let begun : c.self.inside.phase ≡ Begun = ap (λ (h : HoldingsValue). h.value.collection) c.self.view_is ∙ c.requires in
     rw (← c.self.view_is)
-    (rooted c.self.inside.bound c.self.inside.bytes c.self.inside.phase c.self.inside.area c.root.new.area c.self.inside.exits.items (name_of c.args.target) c.self.invariant begun c.root.ensures)
+    (rooted c.self.inside.bound c.self.inside.bytes c.self.inside.phase c.self.inside.area c.root.new.area c.self.inside.exits.items (name_of c.args.target) c.self.invariant.tables begun c.root.ensures)

@@ -1,28 +1,37 @@
-use Rattle.std.proofs.Common.{◌≡◌, ◌≤◌, None, get_or, option_map, sym, ap, subst, ◌∙◌, arith}
+use Rattle.std.proofs.Common.{◌≡◌, None, option_map, sym, ap, subst, ◌∙◌, arith}
 use Rattle.k_types.specs.declared.names.CellPhase.TheVariants.{Idle}
 use Rattle.k_space.specs.Segments.{made}
 use Rattle.k_space.specs.Areas.{AreaValue, segment_at}
 use Rattle.k_areas.proofs.Named.{made_listed}
+use Rattle.k_cell.specs.Carried.{IsCarried}
 use Rattle.k_cell.specs.Holdings.{HoldingsValue, AreHoldings}
 use Rattle.k_cell.proofs.Moved.{IsTakenBy, left_kept, left_most, left_seen}
+use Rattle.k_cell.proofs.Carried.{idle_carried}
 use Rattle.k_cell.proofs.holding.Holdings.take_segment.Goals as goal
 
 pub invariant_of-self : goal.invariant_of-self
 invariant_of-self c =
-    subst (λ (x : AreaValue). AreHoldings c.self.inside.bound c.self.inside.bytes c.self.inside.phase x c.self.inside.exits.items) (sym c.in_err-segment.ensures.kept) c.self.invariant
+    record {
+      tables =
+          subst (λ (x : AreaValue). AreHoldings c.self.inside.bound c.self.inside.bytes c.self.inside.phase x c.self.inside.exits.items) (sym c.in_err-segment.ensures.kept) c.self.invariant.tables;
+      carried =
+          subst (λ (x : AreaValue). IsCarried c.self.inside.phase x c.self.inside.carried.whole c.self.inside.carried.noted c.self.inside.carried.below c.self.inside.carried.next c.self.inside.carried.roots.items c.self.inside.carried.pending.items) (sym c.in_err-segment.ensures.kept) c.self.invariant.carried;
+      roots = c.self.invariant.roots;
+      pending = c.self.invariant.pending;
+    }
 
 pub returns-in_err-segment-clause-none : goal.returns-in_err-segment-clause-none
 returns-in_err-segment-clause-none c =
     let gone : None ≡ segment_at c.self.inside.area.segments c.args.seg.0 = c.in_err-segment.ensures.value in
     rw (c.from_residual.ensures, ← c.self.view_is)
-    (made_listed c.self.inside.area.segments c.self.inside.bound c.args.seg.0 c.self.invariant.numbered.none ∙ ap (option_map made) (sym gone))
+    (made_listed c.self.inside.area.segments c.self.inside.bound c.args.seg.0 c.self.invariant.tables.numbered.none ∙ ap (option_map made) (sym gone))
 
 pub overflow_sub-self : goal.overflow_sub-self
 overflow_sub-self c =
     let idle : c.self.inside.phase ≡ Idle = ap (λ (h : HoldingsValue). h.value.collection) c.self.view_is ∙ c.requires.idle in
     let e = c.in_ok-segment.ensures in
     let t : IsTakenBy c.self.inside.area c.take.new.self c.args.seg.0 c.in_ok-segment.segment = record { there = sym e.value; room = e.room; distinct = e.distinct; gone = e.gone; others = e.others } in
-    let most = left_most c.self.inside.bound c.self.inside.bytes c.self.inside.phase c.self.inside.area c.take.new.self c.self.inside.exits c.args.seg.0 c.in_ok-segment.segment c.self.invariant idle t in
+    let most = left_most c.self.inside.bound c.self.inside.bytes c.self.inside.phase c.self.inside.area c.take.new.self c.self.inside.exits c.args.seg.0 c.in_ok-segment.segment c.self.invariant.tables idle t in
     omega (arith, most, c.bytes.ensures.value)
 
 pub invariant_of-self-2 : goal.invariant_of-self-2
@@ -30,8 +39,15 @@ invariant_of-self-2 c =
     let idle : c.self.inside.phase ≡ Idle = ap (λ (h : HoldingsValue). h.value.collection) c.self.view_is ∙ c.requires.idle in
     let e = c.in_ok-segment.ensures in
     let t : IsTakenBy c.self.inside.area c.take.new.self c.args.seg.0 c.in_ok-segment.segment = record { there = sym e.value; room = e.room; distinct = e.distinct; gone = e.gone; others = e.others } in
-    let most = left_most c.self.inside.bound c.self.inside.bytes c.self.inside.phase c.self.inside.area c.take.new.self c.self.inside.exits c.args.seg.0 c.in_ok-segment.segment c.self.invariant idle t in
-    left_kept c.self.inside.bound c.self.inside.bytes c.self.inside.phase c.self.inside.area c.take.new.self c.self.inside.exits c.args.seg.0 c.in_ok-segment.segment c.self.invariant idle t _ (omega (arith, most, c.bytes.ensures.value))
+    let most = left_most c.self.inside.bound c.self.inside.bytes c.self.inside.phase c.self.inside.area c.take.new.self c.self.inside.exits c.args.seg.0 c.in_ok-segment.segment c.self.invariant.tables idle t in
+    record {
+      tables =
+          left_kept c.self.inside.bound c.self.inside.bytes c.self.inside.phase c.self.inside.area c.take.new.self c.self.inside.exits c.args.seg.0 c.in_ok-segment.segment c.self.invariant.tables idle t _ (omega (arith, most, c.bytes.ensures.value));
+      carried =
+          idle_carried c.self.inside.phase c.take.new.self c.self.inside.carried.noted c.self.inside.carried.below c.self.inside.carried.next c.self.inside.carried.roots.items c.self.inside.carried.pending.items idle;
+      roots = c.self.invariant.roots;
+      pending = c.self.invariant.pending;
+    }
 
 pub returns-clause-some : goal.returns-clause-some
 returns-clause-some c =
@@ -39,4 +55,4 @@ returns-clause-some c =
     let e = c.in_ok-segment.ensures in
     let t : IsTakenBy c.self.inside.area c.take.new.self c.args.seg.0 c.in_ok-segment.segment = record { there = sym e.value; room = e.room; distinct = e.distinct; gone = e.gone; others = e.others } in
     rw (← c.self.view_is)
-    (left_seen c.self.inside.bound c.self.inside.bytes c.self.inside.phase c.self.inside.area c.take.new.self c.self.inside.exits c.args.seg.0 c.in_ok-segment.segment c.self.invariant idle t c.self.inside.note)
+    (left_seen c.self.inside.bound c.self.inside.bytes c.self.inside.phase c.self.inside.area c.take.new.self c.self.inside.exits c.args.seg.0 c.in_ok-segment.segment c.self.invariant.tables idle t c.self.inside.note)
