@@ -91,7 +91,7 @@ fn mark_kept_on<L: Ledger>(
     let next = area.next_serial().max(below);
     let mut lower = true;
     let mut held = [Stored::Null; 16];
-    while let Some(found) = area.visit_gray(&mut held) {
+    while let Some(found) = area.visit_gray_from(below, &mut held) {
         if u64::from(found.name.serial.0) >= below {
             if !are_lower(&held, found.fields, next) {
                 lower = false;

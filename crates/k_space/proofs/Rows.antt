@@ -15,7 +15,7 @@ use Rattle.k_space.specs.declared.body.Stored.{Stored}
 use Rattle.k_space.specs.declared.segment.Cell.{Cell}
 use Rattle.k_space.specs.Segments.{Gray, Row, SegmentValue, LiesAt, row_at, with_row, some_gray, unmarked_row}
 use Rattle.k_space.specs.Places.{row_of, row_in, color_of, IsSound, IsPlaced, IsKept, IsGrayList, is_gray_place, white_place}
-use Rattle.k_space.specs.Visiting.{AreHeld, IsVisitedIn}
+use Rattle.k_space.specs.Visiting.{AreHeld, IsVisitedFromIn}
 use Rattle.k_space.proofs.GrayLists.{At_inside}
 
 pub front_whole : {A : Type 0} (xs ys : List A) (n : ℕ) → length xs ≡ n → take n (xs ++ ys) ≡ xs
@@ -236,10 +236,10 @@ pub read_at : (places : List Place) (i : ℕ) (p q : Place) → i < length place
 read_at places i p q within read is = get_or_default places i Empty p within ∙ sym read ∙ is
 
 -- the first gray object, made black
-pub visited : (number room : ℕ) (places : List Place) (cells : Slab Cell) (s : SegmentValue) (i slot next : ℕ) (cell : Cell) (count : ℕ) (list : List Stored) →
-    record { number = number; room = room; rows = map (row_of cells) places } ≡ s → get_or places i Empty ≡ At slot (MarkGray next) → get cells slot ≡ Some cell → AreHeld cell.body.fields count list →
-    IsVisitedIn s (record { number = number; room = room; rows = map (row_of cells) (set places i (At slot MarkBlack)) }) (record { name = record { seg = record { 0 = number }; serial = record { 0 = i } }; fields = count }) list
-visited number room places cells s i slot next cell count list is here found held =
+pub visited : (below number room : ℕ) (places : List Place) (cells : Slab Cell) (s : SegmentValue) (i slot next : ℕ) (cell : Cell) (count : ℕ) (list : List Stored) →
+    record { number = number; room = room; rows = map (row_of cells) places } ≡ s → get_or places i Empty ≡ At slot (MarkGray next) → get cells slot ≡ Some cell → count ≤ 16 → (below ≤ i → AreHeld cell.body.fields count list) →
+    IsVisitedFromIn below s (record { number = number; room = room; rows = map (row_of cells) (set places i (At slot MarkBlack)) }) (record { name = record { seg = record { 0 = number }; serial = record { 0 = i } }; fields = count }) list
+visited below number room places cells s i slot next cell count list is here found most held =
     let row : Row = record { slot = slot; color = Gray; ty = cell.body.ty; fields = cell.body.fields } in
     let at : row_at s i ≡ Some row = row_there number room places cells s i slot (MarkGray next) (Some cell) is here found in
     record {
@@ -248,6 +248,7 @@ visited number room places cells s i slot next cell count list is here found hel
       there = at;
       was = refl;
       now = recolored_view number room places cells i slot (MarkGray next) MarkBlack s row is here at;
+      most = most;
       held = held;
     }
 

@@ -1,6 +1,6 @@
 -- A segment that is put back as it was.
 use Rattle.std.proofs.Common.{◌≡◌, ℕ, Option, Some, None, List, ◌<◌, ◌≤◌, cond, ltb, false, arith, refl, sym, ap, ap₂, ◌∙◌, get_or, set, slice_get, length}
-use Rattle.std.specs.Option.{IfNone}
+use Rattle.std.specs.Option.{IfNone, IfSome}
 use Rattle.std.proofs.lemmas.Bool.Decides.{nat_tests}
 use Rattle.std.proofs.lemmas.List.{set-get_or}
 use Rattle.std.proofs.lemmas.Option.{get_or_from_slice_get}
@@ -10,7 +10,7 @@ use Rattle.k_space.specs.declared.body.Stored.{Stored}
 use Rattle.k_space.specs.declared.segment.Visited.{Visited}
 use Rattle.k_space.specs.Segments.{SegmentValue, Row, Black, row_at, with_row, gray_or_black, some_gray}
 use Rattle.k_space.specs.Areas.{AreaValue, place_of, segment_at, with_segment, row_in_segment, row_of_name, with_row_in, HasDistinct, grayed, grayed_row}
-use Rattle.k_space.specs.Visiting.{IsVisited, IsVisitedIn}
+use Rattle.k_space.specs.Visiting.{IsVisited, IsVisitedFrom, IsVisitedFromIn, IsVisitedIn}
 
 pub put_back : (a : AreaValue) (number : ℕ) (s : SegmentValue) → Some s ≡ segment_at a.segments number → with_segment a number s ≡ a
 put_back a number s e =
@@ -45,9 +45,9 @@ grayed_at segments room at a n s t is place there some none =
     ∙ grayed_in a n s t (sym there ∙ ap₂ (λ (ss : List SegmentValue) p. slice_get ss p) (ap (λ (x : AreaValue). x.segments) is) place) some none
 
 -- a segment of an area in which an object was visited
-pub visited_at : (segments : List SegmentValue) (room at : ℕ) (a : AreaValue) (s t : SegmentValue) (found : Visited) (list : List Stored) → record { segments = segments; room = room } ≡ a → HasDistinct a.segments → slice_get segments at ≡ Some s →
-    IsVisitedIn s t found list → IsVisited a (record { segments = set segments at t; room = room }) found list
-visited_at segments room at a s t found list is distinct there visited =
+pub visited_at : (below : ℕ) (segments : List SegmentValue) (room at : ℕ) (a : AreaValue) (s t : SegmentValue) (found : Visited) (list : List Stored) → record { segments = segments; room = room } ≡ a → HasDistinct a.segments → slice_get segments at ≡ Some s →
+    IsVisitedFromIn below s t found list → IsVisitedFrom below a (record { segments = set segments at t; room = room }) found list
+visited_at below segments room at a s t found list is distinct there visited =
     record {
       black = record {
         row = visited.row;
@@ -58,6 +58,7 @@ visited_at segments room at a s t found list is distinct there visited =
             ∙ ap (with_segment a found.name.seg.0) visited.now
             ∙ sym (ap (λ (o : Option SegmentValue). with_row_in a found.name (Some (record visited.row { color = Black })) o) named);
       };
+      most = visited.most;
       held = visited.held;
     }
   where
@@ -88,3 +89,14 @@ no_grays segments n h = by_segment (segment_at segments n.seg.0) refl
 pub if_none : {A : Type 0} {P Q : Type 0} (o : Option A) → (P → Q) → IfNone o P → IfNone o Q
 if_none None f p = f p
 if_none (Some x) f p = p
+
+pub if_some_more : {A : Type 0} (P Q : A → Type 0) (o : Option A) → ((a : A) → P a → Q a) → IfSome o P → IfSome o Q
+if_some_more P Q None f p = p
+if_some_more P Q (Some a) f p = f a p
+
+-- nothing is lower than 0
+pub visited_all : (old new : AreaValue) (found : Visited) (list : List Stored) → IsVisitedFrom 0 old new found list → IsVisited old new found list
+visited_all old new found list v = record { black = v.black; held = v.held (omega arith) }
+
+pub visited_all_in : (old new : SegmentValue) (found : Visited) (list : List Stored) → IsVisitedFromIn 0 old new found list → IsVisitedIn old new found list
+visited_all_in old new found list v = record { row = v.row; number = v.number; there = v.there; was = v.was; now = v.now; held = v.held (omega arith) }

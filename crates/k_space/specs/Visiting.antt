@@ -27,3 +27,19 @@ pub record IsVisitedIn (old new : SegmentValue) (found : Visited) (list : List S
 pub record IsVisited (old new : AreaValue) (found : Visited) (list : List Stored) : Type 0 where
   pub black : IsBlackened old new found.name
   pub held : AreHeld black.row.fields found.fields list
+
+-- that object of the segment was gray, and is black, and where its serial is not lower the front of the list has what its fields hold
+pub record IsVisitedFromIn (below : ℕ) (old new : SegmentValue) (found : Visited) (list : List Stored) : Type 0 where
+  pub row : Row
+  pub number : found.name.seg.0 ≡ old.number
+  pub there : row_at old found.name.serial.0 ≡ Some row
+  pub was : row.color ≡ Gray
+  pub now : new ≡ with_row old found.name.serial.0 (Some (record row { color = Black }))
+  pub most : found.fields ≤ 16
+  pub held : below ≤ found.name.serial.0 → AreHeld row.fields found.fields list
+
+-- the same of an object of the area
+pub record IsVisitedFrom (below : ℕ) (old new : AreaValue) (found : Visited) (list : List Stored) : Type 0 where
+  pub black : IsBlackened old new found.name
+  pub most : found.fields ≤ 16
+  pub held : below ≤ found.name.serial.0 → AreHeld black.row.fields found.fields list

@@ -5,7 +5,7 @@ ghost use Rattle.std.specs.Borrow.{sem};
 ghost use Rattle.std.specs.List.{position_or_len};
 ghost use Rattle.k_space.specs.Segments.{Row, SegmentValue, row_at, some_gray, unmarked_segment, blackened_segment};
 ghost use Rattle.k_space.specs.Hints.{AreExact, numbers};
-ghost use Rattle.k_space.specs.Visiting.{IsVisited};
+ghost use Rattle.k_space.specs.Visiting.{IsVisited, IsVisitedFrom};
 ghost use Rattle.k_types.specs.declared.names.Name.{Name as Named};
 ghost use Rattle.k_space.specs.Areas.{place_of, row_of_name, segment_at, HasDistinct, is_foreign, gray_at, grayed, has_number, unmarked, blackened};
 
@@ -261,25 +261,43 @@ impl Area {
         ensures kept { IfNone result (self.new ≡ self.old) }
         ensures len { length into.new ≡ length into.old }
     {
+        self.visit_gray_from(0, into)
+    }
+
+    /// The same, but an object with a lower serial than that is not read, and nothing is said of the list.
+    pub fn visit_gray_from(&mut self, below: u64, into: &mut [Stored]) -> Option<Visited>
+        requires distinct { HasDistinct self.old.segments }
+        requires list { 16 ≤ length into.old }
+        ensures some { IfSome result (λ found. IsVisitedFrom below self.old self.new found into.new) }
+        ensures none { IfNone result ((n : Name) → IsFalse (gray_at self.old n)) }
+        ensures kept { IfNone result (self.new ≡ self.old) }
+        ensures len { length into.new ≡ length into.old }
+    {
         let len = self.segments.len();
         let from = self.hints.gray.min(len);
-        if let Some(found) = self.visit_gray_between(from, len, into) {
+        if let Some(found) = self.visit_gray_between(from, len, below, into) {
             return Some(found);
         }
-        self.visit_gray_between(0, from, into)
+        self.visit_gray_between(0, from, below, into)
     }
 
     /// Visits a gray object of the segments from the one place up to below the other.
-    fn visit_gray_between(&mut self, from: usize, to: usize, into: &mut [Stored]) -> Option<Visited>
+    fn visit_gray_between(
+        &mut self,
+        from: usize,
+        to: usize,
+        below: u64,
+        into: &mut [Stored],
+    ) -> Option<Visited>
         requires distinct { HasDistinct self.old.segments }
         requires list { 16 ≤ length into.old }
-        ensures some { IfSome result (λ found. IsVisited self.old self.new found into.new) }
+        ensures some { IfSome result (λ found. IsVisitedFrom below self.old self.new found into.new) }
         ensures none { IfNone result ((i : ℕ) (s : SegmentValue) (serial : ℕ) → from ≤ i → i < to → slice_get self.old.segments i ≡ Some s → IsFalse (some_gray (row_at s serial))) }
         ensures kept { IfNone result (self.new ≡ self.old) }
         ensures len { length into.new ≡ length into.old }
     {
         for i in from..to {
-            if let Some(found) = self.visit_gray_at(i, into) {
+            if let Some(found) = self.visit_gray_at(i, below, into) {
                 self.hints.gray = i;
                 return Some(found);
             }
@@ -289,10 +307,10 @@ impl Area {
 
     /// Visits a gray object of the segment at that place.
     #[tactic(auto, using(crate::proofs::Segs::as_before))]
-    fn visit_gray_at(&mut self, at: usize, into: &mut [Stored]) -> Option<Visited>
+    fn visit_gray_at(&mut self, at: usize, below: u64, into: &mut [Stored]) -> Option<Visited>
         requires distinct { HasDistinct self.old.segments }
         requires list { 16 ≤ length into.old }
-        ensures some { IfSome result (λ found. IsVisited self.old self.new found into.new) }
+        ensures some { IfSome result (λ found. IsVisitedFrom below self.old self.new found into.new) }
         ensures none { IfNone result ((s : SegmentValue) (serial : ℕ) → slice_get self.old.segments at ≡ Some s → IsFalse (some_gray (row_at s serial))) }
         ensures kept { IfNone result (self.new ≡ self.old) }
         ensures len { length into.new ≡ length into.old }
@@ -300,7 +318,7 @@ impl Area {
         if at >= self.segments.len() {
             return None;
         }
-        let found = self.segments[at].visit_gray(into)?;
+        let found = self.segments[at].visit_gray_from(below, into)?;
         Some(found)
     }
 

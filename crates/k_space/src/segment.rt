@@ -1,12 +1,14 @@
 //! The objects made under one number.
-ghost use Rattle.std.specs.Prelude.{◌≡◌, ◌<◌, ◌≤◌, ◌+◌, ℕ, length, map, Some, None, option_map, IfOk, IfSome, IfNone, ◌∷◌, [], slice_set, slice_get, ◌==◌, IsFalse, IsTrue, OnSome};
+ghost use Rattle.std.specs.Prelude.{◌≡◌, ◌<◌, ◌≤◌, ◌+◌, ℕ, length, map, Some, None, option_map, IfOk, IfSome, IfNone, IsSome, ◌∷◌, [], slice_set, slice_get, ◌==◌, IsFalse, IsTrue, OnSome};
 ghost use Rattle.k_types.specs.State.{Refers, Holds, field_kind};
 ghost use Rattle.k_types.specs.Types.{object_size};
 ghost use Rattle.k_space.specs.Objects.{HasRef, HasInt, content_of};
 ghost use Rattle.k_types.specs.Names.{name_of};
 ghost use Rattle.k_space.specs.Segments.{Row, White, LiesAt, IsLive, row_at, made, with_row, IsSegment, placed, some_gray, is_gray, is_marked, gray_or_black, segment_bytes, unmarked_segment, blackened_segment, body_of};
 ghost use Rattle.k_space.specs.Sweeping.{IsFreed, IsFree, IsFirstUnmarked, IsTakenAway, IsUnmarkedAt};
-ghost use Rattle.k_space.specs.Visiting.{IsVisitedIn};
+ghost use Rattle.k_space.specs.Visiting.{AreHeld, IsVisitedFromIn, IsVisitedIn};
+ghost use Rattle.slab.specs.Slab.{get};
+ghost use Rattle.k_space.specs.declared.segment.Cell.{Cell as SlabCell};
 
 use crate::body::{Body, Stored};
 use crate::live::{Pass, blacken, next_white, passed};
@@ -95,6 +97,21 @@ impl Model for Segment {
       listed : IsListed s.places.items s.live.items s.pass.kept s.pass.next;
       reserved : vec_capacity s.live ≡ s.room;
     } };
+}
+
+/// Writes what the fields of the object hold to the front of the list, unless it is skipped.
+fn copy_unless(cells: &Slab<Cell>, slot: usize, skip: bool, into: &mut [Stored]) -> u32
+    requires live { IsSome (get cells.now slot) }
+    requires few { (cell : SlabCell) → get cells.now slot ≡ Some cell → length cell.body.fields ≤ 16 }
+    requires list { 16 ≤ length into.old }
+    ensures most { result ≤ 16 }
+    ensures held { IsFalse skip → (cell : SlabCell) → get cells.now slot ≡ Some cell → AreHeld cell.body.fields result into.new }
+    ensures len { length into.new ≡ length into.old }
+{
+    if skip {
+        return 0;
+    }
+    cells[slot].body.copy_to(into)
 }
 
 impl Segment {
@@ -317,6 +334,18 @@ impl Segment {
         ensures number { self.new.number ≡ self.old.number }
         ensures len { length into.new ≡ length into.old }
     {
+        self.visit_gray_from(0, into)
+    }
+
+    /// The same, but an object with a lower serial than that is not read, and nothing is said of the list. Constant time, and no memory.
+    pub fn visit_gray_from(&mut self, below: u64, into: &mut [Stored]) -> Option<Visited>
+        requires { 16 ≤ length into.old }
+        ensures some { IfSome result (λ found. IsVisitedFromIn below self.old self.new found into.new) }
+        ensures none { IfNone result ((serial : ℕ) → IsFalse (some_gray (row_at self.old serial))) }
+        ensures kept { IfNone result (self.new ≡ self.old) }
+        ensures number { self.new.number ≡ self.old.number }
+        ensures len { length into.new ≡ length into.old }
+    {
         if self.gray == 0 {
             return None;
         }
@@ -326,7 +355,8 @@ impl Segment {
         match place {
             Place::At(slot, mark) => match mark {
                 Mark::Gray(next) => {
-                    let fields = self.cells[slot].body.copy_to(into);
+                    let skip = u64::from(serial) < below;
+                    let fields = copy_unless(&self.cells, slot, skip, into);
                     self.places.set(at, Place::At(slot, Mark::Black));
                     self.gray = next;
                     Some(Visited {

@@ -31,30 +31,30 @@ trace-requires-clause-distinct g c =
 pub trace-requires-clause-live : goal.trace-requires-clause-live
 trace-requires-clause-live g c =
     let t = c.in-Some.ensures.some.black in
-    still_live (old_at c.args.area.now c.args.below) c.args.area.now c.loop-found.area c.visit_gray.new.self c.visit_gray.new.self c.args.exits.now.items c.loop-found.exits.items c.loop-found.exits.items c.in-Some.found.name t.row c.loop-found.invariant.marking t.there t.was t.now (demands c.args.area.now c.args.exits.now.items c.requires.exits)
+    still_live (old_at c.args.area.now c.args.below) c.args.area.now c.loop-found.area c.visit_gray_from.new.self c.visit_gray_from.new.self c.args.exits.now.items c.loop-found.exits.items c.loop-found.exits.items c.in-Some.found.name t.row c.loop-found.invariant.marking t.there t.was t.now (demands c.args.area.now c.args.exits.now.items c.requires.exits)
 
 pub trace-requires-clause-held : goal.trace-requires-clause-held
 trace-requires-clause-held g c = λ fields is.
     let t = c.in-Some.ensures.some.black in
-    let now = fields_now (old_at c.args.area.now c.args.below) c.args.area.now c.loop-found.area c.visit_gray.new.self c.visit_gray.new.self c.args.exits.now.items c.loop-found.exits.items c.loop-found.exits.items c.in-Some.found.name t.row c.loop-found.invariant.marking t.there t.was t.now (demands c.args.area.now c.args.exits.now.items c.requires.exits) in
-    subst (λ (f : List Content). AreHeld f c.in-Some.found.fields c.visit_gray.new.into) (some_one (sym now ∙ is)) c.in-Some.ensures.some.held
+    let now = fields_now (old_at c.args.area.now c.args.below) c.args.area.now c.loop-found.area c.visit_gray_from.new.self c.visit_gray_from.new.self c.args.exits.now.items c.loop-found.exits.items c.loop-found.exits.items c.in-Some.found.name t.row c.loop-found.invariant.marking t.there t.was t.now (demands c.args.area.now c.args.exits.now.items c.requires.exits) in
+    subst (λ (f : List Content). AreHeld f c.in-Some.found.fields c.visit_gray_from.new.into) (some_one (sym now ∙ is)) (c.in-Some.ensures.some.held (omega (arith, c.from.ensures, c.if-from-below.true)))
 
 pub trace-requires-clause-exits : goal.trace-requires-clause-exits
 trace-requires-clause-exits g c =
     let t = c.in-Some.ensures.some.black in
-    demand_now (old_at c.args.area.now c.args.below) c.args.area.now c.loop-found.area c.visit_gray.new.self c.visit_gray.new.self c.args.exits.now.items c.loop-found.exits.items c.loop-found.exits.items c.in-Some.found.name t.row c.loop-found.invariant.marking t.there t.was t.now (demands c.args.area.now c.args.exits.now.items c.requires.exits)
+    demand_now (old_at c.args.area.now c.args.below) c.args.area.now c.loop-found.area c.visit_gray_from.new.self c.visit_gray_from.new.self c.args.exits.now.items c.loop-found.exits.items c.loop-found.exits.items c.in-Some.found.name t.row c.loop-found.invariant.marking t.there t.was t.now (demands c.args.area.now c.args.exits.now.items c.requires.exits)
 
 pub loop-found-smaller-then-from-below : goal.loop-found-smaller-then-from-below
 loop-found-smaller-then-from-below g c =
     let t = c.in-Some.ensures.some.black in
-    let looked = looked_now (old_at c.args.area.now c.args.below) c.args.area.now c.loop-found.area c.visit_gray.new.self c.trace.new.area c.args.exits.now.items c.loop-found.exits.items c.trace.new.exits.items c.in-Some.found.name t.row c.loop-found.invariant.marking t.there t.was t.now (demands c.args.area.now c.args.exits.now.items c.requires.exits) c.trace.ensures.looked in
+    let looked = looked_now (old_at c.args.area.now c.args.below) c.args.area.now c.loop-found.area c.visit_gray_from.new.self c.trace.new.area c.args.exits.now.items c.loop-found.exits.items c.trace.new.exits.items c.in-Some.found.name t.row c.loop-found.invariant.marking t.there t.was t.now (demands c.args.area.now c.args.exits.now.items c.requires.exits) c.trace.ensures.looked in
     let less : left c.trace.new.area + 1 ≡ left c.loop-found.area = less_left (old_at c.args.area.now c.args.below) c.args.area.now c.loop-found.area c.trace.new.area c.args.exits.now.items c.loop-found.exits.items c.trace.new.exits.items c.in-Some.found.name t.row t.row.fields c.loop-found.invariant.marking t.there t.was (demands c.args.area.now c.args.exits.now.items c.requires.exits) looked (λ k e. e) (λ e. refl) in
     omega (arith, less)
 
 pub loop-found-preserved-then-from-below : goal.loop-found-preserved-then-from-below
 loop-found-preserved-then-from-below g c =
     let t = c.in-Some.ensures.some.black in
-    let looked = looked_now (old_at c.args.area.now c.args.below) c.args.area.now c.loop-found.area c.visit_gray.new.self c.trace.new.area c.args.exits.now.items c.loop-found.exits.items c.trace.new.exits.items c.in-Some.found.name t.row c.loop-found.invariant.marking t.there t.was t.now (demands c.args.area.now c.args.exits.now.items c.requires.exits) c.trace.ensures.looked in
+    let looked = looked_now (old_at c.args.area.now c.args.below) c.args.area.now c.loop-found.area c.visit_gray_from.new.self c.trace.new.area c.args.exits.now.items c.loop-found.exits.items c.trace.new.exits.items c.in-Some.found.name t.row c.loop-found.invariant.marking t.there t.was t.now (demands c.args.area.now c.args.exits.now.items c.requires.exits) c.trace.ensures.looked in
     record {
       marking = stepped (old_at c.args.area.now c.args.below) c.args.area.now c.loop-found.area c.trace.new.area c.args.exits.now.items c.loop-found.exits.items c.trace.new.exits.items c.in-Some.found.name t.row t.row.fields c.loop-found.invariant.marking t.there t.was (demands c.args.area.now c.args.exits.now.items c.requires.exits) looked (λ k e. e) (λ e. refl);
       lower = λ e.
@@ -62,7 +62,7 @@ loop-found-preserved-then-from-below g c =
             | then-not-are_lower w ↦ absurd (false≢true (sym w.lower-is ∙ e))
             | else-not-are_lower w ↦
                 lower_more c.args.below c.max-next.result c.args.area.now c.loop-found.area c.trace.new.area c.in-Some.found.name t.row.fields (black_cases (old_at c.args.area.now c.args.below) c.args.area.now c.loop-found.area c.trace.new.area c.args.exits.now.items c.loop-found.exits.items c.trace.new.exits.items c.in-Some.found.name t.row t.row.fields c.loop-found.invariant.marking t.there t.was (demands c.args.area.now c.args.exits.now.items c.requires.exits) looked (λ k e. e) (λ e. refl)) (fields_were (old_at c.args.area.now c.args.below) c.args.area.now c.loop-found.area c.trace.new.area c.args.exits.now.items c.loop-found.exits.items c.trace.new.exits.items c.in-Some.found.name t.row t.row.fields c.loop-found.invariant.marking t.there t.was (demands c.args.area.now c.args.exits.now.items c.requires.exits) looked (λ k e. e) (λ e. refl))
-                (λ plain m leads. c.are_lower.ensures w.if-not-are_lower.false t.row.fields m c.in-Some.ensures.some.held leads) (c.loop-found.invariant.lower (sym w.lower-is ∙ e))
+                (λ plain m leads. c.are_lower.ensures w.if-not-are_lower.false t.row.fields m (c.in-Some.ensures.some.held (omega (arith, c.from.ensures, c.if-from-below.true))) leads) (c.loop-found.invariant.lower (sym w.lower-is ∙ e))
           ];
       room = c.trace.ensures.room ∙ c.loop-found.invariant.room;
     }
@@ -70,72 +70,72 @@ loop-found-preserved-then-from-below g c =
 pub loop-found-smaller : goal.loop-found-smaller
 loop-found-smaller g c =
     let t = c.in-Some.ensures.some.black in
-    let looked : Looked (record { area = with_row_of c.loop-found.area c.in-Some.found.name (Some (record t.row { color = Black })); exits = c.loop-found.exits.items }) (record { area = c.visit_gray.new.self; exits = c.loop-found.exits.items }) [] =
+    let looked : Looked (record { area = with_row_of c.loop-found.area c.in-Some.found.name (Some (record t.row { color = Black })); exits = c.loop-found.exits.items }) (record { area = c.visit_gray_from.new.self; exits = c.loop-found.exits.items }) [] =
     subst (λ (a : AreaValue). Looked (record { area = with_row_of c.loop-found.area c.in-Some.found.name (Some (record t.row { color = Black })); exits = c.loop-found.exits.items }) (record { area = a; exits = c.loop-found.exits.items }) []) (sym t.now) (looked_list [] (record { area = with_row_of c.loop-found.area c.in-Some.found.name (Some (record t.row { color = Black })); exits = c.loop-found.exits.items })) in
     let kept = found_old c.args.below c.args.area.now c.loop-found.area c.args.exits.now.items c.loop-found.exits.items c.in-Some.found.name t.row c.loop-found.invariant.marking t.there (omega (arith, c.from.ensures, c.if-from-below.false)) in
-    let less : left c.visit_gray.new.self + 1 ≡ left c.loop-found.area = less_left (old_at c.args.area.now c.args.below) c.args.area.now c.loop-found.area c.visit_gray.new.self c.args.exits.now.items c.loop-found.exits.items c.loop-found.exits.items c.in-Some.found.name t.row [] c.loop-found.invariant.marking t.there t.was (demands c.args.area.now c.args.exits.now.items c.requires.exits) looked (λ k e. absurd (false≢true e)) (λ plain. absurd (false≢true (sym plain ∙ kept))) in
+    let less : left c.visit_gray_from.new.self + 1 ≡ left c.loop-found.area = less_left (old_at c.args.area.now c.args.below) c.args.area.now c.loop-found.area c.visit_gray_from.new.self c.args.exits.now.items c.loop-found.exits.items c.loop-found.exits.items c.in-Some.found.name t.row [] c.loop-found.invariant.marking t.there t.was (demands c.args.area.now c.args.exits.now.items c.requires.exits) looked (λ k e. absurd (false≢true e)) (λ plain. absurd (false≢true (sym plain ∙ kept))) in
     omega (arith, less)
 
 pub loop-found-preserved : goal.loop-found-preserved
 loop-found-preserved g c =
     let t = c.in-Some.ensures.some.black in
-    let looked : Looked (record { area = with_row_of c.loop-found.area c.in-Some.found.name (Some (record t.row { color = Black })); exits = c.loop-found.exits.items }) (record { area = c.visit_gray.new.self; exits = c.loop-found.exits.items }) [] =
+    let looked : Looked (record { area = with_row_of c.loop-found.area c.in-Some.found.name (Some (record t.row { color = Black })); exits = c.loop-found.exits.items }) (record { area = c.visit_gray_from.new.self; exits = c.loop-found.exits.items }) [] =
     subst (λ (a : AreaValue). Looked (record { area = with_row_of c.loop-found.area c.in-Some.found.name (Some (record t.row { color = Black })); exits = c.loop-found.exits.items }) (record { area = a; exits = c.loop-found.exits.items }) []) (sym t.now) (looked_list [] (record { area = with_row_of c.loop-found.area c.in-Some.found.name (Some (record t.row { color = Black })); exits = c.loop-found.exits.items })) in
     let kept = found_old c.args.below c.args.area.now c.loop-found.area c.args.exits.now.items c.loop-found.exits.items c.in-Some.found.name t.row c.loop-found.invariant.marking t.there (omega (arith, c.from.ensures, c.if-from-below.false)) in
     record {
-      marking = stepped (old_at c.args.area.now c.args.below) c.args.area.now c.loop-found.area c.visit_gray.new.self c.args.exits.now.items c.loop-found.exits.items c.loop-found.exits.items c.in-Some.found.name t.row [] c.loop-found.invariant.marking t.there t.was (demands c.args.area.now c.args.exits.now.items c.requires.exits) looked (λ k e. absurd (false≢true e)) (λ plain. absurd (false≢true (sym plain ∙ kept)));
+      marking = stepped (old_at c.args.area.now c.args.below) c.args.area.now c.loop-found.area c.visit_gray_from.new.self c.args.exits.now.items c.loop-found.exits.items c.loop-found.exits.items c.in-Some.found.name t.row [] c.loop-found.invariant.marking t.there t.was (demands c.args.area.now c.args.exits.now.items c.requires.exits) looked (λ k e. absurd (false≢true e)) (λ plain. absurd (false≢true (sym plain ∙ kept)));
       lower = λ e.
-          lower_more c.args.below c.max-next.result c.args.area.now c.loop-found.area c.visit_gray.new.self c.in-Some.found.name t.row.fields (black_cases (old_at c.args.area.now c.args.below) c.args.area.now c.loop-found.area c.visit_gray.new.self c.args.exits.now.items c.loop-found.exits.items c.loop-found.exits.items c.in-Some.found.name t.row [] c.loop-found.invariant.marking t.there t.was (demands c.args.area.now c.args.exits.now.items c.requires.exits) looked (λ k e. absurd (false≢true e)) (λ plain. absurd (false≢true (sym plain ∙ kept)))) (fields_were (old_at c.args.area.now c.args.below) c.args.area.now c.loop-found.area c.visit_gray.new.self c.args.exits.now.items c.loop-found.exits.items c.loop-found.exits.items c.in-Some.found.name t.row [] c.loop-found.invariant.marking t.there t.was (demands c.args.area.now c.args.exits.now.items c.requires.exits) looked (λ k e. absurd (false≢true e)) (λ plain. absurd (false≢true (sym plain ∙ kept))))
+          lower_more c.args.below c.max-next.result c.args.area.now c.loop-found.area c.visit_gray_from.new.self c.in-Some.found.name t.row.fields (black_cases (old_at c.args.area.now c.args.below) c.args.area.now c.loop-found.area c.visit_gray_from.new.self c.args.exits.now.items c.loop-found.exits.items c.loop-found.exits.items c.in-Some.found.name t.row [] c.loop-found.invariant.marking t.there t.was (demands c.args.area.now c.args.exits.now.items c.requires.exits) looked (λ k e. absurd (false≢true e)) (λ plain. absurd (false≢true (sym plain ∙ kept)))) (fields_were (old_at c.args.area.now c.args.below) c.args.area.now c.loop-found.area c.visit_gray_from.new.self c.args.exits.now.items c.loop-found.exits.items c.loop-found.exits.items c.in-Some.found.name t.row [] c.loop-found.invariant.marking t.there t.was (demands c.args.area.now c.args.exits.now.items c.requires.exits) looked (λ k e. absurd (false≢true e)) (λ plain. absurd (false≢true (sym plain ∙ kept))))
           (λ plain m leads. absurd (false≢true (sym plain ∙ kept))) (c.loop-found.invariant.lower e);
       room = c.loop-found.invariant.room;
     }
 
 pub returns-then-lower-clause-kept : goal.returns-then-lower-clause-kept
 returns-then-lower-clause-kept g c =
-    ap (λ (a : AreaValue). unmarked a) c.blacken_below.ensures ∙ unmarked_same c.args.below c.visit_gray.new.self ∙ ap (λ (a : AreaValue). unmarked a) c.in_default.ensures.kept ∙ c.loop-found.invariant.marking.same
+    ap (λ (a : AreaValue). unmarked a) c.blacken_below.ensures ∙ unmarked_same c.args.below c.visit_gray_from.new.self ∙ ap (λ (a : AreaValue). unmarked a) c.in_default.ensures.kept ∙ c.loop-found.invariant.marking.same
 
 pub returns-then-lower-clause-black : goal.returns-then-lower-clause-black
 returns-then-lower-clause-black g c = λ n.
-    let done : (n : Name) → gray_at c.visit_gray.new.self n ≡ false = λ n. ap (λ (a : AreaValue). gray_at a n) c.in_default.ensures.kept ∙ c.in_default.ensures.none n in
-    ap (λ (a : AreaValue). gray_at a n) c.blacken_below.ensures ∙ none_gray_after c.args.below c.visit_gray.new.self done n
+    let done : (n : Name) → gray_at c.visit_gray_from.new.self n ≡ false = λ n. ap (λ (a : AreaValue). gray_at a n) c.in_default.ensures.kept ∙ c.in_default.ensures.none n in
+    ap (λ (a : AreaValue). gray_at a n) c.blacken_below.ensures ∙ none_gray_after c.args.below c.visit_gray_from.new.self done n
 
 pub returns-then-lower-clause-reached : goal.returns-then-lower-clause-reached
 returns-then-lower-clause-reached g c = λ n.
     let marking = subst (λ (a : AreaValue). IsMarking (old_at c.args.area.now c.args.below) c.args.area.now a c.args.exits.now.items c.loop-found.exits.items) (sym c.in_default.ensures.kept) c.loop-found.invariant.marking in
-    let done : (n : Name) → gray_at c.visit_gray.new.self n ≡ false = λ n. ap (λ (a : AreaValue). gray_at a n) c.in_default.ensures.kept ∙ c.in_default.ensures.none n in
-    subst (λ (a : AreaValue). (marked_at a n ≡ true) ↔ IsReachedIn c.args.area.now n) (sym c.blacken_below.ensures) (kept_reached c.args.below c.args.area.now c.visit_gray.new.self c.args.exits.now.items c.loop-found.exits.items marking done c.requires.kept c.requires.inside n)
+    let done : (n : Name) → gray_at c.visit_gray_from.new.self n ≡ false = λ n. ap (λ (a : AreaValue). gray_at a n) c.in_default.ensures.kept ∙ c.in_default.ensures.none n in
+    subst (λ (a : AreaValue). (marked_at a n ≡ true) ↔ IsReachedIn c.args.area.now n) (sym c.blacken_below.ensures) (kept_reached c.args.below c.args.area.now c.visit_gray_from.new.self c.args.exits.now.items c.loop-found.exits.items marking done c.requires.kept c.requires.inside n)
 
 pub returns-then-lower-clause-exits : goal.returns-then-lower-clause-exits
 returns-then-lower-clause-exits g c = λ n.
     let marking = subst (λ (a : AreaValue). IsMarking (old_at c.args.area.now c.args.below) c.args.area.now a c.args.exits.now.items c.loop-found.exits.items) (sym c.in_default.ensures.kept) c.loop-found.invariant.marking in
-    let done : (n : Name) → gray_at c.visit_gray.new.self n ≡ false = λ n. ap (λ (a : AreaValue). gray_at a n) c.in_default.ensures.kept ∙ c.in_default.ensures.none n in
-    kept_exits c.args.below c.args.area.now c.visit_gray.new.self c.args.exits.now.items c.loop-found.exits.items marking done c.requires.kept c.requires.inside n
+    let done : (n : Name) → gray_at c.visit_gray_from.new.self n ≡ false = λ n. ap (λ (a : AreaValue). gray_at a n) c.in_default.ensures.kept ∙ c.in_default.ensures.none n in
+    kept_exits c.args.below c.args.area.now c.visit_gray_from.new.self c.args.exits.now.items c.loop-found.exits.items marking done c.requires.kept c.requires.inside n
 
 pub returns-clause-kept : goal.returns-clause-kept
 returns-clause-kept g c =
-    ap (λ (a : AreaValue). unmarked a) c.blacken_below.ensures ∙ unmarked_same c.args.below c.visit_gray.new.self ∙ ap (λ (a : AreaValue). unmarked a) c.in_default.ensures.kept ∙ c.loop-found.invariant.marking.same
+    ap (λ (a : AreaValue). unmarked a) c.blacken_below.ensures ∙ unmarked_same c.args.below c.visit_gray_from.new.self ∙ ap (λ (a : AreaValue). unmarked a) c.in_default.ensures.kept ∙ c.loop-found.invariant.marking.same
 
 pub returns-clause-black : goal.returns-clause-black
 returns-clause-black g c = λ n.
-    let done : (n : Name) → gray_at c.visit_gray.new.self n ≡ false = λ n. ap (λ (a : AreaValue). gray_at a n) c.in_default.ensures.kept ∙ c.in_default.ensures.none n in
-    ap (λ (a : AreaValue). gray_at a n) c.blacken_below.ensures ∙ none_gray_after c.args.below c.visit_gray.new.self done n
+    let done : (n : Name) → gray_at c.visit_gray_from.new.self n ≡ false = λ n. ap (λ (a : AreaValue). gray_at a n) c.in_default.ensures.kept ∙ c.in_default.ensures.none n in
+    ap (λ (a : AreaValue). gray_at a n) c.blacken_below.ensures ∙ none_gray_after c.args.below c.visit_gray_from.new.self done n
 
 pub returns-clause-reached : goal.returns-clause-reached
 returns-clause-reached g c = λ n.
     let marking = subst (λ (a : AreaValue). IsMarking (old_at c.args.area.now c.args.below) c.args.area.now a c.args.exits.now.items c.loop-found.exits.items) (sym c.in_default.ensures.kept) c.loop-found.invariant.marking in
-    let done : (n : Name) → gray_at c.visit_gray.new.self n ≡ false = λ n. ap (λ (a : AreaValue). gray_at a n) c.in_default.ensures.kept ∙ c.in_default.ensures.none n in
-    subst (λ (a : AreaValue). (marked_at a n ≡ true) ↔ IsReachedIn c.args.area.now n) (sym c.blacken_below.ensures) (kept_reached c.args.below c.args.area.now c.visit_gray.new.self c.args.exits.now.items c.loop-found.exits.items marking done c.requires.kept c.requires.inside n)
+    let done : (n : Name) → gray_at c.visit_gray_from.new.self n ≡ false = λ n. ap (λ (a : AreaValue). gray_at a n) c.in_default.ensures.kept ∙ c.in_default.ensures.none n in
+    subst (λ (a : AreaValue). (marked_at a n ≡ true) ↔ IsReachedIn c.args.area.now n) (sym c.blacken_below.ensures) (kept_reached c.args.below c.args.area.now c.visit_gray_from.new.self c.args.exits.now.items c.loop-found.exits.items marking done c.requires.kept c.requires.inside n)
 
 pub returns-clause-exits : goal.returns-clause-exits
 returns-clause-exits g c = λ n.
     let marking = subst (λ (a : AreaValue). IsMarking (old_at c.args.area.now c.args.below) c.args.area.now a c.args.exits.now.items c.loop-found.exits.items) (sym c.in_default.ensures.kept) c.loop-found.invariant.marking in
-    let done : (n : Name) → gray_at c.visit_gray.new.self n ≡ false = λ n. ap (λ (a : AreaValue). gray_at a n) c.in_default.ensures.kept ∙ c.in_default.ensures.none n in
-    kept_exits c.args.below c.args.area.now c.visit_gray.new.self c.args.exits.now.items c.loop-found.exits.items marking done c.requires.kept c.requires.inside n
+    let done : (n : Name) → gray_at c.visit_gray_from.new.self n ≡ false = λ n. ap (λ (a : AreaValue). gray_at a n) c.in_default.ensures.kept ∙ c.in_default.ensures.none n in
+    kept_exits c.args.below c.args.area.now c.visit_gray_from.new.self c.args.exits.now.items c.loop-found.exits.items marking done c.requires.kept c.requires.inside n
 
 pub returns-then-lower-clause-next : goal.returns-then-lower-clause-next
 returns-then-lower-clause-next g c =
     let marking = subst (λ (a : AreaValue). IsMarking (old_at c.args.area.now c.args.below) c.args.area.now a c.args.exits.now.items c.loop-found.exits.items) (sym c.in_default.ensures.kept) c.loop-found.invariant.marking in
-    let done : (n : Name) → gray_at c.visit_gray.new.self n ≡ false = λ n. ap (λ (a : AreaValue). gray_at a n) c.in_default.ensures.kept ∙ c.in_default.ensures.none n in
-    let lower : AreTracedLower c.args.area.now c.args.below c.visit_gray.new.self c.max-next.result = subst (λ (a : AreaValue). AreTracedLower c.args.area.now c.args.below a c.max-next.result) (sym c.in_default.ensures.kept) (c.loop-found.invariant.lower c.if-lower.true) in
+    let done : (n : Name) → gray_at c.visit_gray_from.new.self n ≡ false = λ n. ap (λ (a : AreaValue). gray_at a n) c.in_default.ensures.kept ∙ c.in_default.ensures.none n in
+    let lower : AreTracedLower c.args.area.now c.args.below c.visit_gray_from.new.self c.max-next.result = subst (λ (a : AreaValue). AreTracedLower c.args.area.now c.args.below a c.max-next.result) (sym c.in_default.ensures.kept) (c.loop-found.invariant.lower c.if-lower.true) in
     subst (λ (a : AreaValue). IsKept (black_at a) (refers_at a) (gray_at c.args.area.now) c.max-next.result) (sym c.blacken_below.ensures)
-    (kept_next c.args.below c.args.area.now c.visit_gray.new.self c.args.exits.now.items c.loop-found.exits.items marking done c.requires.kept c.requires.inside c.max-next.result (omega (arith, c.max-next.ensures)) (λ n row e. let low = c.next_serial.ensures n row e in omega (arith, low, c.max-next.ensures)) lower)
+    (kept_next c.args.below c.args.area.now c.visit_gray_from.new.self c.args.exits.now.items c.loop-found.exits.items marking done c.requires.kept c.requires.inside c.max-next.result (omega (arith, c.max-next.ensures)) (λ n row e. let low = c.next_serial.ensures n row e in omega (arith, low, c.max-next.ensures)) lower)

@@ -1,15 +1,9 @@
-use Rattle.std.proofs.Common.{◌≡◌, length, slice_get, ap, ◌∙◌, arith, inl, inr}
-use Rattle.std.proofs.lemmas.Bool.{cases_lt}
-use Rattle.k_space.specs.Areas.{AreaValue}
-use Rattle.k_space.proofs.Segs.{no_grays, if_none}
+use Rattle.k_space.specs.declared.segment.Visited.{Visited}
+use Rattle.k_space.specs.Visiting.{IsVisited, IsVisitedFrom}
+use Rattle.k_space.proofs.Segs.{if_some_more, visited_all}
 use Rattle.k_space.proofs.area.Area.visit_gray.Goals as goal
 
-pub returns-clause-none : goal.returns-clause-none
-returns-clause-none c =
-    let whole : length c.self.inside.segments.items ≡ length c.args.self.now.segments = ap (λ (a : AreaValue). length a.segments) c.self.view_is in
-    if_none c.visit_gray_between-2.result (λ below n.
-    no_grays c.args.self.now.segments n (λ k s within e serial.
-    elim (cases_lt k c.min-from.result) [
-      | inl low ↦ below k s serial (omega arith) low (ap (λ (a : AreaValue). slice_get a.segments k) c.in_default.ensures.kept ∙ e)
-      | inr high ↦ c.in_default.ensures.none k s serial high (omega (arith, within, whole, c.self.inside.segments.ok.0, c.len-len.ensures)) e
-    ])) c.visit_gray_between-2.ensures.none
+pub returns-clause-some : goal.returns-clause-some
+returns-clause-some c =
+    if_some_more (λ (found : Visited). IsVisitedFrom 0 c.args.self.now c.visit_gray_from.new.self found c.visit_gray_from.new.into) (λ (found : Visited). IsVisited c.args.self.now c.visit_gray_from.new.self found c.visit_gray_from.new.into) c.visit_gray_from.result
+    (λ found v. visited_all c.args.self.now c.visit_gray_from.new.self found c.visit_gray_from.new.into v) c.visit_gray_from.ensures.some
