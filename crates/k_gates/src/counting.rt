@@ -1,5 +1,5 @@
 //! A gate that counts what a run tells of each process.
-use k_io::{Gate, GatePlace, NoMemory};
+use k_io::{Gate, GatePlace, NO_STRETCH, NoMemory};
 use std::alloc::Global;
 use std::hint::spin_loop;
 use std::sync::atomic::{AtomicBool, AtomicU32, Ordering};
@@ -84,7 +84,11 @@ impl Gate for Counts {
         match place {
             GatePlace::BeforeOp => self.count_operation(count, done),
             GatePlace::InBook => self.count_step(count),
-            GatePlace::Marking => {}
+            GatePlace::Marking | GatePlace::Sampling => {}
         }
+    }
+
+    fn stretch(&self) -> u32 {
+        NO_STRETCH
     }
 }

@@ -1,5 +1,5 @@
 //! A gate that holds each process at its stops until another process has come to one of its own.
-use k_io::{Gate, GatePlace};
+use k_io::{Gate, GatePlace, NO_STRETCH};
 use std::hint::spin_loop;
 use std::sync::atomic::{AtomicBool, Ordering};
 use std::thread::yield_now;
@@ -118,5 +118,9 @@ impl<const N: usize> Gate for Stops<N> {
                 }
             }
         }
+    }
+
+    fn stretch(&self) -> u32 {
+        NO_STRETCH
     }
 }

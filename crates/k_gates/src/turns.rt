@@ -1,6 +1,6 @@
 //! A gate that sees in which turns five processes are taken by four workers.
 use crate::holding::wait_for;
-use k_io::{Gate, GatePlace};
+use k_io::{Gate, GatePlace, NO_STRETCH};
 use std::hint::spin_loop;
 use std::sync::atomic::{AtomicBool, AtomicU32, Ordering};
 
@@ -83,5 +83,9 @@ impl Gate for FifthComes {
         } else if done == OPERATIONS_OF_A_TURN {
             self.begin_again();
         }
+    }
+
+    fn stretch(&self) -> u32 {
+        NO_STRETCH
     }
 }

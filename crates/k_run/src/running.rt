@@ -42,13 +42,12 @@ impl<'a, W: WorldName, G: Gate> Model for Hall<'a, W, G> {
 
 /// Does what the processes have to do, by as many workers as there are processes and at most four. Each draws the process that has
 /// waited longest, does a thousand of its operations or somewhat more, and gives it back, or lets it go where nothing is left to do; where
-/// no thread can be made for a worker, the caller does its work. The gate is told of each step, and of each operation but those of a
-/// stretch; with a stretch of 0 there are none. It waits for locks and for the queue, and takes no memory. What it leaves, `finish` does.
+/// no thread can be made for a worker, the caller does its work. The gate says how many operations a stretch may have; it is told of each step, and of
+/// each operation that is in no stretch. It waits for locks and for the queue, and takes no memory. What it leaves, `finish` does.
 pub fn run<W: WorldName + Send + Sync, G: Gate, R: Threads + Wait + Sync>(
     rt: &R,
     world: &mut World<W>,
     gate: &G,
-    stretch: u32,
 )
     ensures { world.new ≡ world.old }
 {
@@ -56,7 +55,7 @@ pub fn run<W: WorldName + Send + Sync, G: Gate, R: Threads + Wait + Sync>(
         locks: &world.locks,
         turns: &world.turns,
         gate,
-        stretch,
+        stretch: gate.stretch(),
     };
     work_all(rt, &hall, world.passes.as_mut_slice());
 }

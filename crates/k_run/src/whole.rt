@@ -28,7 +28,6 @@ fn run_still<W: WorldName + Send + Sync, G: Gate, R: Threads + Wait + Sync>(
     alloc: Global,
     still: Still,
     gate: &G,
-    stretch: u32,
 ) -> Result<Outcome, NoMemory>
     requires stands { FirstCellsStand W.world still.cells }
     requires setup { IsSetupOf still.cells.setup W.world }
@@ -36,7 +35,7 @@ fn run_still<W: WorldName + Send + Sync, G: Gate, R: Threads + Wait + Sync>(
     ensures { IfOk result (λ outcome. IsRunOf (record { names = still.cells.names; trace = W.world.trace }) outcome) }
 {
     let mut world: World<W> = open(rt, alloc, still)?;
-    run(rt, &mut world, gate, stretch);
+    run(rt, &mut world, gate);
     Ok(finish(world))
 }
 
@@ -53,13 +52,12 @@ pub fn run_trace<G: Gate, R: Threads + Wait + Sync>(
     alloc: Global,
     trace: Trace,
     gate: &G,
-    stretch: u32,
 ) -> Result<Outcome, NoMemory>
     requires { IsTrace (meaning_of trace) }
     ensures { IfOk result (IsRunOf (meaning_of trace)) }
 {
     let still = open_still(alloc, trace)?;
-    run_still::<Brand, G, R>(rt, alloc, still, gate, stretch)
+    run_still::<Brand, G, R>(rt, alloc, still, gate)
 }
 
 /// Does the operations of the trace in the order of the file, on the caller's thread and with no lock. What comes back is a run of the

@@ -61,7 +61,7 @@ fn run_end<G: Gate, R: Threads + Wait + Sync>(
     ensures { IfOk result (λ end. AreNamed end.names end.setup) }
 {
     let trace = trace_of(alloc, text)?;
-    let end = run_trace(rt, alloc, trace, gate, 0)?;
+    let end = run_trace(rt, alloc, trace, gate)?;
     Ok(end)
 }
 

@@ -34,7 +34,6 @@ pub fn kaffe<S: Source, K: Sink, G: Gate, R: Threads + Wait + Sync>(
     src: &mut S,
     out: &mut K,
     gate: &G,
-    stretch: u32,
 ) -> Status
     ensures answered { IsAnswered (map string_bytes words.now)
         (record { left = S.left src.old; rest = S.left src.new; failed_before = S.faults src.old; failed_after = S.faults src.new })
@@ -44,10 +43,10 @@ pub fn kaffe<S: Source, K: Sink, G: Gate, R: Threads + Wait + Sync>(
     ensures unwritten { IsUnwritten result → out.new ≡ out.old }
 {
     match command_of(words) {
-        Some(Command::Run) => run_file(rt, alloc, src, out, gate, stretch),
+        Some(Command::Run) => run_file(rt, alloc, src, out, gate),
         Some(Command::Replay) => replay_file(alloc, src, out),
         Some(Command::Check) => check_file(alloc, src, out),
-        Some(Command::Big(objects)) => run_workload(rt, alloc, objects, out, gate, stretch),
+        Some(Command::Big(objects)) => run_workload(rt, alloc, objects, out, gate),
         None => write_usage(out),
     }
 }

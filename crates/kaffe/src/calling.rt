@@ -46,7 +46,7 @@ fn answer<S: Source, K: Sink, G: Gate, R: Threads + Wait + Sync>(
     sink: &mut K,
     gate: &G,
 ) -> Status {
-    kaffe(rt, alloc, words, source, sink, gate, 0)
+    kaffe(rt, alloc, words, source, sink, gate)
 }
 
 /// Appends the words of the line.
@@ -144,7 +144,6 @@ impl Given {
             &mut self.source,
             &mut self.sink,
             &NoGate,
-            0,
         );
         status
     }

@@ -14,9 +14,6 @@ use std::process::ExitCode;
 use std::sync::Wait;
 use std::thread::Threads;
 
-/// How many operations of one kind may follow one of a process before a worker asks for locks and tells the gate again.
-const STRETCH: u32 = 64;
-
 /// The words after the program's name; none where an argument is not UTF-8, which is no command.
 fn words_after_name(alloc: Global, args: io::Result<Args>) -> Result<Vec<String>, NoMemory>
     ensures { IfOk result (λ words. map string_bytes words.items ≡ words_of args) }
@@ -57,7 +54,7 @@ pub fn program<S: Source, K: Sink, G: Gate, R: Threads + Wait + Sync>(
     match words_after_name(alloc, args) {
         Ok(words) => {
             let (status, _out) = gathered_call::<Brand, S, K, G, R>(
-                rt, alloc, &words, src, out, gate, STRETCH,
+                rt, alloc, &words, src, out, gate,
             );
             exit_code(status)
         }

@@ -20,7 +20,6 @@ pub fn gathered_call<'a, N: SinkName, S: Source, K: Sink, G: Gate, R: Threads + 
     src: &mut S,
     out: &'a mut K,
     gate: &G,
-    stretch: u32,
 ) -> (Status, &'a mut K)
     requires { out.ghost_name ≡ N.name }
     ensures answered { IsAnswered (map string_bytes words.now)
@@ -30,7 +29,7 @@ pub fn gathered_call<'a, N: SinkName, S: Source, K: Sink, G: Gate, R: Threads + 
     ensures same_sink { result.1.ghost_name ≡ out.entry.ghost_name }
 {
     let mut sink: Gathered<'a, K, N> = Gathered::over(out);
-    match kaffe(rt, alloc, words, src, &mut sink, gate, stretch) {
+    match kaffe(rt, alloc, words, src, &mut sink, gate) {
         Status::WriteFault => (Status::WriteFault, sink.into_inner()),
         status => {
             let handed = sink.hand_on();

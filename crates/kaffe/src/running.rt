@@ -30,7 +30,6 @@ pub fn run_file<S: Source, K: Sink, G: Gate, R: Threads + Wait + Sync>(
     src: &mut S,
     out: &mut K,
     gate: &G,
-    stretch: u32,
 ) -> Status
     ensures answered { Answers
         (TellsOfSource most_trace_bytes (TellsOfBytes IsSomeReport) (record { left = S.left src.old; rest = S.left src.new; failed_before = S.faults src.old; failed_after = S.faults src.new }))
@@ -38,7 +37,7 @@ pub fn run_file<S: Source, K: Sink, G: Gate, R: Threads + Wait + Sync>(
         result }
     ensures unwritten { IsUnwritten result → out.new ≡ out.old }
 {
-    let ended = run_source(rt, alloc, src, gate, stretch);
+    let ended = run_source(rt, alloc, src, gate);
     tell_end(out, ended)
 }
 
@@ -61,13 +60,12 @@ fn run_source<G: Gate, R: Threads + Wait + Sync, S: Source>(
     alloc: Global,
     src: &mut S,
     gate: &G,
-    stretch: u32,
 ) -> Result<Outcome, RunError>
     ensures ok { IfOk result (λ end. HasRun (record { left = S.left src.old; rest = S.left src.new; failed_before = S.faults src.old; failed_after = S.faults src.new }) end) }
     ensures err { IfErr result (λ error. HasCause (record { left = S.left src.old; rest = S.left src.new; failed_before = S.faults src.old; failed_after = S.faults src.new }) error) }
 {
     let trace = trace_of(alloc, src)?;
-    Ok(run_trace(rt, alloc, trace, gate, stretch)?)
+    Ok(run_trace(rt, alloc, trace, gate)?)
 }
 
 /// Runs the trace that the source gives, in the order of the file.

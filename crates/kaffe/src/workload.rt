@@ -23,7 +23,6 @@ pub fn run_workload<K: Sink, G: Gate, R: Threads + Wait + Sync>(
     objects: u32,
     out: &mut K,
     gate: &G,
-    stretch: u32,
 ) -> Status
     requires { objects ≤ most_objects }
     ensures answered { Answers (TellsOfBig objects)
@@ -31,7 +30,7 @@ pub fn run_workload<K: Sink, G: Gate, R: Threads + Wait + Sync>(
         result }
     ensures unwritten { IsUnwritten result → out.new ≡ out.old }
 {
-    match run_big(rt, alloc, objects, gate, stretch) {
+    match run_big(rt, alloc, objects, gate) {
         Ok(outcome) => after_writing(Status::Good, summary(out, objects, &outcome)),
         Err(refused) => want_of_memory(refused),
     }
@@ -43,11 +42,10 @@ fn run_big<G: Gate, R: Threads + Wait + Sync>(
     alloc: Global,
     objects: u32,
     gate: &G,
-    stretch: u32,
 ) -> Result<Outcome, NoMemory>
     requires { objects ≤ most_objects }
     ensures { IfOk result (IsRunOf (big_trace objects)) }
 {
     let trace = big_trace(alloc, objects)?;
-    run_trace(rt, alloc, trace, gate, stretch)
+    run_trace(rt, alloc, trace, gate)
 }
