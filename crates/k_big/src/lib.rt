@@ -19,6 +19,3 @@ pub use making::big_trace;
 pub use summing::summary;
 pub use words::{MOST_OBJECTS, objects_of};
 pub use worked::{smallest_summary_row, smallest_trace_row, words_are_read};
-
-#[cfg(test)]
-mod tests;

@@ -7,6 +7,3 @@
 mod made;
 
 pub use made::bodies;
-
-#[cfg(test)]
-mod tests;

@@ -18,8 +18,6 @@ mod laws;
 mod parts;
 mod reading;
 mod squares;
-#[cfg(test)]
-mod tests;
 mod walking;
 
 pub use laws::{opened_books_agree, the_book_tells_the_machine, the_books_limits_are_the_machines};

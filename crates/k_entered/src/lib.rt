@@ -8,7 +8,5 @@
 #![tactic(auto)]
 
 mod tables;
-#[cfg(test)]
-mod tests;
 
 pub use tables::EnteredTables;

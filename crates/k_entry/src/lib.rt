@@ -17,8 +17,6 @@
 mod item;
 mod laws;
 mod table;
-#[cfg(test)]
-mod tests;
 mod walks;
 
 pub use laws::{objects_are_at_most_their_counts, walks_give_each_object_once};

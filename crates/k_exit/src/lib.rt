@@ -15,8 +15,6 @@
 mod chains;
 mod laws;
 mod table;
-#[cfg(test)]
-mod tests;
 
 pub use laws::targets_counted_once_are_distinct;
 pub use table::ExitTable;

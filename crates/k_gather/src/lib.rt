@@ -13,8 +13,6 @@ mod buffer;
 mod gathered;
 mod names;
 mod passing;
-#[cfg(test)]
-mod tests;
 
 pub use gathered::Gathered;
 pub use names::SinkName;

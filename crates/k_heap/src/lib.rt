@@ -9,7 +9,5 @@ mod changing;
 mod heap;
 mod process;
 mod reading;
-#[cfg(test)]
-mod tests;
 
 pub use heap::{CellRooms, HeapCell};

@@ -8,7 +8,5 @@
 #![tactic(auto)]
 
 mod keeping;
-#[cfg(test)]
-mod tests;
 
 pub use keeping::Journal;

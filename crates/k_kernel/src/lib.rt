@@ -8,7 +8,5 @@
 mod changing;
 mod kernel;
 mod reading;
-#[cfg(test)]
-mod tests;
 
 pub use kernel::KernelCell;

@@ -11,8 +11,6 @@
 mod error;
 mod laws;
 mod paths;
-#[cfg(test)]
-mod tests;
 mod tree;
 
 pub use error::MakeError;

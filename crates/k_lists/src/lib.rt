@@ -7,7 +7,5 @@
 #![tactic(auto)]
 
 mod lists;
-#[cfg(test)]
-mod tests;
 
 pub use lists::Lists;

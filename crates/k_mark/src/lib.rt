@@ -16,8 +16,6 @@ mod laws;
 mod marking;
 mod steps;
 mod sweeping;
-#[cfg(test)]
-mod tests;
 
 pub use keeping::mark_kept;
 pub use laws::{marked_is_the_closure, reached_is_the_closure};

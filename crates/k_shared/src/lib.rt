@@ -7,7 +7,5 @@
 mod cell;
 mod changing;
 mod reading;
-#[cfg(test)]
-mod tests;
 
 pub use cell::SharedCell;

@@ -10,7 +10,5 @@
 
 mod bits;
 mod table;
-#[cfg(test)]
-mod tests;
 
 pub use table::ShareTable;

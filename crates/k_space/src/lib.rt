@@ -18,8 +18,6 @@ mod body;
 mod live;
 mod marks;
 mod segment;
-#[cfg(test)]
-mod tests;
 
 pub use area::Area;
 pub use body::{Body, Stored};

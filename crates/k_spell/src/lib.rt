@@ -13,6 +13,3 @@ mod texts;
 
 pub use laws::texts_are_read_as_their_trace;
 pub use texts::trace_text;
-
-#[cfg(test)]
-mod tests;

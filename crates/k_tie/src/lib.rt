@@ -13,8 +13,6 @@
 mod journal;
 mod note;
 mod steps;
-#[cfg(test)]
-mod tests;
 mod tie;
 mod view;
 

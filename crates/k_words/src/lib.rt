@@ -19,6 +19,3 @@ pub use numbers::{number, register};
 pub use words::{
     after_word, are_words, find, is, is_printable, next_line, split_at_line, word, word_count,
 };
-
-#[cfg(test)]
-mod tests;

@@ -1,0 +1,24 @@
+//! Events that come back as they were appended.
+use k_journal::Journal;
+use k_tie::Tie;
+use k_types::{Event, Op, Pid, Reg, Reply};
+use std::test::Fail;
+
+// A note is met and touched, and the events come back in order.
+#[test]
+fn events_come_back(rt: HostRuntime) -> Result<(), Fail> {
+    let (tie, seat, notes) = Tie::make(rt.alloc(), 2)?;
+    let mut journal = Journal::make(rt.alloc(), tie, seat, 2)?;
+    let event = Event::Done {
+        pid: Pid(1),
+        op: Op::Clear { reg: Reg(3) },
+        reply: Reply::Done,
+    };
+    journal.append(Event::Closing);
+    journal.append(event);
+    assert_eq!(rt; journal.len(), 2);
+    assert_eq!(rt; *journal.event(0), Event::Closing);
+    assert_eq!(rt; *journal.event(1), event);
+    let _notes = notes;
+    Ok(())
+}

@@ -1,4 +1,0 @@
-use Rattle.k_gather.proofs.tests.hand_on_twice.Given as goal
-
-abbrev pub ghosts-hand_on_twice_named : goal.ghosts-hand_on_twice_named
-ghosts-hand_on_twice_named g a = record { name = a.out.ghost_name }

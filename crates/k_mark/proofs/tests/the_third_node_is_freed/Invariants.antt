@@ -1,4 +1,0 @@
-use Rattle.k_mark.proofs.tests.the_third_node_is_freed.Given as goal
-
-abbrev pub ghosts-mark_on : goal.ghosts-mark_on
-ghosts-mark_on g a = record { name = a.blank.name; parts = a.blank.parts }

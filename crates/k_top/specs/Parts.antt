@@ -1,0 +1,78 @@
+-- What the parts of a call tell: the writing of a text, the run of a trace or of the workload, the check of a report, the judgement of an
+-- input.
+use Rattle.std.specs.Prelude.{◌≡◌, ◌⊎◌, ℕ, List, [], Result, Ok, Err}
+use Rattle.k_words.specs.Words.{Text}
+use Rattle.k_trace.specs.Named.{NamedTrace}
+use Rattle.k_trace.specs.Judgement.{IsBad}
+use Rattle.k_trace.specs.Rules.{Spells}
+use Rattle.k_reports.specs.Verdicts.{IsAccepted, IsRefused}
+use Rattle.k_top.specs.declared.commands.Command.TheVariants.{Check}
+use Rattle.k_top.specs.declared.status.Status.{Status}
+use Rattle.k_top.specs.declared.status.Status.TheVariants.{Good, BadTrace, Usage, WantOfMemory, ReadFault, WriteFault, Refused}
+use Rattle.k_top.specs.Answers.{IsBadInput, IsChecked, IsDone, IsMisused, IsRefusedReport, IsSummed, IsUnwritten, WasRead}
+use Rattle.k_top.specs.Commands.{IsCommand, IsReading}
+use Rattle.k_top.specs.Ends.{Input, Output, SourceFailed, Took, TookFront}
+use Rattle.k_top.specs.Inputs.{AreTraceAndReport, IsBadFor}
+use Rattle.k_top.specs.Reports.{IsSummaryOf}
+use Rattle.k_top.specs.Texts.{bad_trace_text, good_text, refused_text}
+
+-- The status after its text was handed to the sink.
+abbrev pub status_after : {E : Type 0} → Status → Result (Unit {0}) E → Status
+status_after status (Ok done) = status
+status_after status (Err failed) = WriteFault
+
+-- The text was taken and the status is the answer; or the sink failed at a text that is written, and the answer is WriteFault.
+abbrev pub IsWritten : Output → Status → Text → Status → Type 0
+IsWritten output status text answer =
+    ((answer ≡ status) × Took output text) ⊎ ((answer ≡ WriteFault) × ¬ IsUnwritten status × TookFront output text)
+
+-- Some status tells the truth, and its text was written, up to a fault of the sink.
+pub record Answers (tells : Status → Text → Type 0) (output : Output) (answer : Status) : Type 0 where
+  pub status : Status
+  pub text : Text
+  pub told : tells status text
+  pub written : IsWritten output status text answer
+
+-- What each status tells of the bytes that were read as a trace, and of the text to be written, where those are the reports of a trace.
+abbrev pub TellsOfBytes : (NamedTrace → Text → Type 0) → Text → Status → Text → Type 0
+TellsOfBytes reports bytes Good text = (t : NamedTrace) × Spells bytes t × reports t text
+TellsOfBytes reports bytes BadTrace text = (line : ℕ) × (reason : ℕ) × IsBad bytes line reason × (text ≡ bad_trace_text line reason)
+TellsOfBytes reports bytes WantOfMemory text = text ≡ []
+TellsOfBytes reports bytes _ text = ⊥
+
+-- What each status tells of a report that is checked against its trace, and of the text to be written.
+abbrev pub TellsOfReport : NamedTrace → Text → Status → Text → Type 0
+TellsOfReport t report Good text = IsAccepted t report × (text ≡ good_text)
+TellsOfReport t report Refused text = (line : ℕ) × IsRefused t report line × (text ≡ refused_text line)
+TellsOfReport t report WantOfMemory text = text ≡ []
+TellsOfReport t report _ text = ⊥
+
+-- What each status tells of the bytes that were read as a trace and a report, and of the text to be written.
+abbrev pub TellsOfCheck : Text → Status → Text → Type 0
+TellsOfCheck bytes Good text = (t : NamedTrace) × (report : Text) × AreTraceAndReport bytes t report × TellsOfReport t report Good text
+TellsOfCheck bytes Refused text = (t : NamedTrace) × (report : Text) × AreTraceAndReport bytes t report × TellsOfReport t report Refused text
+TellsOfCheck bytes BadTrace text = (line : ℕ) × (reason : ℕ) × IsBadFor Check bytes line reason × (text ≡ bad_trace_text line reason)
+TellsOfCheck bytes WantOfMemory text = text ≡ []
+TellsOfCheck bytes _ text = ⊥
+
+-- What each status tells of a source that is read up to this limit, by what it tells of the bytes that were read.
+abbrev pub TellsOfSource : ℕ → (Text → Status → Text → Type 0) → Input → Status → Text → Type 0
+TellsOfSource limit tells input ReadFault text = SourceFailed input × (text ≡ [])
+TellsOfSource limit tells input WantOfMemory text = text ≡ []
+TellsOfSource limit tells input status text = (bytes : Text) × WasRead limit input bytes × tells bytes status text
+
+-- What each status tells of the workload, where each process makes so many objects, and of the text to be written.
+abbrev pub TellsOfBig : ℕ → Status → Text → Type 0
+TellsOfBig objects Good text = IsSummaryOf objects text
+TellsOfBig objects WantOfMemory text = text ≡ []
+TellsOfBig objects _ text = ⊥
+
+-- What each status means of the words and the source, and of the text to be written.
+abbrev pub Means : List Text → Input → Status → Text → Type 0
+Means words input Good text = IsDone words input text ⊎ IsChecked words input text ⊎ IsSummed words text
+Means words input BadTrace text = IsBadInput words input text
+Means words input Usage text = IsMisused words text
+Means words input WantOfMemory text = IsCommand words × (text ≡ [])
+Means words input ReadFault text = IsReading words × SourceFailed input × (text ≡ [])
+Means words input WriteFault text = ⊥
+Means words input Refused text = IsRefusedReport words input text

@@ -1,0 +1,52 @@
+//! The top call.
+ghost use Rattle.std.specs.Prelude.{◌≡◌, map, string_bytes};
+ghost use Rattle.k_top.specs.Answers.{IsAnswered, IsUnwritten};
+ghost use Rattle.k_top.specs.Commands.{IsReading};
+
+use crate::checking::check_file;
+use crate::commands::{Command, command_of};
+use crate::running::{replay_file, run_file};
+use crate::status::Status;
+use crate::texts::write_usage;
+use crate::workload::run_workload;
+use k_io::{Gate, Sink, Source};
+use std::alloc::Global;
+use std::sync::Wait;
+use std::thread::Threads;
+
+/// Does what the words say, and writes the text of its status.
+///
+/// The words are decided first, then the source is read, then the trace is judged, then it is run or its
+/// report checked, and then the text is written. So the source is not read where the words are no command,
+/// nor by `big`, whose trace is made, and nothing is written before the run or the check has ended.
+///
+/// `run` and `big` have at most four threads do what the processes have to do, and tell the gate where they stand; `replay` does the operations
+/// in the order of the file, on the caller's thread. `run` and `big` wait for the locks of the heaps: they return if they get them. Whatever the
+/// threads and the gate do, the report is that of a legal and complete history. No other command waits, and none calls the gate.
+///
+/// Memory is taken for the bytes of the input and for the trace; then, before the first operation, for all that the operations can come
+/// to need: the journal, the objects, the tables, the locks and the places for the report. Each goes with the input. `check` takes memory
+/// for its machine as it goes. docs/PERFORMANCE.md has what it costs in time.
+pub fn kaffe<S: Source, K: Sink, G: Gate, R: Threads + Wait + Sync>(
+    rt: &R,
+    alloc: Global,
+    words: &[String],
+    src: &mut S,
+    out: &mut K,
+    gate: &G,
+) -> Status
+    ensures answered { IsAnswered (map string_bytes words.now)
+        (record { left = S.left src.old; rest = S.left src.new; failed_before = S.faults src.old; failed_after = S.faults src.new })
+        (record { agreed = K.Holds out.old; agrees = K.Holds out.new; failed_before = K.faults out.old; failed_after = K.faults out.new })
+        result }
+    ensures unread { ¬ IsReading (map string_bytes words.now) → src.new ≡ src.old }
+    ensures unwritten { IsUnwritten result → out.new ≡ out.old }
+{
+    match command_of(words) {
+        Some(Command::Run) => run_file(rt, alloc, src, out, gate),
+        Some(Command::Replay) => replay_file(alloc, src, out),
+        Some(Command::Check) => check_file(alloc, src, out),
+        Some(Command::Big(objects)) => run_workload(rt, alloc, objects, out, gate),
+        None => write_usage(out),
+    }
+}

@@ -1,0 +1,51 @@
+//! The commands, by their words.
+ghost use Rattle.std.specs.Prelude.{◌≡◌, map, string_bytes};
+ghost use Rattle.k_top.specs.Commands.{command_named, command_numbered, command_of};
+
+use k_big::objects_of;
+
+/// What the program is asked to do.
+#[derive(Clone, Copy, Debug, PartialEq, Eq)]
+pub enum Command {
+    /// Runs a trace on threads and writes its report.
+    Run,
+    /// Does the operations in the order of the file, so that the report is a function of the trace.
+    Replay,
+    /// Reads a trace and a report, and says whether the report is that of a run of the trace.
+    Check,
+    /// Makes the trace of the workload, in which each process makes so many objects, runs it on threads and writes its summary.
+    Big(u32),
+}
+
+/// The command that the words, those after the program's name, are; `None` where they are none.
+pub fn command_of(words: &[String]) -> Option<Command>
+    ensures { result ≡ command_of (map string_bytes words.now) }
+{
+    match words {
+        [word] => command_named(word.as_str()),
+        [word, number] => command_numbered(word.as_str(), number.as_str()),
+        _ => None,
+    }
+}
+
+/// The command that the word alone names.
+fn command_named(word: &str) -> Option<Command>
+    ensures { result ≡ command_named word.now }
+{
+    match word {
+        "run" => Some(Command::Run),
+        "replay" => Some(Command::Replay),
+        "check" => Some(Command::Check),
+        _ => None,
+    }
+}
+
+/// The command that the word names with a number behind it.
+fn command_numbered(word: &str, number: &str) -> Option<Command>
+    ensures { result ≡ command_numbered word.now number.now }
+{
+    match word {
+        "big" => objects_of(number.as_bytes()).map(Command::Big),
+        _ => None,
+    }
+}

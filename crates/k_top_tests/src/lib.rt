@@ -1,0 +1,23 @@
+//! Tests of the program's calls, and nothing else: nothing stands on this crate.
+#![tactic(auto)]
+
+#[cfg(test)]
+mod calling;
+#[cfg(test)]
+mod checked;
+#[cfg(test)]
+mod gated;
+#[cfg(test)]
+mod ranges;
+#[cfg(test)]
+mod server;
+#[cfg(test)]
+mod summaries;
+#[cfg(test)]
+mod tests;
+#[cfg(test)]
+mod worked;
+#[cfg(test)]
+mod worked_heaps;
+#[cfg(test)]
+mod worked_sharing;

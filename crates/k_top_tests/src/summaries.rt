@@ -1,0 +1,122 @@
+//! Runs of the workload: their summaries, and what the gate is told of them and of a `run`.
+use crate::calling::{Faults, Given, HEADER, NO_FAULTS, check_call, check_faults, check_given};
+use k_gates::Counts;
+use k_io::NoMemory;
+use k_top::Status;
+use std::alloc::Global;
+use std::process::Abort;
+use std::sync::Wait;
+use std::test::Fail;
+use std::thread::Threads;
+
+/// The summary for ten objects of each process.
+const TEN: &str = "big 10
+operations 372
+events 380
+faults 0
+freed 32
+kernel 1040
+live 960
+root 3200
+";
+
+#[test]
+fn summaries_are_those_worked_out(rt: HostRuntime) -> Result<(), Fail> {
+    for (words, text) in [
+        (
+            "big 1",
+            "big 1\noperations 52\nevents 52\nfaults 0\nfreed 0\nkernel 240\nlive 160\nroot 320\n",
+        ),
+        ("big 10", TEN),
+        (
+            "big 25",
+            "big 25\noperations 900\nevents 916\nfaults 0\nfreed 64\nkernel 2800\nlive 2720\nroot 8000\n",
+        ),
+    ] {
+        check_call(&rt, rt.alloc(), words, "", Status::Good, text)?;
+    }
+    Ok(())
+}
+
+#[test]
+fn the_greatest_summary_is_the_one_worked_out(rt: HostRuntime) -> Result<(), Fail> {
+    let text =
+        "big 5000\noperations 180012\nevents 184012\nfaults 0\nfreed 16000\nkernel 480080\nlive 480000\nroot 1600000\n";
+    check_call(&rt, rt.alloc(), "big 5000", "", Status::Good, text)?;
+    Ok(())
+}
+
+#[test]
+fn neither_reads_nor_writes_in_part(rt: HostRuntime) -> Result<(), Fail> {
+    // the source would fail at its first read, and is not read; and the summary is one piece
+    for (read, write, want, text) in [(1, 0, Status::Good, TEN), (0, 1, Status::WriteFault, "")] {
+        let faults = Faults { read, write };
+        check_faults(&rt, rt.alloc(), "big 10", "", faults, want, text)?;
+    }
+    Ok(())
+}
+
+/// Has the gate count what a workload of ten objects tells it.
+fn count_workload<R: Abort + Threads + Wait + Sync>(
+    rt: &R,
+    alloc: Global,
+    gate: &Counts,
+) -> Result<(), NoMemory> {
+    let mut given = Given::make(alloc, "big 10", "", NO_FAULTS)?;
+    check_given(rt, alloc, &mut given, gate, "big 10", Status::Good, TEN);
+    Ok(())
+}
+
+/// Compares what the gate counted: a step for `dir`, ten `new`, two stores into the directory, both ends of a collection, and every other
+/// process's `exit`.
+fn check_counts<R: Abort>(rt: &R, gate: &Counts) {
+    for pid in 0..8usize {
+        let want = if pid % 2 == 0 { (47, 16) } else { (46, 15) };
+        assert_eq!(rt; gate.of(pid), Some(want), "process {pid}");
+    }
+}
+
+/// A summary that is computed from the number alone is told by this, and so is a run that leaves some of its work to its end, where no
+/// gate is told.
+#[test]
+fn threads_do_all_the_work(rt: HostRuntime) -> Result<(), Fail> {
+    let gate = Counts::make(rt.alloc(), 8)?;
+    count_workload(&rt, rt.alloc(), &gate)?;
+    check_counts(&rt, &gate);
+    Ok(())
+}
+
+/// Has the gate count what a run of the trace tells it.
+fn count_run<R: Abort + Threads + Wait + Sync>(
+    rt: &R,
+    alloc: Global,
+    trace: &str,
+    gate: &Counts,
+) -> Result<(), NoMemory> {
+    let mut given = Given::make(alloc, "run", trace, NO_FAULTS)?;
+    assert_eq!(rt; given.answer(rt, alloc, gate), Status::Good);
+    Ok(())
+}
+
+/// The same of the operations behind the usual header.
+fn count_operations<R: Abort + Threads + Wait + Sync>(
+    rt: &R,
+    alloc: Global,
+    operations: &str,
+    gate: &Counts,
+) -> Result<(), NoMemory> {
+    let trace = format!(in alloc; "{HEADER}{operations}")?;
+    count_run(rt, alloc, &trace, gate)
+}
+
+/// A `run` that does the operations on the caller's thread, as `replay` does, is told by this: the gate hears of nothing then.
+#[test]
+fn run_tells_the_gate(rt: HostRuntime) -> Result<(), Fail> {
+    let gate = Counts::make(rt.alloc(), 2)?;
+    let operations = "p1 new r0 Node\np1 move r1 r0\np2 new r0 Node\np2 exit\n";
+    count_operations(&rt, rt.alloc(), operations, &gate)?;
+    // a `move` inside the heap has no step
+    assert_eq!(rt; gate.of(0), Some((2, 1)));
+    assert_eq!(rt; gate.of(1), Some((2, 2)));
+    Ok(())
+}
