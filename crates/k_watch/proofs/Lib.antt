@@ -1,0 +1,6 @@
+pub mod ViewSums
+pub mod SampleLists
+pub mod RuleKept
+pub mod Told
+pub mod ShownOn
+pub mod ShownEnd

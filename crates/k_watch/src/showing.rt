@@ -1,0 +1,38 @@
+//! What the book's lock publishes before it is given back.
+ghost use Rattle.k_types.specs.Trace.{Trace};
+ghost use Rattle.k_watch.specs.Shown.{CanShow, CanShowEnd, HasWatched, IsShown, Showing};
+
+use crate::pen::WatchPen;
+use crate::sample::Sample;
+use crate::watcher::Watcher;
+use k_book::Book;
+use std::sync::Wait;
+
+/// Publishes the numbers of the book where there is a pen.
+pub fn show<R: Wait>(rt: &R, pen: &mut Option<WatchPen>, book: &Book)
+    ghost run: { Showing }
+    requires { CanShow run pen.old book.now }
+    ensures { IsShown run.watched run.trace book.now.journal.list pen.new }
+{
+    if let Some(pen) = pen {
+        pen.publish(rt, book);
+    }
+}
+
+/// Publishes the numbers of the book of a run that is over, and has the watcher take one sample more.
+pub fn show_end<R: Wait>(
+    rt: &R,
+    mut pen: WatchPen,
+    book: &Book,
+    watcher: Watcher,
+) -> (Watcher, Sample)
+    ghost trace: { Trace }
+    requires { CanShowEnd trace book.now pen watcher }
+    ensures { HasWatched trace book.now.journal.list watcher result.0 result.1 }
+{
+    pen.publish(rt, book);
+    let mut told = pen.tell(rt, watcher);
+    let sample = told.sample(rt);
+    let watcher = pen.tell(rt, told);
+    (watcher, sample)
+}
