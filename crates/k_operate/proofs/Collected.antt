@@ -244,6 +244,7 @@ module _ (world : WorldValue) (p q r t s : Process) (freed : Swept) (b m l : Boo
       pid = ends.same.pid ∙ sweeps.same.pid ∙ marks.same.pid ∙ begun.done.pid;
       left = begun.done.left ∙ ap (λ (ops : List Op). Collect ∷ ops) (sym (ends.same.left ∙ sweeps.same.left ∙ marks.same.left));
     };
+    settled = ends.settled;
   }
 
   pub collected_adds : p.cell.value.tail ≡ [] → AddsOperation world.trace p.cell.pid Collect (known_to p b) (known_to s l)

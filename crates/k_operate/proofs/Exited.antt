@@ -110,6 +110,7 @@ module _ (world : WorldValue) (p : Process) (k : HoldingsValue) (b : BookRecord)
           book = book_kept;
         };
         done = record { pid = pid_kept; left = n.own.next.left ∙ ap (λ (ops : List Op). Exit ∷ ops) (sym left_then) };
+        settled = s.settled;
       };
       kernel = record {
         rules = n.kernel.rules;

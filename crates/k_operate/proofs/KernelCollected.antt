@@ -85,8 +85,8 @@ module _ (world : WorldValue) (p : Process) (k : HoldingsValue) (b : BookRecord)
           book = book_begun;
         };
         done = record { pid = same_pid; left = n.own.next.left ∙ ap (λ (ops : List Op). KCollect ∷ ops) (sym left_then) };
+        settled = s.heap_goes_on.settled;
       };
-      settled = s.heap_goes_on.settled;
       kernel = kernel_begun;
       events = record { said = DoneReply; new_is = journal_then };
     }

@@ -107,6 +107,7 @@ module _ (world : WorldValue) (p : Process) (b l : BookRecord) (op : Op) (w : He
       pid = ap (λ (x : HeapRecord). x.pid) s.cell_is;
       left = next.left ∙ ap (λ (ops : List Op). op ∷ ops) (sym (left_now world.trace world.table p.cell w b l op next.rest event pair.process.cell pair.book next.left next.lives s));
     };
+    settled = s.settled;
   }
 
 module _ (world : WorldValue) (p : Process) (b : BookRecord) (op : Op) (items : AreEntries (book_entries b)) where

@@ -107,7 +107,6 @@ pub record CanBeginKernelCollection (world : WorldValue) (p : Process) (k : Hold
 -- the kernel's heap has begun
 pub record HasBegunKernelCollection (world : WorldValue) (old new : Process) (k : HoldingsValue) (old_b b : BookRecord) : Type 0 where
   pub own : HasDoneAlone world KCollect old new b
-  pub settled : new.cell.value.tail ≡ []
   pub kernel : KernelCollects world Begun k
   pub events : AddsOne old.cell.pid KCollect old_b.journal.list b.journal.list
 

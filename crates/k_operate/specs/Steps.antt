@@ -56,10 +56,11 @@ pub record IsDueWith (world : WorldValue) (p : Process) (b : BookRecord) (op : O
 abbrev pub CanDoAlone : WorldValue → Process → BookRecord → Op → Type 0
 CanDoAlone world p b op = IsDueWith world p b op []
 
--- process and book stand still, and the process has done the operation
+-- process and book stand still with nothing unpublished, and the process has done the operation
 pub record HasDoneAlone (world : WorldValue) (op : Op) (old new : Process) (book : BookRecord) : Type 0 where
   pub pair : PairStands world new book
   pub done : HasDone world.trace op old.cell new.cell
+  pub settled : new.cell.value.tail ≡ []
 
 -- the operation touches the kernel's cell, which stands
 pub record CanDoWithKernel (world : WorldValue) (p : Process) (k : HoldingsValue) (b : BookRecord) (op : Op) : Type 0 where

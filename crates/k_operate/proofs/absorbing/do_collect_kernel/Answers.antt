@@ -35,7 +35,7 @@ returns g c = record {
     done = c.begin_kernel_collection.ensures.own.done;
   };
   events =
-      adds_known g.world'.trace KCollect c.args.process.now.cell.pid c.args.process.now c.begin_kernel_collection.new.process c.args.book.now c.end_kernel_collection.new.book c.requires.own.settled c.begin_kernel_collection.ensures.settled
+      adds_known g.world'.trace KCollect c.args.process.now.cell.pid c.args.process.now c.begin_kernel_collection.new.process c.args.book.now c.end_kernel_collection.new.book c.requires.own.settled c.begin_kernel_collection.ensures.own.settled
       (adds_with_end g.world'.trace c.args.process.now.cell.pid KCollect Kernel c.args.book.now.journal.list c.absorb_orphans.new.book.journal.list c.begin_kernel_collection.new.book.journal.list c.end_kernel_collection.new.book.journal.list refl
       c.absorb_orphans.ensures.journal c.begin_kernel_collection.ensures.events c.end_kernel_collection.ensures.events);
 }
