@@ -4,3 +4,4 @@ pub mod ClosedKept
 pub mod Added
 pub mod LineKept
 pub mod ReplayKept
+pub mod Grown

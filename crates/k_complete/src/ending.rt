@@ -3,6 +3,7 @@ ghost use Rattle.k_complete.specs.Ended.{AllStand, AllThrough, CanComplete, HasC
 ghost use Rattle.k_process.specs.Over.{AllMet};
 ghost use Rattle.k_complete.specs.Meetings.{CellsAndBook, CellsMet, HeapsAndBook, HeapsMet, ProcessesAndBook, ProcessesMet};
 ghost use Rattle.k_process.specs.Worlds.{WorldValue};
+ghost use Rattle.k_types.specs.Complete.{IsPrefixOf};
 
 use crate::closing::close_all;
 use k_book::Book;
@@ -21,7 +22,8 @@ fn complete(
 )
     ghost world: { WorldValue }
     requires { CanComplete world process.old kernel.old shared.old.items book.old }
-    ensures { HasCompleted world process.old process.new kernel.new shared.new.items book.new }
+    ensures done { HasCompleted world process.old process.new kernel.new shared.new.items book.new }
+    ensures grows { IsPrefixOf book.old.journal.list book.new.journal.list }
 {
     while let Some(op) = next(process) {
         do_next(process, kernel, shared, book, &op);
@@ -39,7 +41,8 @@ pub fn complete_all(
 )
     ghost world: { WorldValue }
     requires { AllStand world processes.old.items kernel.old shared.old.items book.old }
-    ensures { AllThrough world processes.new.items kernel.new shared.new.items book.new }
+    ensures through { AllThrough world processes.new.items kernel.new shared.new.items book.new }
+    ensures grows { IsPrefixOf book.old.journal.list book.new.journal.list }
 {
     for process in processes.iter_mut() {
         complete(process, kernel, shared, book);
@@ -94,7 +97,8 @@ pub fn end_all(
 )
     ghost world: { WorldValue }
     requires { AllStand world processes.old.items kernel.old shared.old.items book.old }
-    ensures { AllMet world processes.new.items kernel.new shared.new.items book.new }
+    ensures met { AllMet world processes.new.items kernel.new shared.new.items book.new }
+    ensures grows { IsPrefixOf book.old.journal.list book.new.journal.list }
 {
     complete_all(processes, kernel, shared, book);
     close_all(kernel, shared, book);

@@ -1,6 +1,8 @@
 use Rattle.std.proofs.Common.{◌≡◌, length}
 use Rattle.k_locked.specs.Keeping.{operations_left}
 use Rattle.k_process.specs.Standing.{ProcessStands, RestStands}
+use Rattle.k_types.specs.Complete.{IsPrefixOf}
+use Rattle.k_operate.specs.Adding.{known_to}
 use Rattle.k_complete.proofs.ending.complete.Given as goal
 
 abbrev pub ghost-next : goal.ghost-next
@@ -17,6 +19,7 @@ invariant-loop-op g l = record {
   process : ProcessStands g.world' l.process;
   rest : RestStands g.world' l.kernel l.shared.items l.book;
   pid : l.process.cell.pid ≡ l.fn.process.cell.pid;
+  grows : IsPrefixOf (known_to l.fn.process l.fn.book) (known_to l.process l.book);
 }
 
 abbrev pub decreases-loop-op : goal.decreases-loop-op
