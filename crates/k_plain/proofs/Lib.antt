@@ -5,3 +5,4 @@ pub mod Moved
 pub mod DoneOperations
 pub mod Quiets
 pub mod Completed
+pub mod Owned

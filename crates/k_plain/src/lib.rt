@@ -7,6 +7,7 @@
 #![tactic(auto)]
 
 mod complete;
+mod counting;
 mod effects;
 mod operating;
 mod state;

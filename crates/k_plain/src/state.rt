@@ -1,5 +1,6 @@
 //! Sound states, and what changes them.
-ghost use Rattle.std.specs.Prelude.{◌≡◌, ◌<◌, ◌↔◌, [], IfOk, IsFalse, IsTrue, OnErr, OnOk};
+ghost use Rattle.std.specs.Prelude.{◌≡◌, ◌<◌, ◌↔◌, [], IfOk, IsFalse, IsTrue, OnErr, OnOk, length};
+ghost use Rattle.k_plain.specs.Owned.{objects_owned, references_in};
 ghost use Rattle.k_plain.specs.Sounds.{IsSoundMachine};
 ghost use Rattle.k_state.specs.Machines.{AreSetupRules, Machine};
 ghost use Rattle.k_state.specs.Rooms.{HasRoom};
@@ -8,9 +9,11 @@ ghost use Rattle.k_types.specs.FileOrder.{end_of};
 ghost use Rattle.k_types.specs.Replies.{reply_to};
 ghost use Rattle.k_types.specs.State.{opening};
 ghost use Rattle.k_types.specs.Steps.{IsPossible};
+ghost use Rattle.k_types.specs.Totals.{total};
 ghost use Rattle.k_types.specs.Trace.{trace_of};
 ghost use Rattle.k_types.specs.declared.event.Event.TheVariants.{Done};
 
+use crate::counting::{objects_of, refs_of};
 use crate::operating::operate;
 use crate::stepping::{is_possible, take_step};
 use k_io::NoMemory;
@@ -94,6 +97,20 @@ impl PlainState {
         ensures err { OnErr result (self.new ≡ self.old) }
     {
         take_step(alloc, &mut self.lists, event)
+    }
+
+    /// How many objects the heap owns. Walks over all objects.
+    pub fn objects_of(&self, heap: Heap) -> u32
+        ensures { result ≡ length (objects_owned self.now.setup self.now.state heap) }
+    {
+        objects_of(&self.lists, heap)
+    }
+
+    /// How many reference fields these have. Walks over all objects.
+    pub fn refs_of(&self, heap: Heap) -> u64
+        ensures { result ≡ total references_in (objects_owned self.now.setup self.now.state heap) }
+    {
+        refs_of(&self.lists, heap)
     }
 
     /// The event with which the heap's open collection ends now. Walks over all objects, exit items and shares. `NoMemory`

@@ -1,0 +1,62 @@
+//! How much a heap owns.
+ghost use Rattle.std.specs.Prelude.{◌≡◌, ◌≤◌, length};
+ghost use Rattle.k_types.specs.Totals.{total};
+ghost use Rattle.k_plain.specs.Owned.{is_reference, objects_owned, references_in};
+ghost use Rattle.k_state.specs.Contents.{content};
+
+use k_state::{FieldValue, PlainLists, PlainObject, is_same_heap};
+use k_types::Heap;
+
+// Whether the field is a reference.
+fn is_reference(value: FieldValue) -> bool
+    ensures { result ≡ is_reference (content value) }
+{
+    match value {
+        FieldValue::Reference(_) => true,
+        FieldValue::Integer(_) => false,
+    }
+}
+
+// How many of the object's fields are references.
+fn references_in(object: &PlainObject) -> u32
+    ensures exact { result ≡ references_in object.now }
+    ensures few { result ≤ 16 }
+{
+    let mut count = 0;
+    for i in 0..object.count() {
+        if is_reference(object.field(i)) {
+            count += 1;
+        }
+    }
+    count
+}
+
+// How many objects the heap owns.
+#[tactic(auto, using(crate::proofs::Owned::kept_left, crate::proofs::Owned::kept_over))]
+pub(crate) fn objects_of(lists: &PlainLists, heap: Heap) -> u32
+    ensures { result ≡ length (objects_owned lists.now.setup lists.now.state heap) }
+{
+    let _shape = lists.setup();
+    let mut count = 0;
+    for object in lists.objects() {
+        if is_same_heap(lists.owner(object.name().seg), heap) {
+            count += 1;
+        }
+    }
+    count
+}
+
+// How many reference fields these have.
+#[tactic(auto, using(k_state::proofs::Sums::sum_left, k_state::proofs::Sums::sum_over))]
+pub(crate) fn refs_of(lists: &PlainLists, heap: Heap) -> u64
+    ensures { result ≡ total references_in (objects_owned lists.now.setup lists.now.state heap) }
+{
+    let _shape = lists.setup();
+    let mut count = 0;
+    for object in lists.objects() {
+        if is_same_heap(lists.owner(object.name().seg), heap) {
+            count += u64::from(references_in(object));
+        }
+    }
+    count
+}
