@@ -1,6 +1,12 @@
 //! What the book's lock publishes before it is given back.
+ghost use Rattle.std.specs.Prelude.{Some};
+ghost use Rattle.k_types.specs.Steps.{state_after};
 ghost use Rattle.k_types.specs.Trace.{Trace};
-ghost use Rattle.k_watch.specs.Shown.{CanShow, CanShowEnd, HasWatched, IsShown, Showing};
+ghost use Rattle.k_types.specs.TraceRules.{KeepsRules};
+ghost use Rattle.k_agree.specs.Agreement.{BookShows};
+ghost use Rattle.k_book.specs.Machine.{IsBookOf};
+ghost use Rattle.k_commit.specs.Standing.{BookStands};
+ghost use Rattle.k_watch.specs.Shown.{HasWatched, IsShown, Showing, WasShown};
 
 use crate::pen::WatchPen;
 use crate::sample::Sample;
@@ -11,7 +17,8 @@ use std::sync::Wait;
 /// Publishes the numbers of the book where there is a pen.
 pub fn show<R: Wait>(rt: &R, pen: &mut Option<WatchPen>, book: &Book)
     ghost run: { Showing }
-    requires { CanShow run pen.old book.now }
+    requires stands { BookStands run.trace book.now }
+    requires shown { WasShown run.watched run.trace book.now.journal.list pen.old }
     ensures { IsShown run.watched run.trace book.now.journal.list pen.new }
 {
     if let Some(pen) = pen {
@@ -27,7 +34,10 @@ pub fn show_end<R: Wait>(
     watcher: Watcher,
 ) -> (Watcher, Sample)
     ghost trace: { Trace }
-    requires { CanShowEnd trace book.now pen watcher }
+    requires rules { KeepsRules trace }
+    requires of_trace { IsBookOf trace book.now }
+    requires shows { BookShows trace (state_after trace book.now.journal.list) book.now.value }
+    requires shown { WasShown (Some watcher.cell) trace book.now.journal.list (Some pen) }
     ensures { HasWatched trace book.now.journal.list watcher result.0 result.1 }
 {
     pen.publish(rt, book);
