@@ -59,6 +59,7 @@ impl Drop for Holdings {
             exits: _,
             phase: _,
             note: _,
+            carried: _,
         } = self;
     }
 }
