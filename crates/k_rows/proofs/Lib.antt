@@ -30,3 +30,4 @@ mod TwoOpenCollections
 mod ARootThatWasDroppedMeanwhile
 mod ImpossibleEvents
 mod Replies
+mod ReachedThroughThreeHeaps

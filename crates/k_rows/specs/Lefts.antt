@@ -9,6 +9,7 @@ use Rattle.k_types.specs.declared.event.Event.{Event}
 use Rattle.k_types.specs.Numbers.{numbers_below}
 use Rattle.k_types.specs.Owners.{owner_of, bytes_of, charge_of, shared}
 use Rattle.k_types.specs.Limits.{use_of}
+use Rattle.k_types.specs.Reach.{live_everywhere}
 use Rattle.k_types.specs.Cells.{entries, pins}
 use Rattle.k_types.specs.Trace.{Trace, segment_count}
 use Rattle.k_types.specs.State.{State, Object, Content, ExitItem, Sharing, Scan}
@@ -99,3 +100,7 @@ left_in trace st = record {
 -- the same after a history
 abbrev pub left_by : Trace → List Event → Left
 left_by trace history = left_in trace (state_after trace history)
+
+-- the objects that can still be used after a history, by name
+abbrev pub live_by : Trace → List Event → List Name
+live_by trace history = map (λ o. o.name) (live_everywhere trace (state_after trace history))

@@ -6,4 +6,5 @@ pub mod Barriers
 pub mod Sharing
 pub mod Ends
 pub mod Collections
+pub mod Liveness
 pub mod Impossible

@@ -12,6 +12,7 @@ mod collections;
 mod ends;
 mod impossible;
 mod limits;
+mod liveness;
 mod sharing;
 
 pub use barriers::{
@@ -45,6 +46,7 @@ pub use limits::{
     a_full_limit_above_a_soft_one_row, a_soft_limit_charges_upward_row,
     boundary_of_a_hard_limit_row, reservations_fill_a_limit_row, the_ceiling_row,
 };
+pub use liveness::reached_through_three_heaps_row;
 pub use sharing::{
     a_sharer_that_does_not_fit_row, absorbed_for_good_row, attached_again_row,
     every_sharer_pays_row, orphaned_and_absorbed_row, phases_of_a_shared_heap_row,
