@@ -1,5 +1,5 @@
 -- The law of this crate, for the crates above to cite.
-use Rattle.std.proofs.Common.{◌≡◌, ◌∙◌, ℕ, ap, refl, sym, subst, List, [], ◌∷◌, ◌++◌, IsTrue}
+use Rattle.std.proofs.Common.{◌≡◌, ◌∙◌, ℕ, ap, refl, sym, subst, List, [], ◌∷◌, ◌++◌, IsFalse, IsTrue}
 use Rattle.k_types.specs.declared.event.Event.{Event}
 use Rattle.k_types.specs.declared.event.Event.TheVariants.{Done, Ended}
 use Rattle.k_types.specs.declared.event.Fault.{Fault}
@@ -9,6 +9,7 @@ use Rattle.k_types.specs.declared.names.Name.{Name}
 use Rattle.k_types.specs.declared.names.Pid.{Pid}
 use Rattle.k_types.specs.declared.op.Op.{Op}
 use Rattle.k_types.specs.declared.op.Op.TheVariants.{KNew, New, SNew, Store}
+use Rattle.k_types.specs.Cells.{Cell, part, touches}
 use Rattle.k_types.specs.Effects.{step}
 use Rattle.k_types.specs.Reach.{live_everywhere}
 use Rattle.k_types.specs.Replies.{reply_to}
@@ -18,6 +19,7 @@ use Rattle.k_types.specs.Trace.{Trace}
 use Rattle.k_types.specs.TraceRules.{AreLimits}
 use Rattle.k_types.specs.Updates.{count_done}
 use Rattle.k_frame.proofs.Histories.{legal_append, state_next}
+use Rattle.k_frame.proofs.Laws.{steps_leave_other_cells-part}
 use Rattle.k_laws.proofs.Laws.{collections_free_nothing_live, no_hidden_refusals-in_kernel, no_hidden_refusals-in_shared, no_hidden_refusals-new, no_hidden_refusals-store, states_are_sound}
 use Rattle.k_locality.proofs.Laws.{possible_events_go_by_the_parts-histories}
 use Rattle.k_locality.specs.Same.{SameToEvent}
@@ -51,6 +53,9 @@ module _ (trace : Trace) (history : List Event) (event : Event) (limits : AreLim
     in_shared = λ pid r s ty fault is. no_hidden_refusals-in_shared trace st pid.0 r s ty fault (replied pid (SNew r s ty) fault is);
   }
 
+  elsewhere : (cell : Cell) → IsFalse (touches trace st event cell) → part trace (state_left trace history event) cell ≡ part trace st cell
+  elsewhere cell untouched = ap (λ (su : State). part trace su cell) (left event refl) ∙ steps_leave_other_cells-part trace st event cell possible untouched
+
   live : (h : Heap) (objects bytes exits shares : ℕ) → event ≡ Ended h objects bytes exits shares → (n : Name) →
       IsTrue (has (live_everywhere trace st) n) → IsTrue (has (state_left trace history event).objects n)
   live h objects bytes exits shares is n used =
@@ -77,6 +82,7 @@ module _ (trace : Trace) (history : List Event) (event : Event) (limits : AreLim
     sound = states_are_sound trace (history ++ event ∷ []) limits (longer event refl);
     refused = refused;
     by_name = by_name;
+    elsewhere = elsewhere;
     live = live;
     local = local;
   }

@@ -15,6 +15,7 @@ use Rattle.k_types.specs.declared.names.SharedId.{SharedId}
 use Rattle.k_types.specs.declared.names.TypeId.{TypeId}
 use Rattle.k_types.specs.declared.op.Op.{Op}
 use Rattle.k_types.specs.declared.op.Op.TheVariants.{KNew, New, SNew, Store}
+use Rattle.k_types.specs.Cells.{Cell, part, touches}
 use Rattle.k_types.specs.Limits.{full_limit}
 use Rattle.k_types.specs.Owners.{bytes_of, phase_of}
 use Rattle.k_types.specs.Reach.{live_everywhere}
@@ -66,6 +67,8 @@ pub record IsLawful (trace : Trace) (history : List Event) (event : Event) : Typ
   pub refused : (pid : Pid) (op : Op) (fault : Fault) → event ≡ Done pid op (Refused fault) →
       state_left trace history event ≡ count_done pid.0 (state_found trace history)
   pub by_name : IsRefusedByName trace (state_found trace history) event
+  pub elsewhere : (cell : Cell) → IsFalse (touches trace (state_found trace history) event cell) →
+      part trace (state_left trace history event) cell ≡ part trace (state_found trace history) cell
   pub live : (h : Heap) (objects bytes exits shares : ℕ) → event ≡ Ended h objects bytes exits shares → (n : Name) →
       IsTrue (has (live_everywhere trace (state_found trace history)) n) → IsTrue (has (state_left trace history event).objects n)
   pub local : (other : List Event) → IsLegalHistory trace other → SameToEvent trace (state_found trace history) (state_found trace other) event →
