@@ -7,6 +7,7 @@ mod ends;
 mod names;
 mod operations;
 mod owners;
+mod reached;
 mod sizes;
 
 pub use charges::{ended_collections_credit_what_goes, only_its_own_events_change_a_charge};
@@ -17,4 +18,5 @@ pub use operations::{
     scanned_heaps_are_left_alone,
 };
 pub use owners::{ended_processes_stay_ended, owners_change_once};
+pub use reached::reached_cells_change_at_most_once;
 pub use sizes::frozen_heaps_keep_their_size;

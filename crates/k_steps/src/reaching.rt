@@ -44,7 +44,8 @@ fn reach_through(cell: &HeapCell, book: &Book, base: Reg) -> Reach
 
 /// The cell that the operation touches beside its process's own, as cell and book are now; a cell that has met the journal is
 /// as the machine has it. While the process's cell is held the answer changes at most once, from `Own` to `Kernel`, where the
-/// kernel takes over the object: with the shared heap that it absorbs, or with the heap of another process that ends. Constant time.
+/// kernel takes over the object: with the shared heap that it absorbs, or with the heap of another process that ends
+/// (`reached_cells_change_at_most_once` of `k_kept`). Constant time.
 #[tactic(auto, unfolding(k_squares::specs::Touches::other_cells_in))]
 pub fn reach(cell: &HeapCell, book: &Book, op: &Op) -> Reach
     ghost trace: { Trace }
