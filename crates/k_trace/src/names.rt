@@ -13,12 +13,22 @@ use std::marker::Model;
 /// The names that a trace declares, by the numbers of what they name.
 ///
 /// Each name has at most 32 bytes.
-#[derive(Drop)]
 pub struct Names {
     types: NameList,
     limits: NameList,
     procs: NameList,
     shared: NameList,
+}
+
+impl Drop for Names {
+    fn drop(self) {
+        let Names {
+            types: _,
+            limits: _,
+            procs: _,
+            shared: _,
+        } = self;
+    }
 }
 
 impl Model for Names {
