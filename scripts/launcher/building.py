@@ -1,0 +1,129 @@
+"""How ./kaffe builds the program: proved, crates side by side, or without any proof."""
+import contextlib
+import fcntl
+import os
+import re
+import shutil
+import subprocess
+import sys
+import tempfile
+import threading
+import time
+
+from launcher import sources
+from launcher.commands import fail
+from launcher.sentences import NO_PROGRAM, USAGE
+
+NO_KIT = "rt, the command of the Rattle kit, is not on the PATH, so the program cannot be built"
+# The workload of the run in which the unproved program is taken out of rt's own folder, and how often that folder is looked at.
+SMALL_WORKLOAD, LOOK_SECONDS = "200", 0.01
+
+
+def say(message):
+    print(f"kaffe: {message}", file=sys.stderr, flush=True)
+
+
+@contextlib.contextmanager
+def alone(top):
+    """Waits until no other launcher builds here."""
+    out = f"{top}/crates/{sources.PROGRAM}/out"
+    os.makedirs(out, exist_ok=True)
+    with open(f"{out}/launcher.lock", "w", encoding="utf-8") as lock:
+        try:
+            fcntl.flock(lock, fcntl.LOCK_EX | fcntl.LOCK_NB)
+        except BlockingIOError:
+            say("another ./kaffe builds the program; waiting for it")
+            fcntl.flock(lock, fcntl.LOCK_EX)
+        except OSError:
+            # Some file systems have no locks.
+            pass
+        yield
+
+
+def built(program, build):
+    """The path of the program, once it is that of the sources; builds it where it is not."""
+    if not program.is_fresh():
+        if not shutil.which("rt"):
+            fail(NO_PROGRAM, NO_KIT)
+        with alone(program.top):
+            if not program.is_fresh():
+                files = sources.files_of(program.top, program.parts)
+                of_sources, of_kit = sources.content(program.top, files), sources.kit()
+                build(program)
+                if sources.seen(sources.files_of(program.top, program.parts)) == sources.seen(files):
+                    program.keep(files, of_sources, of_kit)
+                else:
+                    say("a source changed during the build, so that the next call builds again")
+    return program.path
+
+
+def build_proved(program):
+    """Has rt prove the crates, side by side where several are to be proved, and build the program; ends the launcher where that fails."""
+    top = program.top
+    doors = subprocess.run([f"{top}/scripts/one-door"], stdin=subprocess.DEVNULL, stdout=sys.stderr, check=False)
+    if doors.returncode:
+        fail(NO_PROGRAM, "the code at these places could answer want of memory with no refused allocation")
+    say("proving and building the program, which a first time takes half an hour or more (--unproved takes a minute)")
+    began = time.monotonic()
+    crates = subprocess.run([f"{top}/scripts/side-by-side"], stdin=subprocess.DEVNULL, stdout=sys.stderr, check=False)
+    if crates.returncode:
+        fail(NO_PROGRAM, "a crate on which the program stands was not proved, so the program is not built")
+    with tempfile.TemporaryFile("w+", errors="replace") as log:
+        # rt builds what it runs: with no words the program only writes its usage line.
+        subprocess.run(["rt", "run"], cwd=f"{top}/crates/{sources.PROGRAM}", stdin=subprocess.DEVNULL, stdout=log, stderr=subprocess.STDOUT, check=False)
+        log.seek(0)
+        said = log.read()
+    if USAGE not in said.split("\n") or not os.access(program.path, os.X_OK):
+        sys.stderr.write(said)
+        fail(NO_PROGRAM, "the program could not be built")
+    say(f"built in {round(time.monotonic() - began)} s")
+
+
+def build_unproved(program):
+    """Has rt compile the program without any proof, and keeps the executable that rt runs."""
+    say("building the program without proofs, which takes about a minute")
+    began = time.monotonic()
+    out = os.path.dirname(program.path)
+    with tempfile.TemporaryDirectory(prefix="unproved-", dir=out) as room:
+        ran, status = tried(program.top, ["big", SMALL_WORKLOAD], room)
+        kept = f"{room}/program"
+        if status != 0 or not ran.startswith(f"big {SMALL_WORKLOAD}\n") or not os.path.exists(kept):
+            fail(NO_PROGRAM, "the unproved build failed, as rt says above" if status else "rt try ran the program, but its executable was not found")
+        os.chmod(kept, 0o755)
+        os.replace(kept, program.path)
+    say(f"built in {round(time.monotonic() - began)} s, and kept until a source changes; nothing of it is proved")
+
+
+def tried(top, words, room):
+    """Runs `rt try` with these words, and links the executable that it runs to room/program. Gives what it wrote and its status."""
+    command = ["rt", "try", "--", *words]
+    how = {"cwd": f"{top}/crates/{sources.PROGRAM}", "stdin": subprocess.DEVNULL, "env": {**os.environ, "TMPDIR": room}}
+    with tempfile.TemporaryFile("w+", errors="replace") as said, tempfile.TemporaryFile("w+", errors="replace") as wrote:
+        with subprocess.Popen(command, stdout=wrote, stderr=said, **how) as ran:
+            over = threading.Event()
+            watcher = threading.Thread(target=link_program, args=(room, over))
+            watcher.start()
+            try:
+                ran.wait()
+            finally:
+                over.set()
+                watcher.join()
+        wrote.seek(0)
+        said.seek(0)
+        told = said.read()
+        ended = re.findall(r"^run=ended status=(\d+) ", told, re.M)
+        if not ended or ran.returncode:
+            sys.stderr.write(told)
+        return wrote.read(), int(ended[-1]) if ended else NO_PROGRAM
+
+
+def link_program(room, over):
+    """Gives the executable another name while rt try has it. A link and no copy, so that it is whole once rt has written it."""
+    while not over.wait(LOOK_SECONDS):
+        for at, _, names in os.walk(room):
+            if at != room and "program" in names:
+                with contextlib.suppress(OSError):
+                    one = os.stat(f"{at}/program")
+                    if not (os.path.exists(f"{room}/program") and os.path.samestat(os.stat(f"{room}/program"), one)):
+                        os.link(f"{at}/program", f"{room}/next")
+                        os.replace(f"{room}/next", f"{room}/program")

@@ -1,0 +1,79 @@
+"""How far a build is: the crates that are done, the time so far, and the time left by docs/gate-times."""
+import heapq
+
+# How much faster a crate is proved by several jobs than by one, and how long one takes that nobody has timed, in seconds.
+GAIN_OF_JOBS, UNKNOWN_SECONDS = 2.0, 60.0
+# Before so much of a build is done its own pace says too little, and beyond these factors it is not believed.
+PACE_FROM, PACE_LEAST, PACE_MOST = 0.05, 0.3, 10.0
+
+
+def times_of(path):
+    """The seconds of one processor that each crate's proof takes, by the file: lines of a crate and its seconds."""
+    found = {}
+    with open(path, encoding="utf-8") as file:
+        for line in file:
+            words = line.partition("#")[0].split()
+            if len(words) >= 2:
+                found[words[0]] = float(words[1])
+    return found
+
+
+def chains(need, below, seconds):
+    """For each crate the seconds of the longest chain from it upward, itself among them."""
+    above = {name: [other for other in need if name in below[other]] for name in need}
+    found = {}
+    for name in reversed(need):
+        found[name] = seconds[name] + max((found[it] for it in above[name]), default=0.0)
+    return found
+
+
+def seconds_left(need, below, seconds, at_once):
+    """How long the crates that are needed take, lowest first in the list, at_once side by side and the longest chain first."""
+    need = [it for it in need]
+    rank = chains(need, below, seconds)
+    waits = {name: {it for it in below[name] if it in rank} for name in need}
+    left, running, now = set(need), [], 0.0
+    while left or running:
+        ready = sorted((it for it in left if not waits[it]), key=lambda it: -rank[it])
+        for name in ready[: at_once - len(running)]:
+            left.discard(name)
+            alone = not running and len(ready) == 1 and at_once > 1
+            heapq.heappush(running, (now + seconds[name] / (GAIN_OF_JOBS if alone else 1.0), name))
+        now, name = heapq.heappop(running)
+        for it in waits.values():
+            it.discard(name)
+    return now
+
+
+class Progress:
+    """Tells after each crate how far the build is."""
+
+    def __init__(self, need, below, times, at_once):
+        self.need, self.below, self.at_once = need, below, at_once
+        self.seconds = {it: times.get(it, UNKNOWN_SECONDS) for it in need}
+        self.done = []
+        self.whole = seconds_left(need, below, self.seconds, at_once)
+
+    def left(self, so_far):
+        """The seconds that are left: by the times of the file, and by how fast the build has been against them."""
+        left = [it for it in self.need if it not in self.done]
+        planned = seconds_left(left, self.below, self.seconds, self.at_once)
+        behind = self.whole - planned
+        if behind <= PACE_FROM * self.whole:
+            return planned
+        return planned * min(max(so_far / behind, PACE_LEAST), PACE_MOST)
+
+    def after(self, name, so_far):
+        """The line that is told when this crate is proved, so many seconds after the build began."""
+        self.done.append(name)
+        line = f"{len(self.done)} of {len(self.need)} crates proved, {shown(so_far)} so far"
+        return f"{line}, about {shown(self.left(so_far))} left ({name})" if len(self.done) < len(self.need) else f"{line} ({name})"
+
+
+def shown(seconds):
+    """A length of time as a reader wants it."""
+    seconds = round(seconds)
+    if seconds < 120:
+        return f"{seconds} s"
+    minutes = round(seconds / 60)
+    return f"{minutes} min" if minutes < 120 else f"{minutes // 60} h {minutes % 60} min"
