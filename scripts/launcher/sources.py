@@ -144,6 +144,8 @@ class Built:
             return False
         found = shutil.which("rt")
         folders = {folder for path, _ in files for folder in folders_above(self.top, path)}
+        tops = [f"{self.top}/crates/{crate}/{part}" for crate in crates_below(self.top)[0] for part in self.parts]
+        folders.update(it for it in tops if os.path.isdir(it))
         times = [it.st_mtime_ns for _, it in files] + [os.stat(it).st_mtime_ns for it in folders]
         times += [os.stat(found).st_mtime_ns] if found else []
         return max(times) < os.stat(self.path).st_mtime_ns
