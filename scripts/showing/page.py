@@ -1,0 +1,3 @@
+from .reading import Run
+def page(run: Run) -> str:
+    return ""
