@@ -1,0 +1,206 @@
+"use strict";
+// The objects by heap. Every object keeps its place for as long as it is there, so that what changes is seen.
+const NODE = { width: 98, height: 38, gap: 16 };
+const CHIP = { width: 34, height: 18, gap: 5 };
+const EDGE = 14; // from a heap's border to what is in it
+const HEAD = 44; // for a heap's title
+const MOST_NODES = 36; // that are drawn of one heap
+const MOST_HEAPS = 32;
+const BETWEEN = 40; // heaps
+
+// For each object its place in its segment, and for each segment how many places it needs at once; and which registers are used.
+function places() {
+  const place = new Map();
+  const need = RUN.segments.map(() => 0);
+  const free = RUN.segments.map(() => []);
+  const registers = RUN.processes.map(() => new Set());
+  for (const [what, one, two, three] of RUN.changes.flat()) {
+    const key = one * SPACING + two;
+    if (what === "o") {
+      free[one].sort((a, b) => b - a);
+      place.set(key, free[one].length ? free[one].pop() : need[one]++);
+    }
+    if (what === "x") free[one].push(place.get(key));
+    if (what === "r" && three !== null) registers[one].add(two);
+  }
+  return { place, need, registers: registers.map((used) => [...used].sort((a, b) => a - b)) };
+}
+
+const PLACES = places();
+
+// The boxes of the heaps, one beside the other as far as there is room.
+function layOut(room) {
+  const boxes = new Map();
+  let [x, y, low] = [8, 8, 0];
+  const used = RUN.segments.map((_, segment) => segment).filter((segment) => PLACES.need[segment] || (PLACES.registers[segment - 1] || []).length);
+  for (const segment of used.slice(0, MOST_HEAPS)) {
+    const nodes = Math.min(PLACES.need[segment], MOST_NODES);
+    const chips = (PLACES.registers[segment - 1] || []).length;
+    const columns = Math.max(2, Math.min(6, Math.ceil(Math.sqrt(nodes * 1.5))));
+    const width = 2 * EDGE + columns * NODE.width + (columns - 1) * NODE.gap;
+    const perRow = Math.floor((width - 2 * EDGE + CHIP.gap) / (CHIP.width + CHIP.gap));
+    const chipRows = Math.ceil(chips / perRow);
+    const top = HEAD + chipRows * (CHIP.height + CHIP.gap) + (chipRows ? 16 : 0);
+    const height = top + Math.max(1, Math.ceil(nodes / columns)) * (NODE.height + NODE.gap) + 12;
+    if (x > 8 && x + width > room) [x, y, low] = [8, low + BETWEEN, 0];
+    boxes.set(segment, { x, y, width, height, columns, perRow, top });
+    low = Math.max(low, y + height);
+    x += width + BETWEEN;
+  }
+  const all = [...boxes.values()];
+  return { boxes, left: used.length - boxes.size, width: Math.max(300, ...all.map((box) => box.x + box.width)) + 8, height: Math.max(80, ...all.map((box) => box.y + box.height)) + 8 };
+}
+
+class Graph {
+  constructor(choose) {
+    this.svg = document.getElementById("graph");
+    this.choose = choose;
+    this.resize();
+  }
+
+  resize() {
+    this.plan = layOut(Math.max(640, this.svg.parentElement.clientWidth));
+    this.svg.setAttribute("width", this.plan.width);
+    this.svg.setAttribute("height", this.plan.height);
+  }
+
+  // The rectangle of an object, where it is drawn.
+  spot(key) {
+    const box = this.plan.boxes.get(segmentOf(key));
+    const at = PLACES.place.get(key);
+    if (!box || at >= MOST_NODES) return null;
+    const left = box.x + EDGE + (at % box.columns) * (NODE.width + NODE.gap);
+    return { x: left, y: box.y + box.top + Math.floor(at / box.columns) * (NODE.height + NODE.gap), width: NODE.width, height: NODE.height };
+  }
+
+  chip(process, at) {
+    const box = this.plan.boxes.get(process + 1);
+    const number = PLACES.registers[process].indexOf(at);
+    if (!box || number < 0) return null;
+    const left = box.x + EDGE + (number % box.perRow) * (CHIP.width + CHIP.gap);
+    return { x: left, y: box.y + HEAD + Math.floor(number / box.perRow) * (CHIP.height + CHIP.gap), width: CHIP.width, height: CHIP.height };
+  }
+
+  show(state, chosen) {
+    this.state = state;
+    this.live = state.live();
+    this.kept = state.keptByExits();
+    this.paths = new Map();
+    const [boxes, edges, nodes] = [draw("g"), draw("g"), draw("g")];
+    this.plan.boxes.forEach((box, segment) => boxes.append(this.heap(segment, box)));
+    this.registers(edges, nodes);
+    this.exits(edges, boxes);
+    let hidden = 0;
+    for (const [key, body] of state.objects) {
+      const spot = this.spot(key);
+      if (!spot) hidden += 1;
+      else nodes.append(this.node(key, body, spot));
+      for (const [at, target] of state.references(key)) this.edge(edges, `${key} ${at}`, spot, this.spot(target), `ref ${this.live.has(key) ? "" : "dead"}`, "ref");
+    }
+    this.svg.replaceChildren(this.arrows(), boxes, edges, nodes);
+    this.note(hidden);
+    this.mark(chosen);
+  }
+
+  arrows() {
+    const tip = (kind) => draw("marker", { id: `arrow-${kind}`, viewBox: "0 0 8 8", refX: 7, refY: 4, markerWidth: 7, markerHeight: 7, orient: "auto" }, draw("path", { d: "M0 0L8 4L0 8Z" }));
+    return draw("defs", {}, tip("ref"), tip("reg"), tip("exit"));
+  }
+
+  heap(segment, box) {
+    const owner = this.state.owner(segment);
+    const kind = kindOf(owner);
+    const group = draw("g", { class: kind, style: `--fill: var(--${kind}-soft)` });
+    const place = { x: box.x, y: box.y, width: box.width, height: box.height };
+    const title = owner === segment ? RUN.segments[segment] : `${RUN.segments[segment]}, now the kernel’s`;
+    const [first] = heapSays(this.state, segment).split("; shared by");
+    const sub = owner === segment ? first : counted(this.state.count[segment], "object");
+    group.append(draw("rect", { class: "heap", ...place }), draw("text", { class: "title", x: box.x + EDGE, y: box.y + 19 }, title));
+    group.append(draw("text", { class: "sub", x: box.x + EDGE, y: box.y + 35 }, sub));
+    return group;
+  }
+
+  node(key, body, spot) {
+    const standing = this.live.has(key) ? "live" : this.kept.has(key) ? "kept" : "garbage";
+    const type = body.type === null ? "directory" : RUN.types[body.type].name;
+    const numbers = body.fields.filter((value) => value !== null && !Array.isArray(value)).join(" ");
+    const what = `${type} ${numbers}`.trim();
+    const label = `${nameOf(key)}, ${what}, ${standing}`;
+    const group = draw("g", { class: `node ${standing} ${kindOf(this.state.owner(segmentOf(key)))}`, tabindex: 0, role: "button", "aria-label": label, "data-key": key });
+    const middle = spot.x + spot.width / 2;
+    group.append(draw("title", {}, label), draw("rect", spot), draw("text", { x: middle, y: spot.y + 16 }, nameOf(key)));
+    group.append(draw("text", { class: "what", x: middle, y: spot.y + 30 }, what.length > 15 ? `${what.slice(0, 14)}…` : what));
+    group.addEventListener("click", () => this.choose(key));
+    group.addEventListener("keydown", (pressed) => {
+      if (pressed.key === "Enter" || pressed.key === " ") { pressed.preventDefault(); this.choose(key); }
+    });
+    return group;
+  }
+
+  registers(edges, nodes) {
+    PLACES.registers.forEach((used, process) => used.forEach((at) => {
+      const chip = this.chip(process, at);
+      if (!chip || this.state.ended[process]) return;
+      const held = this.state.registers[process][at];
+      const text = draw("text", { x: chip.x + chip.width / 2, y: chip.y + 13 }, `r${at}`);
+      nodes.append(draw("g", { class: `chip ${held === null ? "null" : ""}` }, draw("rect", chip), text));
+      if (held !== null) this.edge(edges, `r ${process} ${at}`, chip, this.spot(held), "reg", "reg");
+    }));
+  }
+
+  exits(edges, boxes) {
+    this.state.exits.forEach((targets, heap) => {
+      const box = this.plan.boxes.get(heap);
+      if (!targets.size || !box) return;
+      const port = { x: box.x + box.width - 92, y: box.y + 6, width: 84, height: 18 };
+      boxes.append(draw("text", { class: "port", x: port.x + port.width, y: port.y + 13, "text-anchor": "end" }, counted(targets.size, "exit item")));
+      targets.forEach((key) => this.edge(edges, `e ${heap} ${key}`, port, this.spot(key), "exit", "exit"));
+    });
+  }
+
+  // An arrow from one rectangle to another, a little bent.
+  edge(group, id, from, to, look, tip) {
+    if (!from || !to) return;
+    const a = { x: from.x + from.width / 2, y: from.y + from.height / 2 };
+    const b = { x: to.x + to.width / 2, y: to.y + to.height / 2 };
+    let d = `M${from.x + from.width - 12} ${from.y}c4 -16 22 -14 14 8`;
+    if (from.x !== to.x || from.y !== to.y) {
+      const bend = 0.14;
+      const c = { x: (a.x + b.x) / 2 - (b.y - a.y) * bend, y: (a.y + b.y) / 2 + (b.x - a.x) * bend };
+      const [start, end] = [border(from, a, c), border(to, b, c)];
+      d = `M${start.x.toFixed(1)} ${start.y.toFixed(1)}Q${c.x.toFixed(1)} ${c.y.toFixed(1)} ${end.x.toFixed(1)} ${end.y.toFixed(1)}`;
+    }
+    const path = draw("path", { class: look, d, "marker-end": `url(#arrow-${tip})` });
+    this.paths.set(id, path);
+    group.append(path);
+  }
+
+  note(hidden) {
+    const parts = [];
+    if (hidden) parts.push(`${counted(hidden, "object")} of ${spaced(this.state.objects.size)} not drawn: at most ${MOST_NODES} of one heap are.`);
+    if (this.plan.left) parts.push(`${counted(this.plan.left, "heap")} not drawn.`);
+    document.getElementById("graph-note").textContent = parts.join(" ");
+  }
+
+  // Marks an object and the path that keeps it.
+  mark(chosen) {
+    if (chosen === null || !this.state.objects.has(chosen)) return;
+    const on = (key, how) => this.svg.querySelector(`[data-key="${key}"]`)?.classList.add(how);
+    on(chosen, "chosen");
+    let key = chosen;
+    for (let came = this.live.get(key); came; came = this.live.get(key)) {
+      this.paths.get(`${came[0]} ${came[1]}`)?.classList.add("on");
+      key = came[0];
+      on(key, "on");
+    }
+    const reason = this.live.has(key) && /^register r(\d+) of (.*)$/.exec(this.state.reasons().get(key));
+    if (reason) this.paths.get(`r ${RUN.processes.findIndex((each) => each.name === reason[2])} ${reason[1]}`)?.classList.add("on");
+  }
+}
+
+// Where the line from the middle of a rectangle to a point leaves it.
+function border(rectangle, middle, point) {
+  const [dx, dy] = [point.x - middle.x, point.y - middle.y];
+  const scale = Math.min(Math.abs(rectangle.width / 2 / (dx || 1e-9)), Math.abs(rectangle.height / 2 / (dy || 1e-9)));
+  return { x: middle.x + dx * scale, y: middle.y + dy * scale };
+}
