@@ -148,7 +148,7 @@ def _replayed(source: str, trace: Trace, events: Optional[List[Event]]) -> Run:
     return Run(source, trace.setup, done, lines, end, rules.uses(end), True)
 
 
-def read_run(paths: Sequence[str]) -> Run:
+def read_run(paths: Sequence[str], quiet: bool = False) -> Run:
     """The run that the files show; raises BadInput with one sentence where they show none."""
     found = _given(paths)
     text, samples = _cut_samples(found["report"]) if "report" in found else (None, [])
@@ -157,7 +157,7 @@ def read_run(paths: Sequence[str]) -> Run:
         run = _shown((text or found["snapshot"]).source, end)
     else:
         trace = read_trace(found["trace"])
-        if text is None:
+        if text is None and not quiet:
             sys.stderr.write("show: no report was given, so these are the events in the order of the trace's file\n")
         run = _replayed(found["trace"].source, trace, None if text is None else judging.read_history(trace, text))
     run.samples = samples

@@ -45,17 +45,18 @@ function stepPath(steps, most) {
 
 // A curve with its area, the maximum where there is one, and the refusals that name the limit.
 function curve(row) {
-  const most = Math.max(1, ...row.steps.map((step) => step[1]), ...(row.most || []).map((step) => step[1]).filter((value) => value <= 4 * peak(row.steps) + 1));
+  const bounded = row.most !== undefined && row.most !== null && peak(row.most) <= 4 * peak(row.steps) + 1;
+  const most = Math.max(1, bounded ? peak(row.most) : 0, 1.2 * peak(row.steps));
   const line = stepPath(row.steps, most);
   const svg = draw("svg", { viewBox: `0 0 ${WIDTH} ${HEIGHT}`, preserveAspectRatio: "none", role: "img", "aria-label": `${row.name}: at most ${spaced(peak(row.steps))} bytes` });
   svg.append(draw("path", { class: "area", d: `${line}V${HEIGHT}H0Z` }), draw("path", { class: "line", d: line }));
-  if (row.most && row.most[0][1] <= most) svg.append(draw("path", { class: "most", d: stepPath(row.most, most) }));
+  if (bounded) svg.append(draw("path", { class: "most", d: stepPath(row.most, most) }));
   if (row.refused && row.refused.length) {
     const seen = new Set(row.refused.map((event) => across(event).toFixed(0)));
     svg.append(draw("path", { class: "refused", d: [...seen].map((x) => `M${x} ${HEIGHT}v-9`).join("") }));
   }
   const cursor = make("i", { class: "cursor" });
-  const box = make("div", { class: "curve" }, svg, cursor);
+  const box = make("div", { class: "curve" }, svg, make("span", { class: "peak" }, `peak ${spaced(peak(row.steps))}`), cursor);
   box.at = (event) => cursor.style.setProperty("--height", (100 * (HEIGHT - 2 - (valueAt(row.steps, event) / most) * (HEIGHT - 6))) / HEIGHT);
   hover(box, (event) => `${row.name}: ${spaced(valueAt(row.steps, event))} bytes`);
   return box;

@@ -1,12 +1,12 @@
 "use strict";
 // The objects by heap. Every object keeps its place for as long as it is there, so that what changes is seen.
-const NODE = { width: 98, height: 38, gap: 16 };
+const NODE = { width: 82, height: 34, gap: 14 };
 const CHIP = { width: 34, height: 18, gap: 5 };
 const EDGE = 14; // from a heap's border to what is in it
 const HEAD = 44; // for a heap's title
 const MOST_NODES = 36; // that are drawn of one heap
 const MOST_HEAPS = 32;
-const BETWEEN = 40; // heaps
+const BETWEEN = 32; // heaps
 
 // For each object its place in its segment, and for each segment how many places it needs at once; and which registers are used.
 function places() {
@@ -36,7 +36,7 @@ function layOut(room) {
   for (const segment of used.slice(0, MOST_HEAPS)) {
     const nodes = Math.min(PLACES.need[segment], MOST_NODES);
     const chips = (PLACES.registers[segment - 1] || []).length;
-    const columns = Math.max(2, Math.min(6, Math.ceil(Math.sqrt(nodes * 1.5))));
+    const columns = Math.max(2, Math.min(5, Math.ceil(Math.sqrt(nodes))));
     const width = 2 * EDGE + columns * NODE.width + (columns - 1) * NODE.gap;
     const perRow = Math.floor((width - 2 * EDGE + CHIP.gap) / (CHIP.width + CHIP.gap));
     const chipRows = Math.ceil(chips / perRow);
@@ -86,10 +86,10 @@ class Graph {
     this.live = state.live();
     this.kept = state.keptByExits();
     this.paths = new Map();
-    const [boxes, edges, nodes] = [draw("g"), draw("g"), draw("g")];
-    this.plan.boxes.forEach((box, segment) => boxes.append(this.heap(segment, box)));
+    const [boxes, edges, nodes, titles] = [draw("g"), draw("g"), draw("g"), draw("g")];
+    this.plan.boxes.forEach((box, segment) => boxes.append(this.heap(segment, box, titles)));
     this.registers(edges, nodes);
-    this.exits(edges, boxes);
+    this.exits(edges, titles);
     let hidden = 0;
     for (const [key, body] of state.objects) {
       const spot = this.spot(key);
@@ -97,7 +97,7 @@ class Graph {
       else nodes.append(this.node(key, body, spot));
       for (const [at, target] of state.references(key)) this.edge(edges, `${key} ${at}`, spot, this.spot(target), `ref ${this.live.has(key) ? "" : "dead"}`, "ref");
     }
-    this.svg.replaceChildren(this.arrows(), boxes, edges, nodes);
+    this.svg.replaceChildren(this.arrows(), boxes, edges, titles, nodes);
     this.note(hidden);
     this.mark(chosen);
   }
@@ -107,17 +107,17 @@ class Graph {
     return draw("defs", {}, tip("ref"), tip("reg"), tip("exit"));
   }
 
-  heap(segment, box) {
+  heap(segment, box, titles) {
     const owner = this.state.owner(segment);
     const kind = kindOf(owner);
-    const group = draw("g", { class: kind, style: `--fill: var(--${kind}-soft)` });
+    const style = `--fill: var(--${kind}-soft)`;
     const place = { x: box.x, y: box.y, width: box.width, height: box.height };
     const title = owner === segment ? RUN.segments[segment] : `${RUN.segments[segment]}, now the kernel’s`;
-    const [first] = heapSays(this.state, segment).split("; shared by");
-    const sub = owner === segment ? first : counted(this.state.count[segment], "object");
-    group.append(draw("rect", { class: "heap", ...place }), draw("text", { class: "title", x: box.x + EDGE, y: box.y + 19 }, title));
-    group.append(draw("text", { class: "sub", x: box.x + EDGE, y: box.y + 35 }, sub));
-    return group;
+    const phase = kindOf(segment) === "shared" && owner === segment ? `${heapSays(this.state, segment).split(";")[0]}, ` : "";
+    const sub = phase + counted(this.state.count[segment], "object");
+    titles.append(draw("text", { class: "title", style, x: box.x + EDGE, y: box.y + 19 }, title));
+    titles.append(draw("text", { class: "sub", style, x: box.x + EDGE, y: box.y + 35 }, sub));
+    return draw("g", { class: kind, style }, draw("rect", { class: "heap", ...place }));
   }
 
   node(key, body, spot) {
@@ -126,10 +126,11 @@ class Graph {
     const numbers = body.fields.filter((value) => value !== null && !Array.isArray(value)).join(" ");
     const what = `${type} ${numbers}`.trim();
     const label = `${nameOf(key)}, ${what}, ${standing}`;
-    const group = draw("g", { class: `node ${standing} ${kindOf(this.state.owner(segmentOf(key)))}`, tabindex: 0, role: "button", "aria-label": label, "data-key": key });
+    const look = `node ${standing} ${key === 1 ? "directory" : ""} ${kindOf(this.state.owner(segmentOf(key)))}`;
+    const group = draw("g", { class: look, tabindex: 0, role: "button", "aria-label": label, "data-key": key });
     const middle = spot.x + spot.width / 2;
-    group.append(draw("title", {}, label), draw("rect", spot), draw("text", { x: middle, y: spot.y + 16 }, nameOf(key)));
-    group.append(draw("text", { class: "what", x: middle, y: spot.y + 30 }, what.length > 15 ? `${what.slice(0, 14)}…` : what));
+    group.append(draw("title", {}, label), draw("rect", spot), draw("text", { x: middle, y: spot.y + 14 }, nameOf(key)));
+    group.append(draw("text", { class: "what", x: middle, y: spot.y + 27 }, what.length > 13 ? `${what.slice(0, 12)}…` : what));
     group.addEventListener("click", () => this.choose(key));
     group.addEventListener("keydown", (pressed) => {
       if (pressed.key === "Enter" || pressed.key === " ") { pressed.preventDefault(); this.choose(key); }
@@ -148,12 +149,12 @@ class Graph {
     }));
   }
 
-  exits(edges, boxes) {
+  exits(edges, titles) {
     this.state.exits.forEach((targets, heap) => {
       const box = this.plan.boxes.get(heap);
       if (!targets.size || !box) return;
       const port = { x: box.x + box.width - 92, y: box.y + 6, width: 84, height: 18 };
-      boxes.append(draw("text", { class: "port", x: port.x + port.width, y: port.y + 13, "text-anchor": "end" }, counted(targets.size, "exit item")));
+      titles.append(draw("text", { class: "port", style: `--fill: var(--${kindOf(this.state.owner(heap))}-soft)`, x: port.x + port.width, y: port.y + 13, "text-anchor": "end" }, counted(targets.size, "exit item")));
       targets.forEach((key) => this.edge(edges, `e ${heap} ${key}`, port, this.spot(key), "exit", "exit"));
     });
   }
