@@ -63,6 +63,8 @@ def _setup(text: Text, charges: List[_Line]) -> Tuple[Setup, List[int], List[_Li
         else:
             setup.shared.append(line.words[1])
             shared.append(line)
+    if not setup.limits or not setup.processes:
+        raise BadInput(f"{text.source}: its charges name no limit or no process")
     return setup, use, shared
 
 

@@ -35,7 +35,8 @@ class Event:
 
 
 def step(state: State, event: Event) -> None:
-    """Does an event that is possible."""
+    """Does an event that is possible; the state notes the changes of this event alone."""
+    state.changes.clear()
     if event.operation is not None:
         effects.operate(state, event.operation, event.reply)
     elif event.kind == "ended":

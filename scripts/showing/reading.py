@@ -54,7 +54,6 @@ class Run:
         state = State(self.setup)
         yield None, state
         for event in self.events:
-            state.changes.clear()
             history.step(state, event)
             yield event, state
 

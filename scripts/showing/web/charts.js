@@ -3,6 +3,7 @@
 const WIDTH = 1000;
 const HEIGHT = 40;
 const MOST_ROWS = 24;
+const MOST_DOTS = 1001; // samples of a watcher
 const SVG = "http://www.w3.org/2000/svg";
 
 function make(tag, attributes, ...inside) {
@@ -45,7 +46,7 @@ function stepPath(steps, most) {
 
 // A curve with its area, the maximum where there is one, and the refusals that name the limit.
 function curve(row) {
-  const bounded = row.most !== undefined && row.most !== null && peak(row.most) <= 4 * peak(row.steps) + 1;
+  const bounded = row.most !== undefined && row.most !== null && peak(row.most) <= 8 * peak(row.steps) + 1;
   const most = Math.max(1, bounded ? peak(row.most) : 0, 1.2 * peak(row.steps));
   const line = stepPath(row.steps, most);
   const svg = draw("svg", { viewBox: `0 0 ${WIDTH} ${HEIGHT}`, preserveAspectRatio: "none", role: "img", "aria-label": `${row.name}: at most ${spaced(peak(row.steps))} bytes` });
@@ -57,6 +58,10 @@ function curve(row) {
   }
   const cursor = make("i", { class: "cursor" });
   const box = make("div", { class: "curve" }, svg, make("span", { class: "peak" }, `peak ${spaced(peak(row.steps))}`), cursor);
+  const height = (value) => `${(100 * (2 + (value / most) * (HEIGHT - 6))) / HEIGHT}%`;
+  for (const [event, value] of (row.samples || []).slice(0, MOST_DOTS)) {
+    box.append(make("i", { class: "dot", style: `left: ${across(event) / (WIDTH / 100)}%; bottom: ${height(value)}`, title: `sample after ${event} events: ${spaced(value)} bytes` }));
+  }
   box.at = (event) => cursor.style.setProperty("--height", (100 * (HEIGHT - 2 - (valueAt(row.steps, event) / most) * (HEIGHT - 6))) / HEIGHT);
   hover(box, (event) => `${row.name}: ${spaced(valueAt(row.steps, event))} bytes`);
   return box;
@@ -84,7 +89,7 @@ function rowOf(row) {
     bar.classList.toggle("full", most !== null && most > 0 && value >= most && row.tone !== "process");
     bar.setAttribute("aria-valuenow", value);
     bar.setAttribute("aria-valuemax", Math.max(whole, value));
-    number.replaceChildren(spaced(value), make("span", {}, most === null ? (shared ? `, ${spaced(shared)} of it shared` : "") : ` of ${spaced(most)}`));
+    number.replaceChildren(spaced(value), make("span", {}, most === null ? (shared ? ` (${spaced(shared)} shared)` : "") : ` of ${spaced(most)}`));
     small.textContent = row.says(state);
     picture.at(state.at);
   };
@@ -97,7 +102,7 @@ function limitRows() {
   const add = (limit, depth) => {
     const { name, parent, hard } = RUN.limits[limit];
     const kind = parent !== null ? (hard ? "hard" : "soft") : RUN.whole ? "root" : "";
-    rows.push({ name, depth, tone: "limit", steps: RUN.series.limits[limit], most: RUN.series.maxima[limit], refused: RUN.refusals[name], says: () => kind });
+    rows.push({ name, depth, tone: "limit", steps: RUN.series.limits[limit], most: RUN.series.maxima[limit], refused: RUN.refusals[name], samples: limit === 0 ? RUN.samples : [], says: () => kind });
     RUN.processes.forEach((process, number) => {
       if (process.limit === limit) rows.push(processRow(process, number, depth + 1));
     });

@@ -7,6 +7,7 @@ const HEAD = 44; // for a heap's title
 const MOST_NODES = 36; // that are drawn of one heap
 const MOST_HEAPS = 32;
 const BETWEEN = 32; // heaps
+const CLEAR_EXITS = 24; // where a heap has more exit items, they are drawn fainter
 
 // For each object its place in its segment, and for each segment how many places it needs at once; and which registers are used.
 function places() {
@@ -14,8 +15,9 @@ function places() {
   const need = RUN.segments.map(() => 0);
   const free = RUN.segments.map(() => []);
   const registers = RUN.processes.map(() => new Set());
-  for (const [what, one, two, three] of RUN.changes.flat()) {
+  for (const [what, one, two, three, four] of RUN.changes.flat()) {
     const key = one * SPACING + two;
+    if (what === "p" && two === "frozen") bringIn(place, keyOf(four));
     if (what === "o") {
       free[one].sort((a, b) => b - a);
       place.set(key, free[one].length ? free[one].pop() : need[one]++);
@@ -24,6 +26,18 @@ function places() {
     if (what === "r" && three !== null) registers[one].add(two);
   }
   return { place, need, registers: registers.map((used) => [...used].sort((a, b) => a - b)) };
+}
+
+// Gives the root of a frozen heap a place that is drawn.
+function bringIn(place, root) {
+  if (place.get(root) < MOST_NODES) return;
+  for (const [key, at] of place) {
+    if (segmentOf(key) === segmentOf(root) && at === MOST_NODES - 1) {
+      place.set(key, place.get(root));
+      place.set(root, at);
+      return;
+    }
+  }
 }
 
 const PLACES = places();
@@ -103,8 +117,8 @@ class Graph {
   }
 
   arrows() {
-    const tip = (kind) => draw("marker", { id: `arrow-${kind}`, viewBox: "0 0 8 8", refX: 7, refY: 4, markerWidth: 7, markerHeight: 7, orient: "auto" }, draw("path", { d: "M0 0L8 4L0 8Z" }));
-    return draw("defs", {}, tip("ref"), tip("reg"), tip("exit"));
+    const tip = (kind) => draw("marker", { id: `arrow-${kind}`, viewBox: "0 0 8 8", refX: 7, refY: 4, markerUnits: "userSpaceOnUse", markerWidth: 9, markerHeight: 9, orient: "auto" }, draw("path", { d: "M0 0L8 4L0 8Z" }));
+    return draw("defs", {}, tip("ref"), tip("reg"), tip("exit"), tip("on"));
   }
 
   heap(segment, box, titles) {
@@ -155,7 +169,9 @@ class Graph {
       if (!targets.size || !box) return;
       const port = { x: box.x + box.width - 92, y: box.y + 6, width: 84, height: 18 };
       titles.append(draw("text", { class: "port", style: `--fill: var(--${kindOf(this.state.owner(heap))}-soft)`, x: port.x + port.width, y: port.y + 13, "text-anchor": "end" }, counted(targets.size, "exit item")));
-      targets.forEach((key) => this.edge(edges, `e ${heap} ${key}`, port, this.spot(key), "exit", "exit"));
+      const group = draw("g", { opacity: Math.max(0.15, Math.min(1, CLEAR_EXITS / targets.size)) });
+      targets.forEach((key) => this.edge(group, `e ${heap} ${key}`, port, this.spot(key), "exit", "exit"));
+      edges.append(group);
     });
   }
 
@@ -168,7 +184,8 @@ class Graph {
     if (from.x !== to.x || from.y !== to.y) {
       const bend = 0.14;
       const c = { x: (a.x + b.x) / 2 - (b.y - a.y) * bend, y: (a.y + b.y) / 2 + (b.x - a.x) * bend };
-      const [start, end] = [border(from, a, c), border(to, b, c)];
+      const start = tip === "reg" && b.y > from.y ? { x: a.x, y: from.y + from.height } : border(from, a, c);
+      const end = border(to, b, c);
       d = `M${start.x.toFixed(1)} ${start.y.toFixed(1)}Q${c.x.toFixed(1)} ${c.y.toFixed(1)} ${end.x.toFixed(1)} ${end.y.toFixed(1)}`;
     }
     const path = draw("path", { class: look, d, "marker-end": `url(#arrow-${tip})` });
@@ -190,12 +207,19 @@ class Graph {
     on(chosen, "chosen");
     let key = chosen;
     for (let came = this.live.get(key); came; came = this.live.get(key)) {
-      this.paths.get(`${came[0]} ${came[1]}`)?.classList.add("on");
+      this.markPath(`${came[0]} ${came[1]}`);
       key = came[0];
       on(key, "on");
     }
     const reason = this.live.has(key) && /^register r(\d+) of (.*)$/.exec(this.state.reasons().get(key));
-    if (reason) this.paths.get(`r ${RUN.processes.findIndex((each) => each.name === reason[2])} ${reason[1]}`)?.classList.add("on");
+    if (reason) this.markPath(`r ${RUN.processes.findIndex((each) => each.name === reason[2])} ${reason[1]}`);
+  }
+
+  markPath(id) {
+    const path = this.paths.get(id);
+    if (!path) return;
+    path.classList.add("on");
+    path.setAttribute("marker-end", "url(#arrow-on)");
   }
 }
 

@@ -137,6 +137,12 @@ function time() {
   hover(svg, () => "");
 }
 
+// Puts the event and the object into the page's address, so that it can be kept and sent.
+function note() {
+  const why = chosen === null ? "" : `&why=${nameOf(chosen)}`;
+  history.replaceState(null, "", `#after=${state.at}${why}`);
+}
+
 function begin() {
   slider.max = EVENTS;
   tiles();
@@ -149,11 +155,15 @@ function begin() {
     document.querySelector("#samples tbody").append(...RUN.samples.map((sample) => make("tr", {}, ...sample.map((value) => make("td", {}, spaced(value))))));
   }
   slider.addEventListener("input", refresh);
+  addEventListener("pointerup", () => setTimeout(note));
+  addEventListener("keyup", note);
   document.getElementById("back").addEventListener("click", () => goTo(state.at - 1));
   document.getElementById("forth").addEventListener("click", () => goTo(state.at + 1));
   addEventListener("resize", () => { graph.resize(); graph.show(state, chosen); });
-  const wanted = /^#after=(\d+)$/.exec(location.hash);
-  goTo(wanted ? Number(wanted[1]) : EVENTS);
+  const wanted = new URLSearchParams(location.hash.slice(1));
+  const [segment, serial] = (wanted.get("why") || "").split(".");
+  if (RUN.segments.includes(segment)) chosen = RUN.segments.indexOf(segment) * SPACING + Number(serial);
+  goTo(wanted.has("after") ? Number(wanted.get("after")) : EVENTS);
 }
 
 begin();
