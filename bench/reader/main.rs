@@ -2,7 +2,7 @@
 //! its operations back in the order of the file. No machine runs. It is what the program's time for cheap operations is
 //! compared with, and takes every trace for granted.
 //!
-//!     bench/reader/run FOLDER
+//!     bench/measure --only reading
 
 use std::collections::HashMap;
 use std::io::{self, BufWriter, Read, Write};

@@ -1,0 +1,1 @@
+"""What `bench/measure` is made of."""
