@@ -11,18 +11,17 @@ from launcher.sentences import NO_INPUT, USAGE
 
 USAGE_STATUS, WRITE_FAULT = 2, 5
 
-# A command of the program: the pattern of each word that the program itself takes after the command's name, the files
-# that the launcher joins into standard input in its stead, and what it does. A new command is a line here.
-Command = namedtuple("Command", "words files does")
+# A command of the program: how its words are shown, the pattern of each word that the program itself takes after the
+# command's name, how many files the launcher joins into standard input in its stead, and what it does. A new command is a
+# line here, and a row in docs/MANUAL.md.
+Command = namedtuple("Command", "shown words files does")
 
 COMMANDS = {
-    "run": Command([], ["TRACE"], "runs a trace on threads and writes its report"),
-    "replay": Command([], ["TRACE"], "runs a trace in the order of the file and writes its report"),
-    "check": Command([], ["TRACE", "REPORT"], "says whether a report is that of a run of the trace"),
-    "big": Command([r"[1-9][0-9]{0,2}|[1-4][0-9]{3}|5000"], [], "runs the workload of 8 processes that make N objects each, N from 1 to 5000"),
+    "run": Command("[TRACE]", [], 1, "a trace, run on threads: writes its report"),
+    "replay": Command("[TRACE]", [], 1, "the same in the order of the file, so that the report is a function of the trace"),
+    "check": Command("[TRACE [REPORT]]", [], 2, "whether a report is that of a run of its trace: 'good', or 'refused N'"),
+    "big": Command("N", [r"[1-9][0-9]{0,2}|[1-4][0-9]{3}|5000"], 0, "a workload of 8 processes that make N objects each, N from 1 to 5000"),
 }
-# How a command's own words are shown.
-SHOWN = {"big": "N"}
 
 # What is run: the words for the program, and the files to join; none means that standard input is left as it is.
 Call = namedtuple("Call", "words files")
@@ -38,9 +37,15 @@ def call_of(words):
     if len(rest) < own or not all(re.fullmatch(it, word) for it, word in zip(command.words, rest)):
         return None
     files = rest[own:]
-    if len(files) > len(command.files):
+    if len(files) > command.files:
         return None
     return Call(words[: 1 + own], files)
+
+
+def listed():
+    """The program's commands as --help shows them."""
+    heads = [f"./kaffe {name} {it.shown}" for name, it in COMMANDS.items()]
+    return "\n".join(f"    {head:<33}{it.does}" for head, it in zip(heads, COMMANDS.values()))
 
 
 def fail(status, message):
@@ -52,11 +57,8 @@ def fail(status, message):
 def answer_usage(hint=None):
     """Answers as the program does where the words are no command: its usage line, and its status. Returns the status."""
     try:
-        sys.stdout.write(f"{USAGE}\n")
-        sys.stdout.flush()
+        os.write(1, f"{USAGE}\n".encode())
     except OSError:
-        # (so that Python does not try again at its end)
-        os.dup2(os.open(os.devnull, os.O_WRONLY), 1)
         return WRITE_FAULT
     if hint and sys.stderr.isatty():
         print(f"kaffe: {hint}", file=sys.stderr)

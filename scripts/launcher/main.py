@@ -3,11 +3,9 @@ import os
 import sys
 
 from launcher import commands, sources
-from launcher.sentences import USAGE
 
 # The version of the project, which is that of the traces that it reads.
 VERSION = "1"
-EXPLAINED_STATUSES = (1, 2, 3, 4, 5, 6)
 MEMORY_FAULT = "exitcode=70"
 
 
@@ -18,7 +16,7 @@ def main(top, words, text):
         is_unproved, words = True, words[1:]
     first = words[0] if words else ""
     if first in ("--help", "-h", "help"):
-        print(text, end="")
+        print(text.format(commands=commands.listed()), end="")
         return 0
     if first == "--version" and len(words) == 1:
         return tell_version(top)
