@@ -16,7 +16,7 @@ from .reading import Run
 from .replies import spell
 
 NAMES = ("chromium", "chromium-browser", "google-chrome")
-SECONDS = 120
+SECONDS = 300  # a machine that proves beside the test is slow
 WATCH = '<script>addEventListener("error", (error) => { document.body.dataset.error = error.message; });</script>'
 LOOK = """<script>
 const seen = EVENTS_WANTED.map((event) => {

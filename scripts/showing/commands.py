@@ -21,6 +21,7 @@ FILES are a trace (kaffe 1), its report (report 1), both, one file with both, or
 standard input is read. Of a report without its trace the end is known. Of a trace without a report the events are those in the
 order of its file. A report that is not that of its trace is refused at its first wrong line, with status 1."""
 NAMED = {"why": "the NAME of an object", "charges": "the name of a PROCESS"}
+LONGEST = 600  # characters of a message
 OPTIONS = {"after": ("graph", "why", "charges"), "svg": ("graph",), "csv": ("use",)}
 
 
@@ -67,13 +68,19 @@ def _answer(given: argparse.Namespace) -> str:
     return dot.svg(text) if given.svg else text
 
 
+def _one_line(text: str) -> str:
+    """A message without bytes that are not printable, and not longer than can be read."""
+    printable = "".join(each if each.isprintable() else "?" for each in text)
+    return printable if len(printable) <= LONGEST else f"{printable[: LONGEST // 2]} ... {printable[-LONGEST // 2 :]}"
+
+
 def main(words: Optional[List[str]] = None) -> int:
     """Does a command: 0, or 1 where the input cannot be used, or 2 where the words are no command."""
     given = _words(words)
     try:
         answer = _answer(given)
     except BadInput as bad:
-        sys.stderr.write(f"show: {bad}\n")
+        sys.stderr.write(f"show: {_one_line(str(bad))}\n")
         return 1
     sys.stdout.write(answer)
     return 0
