@@ -16,6 +16,8 @@ WORKERS = 4
 USED = ["elapsed, ms", "processor, ms", "peak, MB"]
 CHECK_SECONDS = 120
 GAP_COLLECTIONS = 20
+GAP_OBJECTS = [10_000, 40_000, 60_000]
+MOST_OPERATIONS = 200_000
 
 
 class Given(NamedTuple):
@@ -26,6 +28,7 @@ class Given(NamedTuple):
     folder: pathlib.Path
     runs: int
     quick: bool
+    objects: list
 
     def file(self, name, text):
         """A file with a trace."""
@@ -187,17 +190,19 @@ def overlapped(report):
 def gaps(given):
     """The longest time that a sibling waits which needs the book, while its neighbour's heap is collected."""
     rows = []
-    for objects in [2_000] if given.quick else [10_000, 40_000, 60_000]:
-        rounds = (199_900 - 2 * objects) // 3 if not given.quick else 2_000
+    for objects in [2_000] if given.quick else given.objects:
+        rounds = 2_000 if given.quick else max(MOST_OPERATIONS - GAP_COLLECTIONS - 2 * objects, MOST_OPERATIONS // 2) // 3
         source = given.file("gaps.kaffe", traces.beside(objects, GAP_COLLECTIONS, rounds))
         report = given.folder / "report"
         longest, both = [], 0
         for _ in range(given.runs):
             run = given.runner.run(Job([given.programs.kaffe, "run"], source, report, environment=given.programs.watched(frees=True)))
-            _, gap, freed = last_watched(run)
-            is_siblings = freed <= rounds + rounds // 20
-            longest.append(gap if is_siblings else float("nan"))
+            longest.append(last_watched(run)[1])
             both = max(both, overlapped(report))
+        neighbour = given.file("collected.kaffe", traces.collected(objects, GAP_COLLECTIONS))
+        run = given.runner.run(Job([given.programs.kaffe, "run"], neighbour, environment=given.programs.watched(frees=True)))
+        if last_watched(run)[2] > rounds // 100:
+            return [f"Not measured: the neighbour alone calls `free` {last_watched(run)[2]} times, so that gaps are not the sibling's."]
         took = collection_ms(given, objects)
         rows.append([f"`kaffe`, {objects:,}", f"{took:.2f}", f"{min(longest):.3f}", f"{sorted(longest)[len(longest) // 2]:.3f}",
                      f"{both} of {GAP_COLLECTIONS}"])

@@ -7,7 +7,12 @@ COLLECTED_EACH = 10
 
 
 def trace(operations):
-    """A trace of processes w0, w1 and so on, each on a hard limit of its own, whose operations come one process after another."""
+    """A trace of processes w0, w1 and so on, each on a hard limit of its own, whose operations come one process after another.
+
+    A single process gets another one beside it that does nothing, since the program starts no thread for one alone.
+    """
+    if len(operations) == 1:
+        operations = [*operations, []]
     room = [NODE_BYTES * max(1, sum(" new " in f" {line} " for line in lines)) for lines in operations]
     lines = [*HEADER, f"limit root {sum(room)}"]
     lines += [f"limit l{process} root hard {bytes_}" for process, bytes_ in enumerate(room)]

@@ -1,17 +1,17 @@
 //! A library loaded before the C library that watches the threads of a program which has no clock of its own.
 //!
-//! When a thread ends it writes a line `watch RUN GAP FREED` to standard error: the nanoseconds since the first thread was started; the
-//! longest time between two calls of `free` meanwhile, by whatever thread; and how many calls there were. The last such line counts. Calls
-//! of `free` are watched only where the environment has WATCH_FREE. In a run of which one process alone frees objects, the longest gap is
-//! that of this process.
+//! When a thread has ended and been waited for, it writes a line `watch RUN GAP FREED` to standard error: the nanoseconds since the first
+//! thread was started; the longest time between two calls of `free` meanwhile, by whatever thread; and how many calls there were. The last
+//! such line counts: the program's first thread works too, and waits for the others when it has nothing more to do. Calls of `free` are
+//! watched only where the environment has WATCH_FREE. In a run of which one process alone frees objects, the longest gap is that of this
+//! process.
 #![no_std]
 
-use core::ffi::{c_char, c_int, c_void};
-use core::ptr::null_mut;
-use core::sync::atomic::{AtomicBool, AtomicPtr, AtomicU64, AtomicUsize, Ordering::SeqCst};
+use core::ffi::{c_char, c_int, c_void, CStr};
+use core::sync::atomic::{AtomicBool, AtomicU64, Ordering::SeqCst};
 
-type Start = extern "C" fn(*mut c_void) -> *mut c_void;
-type Create = unsafe extern "C" fn(*mut c_void, *const c_void, Start, *mut c_void) -> c_int;
+type Create = unsafe extern "C" fn(*mut c_void, *const c_void, *const c_void, *mut c_void) -> c_int;
+type Join = unsafe extern "C" fn(usize, *mut *mut c_void) -> c_int;
 
 #[repr(C)]
 struct Timespec {
@@ -30,19 +30,7 @@ extern "C" {
 const CLOCK_MONOTONIC: c_int = 1;
 const RTLD_NEXT: *mut c_void = usize::MAX as *mut c_void;
 const STANDARD_ERROR: c_int = 2;
-const NO_MEMORY: c_int = 12;
 
-/// How many threads a program may start: more than it has workers.
-const MOST_THREADS: usize = 256;
-
-/// What a thread was to do, and with what.
-struct Work {
-    start: AtomicPtr<c_void>,
-    argument: AtomicPtr<c_void>,
-}
-
-static WORK: [Work; MOST_THREADS] = [const { Work { start: AtomicPtr::new(null_mut()), argument: AtomicPtr::new(null_mut()) } }; MOST_THREADS];
-static STARTED: AtomicUsize = AtomicUsize::new(0);
 static BEGAN: AtomicU64 = AtomicU64::new(0);
 static WATCHES_FREE: AtomicBool = AtomicBool::new(false);
 static LAST: AtomicU64 = AtomicU64::new(0);
@@ -60,30 +48,32 @@ fn now() -> u64 {
     time.seconds as u64 * 1_000_000_000 + time.nanoseconds as u64
 }
 
-/// Does a thread's work, and then says how long the threads have run.
-extern "C" fn watched(work: *mut c_void) -> *mut c_void {
-    let work = unsafe { &*work.cast::<Work>() };
-    let start: Start = unsafe { core::mem::transmute(work.start.load(SeqCst)) };
-    let result = start(work.argument.load(SeqCst));
-    let run = now() - BEGAN.load(SeqCst);
-    unsafe { dprintf(STANDARD_ERROR, c"watch %lu %lu %lu\n".as_ptr(), run, LONGEST.load(SeqCst), FREED.load(SeqCst)) };
-    result
+/// The C library's function of this name.
+unsafe fn next(name: &CStr) -> *mut c_void {
+    dlsym(RTLD_NEXT, name.as_ptr())
 }
 
 /// # Safety
 /// As the C library's.
 #[no_mangle]
-pub unsafe extern "C" fn pthread_create(thread: *mut c_void, attributes: *const c_void, start: Start, argument: *mut c_void) -> c_int {
-    let number = STARTED.fetch_add(1, SeqCst);
-    let Some(work) = WORK.get(number) else { return NO_MEMORY };
-    if number == 0 {
+pub unsafe extern "C" fn pthread_create(thread: *mut c_void, attributes: *const c_void, start: *const c_void, argument: *mut c_void) -> c_int {
+    if BEGAN.load(SeqCst) == 0 {
         WATCHES_FREE.store(!getenv(c"WATCH_FREE".as_ptr()).is_null(), SeqCst);
         BEGAN.store(now(), SeqCst);
     }
-    work.start.store(start as *mut c_void, SeqCst);
-    work.argument.store(argument, SeqCst);
-    let create: Create = core::mem::transmute(dlsym(RTLD_NEXT, c"pthread_create".as_ptr()));
-    create(thread, attributes, watched, (work as *const Work).cast_mut().cast())
+    let create: Create = core::mem::transmute(next(c"pthread_create"));
+    create(thread, attributes, start, argument)
+}
+
+/// # Safety
+/// As the C library's.
+#[no_mangle]
+pub unsafe extern "C" fn pthread_join(thread: usize, result: *mut *mut c_void) -> c_int {
+    let join: Join = core::mem::transmute(next(c"pthread_join"));
+    let status = join(thread, result);
+    let run = now() - BEGAN.load(SeqCst);
+    dprintf(STANDARD_ERROR, c"watch %lu %lu %lu\n".as_ptr(), run, LONGEST.load(SeqCst), FREED.load(SeqCst));
+    status
 }
 
 /// # Safety
