@@ -5,7 +5,7 @@ docs/MANUAL.md has the same sentences in its tables: scripts/manual writes them 
 from collections import namedtuple
 
 # The line that the program, and so the launcher, writes where the words are no command: the text is that of
-# crates/kaffe/src/texts.rt.
+# crates/k_top/src/texts.rt.
 USAGE = "usage: kaffe run | replay | check | big N"
 
 # What an exit status, a reason or a fault means, and what to do about it.
