@@ -6,3 +6,4 @@ pub mod Told
 pub mod Replayed
 pub mod Opened
 pub mod Reported
+pub mod Shows

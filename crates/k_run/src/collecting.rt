@@ -23,10 +23,16 @@ use k_operate::{
 };
 use k_process::Process;
 use k_types::{Op, SharedId};
+use k_watch::show;
 use std::sync::{Mutex, Wait};
 
 /// Publishes what the process did inside its heap, and begins the heap's collection.
-fn begin<W: WorldName>(process: &mut Process, book: &mut LockedBook<W>, gate: &impl Gate)
+fn begin<W: WorldName>(
+    rt: &impl Wait,
+    process: &mut Process,
+    book: &mut LockedBook<W>,
+    gate: &impl Gate,
+)
     requires stands { ProcessStands W.world process.old }
     requires next { ComesNext W.world.trace process.old.cell Collect }
     ensures collects { Collects W.world Begun process.new }
@@ -35,10 +41,12 @@ fn begin<W: WorldName>(process: &mut Process, book: &mut LockedBook<W>, gate: &i
     publish_all(process, &mut book.book);
     tell(process, gate, GatePlace::InBook);
     begin_collection(process, &mut book.book);
+    show(rt, &mut book.pen, &book.book);
 }
 
 /// Ends the collection of the process's heap, which is swept already.
 fn end<W: WorldName>(
+    rt: &impl Wait,
     process: &mut Process,
     book: &mut LockedBook<W>,
     freed: Swept,
@@ -50,6 +58,7 @@ fn end<W: WorldName>(
 {
     tell(process, gate, GatePlace::InBook);
     end_collection(process, &mut book.book, freed);
+    show(rt, &mut book.pen, &book.book);
 }
 
 impl<W: WorldName> LockedProcess<W> {
@@ -58,11 +67,11 @@ impl<W: WorldName> LockedProcess<W> {
         requires { ComesNext W.world.trace self.old Collect }
         ensures { HasDone W.world.trace Collect self.old self.new }
     {
-        begin(&mut self.process, &mut take(rt, book), gate);
+        begin(rt, &mut self.process, &mut take(rt, book), gate);
         tell(&self.process, gate, GatePlace::Marking);
         mark_collection(&mut self.process);
         let freed = sweep_collection(&mut self.process);
-        end(&mut self.process, &mut take(rt, book), freed, gate);
+        end(rt, &mut self.process, &mut take(rt, book), freed, gate);
     }
 
     /// Goes on under one hold of the book: it does so many operations at most, and begins a collection of the heap if that comes next
@@ -76,22 +85,29 @@ impl<W: WorldName> LockedProcess<W> {
     ) -> bool {
         {
             let mut book = take(rt, &locks.book);
-            follow(locks, self, &mut book, most, gate);
+            follow(rt, locks, self, &mut book, most, gate);
             match self.next() {
-                Some(Op::Collect) => begin(&mut self.process, &mut book, gate),
+                Some(Op::Collect) => begin(rt, &mut self.process, &mut book, gate),
                 _ => return false,
             }
         }
         tell(&self.process, gate, GatePlace::Marking);
         mark_collection(&mut self.process);
         let freed = sweep_collection(&mut self.process);
-        end(&mut self.process, &mut take(rt, &locks.book), freed, gate);
+        end(
+            rt,
+            &mut self.process,
+            &mut take(rt, &locks.book),
+            freed,
+            gate,
+        );
         true
     }
 
     /// Does `exit`.
     pub(crate) fn exit(
         &mut self,
+        rt: &impl Wait,
         kernel: &mut LockedKernel<W>,
         book: &mut LockedBook<W>,
         gate: &impl Gate,
@@ -102,12 +118,14 @@ impl<W: WorldName> LockedProcess<W> {
         publish_all(&mut self.process, &mut book.book);
         tell(&self.process, gate, GatePlace::InBook);
         do_exit(&mut self.process, &mut kernel.kernel, &mut book.book);
+        show(rt, &mut book.pen, &book.book);
     }
 }
 
 /// Publishes what the process did inside its heap, and begins the kernel's collection, unless a shared heap is an orphan: it answers
 /// the first one then.
 fn begin_kernel<W: WorldName>(
+    rt: &impl Wait,
     process: &mut LockedProcess<W>,
     kernel: &mut KernelCell,
     book: &mut LockedBook<W>,
@@ -119,10 +137,14 @@ fn begin_kernel<W: WorldName>(
 {
     publish_all(&mut process.process, &mut book.book);
     match book.book.first_orphan() {
-        Some(orphan) => Some(orphan),
+        Some(orphan) => {
+            show(rt, &mut book.pen, &book.book);
+            Some(orphan)
+        }
         None => {
             tell(&process.process, gate, GatePlace::InBook);
             begin_kernel_collection(&mut process.process, kernel, &mut book.book);
+            show(rt, &mut book.pen, &book.book);
             None
         }
     }
@@ -130,6 +152,7 @@ fn begin_kernel<W: WorldName>(
 
 /// Ends the collection of the kernel's heap, which the process began, and which is swept already.
 fn end_kernel<W: WorldName>(
+    rt: &impl Wait,
     process: &LockedProcess<W>,
     kernel: &mut KernelCell,
     book: &mut LockedBook<W>,
@@ -141,6 +164,7 @@ fn end_kernel<W: WorldName>(
 {
     tell(&process.process, gate, GatePlace::InBook);
     end_kernel_collection(kernel, &mut book.book, freed);
+    show(rt, &mut book.pen, &book.book);
 }
 
 impl<W: WorldName> LockedKernel<W> {
@@ -156,13 +180,20 @@ impl<W: WorldName> LockedKernel<W> {
         requires { ComesNext W.world.trace process.old KCollect }
         ensures { HasCollectedUnless result W.world process.old process.new }
     {
-        let in_the_way = begin_kernel(process, &mut self.kernel, &mut take(rt, book), gate);
+        let in_the_way = begin_kernel(rt, process, &mut self.kernel, &mut take(rt, book), gate);
         match in_the_way {
             Some(orphan) => Some(orphan),
             None => {
                 mark_kernel_collection(&mut self.kernel);
                 let freed = sweep_kernel_collection(&mut self.kernel);
-                end_kernel(process, &mut self.kernel, &mut take(rt, book), freed, gate);
+                end_kernel(
+                    rt,
+                    process,
+                    &mut self.kernel,
+                    &mut take(rt, book),
+                    freed,
+                    gate,
+                );
                 None
             }
         }
@@ -173,6 +204,7 @@ impl<W: WorldName> LockedShared<W> {
     /// Has the kernel absorb the shared heap, if it is the first orphan still. It says no where the cell is another one's.
     fn leave(
         &mut self,
+        rt: &impl Wait,
         kernel: &mut LockedKernel<W>,
         book: &mut LockedBook<W>,
         orphan: SharedId,
@@ -192,6 +224,7 @@ impl<W: WorldName> LockedShared<W> {
         }
         tell(&process.process, gate, GatePlace::InBook);
         absorb_orphan(&mut self.shared, &mut kernel.kernel, &mut book.book);
+        show(rt, &mut book.pen, &book.book);
         true
     }
 }
@@ -218,6 +251,7 @@ pub(crate) fn collect_kernel<W: WorldName>(
         };
         let mut shared = take(rt, lock);
         if !shared.leave(
+            rt,
             &mut kernel,
             &mut take(rt, &locks.book),
             orphan,

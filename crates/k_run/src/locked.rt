@@ -2,12 +2,14 @@
 ghost use Rattle.std.specs.Prelude.{◌≡◌};
 ghost use Rattle.k_locked.specs.Keeping.{BookKeeps, KernelKeeps, SharedKeeps};
 ghost use Rattle.k_process.specs.Standing.{ProcessStands};
+ghost use Rattle.k_watch.specs.Shown.{IsShown};
 
 use crate::worlds::WorldName;
 use k_book::Book;
 use k_kernel::KernelCell;
 use k_process::Process;
 use k_shared::SharedCell;
+use k_watch::WatchPen;
 use std::marker::{Model, PhantomData};
 
 /// A process of the world `W`.
@@ -135,10 +137,12 @@ impl<W: WorldName> LockedShared<W> {
     }
 }
 
-/// The book of the world `W`, whose journal has no closing yet.
+/// The book of the world `W`, whose journal has no closing yet, and the pen by which its numbers are published where the run is watched.
+/// What was published last has all events of the journal.
 #[derive(Drop)]
 pub struct LockedBook<W: WorldName> {
     pub(crate) book: Book,
+    pub(crate) pen: Option<WatchPen>,
     of: PhantomData<W>,
 }
 
@@ -148,28 +152,32 @@ impl<W: WorldName> Model for LockedBook<W> {
     ghost Value = { BookRecord };
 
     ghost use Rattle.k_locked.specs.Keeping.{BookKeeps};
+    ghost use Rattle.k_watch.specs.Shown.{IsShown};
 
     ghost view = { λ l. l.book };
 
-    ghost invariant = { λ l. BookKeeps W.world.trace W.world.table l.book };
+    ghost invariant = { λ l. BookKeeps W.world.trace W.world.table l.book × IsShown W.watched W.world.trace l.book.journal.list l.pen };
 }
 
 impl<W: WorldName> LockedBook<W> {
-    pub(crate) fn of(book: Book) -> LockedBook<W>
-        requires { BookKeeps W.world.trace W.world.table book }
+    pub(crate) fn of(book: Book, pen: Option<WatchPen>) -> LockedBook<W>
+        requires stands { BookKeeps W.world.trace W.world.table book }
+        requires shown { IsShown W.watched W.world.trace book.journal.list pen }
         ensures { result ≡ book }
     {
         LockedBook {
             book,
+            pen,
             of: PhantomData,
         }
     }
 
-    pub(crate) fn into_book(self) -> Book
-        ensures stands { BookKeeps W.world.trace W.world.table result }
-        ensures book { result ≡ self }
+    pub(crate) fn into_parts(self) -> (Book, Option<WatchPen>)
+        ensures stands { BookKeeps W.world.trace W.world.table result.0 }
+        ensures shown { IsShown W.watched W.world.trace result.0.journal.list result.1 }
+        ensures book { result.0 ≡ self }
     {
-        let LockedBook { book, of: _ } = self;
-        book
+        let LockedBook { book, pen, of: _ } = self;
+        (book, pen)
     }
 }

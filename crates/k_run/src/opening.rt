@@ -1,10 +1,12 @@
 //! A run that is put behind its locks.
-ghost use Rattle.std.specs.Prelude.{◌≡◌, ◌<◌, ◌^◌, IfOk, length, vec_capacity};
+ghost use Rattle.std.specs.Prelude.{◌≡◌, ◌<◌, ◌^◌, [], ◌∷◌, IfOk, None, Some, length, vec_capacity};
 ghost use Rattle.k_process.specs.Standing.{HeapsStand, ProcessesStand, RestStands};
 ghost use Rattle.k_still.specs.Opening.{FirstCellsStand, IsSetupOf};
 ghost use Rattle.k_outcome.specs.Listed.{AreRoomsFor};
 ghost use Rattle.k_run.specs.Rooms.{AreEndRooms, HasRoom};
 ghost use Rattle.k_run.specs.Worlds.{AreFree, HoldsRun};
+ghost use Rattle.k_watch.specs.Numbers.{numbers_of};
+ghost use Rattle.k_watch.specs.Shown.{IsShown};
 
 use crate::locked::{LockedBook, LockedKernel, LockedProcess, LockedShared};
 use crate::rooms::{EndRooms, empty_list, end_rooms};
@@ -22,6 +24,7 @@ use k_still::FirstCells;
 use k_trace::Names;
 use k_turns::{TurnPass, Turns};
 use k_types::Setup;
+use k_watch::WatchPen;
 use std::alloc::Global;
 use std::sync::{Mutex, Wait};
 
@@ -99,10 +102,12 @@ fn lock_all<W: WorldName>(
     kernel: KernelCell,
     shared: Vec<SharedCell>,
     book: Book,
+    pen: Option<WatchPen>,
     rooms: LockRooms<W>,
 ) -> Locks<W>
     requires processes { ProcessesStand W.world processes.items }
     requires rest { RestStands W.world kernel shared.items book }
+    requires shown { IsShown W.watched W.world.trace book.journal.list pen }
     requires process_room { HasRoom (length processes.items) rooms.processes.items (vec_capacity rooms.processes) }
     requires shared_room { HasRoom (length shared.items) rooms.shared.items (vec_capacity rooms.shared) }
     ensures { (length result.processes.items ≡ length processes.items) × (length result.shared.items ≡ length shared.items) }
@@ -117,7 +122,7 @@ fn lock_all<W: WorldName>(
         processes,
         kernel: Mutex::new(LockedKernel::of(kernel)),
         shared,
-        book: Mutex::new(LockedBook::of(book)),
+        book: Mutex::new(LockedBook::of(book, pen)),
     }
 }
 
@@ -199,11 +204,13 @@ fn put_together<W: WorldName>(
 /// The cells and the book behind locks, with what was made ready beside them. It takes no memory.
 fn lock_cells<W: WorldName>(
     cells: FirstCells,
+    pen: Option<WatchPen>,
     rooms: LockRooms<W>,
     ready: Readiness,
     report: ReportRooms,
 ) -> World<W>
     requires stands { FirstCellsStand W.world cells }
+    requires shown { IsShown W.watched W.world.trace cells.book.journal.list pen }
     requires setup { IsSetupOf cells.setup W.world }
     requires free { AreFree ready.turns ready.passes.items }
     requires rooms { AreEndRooms (length cells.processes.items) (length cells.shared.items) ready.rooms }
@@ -221,7 +228,7 @@ fn lock_cells<W: WorldName>(
         shared,
         book,
     } = cells;
-    let locks = lock_all(processes, kernel, shared, book, rooms);
+    let locks = lock_all(processes, kernel, shared, book, pen, rooms);
     put_together(locks, ready, report, names, setup)
 }
 
@@ -240,11 +247,48 @@ pub fn open<W: WorldName, R: Wait>(
     requires stands { FirstCellsStand W.world still.cells }
     requires setup { IsSetupOf still.cells.setup W.world }
     requires rooms { AreRoomsFor W.world.trace still.rooms }
+    requires alone { W.watched ≡ None }
+    ensures { IfOk result (λ world. (world.names ≡ still.cells.names) × (world.setup ≡ still.cells.setup)) }
+{
+    open_with(rt, alloc, still, None)
+}
+
+/// The same of a run that is watched by the pen's cell. The pen was made of the still's book, and has not published since.
+///
+/// # Errors
+///
+/// `NoMemory` where the locks, the queue or the places for the end find no room.
+pub fn open_watched<W: WorldName, R: Wait>(
+    rt: &R,
+    alloc: Global,
+    still: Still,
+    pen: WatchPen,
+) -> Result<World<W>, NoMemory>
+    requires stands { FirstCellsStand W.world still.cells }
+    requires setup { IsSetupOf still.cells.setup W.world }
+    requires rooms { AreRoomsFor W.world.trace still.rooms }
+    requires watched { W.watched ≡ Some pen.cell }
+    requires made { pen.samples ≡ numbers_of still.cells.book ∷ [] }
+    ensures { IfOk result (λ world. (world.names ≡ still.cells.names) × (world.setup ≡ still.cells.setup)) }
+{
+    open_with(rt, alloc, still, Some(pen))
+}
+
+fn open_with<W: WorldName, R: Wait>(
+    rt: &R,
+    alloc: Global,
+    still: Still,
+    pen: Option<WatchPen>,
+) -> Result<World<W>, NoMemory>
+    requires stands { FirstCellsStand W.world still.cells }
+    requires setup { IsSetupOf still.cells.setup W.world }
+    requires rooms { AreRoomsFor W.world.trace still.rooms }
+    requires shown { IsShown W.watched W.world.trace still.cells.book.journal.list pen }
     ensures { IfOk result (λ world. (world.names ≡ still.cells.names) × (world.setup ≡ still.cells.setup)) }
 {
     let process_count = still.cells.processes.len();
     let shared_count = still.cells.shared.len();
     let (locks, ready) = make_all_ready(rt, alloc, process_count, shared_count)?;
     let Still { cells, rooms } = still;
-    Ok(lock_cells(cells, locks, ready, rooms))
+    Ok(lock_cells(cells, pen, locks, ready, rooms))
 }

@@ -14,6 +14,8 @@ use k_operate::{do_alone, do_inside, do_with_kernel, do_with_shared, publish_all
 use k_process::{Process, next};
 use k_steps::{Reach, reach};
 use k_types::{Op, Pid};
+use k_watch::show;
+use std::sync::Wait;
 
 /// Tells the gate that the process is at the place.
 pub(crate) fn tell(process: &Process, gate: &impl Gate, place: GatePlace) {
@@ -69,6 +71,7 @@ impl<W: WorldName> LockedProcess<W> {
     /// operation reaches.
     pub(crate) fn do_under_book(
         &mut self,
+        rt: &impl Wait,
         book: &mut LockedBook<W>,
         op: &Op,
         gate: &impl Gate,
@@ -83,9 +86,10 @@ impl<W: WorldName> LockedProcess<W> {
             Reach::Own => {
                 tell(&self.process, gate, GatePlace::InBook);
                 do_alone(&mut self.process, &mut book.book, op);
+                show(rt, &mut book.pen, &book.book);
             }
-            Reach::Kernel => {}
-            Reach::Shared(_) => {}
+            Reach::Kernel => show(rt, &mut book.pen, &book.book),
+            Reach::Shared(_) => show(rt, &mut book.pen, &book.book),
         }
         reached
     }
@@ -93,6 +97,7 @@ impl<W: WorldName> LockedProcess<W> {
     /// Does the operation if it reaches the kernel's cell, and says whether it did.
     pub(crate) fn do_under_kernel(
         &mut self,
+        rt: &impl Wait,
         kernel: &mut LockedKernel<W>,
         book: &mut LockedBook<W>,
         op: &Op,
@@ -107,6 +112,7 @@ impl<W: WorldName> LockedProcess<W> {
             Reach::Kernel => {
                 tell(&self.process, gate, GatePlace::InBook);
                 do_with_kernel(&mut self.process, &mut kernel.kernel, &mut book.book, op);
+                show(rt, &mut book.pen, &book.book);
                 true
             }
             Reach::Shared(_) => false,
@@ -116,6 +122,7 @@ impl<W: WorldName> LockedProcess<W> {
     /// Does the operation if it reaches the shared heap's cell, and says whether it did.
     pub(crate) fn do_under_shared(
         &mut self,
+        rt: &impl Wait,
         shared: &mut LockedShared<W>,
         book: &mut LockedBook<W>,
         op: &Op,
@@ -134,6 +141,7 @@ impl<W: WorldName> LockedProcess<W> {
                 }
                 tell(&self.process, gate, GatePlace::InBook);
                 do_with_shared(&mut self.process, &mut shared.shared, &mut book.book, op);
+                show(rt, &mut book.pen, &book.book);
                 true
             }
         }

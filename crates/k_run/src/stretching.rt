@@ -9,10 +9,12 @@ use crate::worlds::WorldName;
 use k_io::Gate;
 use k_steps::Reach;
 use k_types::Op;
+use std::sync::Wait;
 
 /// Does the operation, and says whether it did. The lock of the kernel's heap comes before the book's, which is held: so nobody waits for
 /// it here, and where another worker has it the operation is left for a turn of its own.
 fn follow_step<W: WorldName>(
+    rt: &impl Wait,
     locks: &Locks<W>,
     process: &mut LockedProcess<W>,
     book: &mut LockedBook<W>,
@@ -25,10 +27,10 @@ fn follow_step<W: WorldName>(
     if process.do_inside(op) {
         return true;
     }
-    match process.do_under_book(book, op, gate) {
+    match process.do_under_book(rt, book, op, gate) {
         Reach::Own => true,
         Reach::Kernel => match locks.kernel.try_lock() {
-            Some(mut kernel) => process.do_under_kernel(&mut kernel, book, op, gate),
+            Some(mut kernel) => process.do_under_kernel(rt, &mut kernel, book, op, gate),
             None => false,
         },
         Reach::Shared(_) => false,
@@ -37,6 +39,7 @@ fn follow_step<W: WorldName>(
 
 /// The same of any operation: one that begins a collection or ends its process is left.
 fn follow_any<W: WorldName>(
+    rt: &impl Wait,
     locks: &Locks<W>,
     process: &mut LockedProcess<W>,
     book: &mut LockedBook<W>,
@@ -49,12 +52,13 @@ fn follow_any<W: WorldName>(
         Op::Collect => false,
         Op::KCollect => false,
         Op::Exit => false,
-        _ => follow_step(locks, process, book, op, gate),
+        _ => follow_step(rt, locks, process, book, op, gate),
     }
 }
 
 /// Does what comes next of the process under the hold of the book, so many operations at most.
 pub(crate) fn follow<W: WorldName>(
+    rt: &impl Wait,
     locks: &Locks<W>,
     process: &mut LockedProcess<W>,
     book: &mut LockedBook<W>,
@@ -64,7 +68,7 @@ pub(crate) fn follow<W: WorldName>(
     for _ in 0..most {
         match process.next() {
             Some(op) => {
-                if !follow_any(locks, process, book, &op, gate) {
+                if !follow_any(rt, locks, process, book, &op, gate) {
                     return;
                 }
             }

@@ -45,17 +45,17 @@ fn operate<W: WorldName>(
     if process.do_inside(op) {
         return true;
     }
-    let reached = process.do_under_book(&mut take(rt, &locks.book), op, gate);
+    let reached = process.do_under_book(rt, &mut take(rt, &locks.book), op, gate);
     match reached {
         Reach::Own => true,
         Reach::Kernel => {
             let mut kernel = take(rt, &locks.kernel);
-            process.do_under_kernel(&mut kernel, &mut take(rt, &locks.book), op, gate)
+            process.do_under_kernel(rt, &mut kernel, &mut take(rt, &locks.book), op, gate)
         }
         Reach::Shared(id) => match locks.shared.get(id.0 as usize) {
             Some(lock) => {
                 let mut shared = take(rt, lock);
-                process.do_under_shared(&mut shared, &mut take(rt, &locks.book), op, gate)
+                process.do_under_shared(rt, &mut shared, &mut take(rt, &locks.book), op, gate)
             }
             None => false,
         },
@@ -82,7 +82,7 @@ fn do_any<W: WorldName>(
         Op::KCollect => collect_kernel(rt, locks, process, gate),
         Op::Exit => {
             let mut kernel = take(rt, &locks.kernel);
-            process.exit(&mut kernel, &mut take(rt, &locks.book), gate);
+            process.exit(rt, &mut kernel, &mut take(rt, &locks.book), gate);
             true
         }
         _ => operate(rt, locks, process, op, gate),

@@ -1,5 +1,5 @@
 //! A trace that is run or replayed, from its opening to its end.
-ghost use Rattle.std.specs.Prelude.{IfOk, ◌≡◌};
+ghost use Rattle.std.specs.Prelude.{IfOk, None, ◌≡◌};
 ghost use Rattle.k_outcome.specs.Ends.{journal_of};
 ghost use Rattle.k_outcome.specs.Listed.{AreRoomsFor};
 ghost use Rattle.k_run.specs.Runs.{IsRunOf};
@@ -32,6 +32,7 @@ fn run_still<W: WorldName + Send + Sync, G: Gate, R: Threads + Wait + Sync>(
     requires stands { FirstCellsStand W.world still.cells }
     requires setup { IsSetupOf still.cells.setup W.world }
     requires rooms { AreRoomsFor W.world.trace still.rooms }
+    requires alone { W.watched ≡ None }
     ensures { IfOk result (λ outcome. IsRunOf (record { names = still.cells.names; trace = W.world.trace }) outcome) }
 {
     let mut world: World<W> = open(rt, alloc, still)?;

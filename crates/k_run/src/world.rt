@@ -1,13 +1,14 @@
 //! A run whose heaps and book stand behind locks, and its end.
-ghost use Rattle.std.specs.Prelude.{length, vec_capacity, ◌≡◌};
+ghost use Rattle.std.specs.Prelude.{Some, length, vec_capacity, ◌≡◌};
 ghost use Rattle.k_process.specs.Over.{IsOutcome};
-ghost use Rattle.k_outcome.specs.Ends.{EndsRun};
+ghost use Rattle.k_outcome.specs.Ends.{EndsRun, journal_of};
 ghost use Rattle.k_run.specs.Gathering.{CanGather, CanGatherShared};
 ghost use Rattle.k_run.specs.Rooms.{AreEndRooms};
 ghost use Rattle.k_run.specs.Runs.{IsRunOf};
 ghost use Rattle.k_process.specs.Standing.{HeapsStand, ProcessesStand};
 ghost use Rattle.k_state.specs.Machines.{setup_of};
 ghost use Rattle.k_types.specs.Trace.{process_count};
+ghost use Rattle.k_watch.specs.Shown.{HasWatched, WasShown};
 
 use crate::locked::{LockedBook, LockedKernel, LockedProcess, LockedShared};
 use crate::placing::{in_order, place_process, place_shared};
@@ -21,8 +22,9 @@ use k_shared::SharedCell;
 use k_trace::Names;
 use k_turns::{TurnPass, Turns};
 use k_types::Setup;
+use k_watch::{Sample, WatchPen, Watcher, show_end};
 use std::marker::Model;
-use std::sync::Mutex;
+use std::sync::{Mutex, Wait};
 
 /// One lock for each process's heap, for the kernel's, for each shared heap and for the book. They are taken in this order.
 #[derive(Drop)]
@@ -94,12 +96,13 @@ fn gather_shared<W: WorldName>(
 }
 
 /// Ends the run of the heaps behind the locks: each cell is put in the place of its own number, what is left of each process is done,
-/// one process after the other, and each cell meets the journal.
-fn end_cells<W: WorldName>(locks: Locks<W>, rooms: EndRooms) -> Cells
+/// one process after the other, and each cell meets the journal. The pen that stood beside the book is given back.
+fn end_cells<W: WorldName>(locks: Locks<W>, rooms: EndRooms) -> (Cells, Option<WatchPen>)
     requires processes { length locks.processes.items ≡ process_count W.world.trace }
     requires shared { length locks.shared.items ≡ W.world.trace.shared_heaps }
     requires rooms { AreEndRooms (process_count W.world.trace) W.world.trace.shared_heaps rooms }
-    ensures { EndsRun W.world.trace (setup_of W.world.trace) result }
+    ensures ends { EndsRun W.world.trace (setup_of W.world.trace) result.0 }
+    ensures shown { WasShown W.watched W.world.trace result.0.book.journal.list result.1 }
 {
     let Locks {
         processes,
@@ -113,17 +116,18 @@ fn end_cells<W: WorldName>(locks: Locks<W>, rooms: EndRooms) -> Cells
         processes: processes_into,
         shared: shared_into,
     } = rooms;
-    let mut book = book.into_inner().into_book();
+    let (mut book, pen) = book.into_inner().into_parts();
     let mut kernel = kernel.into_inner().into_kernel();
     let mut processes = gather(processes, process_places, processes_into, &mut book);
     let mut shared = gather_shared(shared, shared_places, shared_into, &mut book);
     end_all(&mut processes, &mut kernel, &mut shared, &mut book);
-    Cells {
+    let cells = Cells {
         processes,
         kernel,
         shared,
         book,
-    }
+    };
+    (cells, pen)
 }
 
 /// Ends the run, whatever threads have done of it: what is left of each process is done, one process after the other, and each cell then
@@ -141,6 +145,34 @@ pub fn finish<W: WorldName>(world: World<W>) -> Outcome
         names,
         setup,
     } = world;
-    let cells = end_cells(locks, rooms);
+    let (cells, _) = end_cells(locks, rooms);
     outcome_of(names, setup, cells, report)
+}
+
+/// Ends a run that is watched, as `finish` does, and publishes its whole journal. The watcher takes one sample more, which is the
+/// machine's three numbers after the whole journal; and each sample that it has taken is these numbers after so many events of the
+/// journal as it says. It takes no memory. It may wait for the cell, which nobody writes any more.
+pub fn finish_watched<W: WorldName, R: Wait>(
+    rt: &R,
+    world: World<W>,
+    watcher: Watcher,
+) -> (Outcome, Watcher, Sample)
+    requires { W.watched ≡ Some watcher.cell }
+    ensures outcome { IsOutcome W.world.trace result.0.cells }
+    ensures run { IsRunOf (record { names = world.names; trace = W.world.trace }) result.0 }
+    ensures watched { HasWatched W.world.trace (journal_of result.0) watcher result.1 result.2 }
+{
+    let World {
+        locks,
+        turns: _,
+        passes: _,
+        rooms,
+        report,
+        names,
+        setup,
+    } = world;
+    let (cells, pen) = end_cells(locks, rooms);
+    let Some(pen) = pen else { unreachable!() };
+    let (watcher, sample) = show_end(rt, pen, &cells.book, watcher);
+    (outcome_of(names, setup, cells, report), watcher, sample)
 }

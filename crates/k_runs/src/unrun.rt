@@ -1,5 +1,5 @@
 //! Runs that are opened and ended, with nothing done between: all is left to the end, which does it one process after the other.
-ghost use Rattle.std.specs.Prelude.{IfOk};
+ghost use Rattle.std.specs.Prelude.{IfOk, None, ◌≡◌};
 ghost use Rattle.k_outcome.specs.Listed.{AreRoomsFor};
 ghost use Rattle.k_run.specs.Runs.{IsRunOf};
 ghost use Rattle.k_still.specs.Opening.{FirstCellsStand, IsSetupOf};
@@ -153,6 +153,7 @@ fn end_opened<W: WorldName, R: Wait>(
     requires stands { FirstCellsStand W.world still.cells }
     requires setup { IsSetupOf still.cells.setup W.world }
     requires rooms { AreRoomsFor W.world.trace still.rooms }
+    requires alone { W.watched ≡ None }
     ensures { IfOk result (λ outcome. IsRunOf (record { names = still.cells.names; trace = W.world.trace }) outcome) }
 {
     let world: World<W> = open(rt, alloc, still)?;

@@ -14,8 +14,6 @@ mod pen;
 mod sample;
 mod showing;
 mod steps;
-#[cfg(test)]
-mod tests;
 mod view;
 mod watcher;
 

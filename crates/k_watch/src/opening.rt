@@ -23,11 +23,8 @@ pub fn make<R: Wait>(rt: &R, alloc: Global, book: &Book) -> Result<(WatchPen, Wa
     opened(rt, alloc, numbers(book))
 }
 
-pub(crate) fn opened<R: Wait>(
-    rt: &R,
-    alloc: Global,
-    sample: Sample,
-) -> Result<(WatchPen, Watcher), NoMemory>
+/// A cell with this sample, its pen, and a watcher of it.
+fn opened<R: Wait>(rt: &R, alloc: Global, sample: Sample) -> Result<(WatchPen, Watcher), NoMemory>
     ensures pen { IfOk result (λ made. made.0.samples ≡ sample ∷ []) }
     ensures watcher { IfOk result (λ made. made.1 ≡ new_watcher made.0.cell sample.events) }
 {

@@ -51,7 +51,7 @@ impl WatchPen {
         self.publish_sample(rt, numbers(book));
     }
 
-    pub(crate) fn publish_sample<R: Wait>(&mut self, rt: &R, sample: Sample)
+    fn publish_sample<R: Wait>(&mut self, rt: &R, sample: Sample)
         requires { newest_of self.old.samples ≤ sample.events }
         ensures { self.new ≡ record self.old { samples = self.old.samples ++ sample ∷ [] } }
     {

@@ -15,7 +15,7 @@ use k_book::Book;
 use std::sync::Wait;
 
 /// Publishes the numbers of the book where there is a pen.
-pub fn show<R: Wait>(rt: &R, pen: &mut Option<WatchPen>, book: &Book)
+pub fn show(rt: &impl Wait, pen: &mut Option<WatchPen>, book: &Book)
     ghost run: { Showing }
     requires stands { BookStands run.trace book.now }
     requires shown { WasShown run.watched run.trace book.now.journal.list pen.old }
@@ -27,8 +27,8 @@ pub fn show<R: Wait>(rt: &R, pen: &mut Option<WatchPen>, book: &Book)
 }
 
 /// Publishes the numbers of the book of a run that is over, and has the watcher take one sample more.
-pub fn show_end<R: Wait>(
-    rt: &R,
+pub fn show_end(
+    rt: &impl Wait,
     mut pen: WatchPen,
     book: &Book,
     watcher: Watcher,

@@ -5,6 +5,9 @@ use Rattle.k_operate.proofs.Since.{next_since}
 use Rattle.k_process.specs.Standing.{ComesNext, HasDone}
 use Rattle.k_run.specs.Running.{WaitsToCollect}
 use Rattle.k_run.proofs.Stepped.{done_after, may_wait, next_settled, published_left}
+use Rattle.k_run.proofs.Shows.{one_grows, published_grows}
+use Rattle.k_watch.proofs.ShownOn.{was_shown}
+use Rattle.k_complete.proofs.Grown.{prefix_trans}
 use Rattle.k_run.proofs.collecting.begin_kernel.Goals as goal
 
 pub begin_kernel_collection-requires : goal.begin_kernel_collection-requires
@@ -35,3 +38,21 @@ returns-in-None g c =
           (done_after g.W.WorldName.world.trace KCollect c.process.inside.process.cell c.publish_all.new.process.cell c.begin_kernel_collection.new.process.cell left c.begin_kernel_collection.ensures.own.done),
       c.begin_kernel_collection.ensures.kernel,
     )
+
+pub show-requires : goal.show-requires
+show-requires g c = λ κs lives. (
+  lives,
+  (
+    c.publish_all.ensures.pair.book.stands,
+    was_shown g.W.WorldName.watched g.W.WorldName.world.trace c.book.inside.book.journal.list c.publish_all.new.book.journal.list c.book.inside.pen c.book.invariant.1 (published_grows g.W.WorldName.world c.process.inside.process c.publish_all.new.process c.book.inside.book c.publish_all.new.book c.publish_all.ensures),
+  ),
+)
+
+pub show-requires-in-None : goal.show-requires-in-None
+show-requires-in-None g c = λ κs lives. (
+  lives,
+  (
+    c.begin_kernel_collection.ensures.own.pair.book.stands,
+    was_shown g.W.WorldName.watched g.W.WorldName.world.trace c.book.inside.book.journal.list c.begin_kernel_collection.new.book.journal.list c.book.inside.pen c.book.invariant.1 (prefix_trans c.book.inside.book.journal.list c.publish_all.new.book.journal.list c.begin_kernel_collection.new.book.journal.list (published_grows g.W.WorldName.world c.process.inside.process c.publish_all.new.process c.book.inside.book c.publish_all.new.book c.publish_all.ensures) (one_grows _ _ _ _ c.begin_kernel_collection.ensures.events)),
+  ),
+)

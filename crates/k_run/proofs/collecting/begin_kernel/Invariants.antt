@@ -5,3 +5,6 @@ ghost-publish_all g a = g.W.WorldName.world
 
 abbrev pub ghost-begin_kernel_collection : goal.ghost-begin_kernel_collection
 ghost-begin_kernel_collection g a = g.W.WorldName.world
+
+abbrev pub ghost-show : goal.ghost-show
+ghost-show g a = record { trace = g.W.WorldName.world.trace; watched = g.W.WorldName.watched }

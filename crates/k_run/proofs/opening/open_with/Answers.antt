@@ -1,7 +1,7 @@
 use Rattle.std.proofs.Common.{◌≡◌, length, subst, arith, vec_capacity}
 use Rattle.k_run.specs.Rooms.{AreEndRooms, HasRoom}
 use Rattle.k_run.proofs.Opened.{few_processes, some_processes}
-use Rattle.k_run.proofs.opening.open.Goals as goal
+use Rattle.k_run.proofs.opening.open_with.Goals as goal
 
 pub make_all_ready-requires-clause-some : goal.make_all_ready-requires-clause-some
 make_all_ready-requires-clause-some g c = omega (arith, c.len-process_count.ensures, some_processes g.W.WorldName.world c.args.still.cells.setup c.args.still.cells.processes.items c.requires.stands.processes c.requires.setup)

@@ -8,6 +8,9 @@ use Rattle.k_operate.proofs.Since.{can_reach, due, next_since, ready_since}
 use Rattle.k_process.specs.Standing.{HasDone}
 use Rattle.k_run.specs.Running.{IsReadyFor}
 use Rattle.k_run.proofs.Stepped.{done_after, may_be_left, published_left, steps_stay}
+use Rattle.k_run.proofs.Shows.{operation_grows, published_grows}
+use Rattle.k_watch.proofs.ShownOn.{was_shown}
+use Rattle.k_complete.proofs.Grown.{prefix_trans}
 use Rattle.k_run.proofs.locked.LockedProcess.do_under_book.Goals as goal
 
 pub reach-reached-requires : goal.reach-reached-requires
@@ -53,3 +56,30 @@ do_alone-requires g c =
     due g.W.WorldName.world c.publish_all.new.process c.publish_all.new.book c.args.op.now [] c.publish_all.ensures.pair
     (ready_since g.W.WorldName.world c.self.inside.process c.publish_all.new.process c.publish_all.new.book c.args.op.now c.publish_all.ensures before.next before.outside) c.requires.steps
     (sym c.in-Own.ensures)
+
+pub show-requires : goal.show-requires
+show-requires g c = λ κs lives. (
+  lives,
+  (
+    c.do_alone.ensures.done.pair.book.stands,
+    was_shown g.W.WorldName.watched g.W.WorldName.world.trace c.book.inside.book.journal.list c.do_alone.new.book.journal.list c.book.inside.pen c.book.invariant.1 (prefix_trans c.book.inside.book.journal.list c.publish_all.new.book.journal.list c.do_alone.new.book.journal.list (published_grows g.W.WorldName.world c.self.inside.process c.publish_all.new.process c.book.inside.book c.publish_all.new.book c.publish_all.ensures) (operation_grows _ _ _ c.publish_all.new.process c.do_alone.new.process c.publish_all.new.book c.do_alone.new.book c.publish_all.ensures.settled c.do_alone.ensures.done.settled c.do_alone.ensures.events)),
+  ),
+)
+
+pub show-requires-in-Kernel : goal.show-requires-in-Kernel
+show-requires-in-Kernel g c = λ κs lives. (
+  lives,
+  (
+    c.publish_all.ensures.pair.book.stands,
+    was_shown g.W.WorldName.watched g.W.WorldName.world.trace c.book.inside.book.journal.list c.publish_all.new.book.journal.list c.book.inside.pen c.book.invariant.1 (published_grows g.W.WorldName.world c.self.inside.process c.publish_all.new.process c.book.inside.book c.publish_all.new.book c.publish_all.ensures),
+  ),
+)
+
+pub show-requires-in-Shared : goal.show-requires-in-Shared
+show-requires-in-Shared g c = λ κs lives. (
+  lives,
+  (
+    c.publish_all.ensures.pair.book.stands,
+    was_shown g.W.WorldName.watched g.W.WorldName.world.trace c.book.inside.book.journal.list c.publish_all.new.book.journal.list c.book.inside.pen c.book.invariant.1 (published_grows g.W.WorldName.world c.self.inside.process c.publish_all.new.process c.book.inside.book c.publish_all.new.book c.publish_all.ensures),
+  ),
+)

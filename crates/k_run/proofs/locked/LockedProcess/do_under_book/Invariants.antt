@@ -8,3 +8,6 @@ ghost-reach g a = g.W.WorldName.world.trace
 
 abbrev pub ghost-do_alone : goal.ghost-do_alone
 ghost-do_alone g a = g.W.WorldName.world
+
+abbrev pub ghost-show : goal.ghost-show
+ghost-show g a = record { trace = g.W.WorldName.world.trace; watched = g.W.WorldName.watched }

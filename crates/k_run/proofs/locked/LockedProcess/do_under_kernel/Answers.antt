@@ -1,4 +1,4 @@
-use Rattle.std.proofs.Common.{sym, subst, [], ◌∷◌, false, true}
+use Rattle.std.proofs.Common.{ap, ◌∙◌, sym, subst, [], ◌∷◌, false, true}
 use Rattle.k_types.specs.declared.names.Heap.TheVariants.{Kernel, Shared}
 use Rattle.k_book.specs.Books.{BookRecord}
 use Rattle.k_run.specs.Running.{HasDoneBeside}
@@ -7,16 +7,18 @@ use Rattle.k_heap.specs.Heaps.{HeapRecord}
 use Rattle.k_operate.specs.Readiness.{IsReady}
 use Rattle.k_process.specs.Standing.{ComesNext}
 use Rattle.k_operate.proofs.Since.{can_reach, due}
+use Rattle.k_run.proofs.Shows.{operation_grows}
+use Rattle.k_watch.proofs.ShownOn.{was_shown}
 use Rattle.k_run.proofs.locked.LockedProcess.do_under_kernel.Goals as goal
 
 pub reach-requires : goal.reach-requires
 reach-requires g c =
-    can_reach g.W.WorldName.world c.self.inside.process c.book.inside.book c.args.op.now (record { process = c.self.invariant; book = c.book.invariant })
+    can_reach g.W.WorldName.world c.self.inside.process c.book.inside.book c.args.op.now (record { process = c.self.invariant; book = c.book.invariant.0 })
     (subst (λ (x : HeapRecord). ComesNext g.W.WorldName.world.trace x c.args.op.now) (sym c.self.view_is) c.requires.ready.next)
 
 pub do_with_kernel-requires : goal.do_with_kernel-requires
 do_with_kernel-requires g c = record {
-  due = due g.W.WorldName.world c.self.inside.process c.book.inside.book c.args.op.now (Kernel ∷ []) (record { process = c.self.invariant; book = c.book.invariant })
+  due = due g.W.WorldName.world c.self.inside.process c.book.inside.book c.args.op.now (Kernel ∷ []) (record { process = c.self.invariant; book = c.book.invariant.0 })
       (subst (λ (x : HeapRecord). IsReady g.W.WorldName.world.trace x c.args.op.now) (sym c.self.view_is) c.requires.ready) c.requires.steps (sym c.in-Kernel.ensures);
   kernel = c.kernel.invariant;
 }
@@ -38,3 +40,12 @@ returns-in-Kernel g c =
     subst (λ (b : BookRecord). HasDoneBeside g.W.WorldName.world.trace c.args.op.now Kernel c.args.self.now c.do_with_kernel.new.process.cell b true) c.book.view_is
     (subst (λ (x : HeapRecord). HasDoneBeside g.W.WorldName.world.trace c.args.op.now Kernel x c.do_with_kernel.new.process.cell c.book.inside.book true) c.self.view_is
     (was_done g.W.WorldName.world.trace c.args.op.now Kernel c.self.inside.process.cell c.book.inside.book c.do_with_kernel.new.process.cell c.do_with_kernel.ensures.done.own.done))
+
+pub show-requires : goal.show-requires
+show-requires g c = λ κs lives. (
+  lives,
+  (
+    c.do_with_kernel.ensures.done.own.pair.book.stands,
+    was_shown g.W.WorldName.watched g.W.WorldName.world.trace c.book.inside.book.journal.list c.do_with_kernel.new.book.journal.list c.book.inside.pen c.book.invariant.1 (operation_grows _ _ _ c.self.inside.process c.do_with_kernel.new.process c.book.inside.book c.do_with_kernel.new.book (ap (λ (x : HeapRecord). x.value.tail) c.self.view_is ∙ c.requires.ready.settled) c.do_with_kernel.ensures.done.own.settled c.do_with_kernel.ensures.events),
+  ),
+)

@@ -1,4 +1,4 @@
-use Rattle.std.proofs.Common.{sym, subst, [], ◌∷◌, false}
+use Rattle.std.proofs.Common.{ap, ◌∙◌, sym, subst, [], ◌∷◌, false}
 use Rattle.k_types.specs.declared.names.Heap.TheVariants.{Kernel, Shared}
 use Rattle.k_book.specs.Books.{BookRecord}
 use Rattle.k_run.specs.Running.{HasDoneBeside}
@@ -6,11 +6,13 @@ use Rattle.k_run.proofs.Stepped.{kernel_not_shared, none_reached, not_done}
 use Rattle.k_heap.specs.Heaps.{HeapRecord}
 use Rattle.k_process.specs.Standing.{ComesNext}
 use Rattle.k_operate.proofs.Since.{can_reach}
+use Rattle.k_run.proofs.Shows.{operation_grows}
+use Rattle.k_watch.proofs.ShownOn.{was_shown}
 use Rattle.k_run.proofs.locked.LockedProcess.do_under_shared.Goals as goal
 
 pub reach-requires : goal.reach-requires
 reach-requires g c =
-    can_reach g.W.WorldName.world c.self.inside.process c.book.inside.book c.args.op.now (record { process = c.self.invariant; book = c.book.invariant })
+    can_reach g.W.WorldName.world c.self.inside.process c.book.inside.book c.args.op.now (record { process = c.self.invariant; book = c.book.invariant.0 })
     (subst (λ (x : HeapRecord). ComesNext g.W.WorldName.world.trace x c.args.op.now) (sym c.self.view_is) c.requires.ready.next)
 
 pub returns-in-Own : goal.returns-in-Own
@@ -24,3 +26,12 @@ returns-in-Kernel g c =
     subst (λ (b : BookRecord). HasDoneBeside g.W.WorldName.world.trace c.args.op.now (Shared c.args.shared.now.id) c.args.self.now c.args.self.now b false) c.book.view_is
     (subst (λ (x : HeapRecord). HasDoneBeside g.W.WorldName.world.trace c.args.op.now (Shared c.args.shared.now.id) x x c.book.inside.book false) c.self.view_is
     (not_done g.W.WorldName.world.trace c.args.op.now (Shared c.args.shared.now.id) c.self.inside.process.cell c.book.inside.book (Kernel ∷ []) c.in-Kernel.ensures (kernel_not_shared c.args.shared.now.id)))
+
+pub show-requires : goal.show-requires
+show-requires g c = λ κs lives. (
+  lives,
+  (
+    c.do_with_shared.ensures.done.own.pair.book.stands,
+    was_shown g.W.WorldName.watched g.W.WorldName.world.trace c.book.inside.book.journal.list c.do_with_shared.new.book.journal.list c.book.inside.pen c.book.invariant.1 (operation_grows _ _ _ c.self.inside.process c.do_with_shared.new.process c.book.inside.book c.do_with_shared.new.book (ap (λ (x : HeapRecord). x.value.tail) c.self.view_is ∙ c.requires.ready.settled) c.do_with_shared.ensures.done.own.settled c.do_with_shared.ensures.events),
+  ),
+)

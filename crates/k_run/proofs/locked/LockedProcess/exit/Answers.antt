@@ -3,6 +3,9 @@ use Rattle.k_types.specs.declared.op.Op.TheVariants.{Exit}
 use Rattle.k_heap.specs.Heaps.{HeapRecord}
 use Rattle.k_process.specs.Standing.{ComesNext, HasDone}
 use Rattle.k_run.proofs.Stepped.{done_after, next_settled, published_left}
+use Rattle.k_run.proofs.Shows.{operation_grows, published_grows}
+use Rattle.k_watch.proofs.ShownOn.{was_shown}
+use Rattle.k_complete.proofs.Grown.{prefix_trans}
 use Rattle.k_run.proofs.locked.LockedProcess.exit.Goals as goal
 
 pub do_exit-requires : goal.do_exit-requires
@@ -18,3 +21,12 @@ returns g c =
     let left = published_left g.W.WorldName.world c.self.inside.process c.publish_all.new.process c.book.inside.book c.publish_all.new.book c.publish_all.ensures in
     subst (λ (x : HeapRecord). HasDone g.W.WorldName.world.trace Exit x c.do_exit.new.process.cell) c.self.view_is
     (done_after g.W.WorldName.world.trace Exit c.self.inside.process.cell c.publish_all.new.process.cell c.do_exit.new.process.cell left c.do_exit.ensures.done.own.done)
+
+pub show-requires : goal.show-requires
+show-requires g c = λ κs lives. (
+  lives,
+  (
+    c.do_exit.ensures.done.own.pair.book.stands,
+    was_shown g.W.WorldName.watched g.W.WorldName.world.trace c.book.inside.book.journal.list c.do_exit.new.book.journal.list c.book.inside.pen c.book.invariant.1 (prefix_trans c.book.inside.book.journal.list c.publish_all.new.book.journal.list c.do_exit.new.book.journal.list (published_grows g.W.WorldName.world c.self.inside.process c.publish_all.new.process c.book.inside.book c.publish_all.new.book c.publish_all.ensures) (operation_grows _ _ _ c.publish_all.new.process c.do_exit.new.process c.publish_all.new.book c.do_exit.new.book c.publish_all.ensures.settled c.do_exit.ensures.done.own.settled c.do_exit.ensures.events)),
+  ),
+)
