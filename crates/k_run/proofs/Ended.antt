@@ -30,5 +30,6 @@ ended_run named names setup o ended same_names same_setup = record {
   setup = same_setup;
   legal = ended.outcome.legal;
   complete = ended.outcome.complete;
+  sound = ended.outcome.sound;
   reclaimed = ended_histories_leave_what_the_directory_reaches named.trace o.book.journal.list ended.rules.limits ended.outcome.legal ended.outcome.complete;
 }

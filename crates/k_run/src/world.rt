@@ -102,6 +102,7 @@ fn end_cells<W: WorldName>(locks: Locks<W>, rooms: EndRooms) -> (Cells, Option<W
     requires shared { length locks.shared.items ≡ W.world.trace.shared_heaps }
     requires rooms { AreEndRooms (process_count W.world.trace) W.world.trace.shared_heaps rooms }
     ensures ends { EndsRun W.world.trace (setup_of W.world.trace) result.0 }
+    ensures table { result.0.book.journal.table ≡ W.world.table }
     ensures shown { WasShown W.watched W.world.trace result.0.book.journal.list result.1 }
 {
     let Locks {
@@ -131,10 +132,13 @@ fn end_cells<W: WorldName>(locks: Locks<W>, rooms: EndRooms) -> (Cells, Option<W
 }
 
 /// Ends the run, whatever threads have done of it: what is left of each process is done, one process after the other, and each cell then
-/// shows the machine after the journal, which is a legal and complete history of the trace. It waits for nobody, and takes no memory.
+/// shows the machine after the journal, which is a legal and complete history of the trace. The journal is of the table that
+/// the run is named by: so `Book::meet` tells of each note of that table that the events it knows are the first ones of the journal. It waits
+/// for nobody, and takes no memory.
 pub fn finish<W: WorldName>(world: World<W>) -> Outcome
     ensures outcome { IsOutcome W.world.trace result.cells }
     ensures run { IsRunOf (record { names = world.names; trace = W.world.trace }) result }
+    ensures table { result.cells.book.journal.table ≡ W.world.table }
 {
     let World {
         locks,
@@ -160,6 +164,7 @@ pub fn finish_watched<W: WorldName, R: Wait>(
     requires { W.watched ≡ Some watcher.cell }
     ensures outcome { IsOutcome W.world.trace result.0.cells }
     ensures run { IsRunOf (record { names = world.names; trace = W.world.trace }) result.0 }
+    ensures table { result.0.cells.book.journal.table ≡ W.world.table }
     ensures watched { HasWatched W.world.trace (journal_of result.0) watcher result.1 result.2 }
 {
     let World {

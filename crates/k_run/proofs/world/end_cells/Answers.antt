@@ -21,6 +21,9 @@ pub returns-clause-ends : goal.returns-clause-ends
 returns-clause-ends g c =
     met_ends g.W.WorldName.world (setup_of g.W.WorldName.world.trace) c.end_all.new.processes.items c.end_all.new.kernel c.end_all.new.shared.items c.end_all.new.book c.end_all.ensures.met refl
 
+pub returns-clause-table : goal.returns-clause-table
+returns-clause-table g c = c.end_all.ensures.met.ended.processes.book.table
+
 pub returns-clause-shown : goal.returns-clause-shown
 returns-clause-shown g c =
     was_shown g.W.WorldName.watched g.W.WorldName.world.trace c.into_parts-book.result.0.journal.list c.end_all.new.book.journal.list c.into_parts-book.result.1 c.into_parts-book.ensures.shown

@@ -1,4 +1,4 @@
-use Rattle.std.proofs.Common.{[], ap, sym, subst}
+use Rattle.std.proofs.Common.{◌≡◌, [], ap, sym, subst}
 use Rattle.k_types.specs.Trace.{trace_of}
 use Rattle.k_trace.specs.Named.{NamedTrace}
 use Rattle.k_process.specs.Over.{IsOutcome}
@@ -14,6 +14,9 @@ outcome_of-requires g c =
 
 pub returns-clause-outcome : goal.returns-clause-outcome
 returns-clause-outcome g c = subst (λ (e : EndValue). IsOutcome g.W.WorldName.world.trace e.cells) (sym c.outcome_of.ensures) c.end_cells-cells.ensures.ends.outcome
+
+pub returns-clause-table : goal.returns-clause-table
+returns-clause-table g c = subst (λ (e : EndValue). e.cells.book.journal.table ≡ g.W.WorldName.world.table) (sym c.outcome_of.ensures) c.end_cells-cells.ensures.table
 
 pub returns-clause-run : goal.returns-clause-run
 returns-clause-run g c =
