@@ -197,7 +197,10 @@ def gaps(given):
         longest, both = [], 0
         for _ in range(given.runs):
             run = given.runner.run(Job([given.programs.kaffe, "run"], source, report, environment=given.programs.watched(frees=True)))
-            longest.append(last_watched(run)[1])
+            _, gap, freed = last_watched(run)
+            if freed < rounds // 2:
+                return [f"Not measured: of {rounds} objects of the sibling only {freed} were seen to be freed."]
+            longest.append(gap)
             both = max(both, overlapped(report))
         neighbour = given.file("collected.kaffe", traces.collected(objects, GAP_COLLECTIONS))
         run = given.runner.run(Job([given.programs.kaffe, "run"], neighbour, environment=given.programs.watched(frees=True)))
