@@ -7,3 +7,4 @@ pub mod Replayed
 pub mod Opened
 pub mod Reported
 pub mod Shows
+pub mod Watched

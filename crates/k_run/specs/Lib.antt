@@ -4,5 +4,6 @@ pub mod Gathering
 pub mod Rooms
 pub mod Worlds
 pub mod Runs
+pub mod Watched
 pub mod Opened
 pub mod Stills
