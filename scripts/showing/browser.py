@@ -22,7 +22,8 @@ LOOK = """<script>
 const seen = EVENTS_WANTED.map((event) => {
   slider.value = event;
   slider.dispatchEvent(new Event("input"));
-  const numbers = [...document.querySelectorAll(".row")].map((row) => [row.querySelector("b").textContent, row.querySelector(".number").textContent]);
+  const textOf = (row, part) => row.querySelector(part).textContent;
+  const numbers = [...document.querySelectorAll(".row")].map((row) => [textOf(row, "b"), textOf(row, ".number")]);
   const standing = (how) => [...document.querySelectorAll(`#graph .node.${how}`)].map((node) => nameOf(Number(node.dataset.key)));
   return { count: document.getElementById("count").textContent, line: document.getElementById("line").textContent, numbers,
            live: standing("live"), other: [...standing("kept"), ...standing("garbage")] };

@@ -42,7 +42,8 @@ def _kind(state: State, heap: int) -> str:
 def _objects(state: State, heap: int, kept: Set[Name]) -> Iterator[str]:
     """The cluster of a heap."""
     yield f"  subgraph cluster_{heap} {{"
-    yield f"    label={_quote(_heap_title(state, heap))}; style=\"rounded,filled\"; fillcolor={_quote(FILLS[_kind(state, heap)])}; color=\"#c8c8c8\";"
+    fill = _quote(FILLS[_kind(state, heap)])
+    yield f'    label={_quote(_heap_title(state, heap))}; style="rounded,filled"; fillcolor={fill}; color="#c8c8c8";'
     for segment in rules.segments_of(state, heap):
         for serial, body in state.objects[segment].items():
             name = Name(segment, serial)

@@ -143,13 +143,15 @@ class _Reader:
             self.state.phases[number] = Phase(kind, process, self.name(line, rest[0]) if kind == "frozen" else None)
 
     def look_up(self) -> None:
-        """Raises where a reference leads to no object: then a part of the text is missing."""
-        for name, body in self.state.all_objects():
-            for value in body.fields:
-                if isinstance(value, Name) and self.state.body(value) is None:
-                    segments = self.setup.segments
-                    missing, holder = (f"{segments[each.segment]}.{each.serial}" for each in (value, name))
-                    raise BadInput(f"{self.text.source}: {holder} refers to {missing}, which is not in the graph")
+        """Raises where something leads to no object: then a part of the text is missing."""
+        state = self.state
+        held = [name for registers in state.registers for name in registers]
+        exits = [name for targets in state.exits for name in targets]
+        fields = [value for _, body in state.all_objects() for value in body.fields]
+        for name in [*held, *exits, *fields]:
+            if isinstance(name, Name) and state.body(name) is None:
+                missing = f"{self.setup.segments[name.segment]}.{name.serial}"
+                raise BadInput(f"{self.text.source}: something leads to {missing}, which is not in the graph")
 
 
 def _heard(reader: _Reader, line: _Line) -> None:

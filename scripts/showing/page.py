@@ -115,7 +115,8 @@ def _about(run: Run) -> str:
         return "Of this run only the end is known, since the trace was not given; with the trace the page has a slider over all events."
     live, there = len(rules.live(run.end)), sum(map(len, run.end.objects))
     heaps = len(run.setup.segments)
-    return f"Heaps: {heaps}. Limits: {len(run.setup.limits)}. Objects at the end: {there:,}, live: {live:,}. Choose an event by the slider, on a curve or in the list."
+    facts = f"Heaps: {heaps}. Limits: {len(run.setup.limits)}. Objects at the end: {there:,}, live: {live:,}."
+    return f"{facts} Choose an event by the slider, on a curve or in the list."
 
 
 def page(run: Run) -> str:

@@ -82,7 +82,7 @@ def is_legal(state: State, source: int, target: int) -> bool:
 
 def entered(state: State) -> Set[Name]:
     """The objects to which another heap has an exit item, or which a process that does not own them holds in a register."""
-    found = {target for heap in state.exits for target in heap}
+    found = {name for heap, targets in enumerate(state.exits) for name in targets if owner(state, name.segment) != heap}
     for process, registers in enumerate(state.registers):
         heap = state.setup.heap_of_process(process)
         found.update(name for name in registers if name is not None and owner(state, name.segment) != heap)
