@@ -43,7 +43,7 @@ def _objects(state: State, heap: int, kept: Set[Name]) -> Iterator[str]:
     """The cluster of a heap."""
     yield f"  subgraph cluster_{heap} {{"
     fill = _quote(FILLS[_kind(state, heap)])
-    yield f'    label={_quote(_heap_title(state, heap))}; style="rounded,filled"; fillcolor={fill}; color="#c8c8c8";'
+    yield f'    label={_quote(_heap_title(state, heap))}; style="rounded,filled"; fillcolor={fill}; color="#c8c8c8"; fontsize=11;'
     for segment in rules.segments_of(state, heap):
         for serial, body in state.objects[segment].items():
             name = Name(segment, serial)
