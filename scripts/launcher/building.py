@@ -16,7 +16,7 @@ from launcher.sentences import NO_PROGRAM, USAGE
 
 NO_KIT = "rt, the command of the Rattle kit, is not on the PATH, so the program cannot be built"
 # The workload of the run in which the unproved program is taken out of rt's own folder, and how often that folder is looked at.
-SMALL_WORKLOAD, LOOK_SECONDS = "200", 0.01
+SMALL_WORKLOAD, LOOK_SECONDS = "100", 0.01
 
 
 def say(message):
