@@ -1,0 +1,23 @@
+use Rattle.std.proofs.Common.{IsTrue, inl, inr, subst, ◌↔◌, ◌≡◌}
+use Rattle.k_types.specs.declared.names.CellPhase.{CellPhase}
+use Rattle.k_types.specs.declared.names.CellPhase.TheVariants.{Idle}
+use Rattle.k_limits.proofs.Making.{handed_on}
+use Rattle.k_shares.specs.Sharers.{lowest_orphan}
+use Rattle.k_calls.proofs.Refused.{lacks}
+use Rattle.k_ends.proofs.Collected.{orphan_there}
+use Rattle.k_ends.specs.Whole.{CanNotCollectKernel, HasRoomToCollect}
+use Rattle.k_guests.specs.Serving.{basis_of}
+use Rattle.k_calls.specs.declared.errors.HostError.TheVariants.{Full, Phase}
+use Rattle.k_ends.proofs.whole.try_collect_kernel.Goals as goal
+
+pub returns-in_err-awake-clause-why : goal.returns-in_err-awake-clause-why
+returns-in_err-awake-clause-why c = handed_on (CanNotCollectKernel (basis_of c.args.terms.now) c.args.kernel.now c.args.book.now c.args.guest.now) c.from_residual.result c.in_err-awake.field-0.0 c.from_residual.ensures.1 (inl c.in_err-awake.ensures.why)
+
+pub returns-then-not-is_idle-clause-why : goal.returns-then-not-is_idle-clause-why
+returns-then-not-is_idle-clause-why c = inr (inl (lacks Phase (c.args.kernel.now.value.collection ≡ Idle) c.is_idle.result (subst (λ (phase : CellPhase). IsTrue c.is_idle.result ↔ (phase ≡ Idle)) c.phase.ensures c.is_idle.ensures) c.if-not-is_idle.true))
+
+pub returns-then-is_some-clause-why : goal.returns-then-is_some-clause-why
+returns-then-is_some-clause-why c = inr (inr (inl (orphan_there c.first_orphan.result (lowest_orphan c.args.book.now.value.phases c.args.book.now.value.shares) c.is_some.result c.first_orphan.ensures c.is_some.ensures c.if-is_some.true)))
+
+pub returns-then-not-has_room_to_collect-clause-why : goal.returns-then-not-has_room_to_collect-clause-why
+returns-then-not-has_room_to_collect-clause-why c = inr (inr (inr (lacks Full (HasRoomToCollect (basis_of c.args.terms.now) c.args.guest.now c.args.book.now) c.has_room_to_collect.result c.has_room_to_collect.ensures c.if-not-has_room_to_collect.true)))

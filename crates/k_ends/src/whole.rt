@@ -1,0 +1,92 @@
+//! Whole collections of a host's heaps: each is tested before it begins, and then it ends too.
+ghost use Rattle.std.specs.Prelude.{◌≡◌, ◌↔◌, IfErr, IfOk, IsTrue};
+ghost use Rattle.k_guests.specs.Serving.{Basis, BookServes, GuestServes, KernelServes, basis_of};
+ghost use Rattle.k_ends.specs.Whole.{CanCollect, CanCollectKernel, CanNotCollect, CanNotCollectKernel, HasCollected, HasCollectedKernel, HasRoomToCollect};
+
+use k_book::Book;
+use k_calls::{HostError, awake, is_idle};
+use k_collect::{mark_heap, mark_kernel};
+use k_guests::{Guest, Terms};
+use k_kernel::KernelCell;
+use k_steps::{begin_heap, begin_kernel, end_heap, end_kernel, publish};
+use k_types::Event;
+
+/// Whether the journal has room for what the process has unpublished and for the two events of a collection.
+fn has_room_to_collect(terms: &Terms, guest: &Guest, book: &Book) -> bool
+    ensures { IsTrue result ↔ HasRoomToCollect (basis_of terms.now) guest.now book.now }
+{
+    u64::from(book.len()) + u64::from(guest.cell.tail_len()) + 2 <= u64::from(terms.events)
+}
+
+/// Publishes, and collects the process's heap.
+fn do_collect(terms: &Terms, guest: &mut Guest, book: &mut Book) -> Event
+    ghost basis: { Basis }
+    requires { CanCollect basis guest.old book.old }
+    ensures { HasCollected basis guest.old guest.new book.old book.new result }
+{
+    let _setup = &terms.setup;
+    publish(&mut guest.cell, book);
+    begin_heap(&mut guest.cell, book);
+    mark_heap(&mut guest.cell);
+    end_heap(&mut guest.cell, book)
+}
+
+/// Collects the process's heap, if no collection of it is open and there is room.
+pub fn try_collect(terms: &Terms, guest: &mut Guest, book: &mut Book) -> Result<Event, HostError>
+    requires guest { GuestServes (basis_of terms.now) book.old.journal.table guest.old }
+    requires book { BookServes (basis_of terms.now) book.old }
+    ensures done { IfOk result (λ event. HasCollected (basis_of terms.now) guest.old guest.new book.old book.new event) }
+    ensures same { IfErr result (λ why. (guest.new ≡ guest.old) × (book.new ≡ book.old)) }
+    ensures why { IfErr result (λ why. CanNotCollect (basis_of terms.now) book.old guest.old why) }
+{
+    awake(guest)?;
+    if !has_room_to_collect(terms, guest, book) {
+        return Err(HostError::Full);
+    }
+    Ok(do_collect(terms, guest, book))
+}
+
+/// Publishes, and collects the kernel's heap.
+fn do_collect_kernel(
+    terms: &Terms,
+    guest: &mut Guest,
+    kernel: &mut KernelCell,
+    book: &mut Book,
+) -> Event
+    ghost basis: { Basis }
+    requires { CanCollectKernel basis guest.old kernel.old book.old }
+    ensures { HasCollectedKernel basis guest.old guest.new kernel.new book.old book.new result }
+{
+    let _setup = &terms.setup;
+    publish(&mut guest.cell, book);
+    begin_kernel(&mut guest.cell, kernel, book);
+    mark_kernel(kernel);
+    end_kernel(kernel, book)
+}
+
+/// Collects the kernel's heap, if no collection of it or of the process's heap is open, no shared heap is an orphan and there is room.
+pub fn try_collect_kernel(
+    terms: &Terms,
+    guest: &mut Guest,
+    kernel: &mut KernelCell,
+    book: &mut Book,
+) -> Result<Event, HostError>
+    requires guest { GuestServes (basis_of terms.now) book.old.journal.table guest.old }
+    requires kernel { KernelServes (basis_of terms.now) book.old.journal.table kernel.old }
+    requires book { BookServes (basis_of terms.now) book.old }
+    ensures done { IfOk result (λ event. HasCollectedKernel (basis_of terms.now) guest.old guest.new kernel.new book.old book.new event) }
+    ensures same { IfErr result (λ why. (guest.new ≡ guest.old) × (kernel.new ≡ kernel.old) × (book.new ≡ book.old)) }
+    ensures why { IfErr result (λ why. CanNotCollectKernel (basis_of terms.now) kernel.old book.old guest.old why) }
+{
+    awake(guest)?;
+    if !is_idle(kernel.phase()) {
+        return Err(HostError::Phase);
+    }
+    if book.first_orphan().is_some() {
+        return Err(HostError::Orphan);
+    }
+    if !has_room_to_collect(terms, guest, book) {
+        return Err(HostError::Full);
+    }
+    Ok(do_collect_kernel(terms, guest, kernel, book))
+}
