@@ -12,6 +12,7 @@ use Rattle.k_shared.specs.SharedHeaps.{SharedRecord}
 use Rattle.k_squares.specs.Locals.{is_local_in}
 use Rattle.k_guests.specs.declared.guest.Guest.{Guest}
 use Rattle.k_ends.specs.Collecting.{HasAbsorbedNow, HasBegun, HasBegunKernel, HasEnded, HasExitedNow, HasMarkedGuest, HasMarkedKernel, HasSettled, HasSettledKernel, KernelHasEnded}
+use Rattle.k_ends.specs.Whole.{HasCollected, HasCollectedKernel}
 use Rattle.k_calls.specs.Doing.{HasDoneInside, HasOperated, HasPublishedAll}
 use Rattle.k_host.specs.Hosts.{HostValue}
 
@@ -68,6 +69,14 @@ HasSettledIn old new pid = HasChanged old new pid old.kernel new.book (λ g h. H
 -- the collection of the kernel's heap has begun for the process, and nothing else than the process, the kernel and the book has changed
 abbrev pub HasBegunKernelIn : HostValue → HostValue → Pid → Event → Type 0
 HasBegunKernelIn old new pid event = HasChanged old new pid new.kernel new.book (λ g h. HasBegunKernel old.basis g h new.kernel old.book new.book event)
+
+-- the process's heap was collected, and nothing else than the process and the book has changed
+abbrev pub HasCollectedIn : HostValue → HostValue → Pid → Event → Type 0
+HasCollectedIn old new pid event = HasChanged old new pid old.kernel new.book (λ g h. HasCollected old.basis g h old.book new.book event)
+
+-- the kernel's heap was collected as the process, and nothing else than the process, the kernel and the book has changed
+abbrev pub HasCollectedKernelIn : HostValue → HostValue → Pid → Event → Type 0
+HasCollectedKernelIn old new pid event = HasChanged old new pid new.kernel new.book (λ g h. HasCollectedKernel old.basis g h new.kernel old.book new.book event)
 
 -- the process has ended, and nothing else than the process, the kernel and the book has changed
 abbrev pub HasExitedIn : HostValue → HostValue → Pid → Event → Type 0

@@ -3,3 +3,4 @@ pub mod Opening
 pub mod Calls
 pub mod Refusals
 pub mod Twins
+pub mod Asked

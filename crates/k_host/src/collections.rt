@@ -2,15 +2,16 @@
 ghost use Rattle.std.specs.Prelude.{◌≡◌, IfErr, IfOk, MatchOption, OnErr, OnOk};
 ghost use Rattle.k_calls.specs.Refusals.{CanNotDoInside, CanNotPublish};
 ghost use Rattle.k_ends.specs.Refusals.{CanNotBegin, CanNotBeginKernel, CanNotEnd, CanNotEndKernel, CanNotExit, CanNotMark, CanNotMarkKernel, CanNotSettle, CanNotSettleKernel};
-ghost use Rattle.k_host.specs.Calls.{HasAbsorbedIn, HasBegunIn, HasBegunKernelIn, HasDoneInsideIn, HasEndedIn, HasEndedKernelIn, HasExitedIn, HasLeftOutside, HasMarkedIn, HasMarkedKernelIn, HasPublishedIn, HasSettledIn, HasSettledKernelIn};
+ghost use Rattle.k_ends.specs.Whole.{CanNotCollect, CanNotCollectKernel};
+ghost use Rattle.k_host.specs.Calls.{HasAbsorbedIn, HasBegunIn, HasBegunKernelIn, HasCollectedIn, HasCollectedKernelIn, HasDoneInsideIn, HasEndedIn, HasEndedKernelIn, HasExitedIn, HasLeftOutside, HasMarkedIn, HasMarkedKernelIn, HasPublishedIn, HasSettledIn, HasSettledKernelIn};
 ghost use Rattle.k_host.specs.Refusals.{MayRefuse, MayRefuseAbsorption};
 
 use crate::host::Host;
 use crate::places::place_of;
 use k_calls::{HostError, try_inside, try_publish};
 use k_ends::{
-    try_absorb, try_begin, try_begin_kernel, try_end, try_end_kernel, try_exit, try_mark,
-    try_mark_kernel, try_settle, try_settle_kernel,
+    try_absorb, try_begin, try_begin_kernel, try_collect, try_collect_kernel, try_end,
+    try_end_kernel, try_exit, try_mark, try_mark_kernel, try_settle, try_settle_kernel,
 };
 use k_types::{Event, Op, Pid, Reply, SharedId};
 
@@ -162,6 +163,39 @@ impl Host {
         ensures why { IfErr result (λ why. CanNotSettleKernel self.old.basis self.old.book why) }
     {
         try_settle_kernel(&self.terms, &mut self.kernel, &mut self.book)
+    }
+
+    /// Collects the process's heap whole: begins, marks and ends. It answers the event of the end, with what was freed. The cost is in
+    /// proportion to the objects of the heap, its exit items and its entered and pinned objects.
+    ///
+    /// # Errors
+    ///
+    /// Each changes nothing: `Unknown`, `Ended`, `Phase` where a collection of the heap is open, and `Full` where the journal has no room
+    /// for what is unpublished and two events more.
+    pub fn collect(&mut self, pid: Pid) -> Result<Event, HostError>
+        ensures done { IfOk result (λ event. HasCollectedIn self.old self.new pid event) }
+        ensures same { OnErr result (self.new ≡ self.old) }
+        ensures why { IfErr result (λ why. MayRefuse self.old pid (CanNotCollect self.old.basis self.old.book) why) }
+    {
+        let at = place_of(&self.guests, pid)?;
+        let guest = &mut self.guests[at];
+        try_collect(&self.terms, guest, &mut self.book)
+    }
+
+    /// Collects the kernel's heap whole, as the process. It answers the event of the end, with what was freed.
+    ///
+    /// # Errors
+    ///
+    /// Each changes nothing: `Unknown`, `Ended`, `Phase` where a collection of either heap is open, `Orphan` where a shared heap has
+    /// to be absorbed first, and `Full` where the journal has no room for what is unpublished and two events more.
+    pub fn collect_kernel(&mut self, pid: Pid) -> Result<Event, HostError>
+        ensures done { IfOk result (λ event. HasCollectedKernelIn self.old self.new pid event) }
+        ensures same { OnErr result (self.new ≡ self.old) }
+        ensures why { IfErr result (λ why. MayRefuse self.old pid (CanNotCollectKernel self.old.basis self.old.kernel self.old.book) why) }
+    {
+        let at = place_of(&self.guests, pid)?;
+        let guest = &mut self.guests[at];
+        try_collect_kernel(&self.terms, guest, &mut self.kernel, &mut self.book)
     }
 
     /// Ends the process, by its operation `exit`: its heap becomes the kernel's.

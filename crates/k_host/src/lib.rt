@@ -9,6 +9,7 @@
 //! A [`Twin`] is the machine on one thread beside a host, which takes the events that the host answers.
 #![tactic(auto)]
 
+mod asking;
 mod collections;
 mod errors;
 mod host;

@@ -1,0 +1,14 @@
+-- What a host is asked of one of its processes.
+use Rattle.std.specs.Prelude.{ℕ, Bool}
+use Rattle.k_types.specs.Owners.{object_bytes}
+use Rattle.k_types.specs.Totals.{total}
+use Rattle.k_heap.specs.Heaps.{has_ended_in}
+use Rattle.k_guests.specs.declared.guest.Guest.{Guest}
+
+-- the bytes of the process's own objects
+abbrev pub heap_bytes_of : Guest → ℕ
+heap_bytes_of g = total object_bytes g.cell.value.objects
+
+-- whether the process has ended
+abbrev pub has_ended_of : Guest → Bool
+has_ended_of g = has_ended_in g.cell.value.process
