@@ -1,0 +1,54 @@
+-- What a request asks for: an operation, or a whole call of another kind.
+use Rattle.std.specs.Prelude.{ℕ, ◌==◌, if◌then◌else◌, Option, Some, None}
+use Rattle.k_types.specs.declared.names.Pid.{Pid}
+use Rattle.k_types.specs.declared.names.Reg.{Reg}
+use Rattle.k_types.specs.declared.names.SharedId.{SharedId}
+use Rattle.k_types.specs.declared.names.TypeId.{TypeId}
+use Rattle.k_types.specs.declared.op.Op.{Op}
+use Rattle.k_types.specs.declared.op.Op.TheVariants.{New, KNew, SNew, Store, Load, Move, Clear, Dir, Put, Get, Share, Freeze, Attach}
+use Rattle.k_embed.specs.declared.doing.Whole.{Whole}
+use Rattle.k_embed.specs.declared.doing.Whole.TheVariants.{Absorb, Collect, CollectKernel, Kill}
+use Rattle.k_embed.specs.declared.messages.Request.{Request}
+
+-- the register that is written or stored, and that of the object or the one that is read
+abbrev pub reg_of : Request → Reg
+reg_of q = record { 0 = q.reg }
+
+abbrev pub base_of : Request → Reg
+base_of q = record { 0 = q.base }
+
+abbrev pub type_of : Request → TypeId
+type_of q = record { 0 = q.at }
+
+abbrev pub shared_of : Request → SharedId
+shared_of q = record { 0 = q.at }
+
+abbrev pub pid_of : Request → Pid
+pid_of q = record { 0 = q.pid }
+
+-- the operation of that number; none where the number is of another call, or of none
+abbrev pub operation_of : Request → Option Op
+operation_of q =
+    if q.call == 0 then Some (New (reg_of q) (type_of q))
+    else if q.call == 1 then Some (KNew (reg_of q) (type_of q))
+    else if q.call == 2 then Some (SNew (reg_of q) (shared_of q) (record { 0 = q.to }))
+    else if q.call == 3 then Some (Store (base_of q) q.at (reg_of q))
+    else if q.call == 4 then Some (Load (reg_of q) (base_of q) q.at)
+    else if q.call == 5 then Some (Move (reg_of q) (base_of q))
+    else if q.call == 6 then Some (Clear (reg_of q))
+    else if q.call == 7 then Some (Dir (reg_of q))
+    else if q.call == 8 then Some (Put (base_of q) q.at q.number)
+    else if q.call == 9 then Some (Get (base_of q) q.at)
+    else if q.call == 10 then Some (Share (shared_of q))
+    else if q.call == 11 then Some (Freeze (shared_of q) (reg_of q))
+    else if q.call == 12 then Some (Attach (reg_of q) (shared_of q))
+    else None
+
+-- the collection, end or absorption of that number; none where the number is of another call, or of none
+abbrev pub whole_of : Request → Option Whole
+whole_of q =
+    if q.call == 16 then Some Collect
+    else if q.call == 17 then Some CollectKernel
+    else if q.call == 18 then Some Kill
+    else if q.call == 19 then Some (Absorb (shared_of q))
+    else None

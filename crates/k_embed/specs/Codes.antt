@@ -1,0 +1,74 @@
+-- The numbers that stand for errors, faults and replies.
+use Rattle.std.specs.Prelude.{ℕ, Option, Some, None, Result, Ok, Err}
+use Rattle.k_types.specs.declared.event.Event.{Event}
+use Rattle.k_types.specs.declared.event.Event.TheVariants.{Done as Happened, Ended, Absorbed, Closing}
+use Rattle.k_types.specs.declared.event.Fault.{Fault}
+use Rattle.k_types.specs.declared.event.Fault.TheVariants.{Null, Foreign, NotSharer, NoField, WrongKind, Frozen, Segv, NotPopulating, NotFrozen, Taken, LimitFull, KernelFull}
+use Rattle.k_types.specs.declared.event.Reply.{Reply}
+use Rattle.k_types.specs.declared.event.Reply.TheVariants.{Done, Made, Loaded, Value, Refused}
+use Rattle.k_types.specs.declared.names.Name.{Name}
+use Rattle.k_calls.specs.declared.errors.HostError.{HostError}
+use Rattle.k_calls.specs.declared.errors.HostError.TheVariants.{Unknown, OwnCall, Ended as HasEnded, Phase, Full, NoBody, Orphan}
+use Rattle.k_embed.specs.declared.messages.Answer.{Answer}
+
+-- only this is said
+abbrev pub plain : ℕ → ℕ → ℕ → Answer
+plain status fault at = record { status = status; fault = fault; at = at; what = 0; seg = 0; serial = 0; number = 0 }
+
+-- a number
+abbrev pub of_number : ℕ → Answer
+of_number n = record { status = 0; fault = 0; at = 0; what = 2; seg = 0; serial = 0; number = n }
+
+-- an object
+abbrev pub of_name : Name → Answer
+of_name x = record { status = 0; fault = 0; at = 0; what = 1; seg = x.seg.0; serial = x.serial.0; number = 0 }
+
+-- an object, or null
+abbrev pub of_target : Option Name → Answer
+of_target (Some x) = of_name x
+of_target None = record { status = 0; fault = 0; at = 0; what = 1; seg = 0; serial = 0; number = 0 }
+
+-- what is lacking
+abbrev pub of_error : HostError → Answer
+of_error Unknown = plain 1 0 0
+of_error OwnCall = plain 2 0 0
+of_error HasEnded = plain 3 0 0
+of_error Phase = plain 4 0 0
+of_error Full = plain 5 0 0
+of_error NoBody = plain 6 0 0
+of_error Orphan = plain 7 0 0
+
+-- the fault, with the limit or shared heap that it names
+abbrev pub of_fault : Fault → Answer
+of_fault Null = plain 0 1 0
+of_fault Foreign = plain 0 2 0
+of_fault (NotSharer s) = plain 0 3 s.0
+of_fault NoField = plain 0 4 0
+of_fault WrongKind = plain 0 5 0
+of_fault Frozen = plain 0 6 0
+of_fault Segv = plain 0 7 0
+of_fault (NotPopulating s) = plain 0 8 s.0
+of_fault (NotFrozen s) = plain 0 9 s.0
+of_fault (Taken s) = plain 0 10 s.0
+of_fault (LimitFull m) = plain 0 11 m.0
+of_fault KernelFull = plain 0 12 0
+
+-- the reply
+abbrev pub of_reply : Reply → Answer
+of_reply Done = plain 0 0 0
+of_reply (Made x) = of_name x
+of_reply (Loaded x) = of_target x
+of_reply (Value n) = of_number n
+of_reply (Refused fault) = of_fault fault
+
+-- what an event tells
+abbrev pub of_event : Event → Answer
+of_event (Happened pid op reply) = of_reply reply
+of_event (Ended heap objects bytes exits shares) = record { status = 0; fault = 0; at = shares; what = 3; seg = objects; serial = exits; number = bytes }
+of_event (Absorbed s) = plain 0 0 0
+of_event Closing = plain 0 0 0
+
+-- what came of a call that has an event
+abbrev pub of_result : Result Event HostError → Answer
+of_result (Ok event) = of_event event
+of_result (Err why) = of_error why

@@ -1,0 +1,53 @@
+//! Questions, which change nothing.
+use crate::codes::{number, of_number, referred, unknown};
+use crate::messages::{Answer, Request};
+use k_host::Host;
+use k_types::{LimitId, Pid, Reg};
+
+fn register(host: &Host, pid: Pid, reg: Reg) -> Answer {
+    match host.register(pid, reg) {
+        Some(held) => referred(held),
+        None => unknown(),
+    }
+}
+
+fn lives(host: &Host, pid: Pid) -> Answer {
+    match host.has_ended(pid) {
+        Some(ended) => number(if ended { 0 } else { 1 }),
+        None => unknown(),
+    }
+}
+
+fn small(found: Option<u32>) -> Answer {
+    match found {
+        Some(n) => number(u64::from(n)),
+        None => unknown(),
+    }
+}
+
+fn orphan(host: &Host) -> Answer {
+    match host.first_orphan() {
+        Some(id) => number(u64::from(id.0)),
+        None => unknown(),
+    }
+}
+
+/// The answer to a question; none where the request asks none.
+pub(crate) fn ask(host: &Host, request: &Request) -> Option<Answer> {
+    let pid = Pid(request.pid);
+    let limit = LimitId(request.at);
+    match request.call {
+        32 => Some(lives(host, pid)),
+        33 => Some(of_number(host.heap_bytes(pid))),
+        34 => Some(of_number(host.charge(pid))),
+        35 => Some(of_number(host.use_of(limit))),
+        36 => Some(of_number(host.max_of(limit))),
+        37 => Some(register(host, pid, Reg(request.reg))),
+        38 => Some(small(host.done(pid))),
+        39 => Some(number(u64::from(host.len()))),
+        40 => Some(small(host.bodies_left(pid))),
+        41 => Some(number(host.kernel_bytes())),
+        42 => Some(orphan(host)),
+        _ => None,
+    }
+}

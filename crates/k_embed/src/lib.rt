@@ -1,0 +1,15 @@
+//! A host behind one call: a request of plain numbers, and an answer of plain numbers.
+//!
+//! [`serve`] does what a [`Request`] asks of a host, and says in an [`Answer`] what came of it. It is what a library for C exports, since
+//! enums and handles do not cross to C, and numbers in a struct do.
+#![tactic(auto)]
+
+mod asking;
+mod codes;
+mod doing;
+mod messages;
+mod serving;
+
+pub use doing::Whole;
+pub use messages::{Answer, Request};
+pub use serving::{Slot, act, act_whole, opened, serve};

@@ -1,0 +1,94 @@
+//! One call for everything that a host does.
+ghost use Rattle.std.specs.Prelude.{◌≡◌, IfSome, None};
+ghost use Rattle.k_host.specs.Opening.{HasRead};
+ghost use Rattle.k_embed.specs.Served.{IsActed, IsDoneWhole, IsServed, IsServedOn};
+
+use crate::asking::ask;
+use crate::codes::{lacking_host, no_call, of_event};
+use crate::doing::{Whole, do_whole, operation, whole_asked};
+use crate::messages::{Answer, Request};
+use k_host::{Host, OpenError};
+use k_types::{Op, Pid, TypeId};
+use std::alloc::Global;
+
+/// A place for a host. There is none where it could not be made, and then the rest says why: the first bad line of the text and the
+/// number of its reason; or line 0, and 1 where memory ran out and 2 where the terms are not fit.
+#[derive(Drop)]
+pub struct Slot {
+    pub host: Option<Host>,
+    pub line: u32,
+    pub reason: u32,
+}
+
+/// A place with no host, and why.
+fn empty(line: u32, reason: u32) -> Slot
+    ensures { result.host ≡ None }
+{
+    Slot {
+        host: None,
+        line,
+        reason,
+    }
+}
+
+/// A host of what the text declares, if it can be made.
+pub fn opened(alloc: Global, text: &[u8], ty: u32, bodies: u32, events: u32) -> Slot
+    ensures { IfSome result.host (λ host. HasRead text.now (record { 0 = ty }) bodies events host) }
+{
+    match Host::read(alloc, text, TypeId(ty), bodies, events) {
+        Ok(host) => Slot {
+            host: Some(host),
+            line: 0,
+            reason: 0,
+        },
+        Err(OpenError::Bad { line, reason }) => empty(line, reason),
+        Err(OpenError::NoMemory(_)) => empty(0, 1),
+        Err(OpenError::Terms) => empty(0, 2),
+    }
+}
+
+/// Does the operation of the process, and answers in numbers.
+pub fn act(host: &mut Host, pid: Pid, op: &Op) -> Answer
+    ensures { IsActed host.old host.new pid op.now result }
+{
+    of_event(host.operate(pid, op))
+}
+
+/// Does what the request asks of the host in that place, and answers what came of it.
+pub fn serve(slot: &mut Slot, request: &Request) -> Answer
+    ensures { IsServed slot.old slot.new request.now result }
+{
+    match &mut slot.host {
+        Some(host) => serve_host(host, request),
+        None => lacking_host(slot.line, slot.reason),
+    }
+}
+
+/// Does the collection, end or absorption, and answers in numbers.
+pub fn act_whole(host: &mut Host, pid: Pid, whole: Whole) -> Answer
+    ensures { IsDoneWhole host.old host.new pid whole result }
+{
+    of_event(do_whole(host, pid, whole))
+}
+
+/// Answers a question, or that there is no such call.
+fn answered(host: &Host, request: &Request) -> Answer {
+    match ask(host, request) {
+        Some(answer) => answer,
+        None => no_call(),
+    }
+}
+
+/// Does what the request asks, and answers what came of it.
+fn serve_host(host: &mut Host, request: &Request) -> Answer
+    ensures { IsServedOn host.old host.new request.now result }
+{
+    let pid = Pid(request.pid);
+    if let Some(op) = operation(request) {
+        return act(host, pid, &op);
+    }
+    if let Some(asked) = whole_asked(request) {
+        return act_whole(host, pid, asked);
+    }
+    answered(host, request)
+}
