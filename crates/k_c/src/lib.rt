@@ -1,0 +1,70 @@
+//! A host for C: four functions over `k_embed`, which `kaffe.h` declares. C gives the memory for a host, and has it back.
+#![tactic(auto)]
+
+ghost use Rattle.std.specs.Prelude.{◌≡◌, IfSome};
+ghost use Rattle.std.specs.Borrow.{full_share, sem};
+ghost use Rattle.std.specs.Ptr.{lies_at, room_at};
+ghost use Rattle.k_embed.specs.contracts.serving.Slot.{the_row};
+ghost use Rattle.k_embed.specs.declared.serving.Slot.{Slot};
+ghost use Rattle.k_embed.specs.Served.{IsServed};
+ghost use Rattle.k_host.specs.Opening.{HasRead};
+
+use k_embed::{Answer, Request, Slot, opened, serve};
+use std::alloc::Global;
+
+/// What C has of a host: its address. C never looks behind it.
+#[repr(C)]
+pub struct KaffeHost {
+    unused: u8,
+}
+
+/// How many bytes C has to give for a host.
+#[unsafe(no_mangle)]
+pub extern "C" fn kaffe_size() -> usize {
+    size_of::<Slot>()
+}
+
+/// Makes a host where there is room for it, of what the text declares; or a place with none.
+#[unsafe(no_mangle)]
+pub unsafe extern "C" fn kaffe_open(
+    alloc: Global,
+    text: &[u8],
+    ty: u32,
+    bodies: u32,
+    events: u32,
+    at: *mut KaffeHost,
+)
+    requires* { sem 𝓛 (room_at the_row at) }
+    ensures* { ∃ₛ (λ (w : Slot). sem 𝓛 (lies_at the_row full_share at w) ∗ ⌜ IfSome w.host (λ host. HasRead text.now (record { 0 = ty }) bodies events host) ⌝) }
+{
+    std::ptr::write(at as *mut Slot, opened(alloc, text, ty, bodies, events));
+}
+
+/// Does what the request asks of the host, and answers what came of it.
+#[unsafe(no_mangle)]
+pub unsafe extern "C" fn kaffe_call(at: *mut KaffeHost, request: Request) -> Answer
+    ghost g: { Slot }
+    requires* { sem 𝓛 (lies_at the_row full_share at g) }
+    ensures* { ∃ₛ (λ (w : Slot). sem 𝓛 (lies_at the_row full_share at w) ∗ ⌜ IsServed g w request result ⌝) }
+{
+    let slot: &mut Slot = unsafe { &mut *(at as *mut Slot) };
+    serve_at(slot, request)
+}
+
+/// Lets the host go, with all its memory, and leaves the room.
+#[unsafe(no_mangle)]
+pub unsafe extern "C" fn kaffe_close(at: *mut KaffeHost)
+    ghost g: { Slot }
+    requires* { sem 𝓛 (lies_at the_row full_share at g) }
+    ensures* { sem 𝓛 (room_at the_row at) }
+{
+    let_go(std::ptr::read(at as *const Slot));
+}
+
+fn let_go(_slot: Slot) {}
+
+fn serve_at(slot: &mut Slot, request: Request) -> Answer
+    ensures { IsServed slot.old slot.new request result }
+{
+    serve(slot, &request)
+}
