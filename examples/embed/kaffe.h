@@ -1,0 +1,255 @@
+/* kaffe.h: heaps of guests with limits, for hosts in C.
+
+   A host is declared by the head of a trace (docs/FORMATS.md): the kernel heap, types, limits, processes and shared heaps. Each process
+   is a guest, with a heap and 16 registers, which are its roots. docs/EMBEDDING.md says what a caller owes and what each code means.
+
+   Every call answers, and none aborts. A call whose status is not KAFFE_OK has changed nothing.
+   After kaffe_open no call takes memory. */
+#ifndef KAFFE_H
+#define KAFFE_H
+#include <stddef.h>
+#include <stdint.h>
+#include <stdlib.h>
+#include <string.h>
+#ifdef __cplusplus
+extern "C" {
+#endif
+
+/* A host, in memory that the caller gives. What is in it is the library's own. */
+typedef struct kaffe_host kaffe_host;
+
+/* What a call lacks. Nothing has changed. */
+enum kaffe_status {
+    KAFFE_OK = 0,       /* the call is done */
+    KAFFE_UNKNOWN = 1,  /* no such process, register, type, limit or shared heap is declared; or the question has no answer */
+    KAFFE_OWN_CALL = 2, /* the operation has a call of its own: no function of this header answers it */
+    KAFFE_ENDED = 3,    /* the process has ended */
+    KAFFE_PHASE = 4,    /* a collection of a heap that is touched is open: the functions of this header leave none open */
+    KAFFE_FULL = 5,     /* the room for events may be too small for what the call adds */
+    KAFFE_NO_BODY = 6,  /* the process has no body left, or the type is not that of the host's objects */
+    KAFFE_ORPHAN = 7,   /* a shared heap has to be absorbed first, or the one to be absorbed is not the first orphan */
+    KAFFE_NO_CALL = 8,  /* the request names no call */
+    KAFFE_NO_HOST = 9   /* no host could be made: see kaffe_make */
+};
+
+/* Why an operation is refused. It counts as done, and has changed no heap, register or charge. */
+enum kaffe_fault {
+    KAFFE_DONE = 0,            /* it is not refused */
+    KAFFE_NULL = 1,            /* the base register, or the root register of freeze, is null */
+    KAFFE_FOREIGN = 2,         /* another living process owns the base object */
+    KAFFE_NOT_SHARER = 3,      /* shared heap `at` owns the base object, and the process does not share it */
+    KAFFE_NO_FIELD = 4,        /* the object has no such field */
+    KAFFE_WRONG_KIND = 5,      /* a reference was asked of an integer field, or a number of a reference field */
+    KAFFE_FROZEN = 6,          /* the base object is in a frozen shared heap */
+    KAFFE_SEGV = 7,            /* the write barrier refuses the store, or the root of freeze is not in that heap */
+    KAFFE_NOT_POPULATING = 8,  /* the process does not populate shared heap `at` */
+    KAFFE_NOT_FROZEN = 9,      /* shared heap `at` is not frozen */
+    KAFFE_TAKEN = 10,          /* shared heap `at` has been made before */
+    KAFFE_LIMIT_FULL = 11,     /* limit `at` is full: collect a heap that it counts, or kill a guest */
+    KAFFE_KERNEL_FULL = 12     /* the kernel heap is at its ceiling */
+};
+
+/* What the numbers of an answer are. */
+enum kaffe_what {
+    KAFFE_NOTHING = 0, /* none of them counts */
+    KAFFE_NAME = 1,    /* seg, serial: an object. A name is never used again. Both 0: null */
+    KAFFE_NUMBER = 2,  /* number */
+    KAFFE_FREED = 3    /* what a collection freed: seg objects, number bytes, serial exit items, at shares */
+};
+
+typedef struct kaffe_request { /* 32 bytes, passed by value */
+    uint32_t call;             /* enum kaffe_call_number */
+    uint32_t pid;              /* the process, from 0 in order of declaration */
+    uint32_t at;               /* a field, a type, a limit or a shared heap, from 0 in order of declaration */
+    uint32_t to;               /* the type, where at is a shared heap */
+    uint8_t reg, base;         /* registers, 0 to 15 */
+    uint8_t unused0, unused1;
+    uint32_t unused2;
+    uint64_t number;           /* what a field becomes */
+} kaffe_request;
+
+typedef struct kaffe_answer {
+    uint32_t status; /* enum kaffe_status */
+    uint32_t fault;  /* enum kaffe_fault */
+    uint32_t at;     /* the limit or shared heap that the fault names */
+    uint32_t what;   /* enum kaffe_what */
+    uint32_t seg, serial;
+    uint64_t number;
+} kaffe_answer;
+
+enum kaffe_call_number {
+    KAFFE_CALL_NEW = 0,
+    KAFFE_CALL_KNEW = 1,
+    KAFFE_CALL_SNEW = 2,
+    KAFFE_CALL_STORE = 3,
+    KAFFE_CALL_LOAD = 4,
+    KAFFE_CALL_MOVE = 5,
+    KAFFE_CALL_CLEAR = 6,
+    KAFFE_CALL_DIR = 7,
+    KAFFE_CALL_PUT = 8,
+    KAFFE_CALL_GET = 9,
+    KAFFE_CALL_SHARE = 10,
+    KAFFE_CALL_FREEZE = 11,
+    KAFFE_CALL_ATTACH = 12,
+    KAFFE_CALL_COLLECT = 16,
+    KAFFE_CALL_KCOLLECT = 17,
+    KAFFE_CALL_KILL = 18,
+    KAFFE_CALL_ABSORB = 19,
+    KAFFE_ASK_LIVES = 32,
+    KAFFE_ASK_BYTES = 33,
+    KAFFE_ASK_CHARGE = 34,
+    KAFFE_ASK_USE = 35,
+    KAFFE_ASK_MAX = 36,
+    KAFFE_ASK_REGISTER = 37,
+    KAFFE_ASK_DONE = 38,
+    KAFFE_ASK_EVENTS = 39,
+    KAFFE_ASK_BODIES = 40,
+    KAFFE_ASK_KERNEL_BYTES = 41,
+    KAFFE_ASK_ORPHAN = 42
+};
+
+/* The four functions that are linked. The caller gives kaffe_size() bytes, aligned as malloc aligns, and has them back after kaffe_close.
+   kaffe_open always leaves something to be closed: a host, or a place without one, whose every call answers KAFFE_NO_HOST. */
+size_t kaffe_size(void);
+void kaffe_open(const uint8_t *text, size_t length, uint32_t type, uint32_t bodies, uint32_t events, kaffe_host *at);
+kaffe_answer kaffe_call(kaffe_host *host, kaffe_request request);
+void kaffe_close(kaffe_host *host);
+
+static inline kaffe_answer kaffe_request_call(kaffe_host *h, uint32_t call, uint32_t pid, uint32_t at, uint32_t to, uint8_t reg,
+                                              uint8_t base, uint64_t number) {
+    kaffe_request q = {call, pid, at, to, reg, base, 0, 0, 0, number};
+    return kaffe_call(h, q);
+}
+
+/* An object in the heap of the process; register reg refers to it. Answers its name. */
+static inline kaffe_answer kaffe_new(kaffe_host *h, uint32_t pid, uint8_t reg, uint32_t type) {
+    return kaffe_request_call(h, KAFFE_CALL_NEW, pid, type, 0, reg, 0, 0);
+}
+
+/* The same in the kernel heap. */
+static inline kaffe_answer kaffe_knew(kaffe_host *h, uint32_t pid, uint8_t reg, uint32_t type) {
+    return kaffe_request_call(h, KAFFE_CALL_KNEW, pid, type, 0, reg, 0, 0);
+}
+
+/* The same in a shared heap that the process populates. */
+static inline kaffe_answer kaffe_snew(kaffe_host *h, uint32_t pid, uint8_t reg, uint32_t shared, uint32_t type) {
+    return kaffe_request_call(h, KAFFE_CALL_SNEW, pid, shared, type, reg, 0, 0);
+}
+
+/* The field of the object in register base refers to what register reg holds. */
+static inline kaffe_answer kaffe_store(kaffe_host *h, uint32_t pid, uint8_t base, uint32_t field, uint8_t reg) {
+    return kaffe_request_call(h, KAFFE_CALL_STORE, pid, field, 0, reg, base, 0);
+}
+
+/* Register reg holds what the field refers to. Answers its name, or null. */
+static inline kaffe_answer kaffe_load(kaffe_host *h, uint32_t pid, uint8_t reg, uint8_t base, uint32_t field) {
+    return kaffe_request_call(h, KAFFE_CALL_LOAD, pid, field, 0, reg, base, 0);
+}
+
+/* Register reg holds what register from holds. */
+static inline kaffe_answer kaffe_move(kaffe_host *h, uint32_t pid, uint8_t reg, uint8_t from) {
+    return kaffe_request_call(h, KAFFE_CALL_MOVE, pid, 0, 0, reg, from, 0);
+}
+
+/* Register reg is null. */
+static inline kaffe_answer kaffe_clear(kaffe_host *h, uint32_t pid, uint8_t reg) {
+    return kaffe_request_call(h, KAFFE_CALL_CLEAR, pid, 0, 0, reg, 0, 0);
+}
+
+/* Register reg refers to the directory of the kernel heap. */
+static inline kaffe_answer kaffe_dir(kaffe_host *h, uint32_t pid, uint8_t reg) {
+    return kaffe_request_call(h, KAFFE_CALL_DIR, pid, 0, 0, reg, 0, 0);
+}
+
+/* The integer field of the object in register base becomes the number. */
+static inline kaffe_answer kaffe_put(kaffe_host *h, uint32_t pid, uint8_t base, uint32_t field, uint64_t number) {
+    return kaffe_request_call(h, KAFFE_CALL_PUT, pid, field, 0, 0, base, number);
+}
+
+/* Answers the integer field of the object in register base. */
+static inline kaffe_answer kaffe_get(kaffe_host *h, uint32_t pid, uint8_t base, uint32_t field) {
+    return kaffe_request_call(h, KAFFE_CALL_GET, pid, field, 0, 0, base, 0);
+}
+
+/* The process begins to populate the shared heap. */
+static inline kaffe_answer kaffe_share(kaffe_host *h, uint32_t pid, uint32_t shared) {
+    return kaffe_request_call(h, KAFFE_CALL_SHARE, pid, shared, 0, 0, 0, 0);
+}
+
+/* The shared heap is frozen, with the object in register root as its root. */
+static inline kaffe_answer kaffe_freeze(kaffe_host *h, uint32_t pid, uint32_t shared, uint8_t root) {
+    return kaffe_request_call(h, KAFFE_CALL_FREEZE, pid, shared, 0, root, 0, 0);
+}
+
+/* The process shares the frozen heap; register reg refers to its root. */
+static inline kaffe_answer kaffe_attach(kaffe_host *h, uint32_t pid, uint8_t reg, uint32_t shared) {
+    return kaffe_request_call(h, KAFFE_CALL_ATTACH, pid, shared, 0, reg, 0, 0);
+}
+
+/* Collects the heap of the process, whole. Answers what was freed. */
+static inline kaffe_answer kaffe_collect(kaffe_host *h, uint32_t pid) {
+    return kaffe_request_call(h, KAFFE_CALL_COLLECT, pid, 0, 0, 0, 0, 0);
+}
+
+/* Ends the process, whoever asks: from here on its charge is 0, and its heap is the kernel's. */
+static inline kaffe_answer kaffe_kill(kaffe_host *h, uint32_t pid) {
+    return kaffe_request_call(h, KAFFE_CALL_KILL, pid, 0, 0, 0, 0, 0);
+}
+
+/* Absorbs the shared heap, which must be the first orphan: it becomes the kernel's. */
+static inline kaffe_answer kaffe_absorb(kaffe_host *h, uint32_t shared) {
+    return kaffe_request_call(h, KAFFE_CALL_ABSORB, 0, shared, 0, 0, 0, 0);
+}
+
+/* Asks a question, KAFFE_ASK_LIVES to KAFFE_ASK_ORPHAN, of the process, limit or register. It changes nothing. */
+static inline kaffe_answer kaffe_ask(kaffe_host *h, uint32_t question, uint32_t pid, uint32_t at) {
+    return kaffe_request_call(h, question, pid, at, 0, (uint8_t)(at < 16 ? at : 255), 0, 0);
+}
+
+/* Absorbs every orphan, each by a call of its own, and collects the kernel heap whole, as the process. Answers what was freed. */
+static inline kaffe_answer kaffe_kcollect(kaffe_host *h, uint32_t pid) {
+    for (;;) {
+        kaffe_answer a = kaffe_request_call(h, KAFFE_CALL_KCOLLECT, pid, 0, 0, 0, 0, 0);
+        if (a.status != KAFFE_ORPHAN) return a;
+        a = kaffe_absorb(h, (uint32_t)kaffe_ask(h, KAFFE_ASK_ORPHAN, 0, 0).number);
+        if (a.status != KAFFE_OK) return a;
+    }
+}
+
+/* The bytes that the process is charged: its heap, and each shared heap that it shares in full. 0 once it has ended. */
+static inline uint64_t kaffe_charge(kaffe_host *h, uint32_t pid) { return kaffe_ask(h, KAFFE_ASK_CHARGE, pid, 0).number; }
+/* The bytes in use at the limit, and the most that may be. */
+static inline uint64_t kaffe_use(kaffe_host *h, uint32_t limit) { return kaffe_ask(h, KAFFE_ASK_USE, 0, limit).number; }
+static inline uint64_t kaffe_max(kaffe_host *h, uint32_t limit) { return kaffe_ask(h, KAFFE_ASK_MAX, 0, limit).number; }
+/* Whether the process lives. */
+static inline int kaffe_lives(kaffe_host *h, uint32_t pid) { return kaffe_ask(h, KAFFE_ASK_LIVES, pid, 0).number == 1; }
+/* The bytes of the kernel heap. */
+static inline uint64_t kaffe_kernel_bytes(kaffe_host *h) { return kaffe_ask(h, KAFFE_ASK_KERNEL_BYTES, 0, 0).number; }
+
+/* A host in memory of malloc, of what the text declares. Each of its objects is of the one type; each process can do that many
+   allocations (bodies), refused ones too; and all calls together can add that many events. NULL where there is none, and then `why` says:
+   seg is the first bad line and at the reason of docs/FORMATS.md; or seg is 0, and at is 1 where memory ran out, 2 where the type is
+   not declared or the events are 2^30 or more. */
+static inline kaffe_host *kaffe_make(const char *text, uint32_t type, uint32_t bodies, uint32_t events, kaffe_answer *why) {
+    kaffe_answer none = {KAFFE_NO_HOST, 0, 1, 0, 0, 0, 0};
+    kaffe_host *h = (kaffe_host *)malloc(kaffe_size());
+    *why = none;
+    if (!h) return NULL;
+    kaffe_open((const uint8_t *)text, strlen(text), type, bodies, events, h);
+    *why = kaffe_ask(h, KAFFE_ASK_EVENTS, 0, 0);
+    if (why->status != KAFFE_NO_HOST) return h;
+    kaffe_close(h);
+    free(h);
+    return NULL;
+}
+
+/* Gives all memory of the host back. */
+static inline void kaffe_free(kaffe_host *h) {
+    kaffe_close(h);
+    free(h);
+}
+
+#ifdef __cplusplus
+}
+#endif
+#endif

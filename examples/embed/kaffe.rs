@@ -1,0 +1,431 @@
+//! Heaps of guests with limits, for hosts in Rust: safe calls over the library `libk_c.a`.
+//!
+//! A [`Host`] is owned, so it is closed once; a call borrows it, so two calls never overlap; and it may move between threads. Nothing
+//! here can make memory unsafe. `docs/EMBEDDING.md` says what each code means.
+use std::error::Error;
+use std::fmt;
+use std::marker::PhantomData;
+
+/// What C has of a host.
+#[repr(C)]
+struct Opaque {
+    _unused: [u8; 0],
+    _not_shared: PhantomData<*mut u8>,
+}
+
+/// What is asked of a host, as `kaffe_request` of `kaffe.h`.
+#[repr(C)]
+#[derive(Clone, Copy, Default)]
+struct Request {
+    call: u32,
+    pid: u32,
+    at: u32,
+    to: u32,
+    reg: u8,
+    base: u8,
+    unused0: u8,
+    unused1: u8,
+    unused2: u32,
+    number: u64,
+}
+
+/// What came of it, as `kaffe_answer` of `kaffe.h`.
+#[repr(C)]
+#[derive(Clone, Copy, Debug, Default, PartialEq, Eq)]
+struct Answer {
+    status: u32,
+    fault: u32,
+    at: u32,
+    what: u32,
+    seg: u32,
+    serial: u32,
+    number: u64,
+}
+
+unsafe extern "C" {
+    fn kaffe_size() -> usize;
+    fn kaffe_open(text: *const u8, length: usize, ty: u32, bodies: u32, events: u32, at: *mut Opaque);
+    fn kaffe_call(host: *mut Opaque, request: Request) -> Answer;
+    fn kaffe_close(host: *mut Opaque);
+}
+
+/// The numbers of the calls.
+mod call {
+    pub const NEW: u32 = 0;
+    pub const KNEW: u32 = 1;
+    pub const SNEW: u32 = 2;
+    pub const STORE: u32 = 3;
+    pub const LOAD: u32 = 4;
+    pub const MOVE: u32 = 5;
+    pub const CLEAR: u32 = 6;
+    pub const DIR: u32 = 7;
+    pub const PUT: u32 = 8;
+    pub const GET: u32 = 9;
+    pub const SHARE: u32 = 10;
+    pub const FREEZE: u32 = 11;
+    pub const ATTACH: u32 = 12;
+    pub const COLLECT: u32 = 16;
+    pub const KCOLLECT: u32 = 17;
+    pub const KILL: u32 = 18;
+    pub const ABSORB: u32 = 19;
+    pub const LIVES: u32 = 32;
+    pub const BYTES: u32 = 33;
+    pub const CHARGE: u32 = 34;
+    pub const USE: u32 = 35;
+    pub const MAX: u32 = 36;
+    pub const REGISTER: u32 = 37;
+    pub const DONE: u32 = 38;
+    pub const EVENTS: u32 = 39;
+    pub const BODIES: u32 = 40;
+    pub const KERNEL_BYTES: u32 = 41;
+    pub const ORPHAN: u32 = 42;
+}
+
+/// The number of a process, from 0 in order of declaration.
+#[derive(Clone, Copy, Debug, PartialEq, Eq, PartialOrd, Ord, Hash)]
+pub struct Pid(pub u32);
+/// The number of a register, 0 to 15.
+#[derive(Clone, Copy, Debug, PartialEq, Eq, PartialOrd, Ord, Hash)]
+pub struct Reg(pub u8);
+/// The number of a type, from 0 in order of declaration.
+#[derive(Clone, Copy, Debug, PartialEq, Eq, PartialOrd, Ord, Hash)]
+pub struct TypeId(pub u32);
+/// The number of a limit, from 0 in order of declaration.
+#[derive(Clone, Copy, Debug, PartialEq, Eq, PartialOrd, Ord, Hash)]
+pub struct LimitId(pub u32);
+/// The number of a shared heap, from 0 in order of declaration.
+#[derive(Clone, Copy, Debug, PartialEq, Eq, PartialOrd, Ord, Hash)]
+pub struct SharedId(pub u32);
+
+/// The name of an object: it is never used again, so a host may keep it as a key.
+#[derive(Clone, Copy, Debug, PartialEq, Eq, PartialOrd, Ord, Hash)]
+pub struct Name {
+    pub seg: u32,
+    pub serial: u32,
+}
+
+/// What a collection freed.
+#[derive(Clone, Copy, Debug, PartialEq, Eq)]
+pub struct Freed {
+    pub objects: u32,
+    pub bytes: u64,
+    pub exit_items: u32,
+    pub shares: u32,
+}
+
+/// What a call lacks. Nothing has changed.
+#[derive(Clone, Copy, Debug, PartialEq, Eq)]
+pub enum Lack {
+    /// No such process, register, type, limit or shared heap is declared; or the question has no answer.
+    Unknown,
+    /// The operation has a call of its own. No method answers it.
+    OwnCall,
+    /// The process has ended.
+    Ended,
+    /// A collection of a heap that is touched is open. The methods leave none open.
+    Phase,
+    /// The room for events may be too small for what the call adds.
+    Full,
+    /// The process has no body left, or the type is not that of the host's objects.
+    NoBody,
+    /// A shared heap has to be absorbed first, or the one to be absorbed is not the first orphan.
+    Orphan,
+    /// The library is of another version than this module: it has no such call, or answers a number that this module has not.
+    NoCall,
+}
+
+/// Why an operation is refused. It counts as done, and has changed no heap, register or charge.
+#[derive(Clone, Copy, Debug, PartialEq, Eq)]
+pub enum Fault {
+    /// The base register, or the root register of `freeze`, is null.
+    Null,
+    /// Another living process owns the base object.
+    Foreign,
+    /// The shared heap owns the base object, and the process does not share it.
+    NotSharer(SharedId),
+    /// The object has no such field.
+    NoField,
+    /// A reference was asked of an integer field, or a number of a reference field.
+    WrongKind,
+    /// The base object is in a frozen shared heap.
+    Frozen,
+    /// The write barrier refuses the store, or the root of `freeze` is not in that heap.
+    Segv,
+    /// The process does not populate the shared heap.
+    NotPopulating(SharedId),
+    /// The shared heap is not frozen.
+    NotFrozen(SharedId),
+    /// The shared heap has been made before.
+    Taken(SharedId),
+    /// The limit is full: collect a heap that it counts, or kill a guest.
+    LimitFull(LimitId),
+    /// The kernel heap is at its ceiling.
+    KernelFull,
+}
+
+/// Why a call is not done.
+#[derive(Clone, Copy, Debug, PartialEq, Eq)]
+pub enum Refusal {
+    Lack(Lack),
+    Fault(Fault),
+}
+
+/// Why no host is made.
+#[derive(Clone, Copy, Debug, PartialEq, Eq)]
+pub enum OpenError {
+    /// The first bad line of the text, and the number of its reason in `docs/FORMATS.md`.
+    Bad { line: u32, reason: u32 },
+    /// Memory ran out.
+    NoMemory,
+    /// The type is not declared, or the events are 2^30 or more.
+    Terms,
+}
+
+impl fmt::Display for Refusal {
+    fn fmt(&self, f: &mut fmt::Formatter<'_>) -> fmt::Result {
+        match self {
+            Refusal::Lack(lack) => write!(f, "{lack:?}"),
+            Refusal::Fault(fault) => write!(f, "{fault:?}"),
+        }
+    }
+}
+
+impl fmt::Display for OpenError {
+    fn fmt(&self, f: &mut fmt::Formatter<'_>) -> fmt::Result {
+        write!(f, "{self:?}")
+    }
+}
+
+impl Error for Refusal {}
+impl Error for OpenError {}
+
+fn lack_of(status: u32) -> Lack {
+    match status {
+        1 => Lack::Unknown,
+        2 => Lack::OwnCall,
+        3 => Lack::Ended,
+        4 => Lack::Phase,
+        5 => Lack::Full,
+        6 => Lack::NoBody,
+        7 => Lack::Orphan,
+        _ => Lack::NoCall,
+    }
+}
+
+fn fault_of(fault: u32, at: u32) -> Refusal {
+    Refusal::Fault(match fault {
+        1 => Fault::Null,
+        2 => Fault::Foreign,
+        3 => Fault::NotSharer(SharedId(at)),
+        4 => Fault::NoField,
+        5 => Fault::WrongKind,
+        6 => Fault::Frozen,
+        7 => Fault::Segv,
+        8 => Fault::NotPopulating(SharedId(at)),
+        9 => Fault::NotFrozen(SharedId(at)),
+        10 => Fault::Taken(SharedId(at)),
+        11 => Fault::LimitFull(LimitId(at)),
+        12 => Fault::KernelFull,
+        _ => return Refusal::Lack(Lack::NoCall),
+    })
+}
+
+fn freed(a: Answer) -> Freed {
+    Freed { objects: a.seg, bytes: a.number, exit_items: a.serial, shares: a.at }
+}
+
+fn name(a: Answer) -> Name {
+    Name { seg: a.seg, serial: a.serial }
+}
+
+fn target(a: Answer) -> Option<Name> {
+    (a.serial != 0).then(|| name(a))
+}
+
+/// Processes with their heaps and limits. Dropping it gives all its memory back.
+pub struct Host(Box<[u128]>);
+
+impl Host {
+    /// A host of what the text declares, whose objects are of the one type. Each process can do `bodies` allocations, and all calls
+    /// together can add `events` events. No later call takes memory.
+    pub fn open(text: &str, ty: TypeId, bodies: u32, events: u32) -> Result<Host, OpenError> {
+        // SAFETY: `kaffe_size` asks nothing.
+        let size = unsafe { kaffe_size() };
+        let mut room = vec![0u128; size.div_ceil(16)].into_boxed_slice();
+        let at = room.as_mut_ptr().cast();
+        // SAFETY: the room is as large as `kaffe_size` says and aligned to 16; pointer and length are those of one text.
+        unsafe { kaffe_open(text.as_ptr(), text.len(), ty.0, bodies, events, at) };
+        let mut host = Host(room);
+        let why = host.send(Request { call: call::EVENTS, ..Request::default() });
+        match (why.status, why.seg, why.at) {
+            (9, 0, 1) => Err(OpenError::NoMemory),
+            (9, 0, _) => Err(OpenError::Terms),
+            (9, line, reason) => Err(OpenError::Bad { line, reason }),
+            _ => Ok(host),
+        }
+    }
+
+    fn send(&mut self, request: Request) -> Answer {
+        // SAFETY: in the room is what `kaffe_open` left, which `drop` alone closes; `&mut self` keeps calls apart.
+        unsafe { kaffe_call(self.0.as_mut_ptr().cast(), request) }
+    }
+
+    fn call(&mut self, request: Request) -> Result<Answer, Refusal> {
+        let answer = self.send(request);
+        match (answer.status, answer.fault) {
+            (0, 0) => Ok(answer),
+            (0, fault) => Err(fault_of(fault, answer.at)),
+            (status, _) => Err(Refusal::Lack(lack_of(status))),
+        }
+    }
+
+    fn number(&mut self, call: u32, pid: u32, at: u32) -> Option<u64> {
+        let answer = self.send(Request { call, pid, at, ..Request::default() });
+        (answer.status == 0).then_some(answer.number)
+    }
+
+    /// An object in the heap of the process, to which the register refers.
+    pub fn new(&mut self, Pid(pid): Pid, Reg(reg): Reg, TypeId(at): TypeId) -> Result<Name, Refusal> {
+        self.call(Request { call: call::NEW, pid, at, reg, ..Request::default() }).map(name)
+    }
+
+    /// The same in the kernel heap.
+    pub fn knew(&mut self, Pid(pid): Pid, Reg(reg): Reg, TypeId(at): TypeId) -> Result<Name, Refusal> {
+        self.call(Request { call: call::KNEW, pid, at, reg, ..Request::default() }).map(name)
+    }
+
+    /// The same in a shared heap that the process populates.
+    pub fn snew(&mut self, Pid(pid): Pid, Reg(reg): Reg, SharedId(at): SharedId, TypeId(to): TypeId) -> Result<Name, Refusal> {
+        self.call(Request { call: call::SNEW, pid, at, to, reg, ..Request::default() }).map(name)
+    }
+
+    /// The field of the object in `base` refers to what `reg` holds.
+    pub fn store(&mut self, Pid(pid): Pid, Reg(base): Reg, at: u32, Reg(reg): Reg) -> Result<(), Refusal> {
+        self.call(Request { call: call::STORE, pid, at, reg, base, ..Request::default() }).map(|_| ())
+    }
+
+    /// `reg` holds what the field refers to.
+    pub fn load(&mut self, Pid(pid): Pid, Reg(reg): Reg, Reg(base): Reg, at: u32) -> Result<Option<Name>, Refusal> {
+        self.call(Request { call: call::LOAD, pid, at, reg, base, ..Request::default() }).map(target)
+    }
+
+    /// `reg` holds what `from` holds.
+    pub fn copy(&mut self, Pid(pid): Pid, Reg(reg): Reg, Reg(base): Reg) -> Result<(), Refusal> {
+        self.call(Request { call: call::MOVE, pid, reg, base, ..Request::default() }).map(|_| ())
+    }
+
+    /// `reg` is null.
+    pub fn clear(&mut self, Pid(pid): Pid, Reg(reg): Reg) -> Result<(), Refusal> {
+        self.call(Request { call: call::CLEAR, pid, reg, ..Request::default() }).map(|_| ())
+    }
+
+    /// `reg` refers to the directory of the kernel heap.
+    pub fn dir(&mut self, Pid(pid): Pid, Reg(reg): Reg) -> Result<(), Refusal> {
+        self.call(Request { call: call::DIR, pid, reg, ..Request::default() }).map(|_| ())
+    }
+
+    /// The integer field of the object in `base` becomes the number.
+    pub fn put(&mut self, Pid(pid): Pid, Reg(base): Reg, at: u32, number: u64) -> Result<(), Refusal> {
+        self.call(Request { call: call::PUT, pid, at, base, number, ..Request::default() }).map(|_| ())
+    }
+
+    /// The integer field of the object in `base`.
+    pub fn get(&mut self, Pid(pid): Pid, Reg(base): Reg, at: u32) -> Result<u64, Refusal> {
+        self.call(Request { call: call::GET, pid, at, base, ..Request::default() }).map(|a| a.number)
+    }
+
+    /// The process begins to populate the shared heap.
+    pub fn share(&mut self, Pid(pid): Pid, SharedId(at): SharedId) -> Result<(), Refusal> {
+        self.call(Request { call: call::SHARE, pid, at, ..Request::default() }).map(|_| ())
+    }
+
+    /// The shared heap is frozen, with the object in `root` as its root.
+    pub fn freeze(&mut self, Pid(pid): Pid, SharedId(at): SharedId, Reg(reg): Reg) -> Result<(), Refusal> {
+        self.call(Request { call: call::FREEZE, pid, at, reg, ..Request::default() }).map(|_| ())
+    }
+
+    /// The process shares the frozen heap, and `reg` refers to its root.
+    pub fn attach(&mut self, Pid(pid): Pid, Reg(reg): Reg, SharedId(at): SharedId) -> Result<Option<Name>, Refusal> {
+        self.call(Request { call: call::ATTACH, pid, at, reg, ..Request::default() }).map(target)
+    }
+
+    /// Collects the heap of the process, whole.
+    pub fn collect(&mut self, Pid(pid): Pid) -> Result<Freed, Refusal> {
+        self.call(Request { call: call::COLLECT, pid, ..Request::default() }).map(freed)
+    }
+
+    /// Absorbs every orphan, each by a call of its own, and collects the kernel heap whole, as the process.
+    pub fn kcollect(&mut self, Pid(pid): Pid) -> Result<Freed, Refusal> {
+        loop {
+            match self.call(Request { call: call::KCOLLECT, pid, ..Request::default() }) {
+                Err(Refusal::Lack(Lack::Orphan)) => {
+                    let at = self.number(call::ORPHAN, 0, 0).unwrap_or(0) as u32;
+                    self.call(Request { call: call::ABSORB, at, ..Request::default() })?;
+                }
+                came => return came.map(freed),
+            }
+        }
+    }
+
+    /// Ends the process: from here on its charge is 0, and its heap is the kernel's.
+    pub fn kill(&mut self, Pid(pid): Pid) -> Result<(), Refusal> {
+        self.call(Request { call: call::KILL, pid, ..Request::default() }).map(|_| ())
+    }
+
+    /// Whether the process lives; `None` where there is no such process. So with the questions below.
+    pub fn lives(&mut self, Pid(pid): Pid) -> Option<bool> {
+        self.number(call::LIVES, pid, 0).map(|n| n == 1)
+    }
+
+    /// The bytes of the process's own heap.
+    pub fn heap_bytes(&mut self, Pid(pid): Pid) -> Option<u64> {
+        self.number(call::BYTES, pid, 0)
+    }
+
+    /// The bytes that the process is charged: its heap, and each shared heap that it shares in full.
+    pub fn charge(&mut self, Pid(pid): Pid) -> Option<u64> {
+        self.number(call::CHARGE, pid, 0)
+    }
+
+    /// The bytes in use at the limit.
+    pub fn used(&mut self, LimitId(at): LimitId) -> Option<u64> {
+        self.number(call::USE, 0, at)
+    }
+
+    /// The most bytes that may be in use at the limit.
+    pub fn most(&mut self, LimitId(at): LimitId) -> Option<u64> {
+        self.number(call::MAX, 0, at)
+    }
+
+    /// What the register holds.
+    pub fn register(&mut self, Pid(pid): Pid, Reg(reg): Reg) -> Result<Option<Name>, Refusal> {
+        self.call(Request { call: call::REGISTER, pid, reg, ..Request::default() }).map(target)
+    }
+
+    /// How many operations the process has done.
+    pub fn done(&mut self, Pid(pid): Pid) -> Option<u64> {
+        self.number(call::DONE, pid, 0)
+    }
+
+    /// How many allocations the process can do yet.
+    pub fn bodies_left(&mut self, Pid(pid): Pid) -> Option<u64> {
+        self.number(call::BODIES, pid, 0)
+    }
+
+    /// How many events the journal has.
+    pub fn events(&mut self) -> Option<u64> {
+        self.number(call::EVENTS, 0, 0)
+    }
+
+    /// The bytes of the kernel heap.
+    pub fn kernel_bytes(&mut self) -> Option<u64> {
+        self.number(call::KERNEL_BYTES, 0, 0)
+    }
+}
+
+impl Drop for Host {
+    fn drop(&mut self) {
+        // SAFETY: in the room is what `kaffe_open` left, and nobody uses it after.
+        unsafe { kaffe_close(self.0.as_mut_ptr().cast()) }
+    }
+}

@@ -1,0 +1,99 @@
+/* Want of memory at each allocation of the opening in turn, at that one alone and from that one on: no host is made, and all that was taken is
+   given back. After the opening no call allocates. Linked with -Wl,--wrap=malloc,--wrap=realloc,--wrap=free. */
+#include "../kaffe.h"
+#include <stdio.h>
+
+void *__real_malloc(size_t);
+void *__real_realloc(void *, size_t);
+void __real_free(void *);
+void *__wrap_malloc(size_t);
+void *__wrap_realloc(void *, size_t);
+void __wrap_free(void *);
+
+static long refused_at = -1; /* the allocation that is refused, counted from 0; -1: none */
+static int is_alone;         /* whether those after it succeed */
+static long taken;           /* how many were asked for */
+static long live;            /* how many succeeded and are not yet given back */
+
+static int is_refused(void) {
+    long n = taken++;
+    return refused_at >= 0 && (is_alone ? n == refused_at : n >= refused_at);
+}
+
+void *__wrap_malloc(size_t size) {
+    if (is_refused()) return NULL;
+    void *p = __real_malloc(size);
+    live += p != NULL;
+    return p;
+}
+
+void *__wrap_realloc(void *old, size_t size) {
+    if (is_refused()) return NULL;
+    void *p = __real_realloc(old, size);
+    live += p != NULL && old == NULL;
+    return p;
+}
+
+void __wrap_free(void *p) {
+    live -= p != NULL;
+    __real_free(p);
+}
+
+static const char *DECLARED = "kaffe 1\nkernel 4096 4\ntype Node ref ref int\nlimit root 100000\nproc host root\nproc guest root\nshared s\n";
+
+enum { PROCESSES = 2, BODIES = 3, EVENTS = 200 };
+/* The room for the host is an allocation, each body is one, and each process has tables. */
+enum { LEAST_ALLOCATIONS = 1 + PROCESSES * BODIES + PROCESSES };
+
+/* A host, of which that allocation is refused; -1: none is. */
+static kaffe_host *opened(long n, kaffe_answer *why) {
+    taken = 0;
+    refused_at = n;
+    kaffe_host *h = kaffe_make(DECLARED, 0, BODIES, EVENTS, why);
+    refused_at = -1;
+    return h;
+}
+
+/* Each of so many allocations is refused in turn, and each time no host is made, for want of memory, and nothing is left. */
+static int is_each_answered(long allocations) {
+    kaffe_answer why;
+    for (long n = 0; n < allocations; n++) {
+        if (opened(n, &why)) return fprintf(stderr, "nomem: allocation %ld is refused, and there is a host\n", n), 0;
+        if (why.status != KAFFE_NO_HOST || why.seg != 0 || why.at != 1) return fprintf(stderr, "nomem: allocation %ld: another answer\n", n), 0;
+        if (live != 0) return fprintf(stderr, "nomem: allocation %ld: memory is left\n", n), 0;
+    }
+    return 1;
+}
+
+/* Calls of each kind, of which none takes memory. */
+static int is_served(kaffe_host *h) {
+    taken = 0;
+    refused_at = 0;
+    kaffe_new(h, 1, 0, 0);
+    kaffe_new(h, 1, 1, 0);
+    kaffe_put(h, 1, 0, 2, 7);
+    kaffe_store(h, 1, 0, 0, 1);
+    kaffe_share(h, 1, 0);
+    kaffe_snew(h, 1, 2, 0, 0);
+    kaffe_freeze(h, 1, 0, 2);
+    kaffe_attach(h, 0, 2, 0);
+    kaffe_collect(h, 1);
+    kaffe_kill(h, 1);
+    kaffe_kcollect(h, 0);
+    return taken == 0 && !kaffe_lives(h, 1) && kaffe_charge(h, 0) == 40;
+}
+
+int main(void) {
+    kaffe_answer why;
+    kaffe_host *h = opened(-1, &why);
+    long allocations = taken;
+    if (!h) return fprintf(stderr, "nomem: no host\n"), 1;
+    if (allocations < LEAST_ALLOCATIONS) return fprintf(stderr, "nomem: only %ld allocations are seen\n", allocations), 1;
+    if (!is_served(h)) return fprintf(stderr, "nomem: a call takes memory, or is not done\n"), 1;
+    kaffe_free(h);
+    if (live != 0) return fprintf(stderr, "nomem: memory is left\n"), 1;
+    for (is_alone = 0; is_alone < 2; is_alone++)
+        if (!is_each_answered(allocations)) return 1;
+    printf("want of memory at each of the %ld allocations of an opening is answered\n", allocations);
+    return 0;
+}

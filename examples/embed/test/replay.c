@@ -1,0 +1,63 @@
+/* Does the calls that model.py made, and compares each answer with the one that the model gave. It reads them on standard input. */
+#include "../kaffe.h"
+#include <inttypes.h>
+#include <stdio.h>
+
+static void need(void *to, size_t size) {
+    if (fread(to, 1, size, stdin) != size) {
+        fprintf(stderr, "replay: the input ends too early\n");
+        exit(2);
+    }
+}
+
+static kaffe_host *open_next(void) {
+    uint32_t head[4];
+    kaffe_answer why;
+    need(head, sizeof head);
+    char *text = (char *)malloc((size_t)head[0] + 1);
+    if (!text) exit(2);
+    need(text, head[0]);
+    text[head[0]] = 0;
+    kaffe_host *h = kaffe_make(text, head[1], head[2], head[3], &why);
+    if (!h) fprintf(stderr, "replay: line %" PRIu32 ", reason %" PRIu32 " of\n%s", why.seg, why.at, text);
+    free(text);
+    if (!h) exit(1);
+    return h;
+}
+
+static void print(const char *who, kaffe_answer a) {
+    fprintf(stderr, "  %-8s status %" PRIu32 " fault %" PRIu32 " at %" PRIu32 " what %" PRIu32 " seg %" PRIu32 " serial %" PRIu32 " number %" PRIu64 "\n", who,
+            a.status, a.fault, a.at, a.what, a.seg, a.serial, a.number);
+}
+
+int main(void) {
+    kaffe_host *h = NULL;
+    unsigned long calls = 0, hosts = 0, lacks = 0, faults = 0;
+    for (int tag; (tag = getchar()) != EOF;) {
+        if (tag == 'O') {
+            h = open_next();
+            hosts++;
+        } else if (tag == 'E') {
+            kaffe_free(h);
+            h = NULL;
+        } else {
+            kaffe_request q;
+            kaffe_answer due, said;
+            need(&q, sizeof q);
+            need(&due, sizeof due);
+            said = kaffe_call(h, q);
+            calls++;
+            lacks += due.status != 0;
+            faults += due.fault != 0;
+            if (memcmp(&said, &due, sizeof due) != 0) {
+                fprintf(stderr, "replay: call %lu differs: call %" PRIu32 " pid %" PRIu32 " at %" PRIu32 " to %" PRIu32 " reg %u base %u\n", calls, q.call, q.pid, q.at,
+                        q.to, q.reg, q.base);
+                print("library", said);
+                print("model", due);
+                return 1;
+            }
+        }
+    }
+    printf("%lu calls in %lu hosts, %lu lacking and %lu refused: each answer is the model's\n", calls, hosts, lacks, faults);
+    return calls == 0;
+}
