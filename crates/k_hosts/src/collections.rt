@@ -10,7 +10,7 @@ use std::process::Abort;
 use std::test::Fail;
 
 /// The end of a collection of that heap.
-fn ended(heap: Heap, freed_objects: u32, freed_bytes: u64, exits_dropped: u32) -> Event {
+pub(crate) fn ended(heap: Heap, freed_objects: u32, freed_bytes: u64, exits_dropped: u32) -> Event {
     Event::Ended {
         heap,
         freed_objects,

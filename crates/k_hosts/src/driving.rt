@@ -53,3 +53,15 @@ pub(crate) fn exit(host: &mut Host, pid: Pid) -> Result<Event, HostError> {
 pub(crate) fn absorb(host: &mut Host, id: SharedId) -> Result<Event, HostError> {
     host.absorb(id)
 }
+
+pub(crate) fn collect(host: &mut Host, pid: Pid) -> Result<Event, HostError> {
+    host.collect(pid)
+}
+
+pub(crate) fn collect_kernel(host: &mut Host, pid: Pid) -> Result<Event, HostError> {
+    host.collect_kernel(pid)
+}
+
+pub(crate) fn charge(host: &Host, pid: Pid) -> Option<u64> {
+    host.charge(pid)
+}

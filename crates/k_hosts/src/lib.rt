@@ -20,3 +20,5 @@ mod opening;
 mod refusals;
 #[cfg(test)]
 mod usual;
+#[cfg(test)]
+mod whole;
