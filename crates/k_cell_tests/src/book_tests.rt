@@ -8,7 +8,7 @@ use k_types::{Event, Heap, LimitId, LimitRow, Phase, Pid, Seg, Setup, SharedId, 
 use std::alloc::Global;
 use std::test::Fail;
 
-fn small_setup(alloc: Global) -> Result<Setup, NoMemory>
+pub(crate) fn small_setup(alloc: Global) -> Result<Setup, NoMemory>
     ensures rows { IfOk result (λ s. s.limits.items ≡ record { parent = None; hard = true; max = 100 } ∷ []) }
     ensures procs { IfOk result (λ s. length s.procs.items ≡ 2) }
     ensures shared { IfOk result (λ s. s.shared ≡ 1) }

@@ -15,3 +15,5 @@ mod shared_tests;
 mod tie_tests;
 #[cfg(test)]
 mod turns_tests;
+#[cfg(test)]
+mod watch_tests;

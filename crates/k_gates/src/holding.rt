@@ -25,7 +25,10 @@ pub fn wait_for(flag: &AtomicBool) -> bool {
     false
 }
 
-/// A process at a place of its run.
+/// The number of a run's watcher, at the place where it takes samples.
+const WATCHER: u32 = 0;
+
+/// A process, or the watcher, at a place of the run.
 #[derive(Drop)]
 pub struct Stop {
     pid: u32,
@@ -56,6 +59,17 @@ impl Stop {
             done: None,
             place,
             until: Some(until),
+            reached: AtomicBool::new(false),
+        }
+    }
+
+    /// The watcher of the run when it has taken so many samples. It waits there for the stop of that number.
+    pub fn sampling(taken: u32, until: Option<usize>) -> Stop {
+        Stop {
+            pid: WATCHER,
+            done: Some(taken),
+            place: GatePlace::Sampling,
+            until,
             reached: AtomicBool::new(false),
         }
     }

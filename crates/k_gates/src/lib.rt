@@ -13,5 +13,5 @@ mod turns;
 
 pub use counting::Counts;
 pub use holding::{Stop, Stops, wait_for};
-pub use meanwhile::{meanwhile_of_a_step, meanwhile_of_marking};
+pub use meanwhile::{meanwhile_of_a_step, meanwhile_of_marking, meanwhile_of_watching};
 pub use turns::{FifthComes, OPERATIONS_OF_A_TURN};

@@ -28,3 +28,15 @@ pub fn meanwhile_of_a_step() -> Stops<4> {
         Stop::before(OTHER, 2, None),
     ])
 }
+
+/// Holds the second process before its first operation until the first one's heap is to be marked; the watcher before its first sample until
+/// the second process has done that operation; and the first process there until the watcher has taken the sample.
+pub fn meanwhile_of_watching() -> Stops<5> {
+    Stops::of([
+        Stop::before(OTHER, 0, Some(1)),
+        Stop::at(HELD, GatePlace::Marking, 4),
+        Stop::before(OTHER, 1, None),
+        Stop::sampling(0, Some(2)),
+        Stop::sampling(1, None),
+    ])
+}

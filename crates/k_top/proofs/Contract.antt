@@ -32,10 +32,11 @@ meant_as words input output status answer text told written this other e =
 due_of : (words : List Text) (input : Input) (status : Status) (text : Text) → Means words input status text → ¬ IsUnwritten status → IsDue words input text
 due_of words input Good text (inl h) some = inl h
 due_of words input Good text (inr (inl h)) some = inr (inl h)
-due_of words input Good text (inr (inr h)) some = inr (inr (inl h))
-due_of words input Refused text h some = inr (inr (inr (inl h)))
-due_of words input BadTrace text h some = inr (inr (inr (inr (inl h))))
-due_of words input Usage text h some = inr (inr (inr (inr (inr h))))
+due_of words input Good text (inr (inr (inl h))) some = inr (inr (inl h))
+due_of words input Good text (inr (inr (inr h))) some = inr (inr (inr (inl h)))
+due_of words input Refused text h some = inr (inr (inr (inr (inl h))))
+due_of words input BadTrace text h some = inr (inr (inr (inr (inr (inl h)))))
+due_of words input Usage text h some = inr (inr (inr (inr (inr (inr h)))))
 due_of words input WantOfMemory text h some = absurd (some tt)
 due_of words input ReadFault text h some = absurd (some tt)
 due_of words input WriteFault text h some = absurd h

@@ -10,11 +10,11 @@ use Rattle.k_trace.proofs.Exact.{apart, one}
 use Rattle.k_history.specs.Good.{IsGoodReport, IsRefusedAt}
 use Rattle.k_check.proofs.Splits.{one_split}
 use Rattle.k_top.specs.declared.commands.Command.{Command}
-use Rattle.k_top.specs.declared.commands.Command.TheVariants.{Run, Replay, Check, Big}
+use Rattle.k_top.specs.declared.commands.Command.TheVariants.{Run, Replay, Check, Big, Watch}
 use Rattle.k_top.specs.declared.status.Status.{Status}
 use Rattle.k_top.specs.declared.status.Status.TheVariants.{Good, BadTrace, Usage, WantOfMemory, ReadFault, WriteFault, Refused}
-use Rattle.k_top.specs.Answers.{IsBadInput, IsChecked, IsDone, IsRefusedReport, IsSummed, WasRead}
-use Rattle.k_top.specs.Commands.{command_of, IsNoCommand, ReadsSource, RunsTrace}
+use Rattle.k_top.specs.Answers.{IsBadInput, IsChecked, IsDone, IsRefusedReport, IsSampled, IsSummed, WasRead}
+use Rattle.k_top.specs.Commands.{command_of, IsNoCommand, ReadsSource, ReadsTrace, RunsTrace}
 use Rattle.k_top.specs.Ends.{Input, SourceFailed}
 use Rattle.k_top.specs.Inputs.{most_bytes, AreParts, AreTraceAndReport, IsBadFor}
 use Rattle.k_top.specs.Parts.{Means}
@@ -29,9 +29,17 @@ one_command words command other said also = let both : Some other ≡ Some comma
 is_command : (words : List Text) (command : Command) → command_of words ≡ Some command → IsNoCommand words → ⊥
 is_command words command said none = let clash : (let c : Option Command = None in c) ≡ Some command = sym none ∙ said in absurd cc
 
--- The command that checks runs no trace.
-runs_not : (words : List Text) (command : Command) → command_of words ≡ Some command → RunsTrace command → command_of words ≡ Some Check → ⊥
-runs_not words command said runs check = subst RunsTrace (one_command words Check command check said) runs
+-- A command that runs a trace and writes its report alone reads a trace alone.
+runs_read : (command : Command) → RunsTrace command → ReadsTrace command
+runs_read Run runs = tt
+runs_read Replay runs = tt
+runs_read Check runs = absurd runs
+runs_read (Big objects) runs = absurd runs
+runs_read (Watch count) runs = absurd runs
+
+-- The command that checks reads more than a trace.
+runs_not : (words : List Text) (command : Command) → command_of words ≡ Some command → ReadsTrace command → command_of words ≡ Some Check → ⊥
+runs_not words command said runs check = subst ReadsTrace (one_command words Check command check said) runs
 
 -- The command of the workload runs no trace that is read, and does not check.
 big_not : (words : List Text) (command : Command) (objects : ℕ) → command_of words ≡ Some command → ReadsSource command → command_of words ≡ Some (Big objects) → ⊥
@@ -43,6 +51,7 @@ reads_bad Run bytes line reason bad = tt
 reads_bad Replay bytes line reason bad = tt
 reads_bad Check bytes line reason bad = tt
 reads_bad (Big objects) bytes line reason bad = absurd bad
+reads_bad (Watch count) bytes line reason bad = tt
 
 -- ---- bytes
 
@@ -66,20 +75,22 @@ same_few : (limit : ℕ) (bytes given : Text) (input : Input) → input.left ≡
 same_few limit bytes given input known read few =
     same_bytes limit bytes given input known read (read_few bytes given input.rest limit (subst (λ (l : Option Text). Consumes l input.rest given) known read.given) few)
 
--- Bytes that spell a trace are few enough for a command that runs it.
-few_for : (command : Command) (bytes : Text) (t : NamedTrace) → RunsTrace command → Spells bytes t → length bytes ≤ most_bytes command
+-- Bytes that spell a trace are few enough for a command that reads a trace alone.
+few_for : (command : Command) (bytes : Text) (t : NamedTrace) → ReadsTrace command → Spells bytes t → length bytes ≤ most_bytes command
 few_for Run bytes t runs spells = spells.few
 few_for Replay bytes t runs spells = spells.few
 few_for Check bytes t runs spells = absurd runs
 few_for (Big objects) bytes t runs spells = absurd runs
+few_for (Watch count) bytes t runs spells = spells.few
 
 -- ---- what is a trace is no bad input
 
-spelled_not_bad : (command : Command) (bytes : Text) (t : NamedTrace) (line reason : ℕ) → RunsTrace command → Spells bytes t → IsBadFor command bytes line reason → ⊥
+spelled_not_bad : (command : Command) (bytes : Text) (t : NamedTrace) (line reason : ℕ) → ReadsTrace command → Spells bytes t → IsBadFor command bytes line reason → ⊥
 spelled_not_bad Run bytes t line reason runs spells bad = apart bytes t line reason spells bad
 spelled_not_bad Replay bytes t line reason runs spells bad = apart bytes t line reason spells bad
 spelled_not_bad Check bytes t line reason runs spells bad = absurd runs
 spelled_not_bad (Big objects) bytes t line reason runs spells bad = absurd runs
+spelled_not_bad (Watch count) bytes t line reason runs spells bad = apart bytes t line reason spells bad
 
 -- The bytes have one trace part and one report.
 same_front : (bytes front report other behind : Text) → AreParts bytes front report → AreParts bytes other behind → (front ≡ other) × (report ≡ behind)
@@ -102,30 +113,33 @@ same_parts bytes t u report behind parts more =
 -- What is shown of a status from what it means, where the words are a command and the source did not fail.
 by_status : (wanted : Status → Type 0) (words : List Text) (input : Input) (command : Command) → command_of words ≡ Some command → ¬ SourceFailed input → wanted WantOfMemory
     → ((text : Text) → IsDone words input text → wanted Good) → ((text : Text) → IsChecked words input text → wanted Good) → ((text : Text) → IsSummed words text → wanted Good)
+    → ((text : Text) → IsSampled words input text → wanted Good)
     → ((text : Text) → IsRefusedReport words input text → wanted Refused) → ((text : Text) → IsBadInput words input text → wanted BadTrace)
     → (status : Status) (text : Text) → Means words input status text → wanted status
-by_status wanted words input command said steady memory done checked summed refused bad Good text (inl h) = done text h
-by_status wanted words input command said steady memory done checked summed refused bad Good text (inr (inl h)) = checked text h
-by_status wanted words input command said steady memory done checked summed refused bad Good text (inr (inr h)) = summed text h
-by_status wanted words input command said steady memory done checked summed refused bad Refused text h = refused text h
-by_status wanted words input command said steady memory done checked summed refused bad BadTrace text h = bad text h
-by_status wanted words input command said steady memory done checked summed refused bad WantOfMemory text h = memory
-by_status wanted words input command said steady memory done checked summed refused bad ReadFault text h = absurd (steady h.1)
-by_status wanted words input command said steady memory done checked summed refused bad Usage text h = absurd (is_command words command said h.no_command)
-by_status wanted words input command said steady memory done checked summed refused bad WriteFault text h = absurd h
+by_status wanted words input command said steady memory done checked summed sampled refused bad Good text (inl h) = done text h
+by_status wanted words input command said steady memory done checked summed sampled refused bad Good text (inr (inl h)) = checked text h
+by_status wanted words input command said steady memory done checked summed sampled refused bad Good text (inr (inr (inl h))) = summed text h
+by_status wanted words input command said steady memory done checked summed sampled refused bad Good text (inr (inr (inr h))) = sampled text h
+by_status wanted words input command said steady memory done checked summed sampled refused bad Refused text h = refused text h
+by_status wanted words input command said steady memory done checked summed sampled refused bad BadTrace text h = bad text h
+by_status wanted words input command said steady memory done checked summed sampled refused bad WantOfMemory text h = memory
+by_status wanted words input command said steady memory done checked summed sampled refused bad ReadFault text h = absurd (steady h.1)
+by_status wanted words input command said steady memory done checked summed sampled refused bad Usage text h = absurd (is_command words command said h.no_command)
+by_status wanted words input command said steady memory done checked summed sampled refused bad WriteFault text h = absurd h
 
 pub of_no_command : (words : List Text) (input : Input) → IsNoCommand words → (status : Status) (text : Text) → Means words input status text → status ≡ Usage
 of_no_command words input none Usage text h = refl
 of_no_command words input none Good text (inl h) = absurd (is_command words h.command h.said none)
 of_no_command words input none Good text (inr (inl h)) = absurd (is_command words Check h.said none)
-of_no_command words input none Good text (inr (inr h)) = absurd (is_command words (Big h.objects) h.said none)
+of_no_command words input none Good text (inr (inr (inl h))) = absurd (is_command words (Big h.objects) h.said none)
+of_no_command words input none Good text (inr (inr (inr h))) = absurd (is_command words (Watch h.count) h.said none)
 of_no_command words input none Refused text h = absurd (is_command words Check h.said none)
 of_no_command words input none BadTrace text h = absurd (is_command words h.command h.said none)
 of_no_command words input none WantOfMemory text h = absurd (is_command words h.0.0 h.0.1 none)
 of_no_command words input none ReadFault text h = absurd (is_command words h.0.0 h.0.1 none)
 of_no_command words input none WriteFault text h = absurd h
 
-trace_not_bad : (words : List Text) (input : Input) (command : Command) (bytes : Text) (t : NamedTrace) (text : Text) → command_of words ≡ Some command → RunsTrace command → input.left ≡ Some bytes → Spells bytes t
+trace_not_bad : (words : List Text) (input : Input) (command : Command) (bytes : Text) (t : NamedTrace) (text : Text) → command_of words ≡ Some command → ReadsTrace command → input.left ≡ Some bytes → Spells bytes t
     → IsBadInput words input text → ⊥
 trace_not_bad words input command bytes t text said runs known spells h =
     let read = subst (λ (c : Command). WasRead (most_bytes c) input h.bytes) (one_command words command h.command said h.said) h.read in
@@ -133,10 +147,11 @@ trace_not_bad words input command bytes t text said runs known spells h =
     spelled_not_bad command h.bytes t h.line h.reason runs (subst (λ (b : Text). Spells b t) same spells)
     (subst (λ (c : Command). IsBadFor c h.bytes h.line h.reason) (one_command words command h.command said h.said) h.bad)
 
-pub of_trace : (words : List Text) (input : Input) (command : Command) (bytes : Text) (t : NamedTrace) → command_of words ≡ Some command → RunsTrace command → input.left ≡ Some bytes → Spells bytes t → ¬ SourceFailed input
+pub of_trace : (words : List Text) (input : Input) (command : Command) (bytes : Text) (t : NamedTrace) → command_of words ≡ Some command → ReadsTrace command → input.left ≡ Some bytes → Spells bytes t → ¬ SourceFailed input
     → (status : Status) (text : Text) → Means words input status text → (status ≡ Good) ⊎ (status ≡ WantOfMemory)
 of_trace words input command bytes t said runs known spells steady =
     by_status (λ (s : Status). (s ≡ Good) ⊎ (s ≡ WantOfMemory)) words input command said steady (inr refl)
+    (λ text h. inl refl)
     (λ text h. inl refl)
     (λ text h. inl refl)
     (λ text h. inl refl)
@@ -168,6 +183,7 @@ of_good_report words input bytes t report said known parts good steady =
     (λ text h. inl refl)
     (λ text h. inl refl)
     (λ text h. inl refl)
+    (λ text h. inl refl)
     (λ text h. absurd (good_not_refused words input bytes t report text known parts good h))
     (λ text h. absurd (report_not_bad words input bytes t report text said known parts h))
 
@@ -181,18 +197,19 @@ pub of_wrong_report : (words : List Text) (input : Input) (bytes : Text) (t : Na
     → IsRefusedAt t report n → ¬ SourceFailed input → (status : Status) (text : Text) → Means words input status text → (status ≡ Refused) ⊎ (status ≡ WantOfMemory)
 of_wrong_report words input bytes t report n said known parts refused steady =
     by_status (λ (s : Status). (s ≡ Refused) ⊎ (s ≡ WantOfMemory)) words input Check said steady (inr refl)
-    (λ text h. absurd (runs_not words h.command h.said h.runs said))
+    (λ text h. absurd (runs_not words h.command h.said (runs_read h.command h.runs) said))
     (λ text h. absurd (refused_not_good words input bytes t report text n known parts refused h))
     (λ text h. absurd (big_not words Check h.objects said tt h.said))
+    (λ text h. absurd (runs_not words (Watch h.count) h.said tt said))
     (λ text h. inl refl)
     (λ text h. absurd (report_not_bad words input bytes t report text said known parts h))
 
-bad_not_done : (words : List Text) (input : Input) (command : Command) (bytes : Text) (line reason : ℕ) (text : Text) → command_of words ≡ Some command → input.left ≡ Some bytes → IsBadFor command bytes line reason
-    → IsDone words input text → ⊥
-bad_not_done words input command bytes line reason text said known bad h =
-    let same = same_bytes (most_bytes h.command) bytes h.bytes input known h.read (few_for h.command h.bytes h.trace h.runs h.spelled) in
-    spelled_not_bad h.command h.bytes h.trace line reason h.runs h.spelled
-    (subst (λ (b : Text). IsBadFor h.command b line reason) same (subst (λ (c : Command). IsBadFor c bytes line reason) (one_command words h.command command h.said said) bad))
+bad_not_spelled : (words : List Text) (input : Input) (command other : Command) (bytes given : Text) (line reason : ℕ) (t : NamedTrace) → command_of words ≡ Some command → input.left ≡ Some bytes → IsBadFor command bytes line reason
+    → command_of words ≡ Some other → ReadsTrace other → WasRead (most_bytes other) input given → Spells given t → ⊥
+bad_not_spelled words input command other bytes given line reason t said known bad also runs read spelled =
+    let same = same_bytes (most_bytes other) bytes given input known read (few_for other given t runs spelled) in
+    spelled_not_bad other given t line reason runs spelled
+    (subst (λ (b : Text). IsBadFor other b line reason) same (subst (λ (c : Command). IsBadFor c bytes line reason) (one_command words other command also said) bad))
 
 bad_not_parts : (words : List Text) (input : Input) (command : Command) (bytes given : Text) (line reason : ℕ) (t : NamedTrace) (report : Text) → command_of words ≡ Some command → input.left ≡ Some bytes → IsBadFor command bytes line reason
     → command_of words ≡ Some Check → WasRead (most_bytes Check) input given → AreTraceAndReport given t report → ⊥
@@ -205,9 +222,10 @@ pub of_bad_input : (words : List Text) (input : Input) (command : Command) (byte
     → (status : Status) (text : Text) → Means words input status text → (status ≡ BadTrace) ⊎ (status ≡ WantOfMemory)
 of_bad_input words input command bytes line reason said known bad steady =
     by_status (λ (s : Status). (s ≡ BadTrace) ⊎ (s ≡ WantOfMemory)) words input command said steady (inr refl)
-    (λ text h. absurd (bad_not_done words input command bytes line reason text said known bad h))
+    (λ text h. absurd (bad_not_spelled words input command h.command bytes h.bytes line reason h.trace said known bad h.said (runs_read h.command h.runs) h.read h.spelled))
     (λ text h. absurd (bad_not_parts words input command bytes h.bytes line reason h.trace h.report said known bad h.said h.read h.parts))
     (λ text h. absurd (big_not words command h.objects said (reads_bad command bytes line reason bad) h.said))
+    (λ text h. absurd (bad_not_spelled words input command (Watch h.count) bytes h.bytes line reason h.trace said known bad h.said tt h.read h.spelled))
     (λ text h. absurd (bad_not_parts words input command bytes h.bytes line reason h.trace h.report said known bad h.said h.read h.parts))
     (λ text h. inl refl)
 

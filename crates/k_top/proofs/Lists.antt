@@ -9,8 +9,8 @@ use Rattle.k_words.proofs.Spelled.{both, number_word}
 use Rattle.k_big.specs.Words.{objects_of}
 use Rattle.k_big.specs.Workload.{most_objects}
 use Rattle.k_top.specs.declared.commands.Command.{Command}
-use Rattle.k_top.specs.declared.commands.Command.TheVariants.{Run, Replay, Check, Big}
-use Rattle.k_top.specs.Commands.{command_of, command_named, command_numbered}
+use Rattle.k_top.specs.declared.commands.Command.TheVariants.{Run, Replay, Check, Big, Watch}
+use Rattle.k_top.specs.Commands.{command_of, command_named, command_numbered, samples_of}
 
 -- The command of a list of one word is the command that the word names.
 pub of_one : {A : Type 0} (f : A → Text) (xs : List A) (x : A) → 1 ≤ length xs → length xs < 2 → x ≡ get_or xs 0 x → command_of (map f xs) ≡ command_named (f x)
@@ -37,13 +37,16 @@ of_other word f g h =
     no_other (bytes_eq word (codes "run")) (bytes_eq word (codes "replay")) (bytes_eq word (codes "check"))
     (λ t. f ((bytes_eq-Decides word (codes "run")).0 t)) (λ t. g ((bytes_eq-Decides word (codes "replay")).0 t)) (λ t. h ((bytes_eq-Decides word (codes "check")).0 t))
 
-no_number : (b : Bool) (r : Option Command) → (b ≡ true → ⊥) → (if b then r else None) ≡ None
-no_number true r f = absurd (f refl)
-no_number false r f = refl
+no_number : (b c : Bool) (r s : Option Command) → (b ≡ true → ⊥) → (c ≡ true → ⊥) → (if b then r else if c then s else None) ≡ None
+no_number true c r s f g = absurd (f refl)
+no_number false true r s f g = absurd (g refl)
+no_number false false r s f g = refl
 
--- A word that is not `big` names no command with a number behind it.
-pub of_other_pair : (word number : Text) → (word ≡ codes "big" → ⊥) → command_numbered word number ≡ None
-of_other_pair word number f = no_number (bytes_eq word (codes "big")) (option_map (λ objects. Big objects) (objects_of number)) (λ t. f ((bytes_eq-Decides word (codes "big")).0 t))
+-- A word that is neither `big` nor `watch` names no command with a number behind it.
+pub of_other_pair : (word number : Text) → (word ≡ codes "big" → ⊥) → (word ≡ codes "watch" → ⊥) → command_numbered word number ≡ None
+of_other_pair word number f g =
+    no_number (bytes_eq word (codes "big")) (bytes_eq word (codes "watch")) (option_map (λ objects. Big objects) (objects_of number)) (option_map (λ samples. Watch samples) (samples_of number))
+    (λ t. f ((bytes_eq-Decides word (codes "big")).0 t)) (λ t. g ((bytes_eq-Decides word (codes "watch")).0 t))
 
 -- ---- how many objects
 
@@ -57,10 +60,15 @@ objects_few word n e =
     let below = (number_word (most_objects + 1) word (omega arith) (both (is_below (most_objects + 1) word) (nat_lt 0 (value word)) read.0).0).1 in
     omega (arith, below, read.1)
 
-numbered_is : (b : Bool) (r : Option ℕ) (n : ℕ) → (if b then option_map (λ objects. Big objects) r else None) ≡ Some (Big n) → r ≡ Some n
-numbered_is true (Some m) n e = let same : Some (Big m) ≡ Some (Big n) = e in cc
-numbered_is true None n e = let clash : (let x : Option Command = None in x) ≡ Some (Big n) = e in absurd cc
-numbered_is false r n e = let clash : (let x : Option Command = None in x) ≡ Some (Big n) = e in absurd cc
+watch_is_not : (c : Bool) (s : Option ℕ) (n : ℕ) → (if c then option_map (λ samples. Watch samples) s else None) ≡ Some (Big n) → ⊥
+watch_is_not true (Some m) n e = let clash : Some (Watch m) ≡ Some (Big n) = e in absurd cc
+watch_is_not true None n e = let clash : (let x : Option Command = None in x) ≡ Some (Big n) = e in absurd cc
+watch_is_not false s n e = let clash : (let x : Option Command = None in x) ≡ Some (Big n) = e in absurd cc
+
+numbered_is : (b c : Bool) (r s : Option ℕ) (n : ℕ) → (if b then option_map (λ objects. Big objects) r else if c then option_map (λ samples. Watch samples) s else None) ≡ Some (Big n) → r ≡ Some n
+numbered_is true c (Some m) s n e = let same : Some (Big m) ≡ Some (Big n) = e in cc
+numbered_is true c None s n e = let clash : (let x : Option Command = None in x) ≡ Some (Big n) = e in absurd cc
+numbered_is false c r s n e = absurd (watch_is_not c s n e)
 
 named_is_not : (b c d : Bool) (n : ℕ) → (if b then Some Run else if c then Some Replay else if d then Some Check else None) ≡ Some (Big n) → ⊥
 named_is_not true c d n e = let clash : Some Run ≡ Some (Big n) = e in absurd cc
@@ -72,5 +80,5 @@ named_is_not false false false n e = let clash : (let x : Option Command = None 
 pub few_objects : (words : List Text) (n : ℕ) → command_of words ≡ Some (Big n) → n ≤ most_objects
 few_objects [] n e = let clash : (let x : Option Command = None in x) ≡ Some (Big n) = e in absurd cc
 few_objects (word ∷ []) n e = absurd (named_is_not (bytes_eq word (codes "run")) (bytes_eq word (codes "replay")) (bytes_eq word (codes "check")) n e)
-few_objects (word ∷ number ∷ []) n e = objects_few number n (numbered_is (bytes_eq word (codes "big")) (objects_of number) n e)
+few_objects (word ∷ number ∷ []) n e = objects_few number n (numbered_is (bytes_eq word (codes "big")) (bytes_eq word (codes "watch")) (objects_of number) (samples_of number) n e)
 few_objects (word ∷ number ∷ next ∷ words) n e = let clash : (let x : Option Command = None in x) ≡ Some (Big n) = e in absurd cc

@@ -1,5 +1,5 @@
 -- What is told of a run of the trace that the source gave, or of why there is none.
-use Rattle.std.proofs.Common.{◌≡◌, List, Result, Ok, Err, refl, subst, sym}
+use Rattle.std.proofs.Common.{◌≡◌, ℕ, List, ◌++◌, Result, Ok, Err, refl, subst, sym}
 use Rattle.std.specs.Prelude.{IfOk, IfErr}
 use Rattle.k_types.specs.declared.event.Event.{Event}
 use Rattle.k_types.specs.Bounds.{most_trace_bytes}
@@ -12,8 +12,10 @@ use Rattle.k_top.specs.declared.status.Status.{Status}
 use Rattle.k_top.specs.declared.status.Status.TheVariants.{Good}
 use Rattle.k_top.specs.Ends.{Input, Output}
 use Rattle.k_top.specs.Parts.{IsWritten, TellsOfBytes, TellsOfSource}
-use Rattle.k_top.specs.Reports.{IsFileReport, IsReportOf, IsSomeReport}
-use Rattle.k_top.specs.Runs.{HasCause, HasReplayed, HasRun, IsNamedEnd, status_of, text_of}
+use Rattle.k_top.specs.Reports.{IsFileReport, IsReportOf, IsSomeReport, IsWatchedReport}
+use Rattle.k_top.specs.Samples.{samples_text}
+use Rattle.k_watch.specs.declared.sample.Sample.{Sample}
+use Rattle.k_top.specs.Runs.{HasCause, HasReplayed, HasRun, HasWatchedRun, IsNamedEnd, status_of, text_of}
 use Rattle.k_top.proofs.Reports.{named_in_run, report_by_run}
 
 -- What the end of a run shows has a name.
@@ -25,8 +27,11 @@ pub replay_named : (input : Input) (r : Result EndValue RunError) → IfOk r (Ha
 replay_named input (Ok end) h = named_in_run h.trace end h.gave.spelled.is_trace h.run
 replay_named input (Err error) h = h
 
+pub watch_named : (input : Input) (count : ℕ) (end : EndValue) (samples : List Sample) → HasWatchedRun input count end samples → IsNamedEnd end
+watch_named input count end samples h = named_in_run h.trace end h.gave.spelled.is_trace h.watched.run
+
 -- What is told of an error is what the source is the cause of.
-error_told : (reports : NamedTrace → Text → Type 0) (input : Input) (error : RunError) → HasCause input error
+pub error_told : (reports : NamedTrace → Text → Type 0) (input : Input) (error : RunError) → HasCause input error
     → TellsOfSource most_trace_bytes (TellsOfBytes reports) input (status_of (Err error)) (text_of (Err error))
 error_told reports input (NoMemory refused) e = refl
 error_told reports input Unread e = (e, refl)
@@ -45,6 +50,35 @@ replay_told input (Ok end) h e =
     let report = subst (λ (history : List Event). IsReportOf h.trace history (text_of (Ok end))) h.in_order (report_by_run h.trace end h.gave.spelled.is_trace h.run) in
     (h.gave.bytes, h.gave.read, (h.trace, h.gave.spelled, report))
 replay_told input (Err error) h e = error_told IsFileReport input error e
+
+-- What is told of a run beside a watcher is the report of its journal, and then the samples.
+pub watch_told : (input : Input) (count : ℕ) (end : EndValue) (samples : List Sample) → HasWatchedRun input count end samples
+    → TellsOfSource most_trace_bytes (TellsOfBytes (IsWatchedReport count)) input Good (text_of (Ok end) ++ samples_text samples)
+watch_told input count end samples h = (
+  h.gave.bytes,
+  h.gave.read,
+  (
+    h.trace,
+    h.gave.spelled,
+    record {
+      history = journal_of end;
+      report = text_of (Ok end);
+      is_report = report_by_run h.trace end h.gave.spelled.is_trace h.watched.run;
+      samples = samples;
+      taken = h.watched.taken;
+      each = h.watched.each;
+      rising = h.watched.rising;
+      last = h.watched.last;
+      says = refl;
+    },
+  ),
+)
+
+-- The same of samples that are shown as a list of their own.
+pub watch_told_as : (input : Input) (count : ℕ) (end : EndValue) (samples shown : List Sample) → shown ≡ samples → HasWatchedRun input count end samples
+    → TellsOfSource most_trace_bytes (TellsOfBytes (IsWatchedReport count)) input Good (text_of (Ok end) ++ samples_text shown)
+watch_told_as input count end samples shown same h =
+    subst (λ (ss : List Sample). TellsOfSource most_trace_bytes (TellsOfBytes (IsWatchedReport count)) input Good (text_of (Ok end) ++ samples_text ss)) (sym same) (watch_told input count end samples h)
 
 -- The report of a run that is over was handed to the sink.
 pub end_written : (output : Output) (r : Result EndValue RunError) (end : EndValue) (answer : Status) → r ≡ Ok end → IsWritten output Good (text_of (Ok end)) answer

@@ -1,6 +1,8 @@
 -- A text that was handed to the sink, and the answer after that.
-use Rattle.std.proofs.Common.{◌≡◌, ℕ, List, Result, Ok, Err, inl, inr, refl, subst, sym}
+use Rattle.std.proofs.Common.{◌≡◌, ℕ, List, ◌++◌, Result, Ok, Err, inl, inr, refl, subst, sym}
+use Rattle.std.specs.Prelude.{IsErr}
 use Rattle.k_io.specs.Writing.{Writes}
+use Rattle.k_io.proofs.Takings.{takes_front_longer}
 use Rattle.k_words.specs.Words.{Text}
 use Rattle.k_top.specs.declared.status.Status.{Status}
 use Rattle.k_top.specs.Answers.{IsUnwritten}
@@ -22,3 +24,10 @@ written_by old new before now r text status answer some e w =
 pub never_unwritten : {E : Type 0} (r : Result (Unit {0}) E) (status answer : Status) → ¬ IsUnwritten status → answer ≡ status_after status r → ¬ IsUnwritten answer
 never_unwritten (Ok v) status answer some e = subst (λ (s : Status). ¬ IsUnwritten s) (sym e) some
 never_unwritten (Err e) status answer some f = subst (λ (s : Status). ¬ IsUnwritten s) (sym f) (λ none. none)
+
+-- A write that failed took a front of its text, so of that text with more behind it.
+pub writes_missing : {E : Type 0} (old new : List ℕ → List ℕ → Type 0) (before now : ℕ) (r : Result (Unit {0}) E) (e : E) (text more : Text) → IsErr r
+    → Writes {T = Unit {0}} old new before now (Err e) text → Writes old new before now r (text ++ more)
+writes_missing old new before now (Ok v) e text more is w = absurd cc
+writes_missing old new before now (Err d) e text more is w =
+    record { ok = tt; err = takes_front_longer old new text more w.err; steady = tt; cause = record { later = w.cause.later; failed = w.cause.failed } }

@@ -1,5 +1,6 @@
 pub mod Commands
 pub mod Texts
+pub mod Samples
 pub mod Ends
 pub mod Inputs
 pub mod Reports

@@ -1,5 +1,5 @@
 -- Which texts are reports of a trace, and which are summaries of the workload.
-use Rattle.std.specs.Prelude.{◌≡◌, ℕ, List, ◌∷◌, ◌++◌, IsTrue, Ok}
+use Rattle.std.specs.Prelude.{◌≡◌, ℕ, ◌+◌, List, ◌∷◌, ◌++◌, length, IsTrue, Ok}
 use Rattle.k_types.specs.declared.event.Event.{Event}
 use Rattle.k_types.specs.declared.event.Event.TheVariants.{Ended}
 use Rattle.k_types.specs.declared.names.Heap.{Heap}
@@ -18,6 +18,11 @@ use Rattle.k_text.specs.Report.{report_text}
 use Rattle.k_history.specs.Histories.{history_of}
 use Rattle.k_big.specs.Summary.{summary_text}
 use Rattle.k_big.specs.Workload.{big_trace}
+use Rattle.k_watch.specs.declared.sample.Sample.{Sample}
+use Rattle.k_watch.specs.Numbers.{numbers_after}
+use Rattle.k_watch.specs.Samples.{IsLast, IsRising}
+use Rattle.k_watch.specs.Shown.{AllTellOf}
+use Rattle.k_top.specs.Samples.{samples_text}
 
 -- No end of a collection in the history frees an object that a living process's register, the directory or a live shared heap
 -- reaches just before it.
@@ -51,3 +56,17 @@ pub record IsSummaryOf (objects : ℕ) (text : Text) : Type 0 where
   pub legal : IsLegalHistory (big_trace objects).trace history
   pub complete : IsComplete (big_trace objects).trace history
   pub says : text ≡ summary_text objects history
+
+-- The text is the report of some history of the trace, and then the lines of so many samples and one more. Each sample is the number of
+-- events, the use of the root limit and the number of living processes of the machine after the first events of this history, as many as it
+-- says; these never fall, and the last sample has all of them.
+pub record IsWatchedReport (count : ℕ) (t : NamedTrace) (text : Text) : Type 0 where
+  pub history : List Event
+  pub report : Text
+  pub is_report : IsReportOf t history report
+  pub samples : List Sample
+  pub taken : length samples ≡ count + 1
+  pub each : AllTellOf t.trace history samples
+  pub rising : IsRising samples
+  pub last : IsLast (numbers_after t.trace history) samples
+  pub says : text ≡ report ++ samples_text samples

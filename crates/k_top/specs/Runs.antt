@@ -1,5 +1,5 @@
 -- What the parts of a run of a trace give: the trace that was read, the run of it, and why there is none.
-use Rattle.std.specs.Prelude.{◌≡◌, ℕ, [], Result, Ok, Err}
+use Rattle.std.specs.Prelude.{◌≡◌, ℕ, List, [], Result, Ok, Err}
 use Rattle.k_types.specs.Bounds.{most_trace_bytes}
 use Rattle.k_types.specs.FileOrder.{file_order}
 use Rattle.k_words.specs.Words.{Text}
@@ -10,6 +10,8 @@ use Rattle.k_text.specs.Named.{AreNamed}
 use Rattle.k_text.specs.Report.{text_over}
 use Rattle.k_outcome.specs.Ends.{EndValue, journal_of, last_state}
 use Rattle.k_run.specs.Runs.{IsRunOf}
+use Rattle.k_run.specs.Watched.{IsWatchedRunOf}
+use Rattle.k_watch.specs.declared.sample.Sample.{Sample}
 use Rattle.k_top.specs.declared.run_error.RunError.{RunError}
 use Rattle.k_top.specs.declared.run_error.RunError.TheVariants.{NoMemory, Unread, Bad}
 use Rattle.k_top.specs.declared.status.Status.{Status}
@@ -48,6 +50,12 @@ pub record HasReplayed (input : Input) (end : EndValue) : Type 0 where
   pub gave : GaveTrace input trace
   pub run : IsRunOf trace end
   pub in_order : journal_of end ≡ file_order trace.trace
+
+-- The source gave a trace, and this is the end of a run of it beside a watcher, which took so many samples and one more.
+pub record HasWatchedRun (input : Input) (count : ℕ) (end : EndValue) (samples : List Sample) : Type 0 where
+  pub trace : NamedTrace
+  pub gave : GaveTrace input trace
+  pub watched : IsWatchedRunOf trace count end samples
 
 -- All that the end shows has a name.
 abbrev pub IsNamedEnd : EndValue → Type 0

@@ -3,11 +3,11 @@ ghost use Rattle.std.specs.Prelude.{◌≡◌, map, string_bytes};
 ghost use Rattle.k_top.specs.Answers.{IsAnswered, IsUnwritten};
 ghost use Rattle.k_top.specs.Commands.{IsReading};
 
-use crate::checking::check_file;
 use crate::commands::{Command, command_of};
-use crate::running::{replay_file, run_file};
+use crate::running::run_file;
+use crate::settling::answer_at_once;
 use crate::status::Status;
-use crate::texts::write_usage;
+use crate::watching::watch_file;
 use crate::workload::run_workload;
 use k_io::{Gate, Sink, Source};
 use std::alloc::Global;
@@ -44,9 +44,10 @@ pub fn kaffe<S: Source, K: Sink, G: Gate, R: Threads + Wait + Sync>(
 {
     match command_of(words) {
         Some(Command::Run) => run_file(rt, alloc, src, out, gate),
-        Some(Command::Replay) => replay_file(alloc, src, out),
-        Some(Command::Check) => check_file(alloc, src, out),
         Some(Command::Big(objects)) => run_workload(rt, alloc, objects, out, gate),
-        None => write_usage(out),
+        Some(Command::Watch(count)) => watch_file(rt, alloc, src, count, out, gate),
+        Some(Command::Replay) | Some(Command::Check) | None => {
+            answer_at_once(alloc, words, src, out)
+        }
     }
 }

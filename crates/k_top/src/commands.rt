@@ -1,8 +1,12 @@
 //! The commands, by their words.
 ghost use Rattle.std.specs.Prelude.{◌≡◌, map, string_bytes};
-ghost use Rattle.k_top.specs.Commands.{command_named, command_numbered, command_of};
+ghost use Rattle.k_top.specs.Commands.{command_named, command_numbered, command_of, samples_of};
 
 use k_big::objects_of;
+use k_words::number;
+
+/// The most samples that a watcher is asked for.
+const MOST_SAMPLES: u32 = 1000;
 
 /// What the program is asked to do.
 #[derive(Clone, Copy, Debug, PartialEq, Eq)]
@@ -15,6 +19,8 @@ pub enum Command {
     Check,
     /// Makes the trace of the workload, in which each process makes so many objects, runs it on threads and writes its summary.
     Big(u32),
+    /// Runs a trace on threads beside a watcher that takes so many samples, and writes its report and the samples.
+    Watch(u32),
 }
 
 /// The command that the words, those after the program's name, are; `None` where they are none.
@@ -46,6 +52,18 @@ fn command_numbered(word: &str, number: &str) -> Option<Command>
 {
     match word {
         "big" => objects_of(number.as_bytes()).map(Command::Big),
+        "watch" => samples_of(number.as_bytes()).map(Command::Watch),
         _ => None,
+    }
+}
+
+/// The number of samples that the word is, from 0 to [`MOST_SAMPLES`], with no sign and no 0 before another digit; `None` where it is
+/// another word.
+fn samples_of(word: &[u8]) -> Option<u32>
+    ensures { result ≡ samples_of word.now }
+{
+    match number(word, MOST_SAMPLES as u128 + 1) {
+        Some(samples) => Some(samples as u32),
+        None => None,
     }
 }

@@ -14,11 +14,15 @@ mod commands;
 mod gathering;
 mod run_error;
 mod running;
+mod samples;
+mod settling;
 mod status;
 mod texts;
+mod watching;
 mod workload;
 
 pub use call::kaffe;
 pub use command_line::program;
 pub use gathering::gathered_call;
+pub use settling::answer_at_once;
 pub use status::Status;

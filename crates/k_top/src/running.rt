@@ -78,7 +78,7 @@ fn replay_source<S: Source>(alloc: Global, src: &mut S) -> Result<Outcome, RunEr
 }
 
 /// The trace that the source gives.
-fn trace_of<S: Source>(alloc: Global, src: &mut S) -> Result<Trace, RunError>
+pub(crate) fn trace_of<S: Source>(alloc: Global, src: &mut S) -> Result<Trace, RunError>
     ensures ok { IfOk result (λ trace. GaveTrace (record { left = S.left src.old; rest = S.left src.new; failed_before = S.faults src.old; failed_after = S.faults src.new }) (meaning_of trace)) }
     ensures err { IfErr result (λ error. HasCause (record { left = S.left src.old; rest = S.left src.new; failed_before = S.faults src.old; failed_after = S.faults src.new }) error) }
 {
@@ -94,7 +94,7 @@ fn trace_of<S: Source>(alloc: Global, src: &mut S) -> Result<Trace, RunError>
 }
 
 /// Writes the report of the run that is over, or says why there is none.
-fn tell_end<K: Sink>(out: &mut K, ended: Result<Outcome, RunError>) -> Status
+pub(crate) fn tell_end<K: Sink>(out: &mut K, ended: Result<Outcome, RunError>) -> Status
     requires { IfOk ended IsNamedEnd }
     ensures written { IsWritten
         (record { agreed = K.Holds out.old; agrees = K.Holds out.new; failed_before = K.faults out.old; failed_after = K.faults out.new })

@@ -23,7 +23,10 @@ pub fn write_usage<K: Sink>(out: &mut K) -> Status
         (record { agreed = K.Holds out.old; agrees = K.Holds out.new; failed_before = K.faults out.old; failed_after = K.faults out.new })
         Status.Usage usage_text result }
 {
-    let written = write_all(out, b"usage: kaffe run | replay | check | big N\n");
+    let written = write_all(
+        out,
+        b"usage: kaffe run | replay | check | big N | watch K\n",
+    );
     after_writing(Status::Usage, written)
 }
 

@@ -3,10 +3,10 @@
 //! A function that owns what a call is given is proved to drop all of it wherever it may return, and one that calls the program looks at all
 //! that the program promises. So a call is made in one place, which promises nothing, and tests lend what they have.
 use k_io::{Gate, MemSink, MemSource, NoGate, NoMemory, Sink, Source};
-use k_top::{Status, gathered_call, kaffe};
+use k_top::{Status, gathered_call, kaffe, program};
 use std::alloc::Global;
 use std::marker::Brand;
-use std::process::Abort;
+use std::process::{Abort, ExitCode};
 use std::sync::Wait;
 use std::thread::Threads;
 
@@ -45,6 +45,17 @@ fn answer<S: Source, K: Sink, G: Gate, R: Threads + Wait + Sync>(
     gate: &G,
 ) -> Status {
     kaffe(rt, alloc, words, source, sink, gate)
+}
+
+/// Calls the program with the arguments of its command line, and promises nothing of it.
+fn end<S: Source, K: Sink, R: Threads + Wait + Sync>(
+    rt: &R,
+    alloc: Global,
+    arguments: Vec<String>,
+    source: &mut S,
+    sink: &mut K,
+) -> ExitCode {
+    program(rt, alloc, Ok(arguments.into_iter()), source, sink, &NoGate)
 }
 
 /// Appends the words of the line.
@@ -153,6 +164,25 @@ impl Given {
             Err(_) => "what was written is no text",
         }
     }
+}
+
+/// Has the program end, whose name and words are those of the line, and compares its exit status and what it wrote. The read and the write
+/// of those numbers fail.
+pub fn check_end<R: Abort + Threads + Wait + Sync>(
+    rt: &R,
+    alloc: Global,
+    line: &str,
+    input: &str,
+    faults: Faults,
+    want: u8,
+    text: &str,
+) -> Result<(), NoMemory> {
+    let mut given = Given::make(alloc, "", input, faults)?;
+    let arguments = words_of(alloc, line)?;
+    let code = end(rt, alloc, arguments, &mut given.source, &mut given.sink);
+    assert_eq!(rt; given.written(), text, "{line}");
+    assert_eq!(rt; code, ExitCode::from(want), "{line}");
+    Ok(())
 }
 
 /// Has the program answer, and compares the status and what it wrote. Where they differ it tells the input.

@@ -10,7 +10,7 @@ use std::test::Fail;
 use std::thread::Threads;
 
 /// A collection of the first process's heap, and an object that the second process makes meanwhile.
-const COLLECTION: &str = "p1 new r0 Node
+pub(crate) const COLLECTION: &str = "p1 new r0 Node
 p1 collect
 p2 new r0 Node
 p2 drop r0
@@ -70,7 +70,7 @@ fn run_operations<G: Gate, R: Abort + Threads + Wait + Sync>(
 }
 
 /// Compares the report of the collection.
-fn check_collection<R: Abort>(rt: &R, report: &str) -> Result<(), Fail> {
+pub(crate) fn check_collection<R: Abort>(rt: &R, report: &str) -> Result<(), Fail> {
     let rest = report
         .strip_prefix(COLLECTION_BEGINS)
         .ok_or("another beginning")?;

@@ -6,6 +6,8 @@ mod calling;
 #[cfg(test)]
 mod checked;
 #[cfg(test)]
+mod ends;
+#[cfg(test)]
 mod gated;
 #[cfg(test)]
 mod ranges;
@@ -15,6 +17,8 @@ mod server;
 mod summaries;
 #[cfg(test)]
 mod tests;
+#[cfg(test)]
+mod watched;
 #[cfg(test)]
 mod worked;
 #[cfg(test)]

@@ -10,7 +10,7 @@ use std::test::Fail;
 use std::thread::Threads;
 
 /// The summary for ten objects of each process.
-const TEN: &str = "big 10
+pub const TEN: &str = "big 10
 operations 372
 events 380
 faults 0

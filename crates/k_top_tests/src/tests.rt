@@ -2,6 +2,8 @@
 use crate::calling::{
     Faults, Given, HEADER, NO_FAULTS, ROOM, check_call, check_faults, check_joined,
 };
+use crate::worked::trace_of;
+use crate::worked_sharing::SHARERS;
 use k_io::{DripSink, DripSource, NoMemory};
 use k_top::Status;
 use std::alloc::Global;
@@ -10,7 +12,7 @@ use std::sync::Wait;
 use std::test::Fail;
 use std::thread::Threads;
 
-const TRACE: &str = "kaffe 1
+pub const TRACE: &str = "kaffe 1
 kernel 32 2
 type Node ref ref int
 limit a 80
@@ -49,7 +51,7 @@ process p1 80
 end
 ";
 
-const USAGE: &str = "usage: kaffe run | replay | check | big N\n";
+pub const USAGE: &str = "usage: kaffe run | replay | check | big N | watch K\n";
 
 #[test]
 fn reports_the_first_trace(rt: HostRuntime) -> Result<(), Fail> {
@@ -161,6 +163,45 @@ fn tells_the_first_bad_operation(rt: HostRuntime) -> Result<(), Fail> {
     Ok(())
 }
 
+/// Replays the first trace with another line in place of one of its own.
+fn check_replaced<R: Abort + Threads + Wait + Sync>(
+    rt: &R,
+    alloc: Global,
+    line: &str,
+    put: &str,
+    text: &str,
+) -> Result<(), NoMemory> {
+    match TRACE.split_once(line) {
+        Some((front, rest)) => {
+            let input = format!(in alloc; "{front}{put}{rest}")?;
+            check_call(rt, alloc, "replay", &input, Status::BadTrace, text)
+        }
+        None => {
+            assert!(rt; false, "{line}");
+            Ok(())
+        }
+    }
+}
+
+#[test]
+fn tells_a_header_beyond_its_range_in_a_whole_trace(rt: HostRuntime) -> Result<(), Fail> {
+    for (line, put, text) in [
+        (
+            "kernel 32 2",
+            "kernel 31 2",
+            "bad trace: line 2 reason 10\n",
+        ),
+        (
+            "limit a 80",
+            "limit a 1099511627776",
+            "bad trace: line 4 reason 5\n",
+        ),
+    ] {
+        check_replaced(&rt, rt.alloc(), line, put, text)?;
+    }
+    Ok(())
+}
+
 /// The first lines of a header; a limit behind them stands on line 7.
 const LIMITS: &str = "kaffe 1
 kernel 32 2
@@ -217,9 +258,9 @@ fn tells_each_read_that_fails(rt: HostRuntime) -> Result<(), Fail> {
 }
 
 /// A source that gives a byte of the trace at each read. The read of that number fails.
-fn drip_source(alloc: Global, failing_read: u32) -> Result<DripSource, NoMemory> {
+fn drip_source(alloc: Global, trace: &str, failing_read: u32) -> Result<DripSource, NoMemory> {
     let fails = Vec::from_slice(alloc, &[failing_read])?;
-    let bytes = Vec::from_slice(alloc, TRACE.as_bytes())?;
+    let bytes = Vec::from_slice(alloc, trace.as_bytes())?;
     Ok(DripSource::of(bytes, fails))
 }
 
@@ -227,11 +268,12 @@ fn drip_source(alloc: Global, failing_read: u32) -> Result<DripSource, NoMemory>
 fn check_reads<R: Abort + Threads + Wait + Sync>(
     rt: &R,
     alloc: Global,
+    trace: &str,
     failing_read: u32,
     want: Status,
     text: &str,
 ) -> Result<(), NoMemory> {
-    let mut source = drip_source(alloc, failing_read)?;
+    let mut source = drip_source(alloc, trace, failing_read)?;
     let mut given = Given::make(alloc, "replay", "", NO_FAULTS)?;
     let status = given.answer_from(rt, alloc, &mut source);
     assert_eq!(rt; status, want, "read {failing_read}");
@@ -239,17 +281,28 @@ fn check_reads<R: Abort + Threads + Wait + Sync>(
     Ok(())
 }
 
+/// Replays the trace as often as it has bytes, and twice more, each time with another read that fails. The last but one gives the end of
+/// input, and the last one is not asked for.
+fn check_all_reads<R: Abort + Threads + Wait + Sync>(
+    rt: &R,
+    alloc: Global,
+    trace: &str,
+    report: &str,
+) -> Result<(), NoMemory> {
+    let mut failing_read = 1;
+    for _ in trace.bytes() {
+        check_reads(rt, alloc, trace, failing_read, Status::ReadFault, "")?;
+        failing_read = failing_read.saturating_add(1);
+    }
+    check_reads(rt, alloc, trace, failing_read, Status::ReadFault, "")?;
+    let none = failing_read.saturating_add(1);
+    check_reads(rt, alloc, trace, none, Status::Good, report)
+}
+
 #[test]
 fn tells_each_byte_that_is_not_given(rt: HostRuntime) -> Result<(), Fail> {
-    // the last but one read gives the end of input, and the last one is not asked for
-    for given in 0..=TRACE.len() + 1 {
-        let (want, text) = if given <= TRACE.len() {
-            (Status::ReadFault, "")
-        } else {
-            (Status::Good, REPORT)
-        };
-        check_reads(&rt, rt.alloc(), given as u32 + 1, want, text)?;
-    }
+    let trace = trace_of(rt.alloc(), HEADER, SHARERS)?;
+    check_all_reads(&rt, rt.alloc(), &trace, SHARERS)?;
     Ok(())
 }
 
@@ -258,15 +311,17 @@ fn tells_each_byte_that_is_not_given(rt: HostRuntime) -> Result<(), Fail> {
 fn check_writes<R: Abort + Threads + Wait + Sync>(
     rt: &R,
     alloc: Global,
+    trace: &str,
+    report: &str,
     written: &mut String,
 ) -> Result<(), NoMemory> {
     let mut faults = Faults { read: 0, write: 1 };
-    for line in REPORT.split_inclusive('\n') {
+    for line in report.split_inclusive('\n') {
         check_faults(
             rt,
             alloc,
             "replay",
-            TRACE,
+            trace,
             faults,
             Status::WriteFault,
             written.as_str(),
@@ -274,13 +329,14 @@ fn check_writes<R: Abort + Threads + Wait + Sync>(
         written.push_str(line)?;
         faults.write = faults.write.saturating_add(1);
     }
-    check_faults(rt, alloc, "replay", TRACE, faults, Status::Good, REPORT)
+    check_faults(rt, alloc, "replay", trace, faults, Status::Good, report)
 }
 
 #[test]
 fn tells_each_line_that_is_not_taken(rt: HostRuntime) -> Result<(), Fail> {
+    let trace = trace_of(rt.alloc(), HEADER, SHARERS)?;
     let mut written = String::new(rt.alloc());
-    check_writes(&rt, rt.alloc(), &mut written)?;
+    check_writes(&rt, rt.alloc(), &trace, SHARERS, &mut written)?;
     Ok(())
 }
 
@@ -333,16 +389,17 @@ fn drip_sink(alloc: Global, failing_write: u32) -> Result<DripSink, NoMemory> {
     DripSink::make(alloc, ROOM, fails)
 }
 
-/// Runs the trace. The report is taken byte by byte, and the write of that number fails.
+/// Replays the trace. The report is taken byte by byte, and the write of that number fails.
 fn check_taken<R: Abort + Threads + Wait + Sync>(
     rt: &R,
     alloc: Global,
+    trace: &str,
     failing_write: u32,
     want: Status,
     taken: &[u8],
 ) -> Result<(), NoMemory> {
     let mut sink = drip_sink(alloc, failing_write)?;
-    let mut given = Given::make(alloc, "run", TRACE, NO_FAULTS)?;
+    let mut given = Given::make(alloc, "replay", trace, NO_FAULTS)?;
     let status = given.answer_into(rt, alloc, &mut sink);
     assert_eq!(rt; status, want, "write {failing_write}");
     assert!(rt; sink.bytes() == taken, "write {failing_write}");
@@ -351,14 +408,15 @@ fn check_taken<R: Abort + Threads + Wait + Sync>(
 
 #[test]
 fn tells_each_byte_that_is_not_taken(rt: HostRuntime) -> Result<(), Fail> {
-    for taken in 0..=REPORT.len() {
-        let want = if taken < REPORT.len() {
+    let trace = trace_of(rt.alloc(), HEADER, SHARERS)?;
+    for taken in 0..=SHARERS.len() {
+        let want = if taken < SHARERS.len() {
             Status::WriteFault
         } else {
             Status::Good
         };
-        let bytes = &REPORT.as_bytes()[..taken];
-        check_taken(&rt, rt.alloc(), taken as u32 + 1, want, bytes)?;
+        let bytes = &SHARERS.as_bytes()[..taken];
+        check_taken(&rt, rt.alloc(), &trace, taken as u32 + 1, want, bytes)?;
     }
     Ok(())
 }

@@ -1,0 +1,34 @@
+use Rattle.std.proofs.Common.{rules, sym, ◌∙◌, ap, refl, Some}
+use Rattle.std.specs.Prelude.{map, string_bytes}
+use Rattle.k_top.specs.declared.commands.Command.{Command}
+use Rattle.k_top.specs.declared.commands.Command.TheVariants.{Run, Replay, Check, Big, Watch}
+use Rattle.k_top.proofs.Answered.{answered_more, answered_written}
+use Rattle.k_top.proofs.Contract.{contract}
+use Rattle.k_top.proofs.Meanings.{check_means, run_means}
+use Rattle.k_top.proofs.settling.answer_at_once.Goals as goal
+
+pub returns-in-Some-Replay-clause-answered : goal.returns-in-Some-Replay-clause-answered
+returns-in-Some-Replay-clause-answered g c =
+    contract _ _ _ _ (answered_more _ _ _ _ (run_means _ _ Replay (sym c.command_of.ensures ∙ c.in-Some-Replay.is ∙ ap (λ (command : Command). Some command) c.in-Some-Replay.field-0-is) tt) c.replay_file.ensures.answered)
+
+pub returns-in-Some-Check-clause-answered : goal.returns-in-Some-Check-clause-answered
+returns-in-Some-Check-clause-answered g c =
+    contract _ _ _ _ (answered_more _ _ _ _ (check_means _ _ (sym c.command_of.ensures ∙ c.in-Some-Check.is ∙ ap (λ (command : Command). Some command) c.in-Some-Check.field-0-is)) c.check_file.ensures.answered)
+
+pub returns-in-Some-Replay-clause-unread : goal.returns-in-Some-Replay-clause-unread
+returns-in-Some-Replay-clause-unread g c none = absurd (none (Replay, sym c.command_of.ensures ∙ c.in-Some-Replay.is ∙ ap (λ (command : Command). Some command) c.in-Some-Replay.field-0-is, tt))
+
+pub returns-in-Some-Check-clause-unread : goal.returns-in-Some-Check-clause-unread
+returns-in-Some-Check-clause-unread g c none = absurd (none (Check, sym c.command_of.ensures ∙ c.in-Some-Check.is ∙ ap (λ (command : Command). Some command) c.in-Some-Check.field-0-is, tt))
+
+pub returns-in-None-clause-answered : goal.returns-in-None-clause-answered
+returns-in-None-clause-answered g c = contract _ _ _ _ (answered_written _ _ _ _ _ (record { no_command = sym c.command_of.ensures ∙ c.in-None.is; says = refl }) c.write_usage.ensures)
+
+pub unreachable-requires : goal.unreachable-requires
+unreachable-requires g c = c.requires Run (sym c.command_of.ensures ∙ c.in-Some-Run.is ∙ ap (λ (command : Command). Some command) c.in-Some-Run.field-0-is) tt
+
+pub unreachable-requires-in-Some-Big : goal.unreachable-requires-in-Some-Big
+unreachable-requires-in-Some-Big g c = c.requires (Big c.in-Some-Big.field-0-0) (sym c.command_of.ensures ∙ c.in-Some-Big.is ∙ ap (λ (command : Command). Some command) c.in-Some-Big.field-0-is) tt
+
+pub unreachable-requires-in-Some-Watch : goal.unreachable-requires-in-Some-Watch
+unreachable-requires-in-Some-Watch g c = c.requires (Watch c.in-Some-Watch.field-0-0) (sym c.command_of.ensures ∙ c.in-Some-Watch.is ∙ ap (λ (command : Command). Some command) c.in-Some-Watch.field-0-is) tt

@@ -1,0 +1,38 @@
+//! What the program answers without waiting for anybody.
+ghost use Rattle.std.specs.Prelude.{◌≡◌, map, string_bytes};
+ghost use Rattle.k_top.specs.Answers.{IsAnswered, IsUnwritten};
+ghost use Rattle.k_top.specs.Commands.{IsReading, WaitsForNobody};
+
+use crate::checking::check_file;
+use crate::commands::{Command, command_of};
+use crate::running::replay_file;
+use crate::status::Status;
+use crate::texts::write_usage;
+use k_io::{Sink, Source};
+use std::alloc::Global;
+
+/// Does what the words say where they are `replay`, `check`, or no command. It waits for nobody, so it returns, whatever the source and
+/// the sink do.
+pub fn answer_at_once<S: Source, K: Sink>(
+    alloc: Global,
+    words: &[String],
+    src: &mut S,
+    out: &mut K,
+) -> Status
+    requires { WaitsForNobody (map string_bytes words.now) }
+    ensures answered { IsAnswered (map string_bytes words.now)
+        (record { left = S.left src.old; rest = S.left src.new; failed_before = S.faults src.old; failed_after = S.faults src.new })
+        (record { agreed = K.Holds out.old; agrees = K.Holds out.new; failed_before = K.faults out.old; failed_after = K.faults out.new })
+        result }
+    ensures unread { ¬ IsReading (map string_bytes words.now) → src.new ≡ src.old }
+    ensures unwritten { IsUnwritten result → out.new ≡ out.old }
+{
+    match command_of(words) {
+        Some(Command::Replay) => replay_file(alloc, src, out),
+        Some(Command::Check) => check_file(alloc, src, out),
+        Some(Command::Run) => unreachable!(),
+        Some(Command::Big(_)) => unreachable!(),
+        Some(Command::Watch(_)) => unreachable!(),
+        None => write_usage(out),
+    }
+}
