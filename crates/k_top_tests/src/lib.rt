@@ -10,6 +10,8 @@ mod ends;
 #[cfg(test)]
 mod gated;
 #[cfg(test)]
+mod long_runs;
+#[cfg(test)]
 mod ranges;
 #[cfg(test)]
 mod server;

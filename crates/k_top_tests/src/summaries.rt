@@ -56,22 +56,23 @@ fn neither_reads_nor_writes_in_part(rt: HostRuntime) -> Result<(), Fail> {
     Ok(())
 }
 
-/// Has the gate count what a workload of ten objects tells it.
-fn count_workload<R: Abort + Threads + Wait + Sync>(
+/// Has the gate count what the workload of that line tells it, and compares its summary.
+pub fn count_workload<R: Abort + Threads + Wait + Sync>(
     rt: &R,
     alloc: Global,
+    line: &str,
+    summary: &str,
     gate: &Counts,
 ) -> Result<(), NoMemory> {
-    let mut given = Given::make(alloc, "big 10", "", NO_FAULTS)?;
-    check_given(rt, alloc, &mut given, gate, "big 10", Status::Good, TEN);
+    let mut given = Given::make(alloc, line, "", NO_FAULTS)?;
+    check_given(rt, alloc, &mut given, gate, line, Status::Good, summary);
     Ok(())
 }
 
-/// Compares what the gate counted: a step for `dir`, ten `new`, two stores into the directory, both ends of a collection, and every other
-/// process's `exit`.
-fn check_counts<R: Abort>(rt: &R, gate: &Counts) {
+/// Compares what the gate counted of each process, operations and steps: of every other one, which ends with an `exit`, and of the rest.
+pub fn check_counts<R: Abort>(rt: &R, gate: &Counts, ended: (u32, u32), living: (u32, u32)) {
     for pid in 0..8usize {
-        let want = if pid % 2 == 0 { (47, 16) } else { (46, 15) };
+        let want = if pid % 2 == 0 { ended } else { living };
         assert_eq!(rt; gate.of(pid), Some(want), "process {pid}");
     }
 }
@@ -81,13 +82,14 @@ fn check_counts<R: Abort>(rt: &R, gate: &Counts) {
 #[test]
 fn threads_do_all_the_work(rt: HostRuntime) -> Result<(), Fail> {
     let gate = Counts::make(rt.alloc(), 8)?;
-    count_workload(&rt, rt.alloc(), &gate)?;
-    check_counts(&rt, &gate);
+    count_workload(&rt, rt.alloc(), "big 10", TEN, &gate)?;
+    // a step for `dir`, ten `new`, two stores into the directory, both ends of a collection, and an `exit`
+    check_counts(&rt, &gate, (47, 16), (46, 15));
     Ok(())
 }
 
 /// Has the gate count what a run of the trace tells it.
-fn count_run<R: Abort + Threads + Wait + Sync>(
+pub fn count_run<R: Abort + Threads + Wait + Sync>(
     rt: &R,
     alloc: Global,
     trace: &str,
