@@ -58,12 +58,12 @@ fn is_published(sample: &Sample) -> bool {
 
 /// Takes so many samples, and counts those that no book here has, or that have fewer events than the one before.
 fn count_wrong<R: Wait>(rt: &R, watcher: &mut Watcher, count: u32) -> u32 {
-    let mut wrong = 0;
+    let mut wrong: u32 = 0;
     let mut before = 0;
     for _ in 0..count {
         let sample = watcher.sample(rt);
         if sample.events < before || !is_published(&sample) {
-            wrong += 1;
+            wrong = wrong.saturating_add(1);
         }
         before = sample.events;
     }
