@@ -55,6 +55,6 @@ histories_do_the_operations_of_the_trace = operations_bounded
 pub numbers_fit : (trace : Trace) (history : List Event) → AreOperations trace → IsLegalHistory trace history → DoesOperationsOf trace history → NumbersFit history (state_after trace history)
 numbers_fit = history_fits
 
--- each maximum after such a history is below 2^40: the trace gives it, or a resize has set it
-pub maxima_fit : (trace : Trace) (history : List Event) → AreLimits trace → AreOperations trace → IsLegalHistory trace history → DoesOperationsOf trace history → AllByRecursion (λ max. max < maximum_below) (state_after trace history).maxima
+-- each maximum after a legal history is below 2^40: the trace gives it, or a resize has set it
+pub maxima_fit : (trace : Trace) (history : List Event) → AreLimits trace → IsLegalHistory trace history → AllByRecursion (λ max. max < maximum_below) (state_after trace history).maxima
 maxima_fit = maxima_small

@@ -30,8 +30,8 @@ pub fn numbers_fit()
         DoesOperationsOf trace history → NumbersFit history (state_after trace history) }
 {}
 
-/// Each maximum after such a history is below 2^40: the trace gives it, or a resize has set it.
+/// Each maximum after a legal history is below 2^40: the trace gives it, or a resize has set it.
 pub fn maxima_fit()
-    ensures { (trace : Trace) (history : List Event) → AreLimits trace → AreOperations trace → IsLegalHistory trace history →
-        DoesOperationsOf trace history → AllByRecursion (λ max. max < maximum_below) (state_after trace history).maxima }
+    ensures { (trace : Trace) (history : List Event) → AreLimits trace → IsLegalHistory trace history →
+        AllByRecursion (λ max. max < maximum_below) (state_after trace history).maxima }
 {}
