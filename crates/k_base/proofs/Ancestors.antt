@@ -1,11 +1,12 @@
 -- The limits above a limit come before it, so that no limit is above itself.
-use Rattle.std.proofs.Common.{◌≡◌, ◌≢◌, ℕ, zero, suc, ◌<◌, ◌==◌, ◌||◌, true, false, refl, ap, List, length, Option, Some, None, arith, IsTrue, eqb-true}
+use Rattle.std.proofs.Common.{◌≡◌, ◌≢◌, ℕ, zero, suc, ◌<◌, ◌==◌, ◌||◌, ◌∷◌, ◌∙◌, true, false, refl, ap, List, length, Option, Some, None, arith, IsTrue, eqb-true}
 use Rattle.k_types.specs.declared.names.LimitId.{LimitId}
 use Rattle.k_types.specs.declared.setup.LimitRow.{LimitRow}
 use Rattle.k_types.specs.Names.{among}
 use Rattle.k_types.specs.Trace.{Trace, row_of, limit_of, process_count}
 use Rattle.k_types.specs.TraceRules.{AreLimits, IsTree}
-use Rattle.k_types.specs.Limits.{ancestors_within, ancestors_above, is_above}
+use Rattle.k_types.specs.Limits.{ancestors_of, ancestors_within, ancestors_above, is_above, with_maxima}
+use Rattle.k_base.proofs.Maxima.{length_in, parent_in}
 
 -- what stands above a limit comes before it
 pub ancestor_before : (rows : List LimitRow) → IsTree rows → (depth m q : ℕ) → m < length rows → IsTrue (among q (ancestors_within rows depth m)) → q < m
@@ -29,3 +30,18 @@ above_another trace limits p q known above same =
     let before = ancestor_before trace.limits limits.tree (length trace.limits) (limit_of trace q) (limit_of trace p) (limits.limited q known) above in
     let one = ap (limit_of trace) same in
     absurd (omega (arith, before, one))
+
+-- the limits with other maxima have the same ancestors
+within_in : (rows : List LimitRow) (maxima : List ℕ) (depth m : ℕ) → ancestors_within (with_maxima rows maxima) depth m ≡ ancestors_within rows depth m
+unfolding ancestors_within
+within_in rows maxima zero m = refl
+within_in rows maxima (suc depth) m =
+    ap (ancestors_above (ancestors_within (with_maxima rows maxima) depth)) (parent_in rows maxima m) ∙ above (row_of rows m).parent (within_in rows maxima depth)
+  where
+    above : (parent : Option LimitId) → ((r : ℕ) → ancestors_within (with_maxima rows maxima) depth r ≡ ancestors_within rows depth r) →
+        ancestors_above (ancestors_within (with_maxima rows maxima) depth) parent ≡ ancestors_above (ancestors_within rows depth) parent
+    above None same = refl
+    above (Some r) same = ap (λ up. r.0 ∷ up) (same r.0)
+
+pub ancestors_in : (rows : List LimitRow) (maxima : List ℕ) (m : ℕ) → ancestors_of (with_maxima rows maxima) m ≡ ancestors_of rows m
+ancestors_in rows maxima m = ap (λ depth. ancestors_within (with_maxima rows maxima) depth m) (length_in rows maxima) ∙ within_in rows maxima (length rows) m
