@@ -34,7 +34,8 @@ use Rattle.k_base.proofs.Ancestors.{above_another}
 use Rattle.k_frame.proofs.ElsewhereOther.{exited_elsewhere}
 use Rattle.std.proofs.lemmas.Bool.{and_parts}
 
-counted_cell : (trace : Trace) (st : State) (p : ℕ) (value : CellValue) → p < length st.done → Shows trace st (user p) value → value.collection ≡ Idle → Shows trace (count_done p st) (user p) (with_one_done value)
+-- an operation that counts as done shows in its process's cell alone
+pub counted_cell : (trace : Trace) (st : State) (p : ℕ) (value : CellValue) → p < length st.done → Shows trace st (user p) value → value.collection ≡ Idle → Shows trace (count_done p st) (user p) (with_one_done value)
 unfolding part count_done
 counted_cell trace st p value inside shows idle = record {
   part =
@@ -50,15 +51,15 @@ counted_kernel trace st p value shows = record {
   marks = shows.marks;
 }
 
-still_counted : (trace : Trace) (st : State) (p : ℕ) → p < length st.done → p < length (after_end_of trace p st).done
+pub still_counted : (trace : Trace) (st : State) (p : ℕ) → p < length st.done → p < length (after_end_of trace p st).done
 unfolding after_end_of end_process clear_registers keep_shares turn_exits
 still_counted trace st p inside = inside
 
-still_counted_by : (trace : Trace) (st : State) (p q : ℕ) → q < length st.done → q < length (after_end_of trace p st).done
+pub still_counted_by : (trace : Trace) (st : State) (p q : ℕ) → q < length st.done → q < length (after_end_of trace p st).done
 unfolding after_end_of end_process clear_registers keep_shares turn_exits
 still_counted_by trace st p q inside = inside
 
-counted_apart : (trace : Trace) (st : State) (c : Cell) (p : ℕ) (value : CellValue) → IsFalse (heap_eq (user p) c) → Shows trace st c value → Shows trace (count_done p st) c value
+pub counted_apart : (trace : Trace) (st : State) (c : Cell) (p : ℕ) (value : CellValue) → IsFalse (heap_eq (user p) c) → Shows trace st c value → Shows trace (count_done p st) c value
 unfolding count_done
 counted_apart trace st c p value apart shows = record {
   part = shows.part ∙ ap shown (sym (count_done_elsewhere trace st c p apart));
@@ -105,7 +106,8 @@ killed_state : (trace : Trace) (journal : JournalValue) (pid target : Pid) (said
     state_after trace (journal.list ++ Done pid (Kill target) said ∷ []) ≡ count_done pid.0 (after_end_of trace target.0 (state_after trace journal.list))
 killed_state trace journal pid target said ends = state_next trace journal.list (Done pid (Kill target) said) ∙ kill_event trace (state_after trace journal.list) pid target said ends
 
-ended_elsewhere : (trace : Trace) (st : State) (c : Cell) (p : ℕ) (value : CellValue) → IsFalse (heap_eq (user p) c) → IsFalse (heap_eq Kernel c) → Shows trace st c value → Shows trace (after_end_of trace p st) c value
+-- the end of a process shows in its own cell and the kernel's alone
+pub ended_elsewhere : (trace : Trace) (st : State) (c : Cell) (p : ℕ) (value : CellValue) → IsFalse (heap_eq (user p) c) → IsFalse (heap_eq Kernel c) → Shows trace st c value → Shows trace (after_end_of trace p st) c value
 unfolding after_end_of end_process clear_registers keep_shares turn_exits
 ended_elsewhere trace st c p value apart kernel shows = record {
   part = shows.part ∙ ap shown (sym (exited_elsewhere trace st c p apart kernel));

@@ -279,7 +279,7 @@ may_exit trace st pid said may =
       kernel_idle = none_is _ (not-true _ last.0);
     }
 
-counted_shows : (trace : Trace) (st : State) (p : ℕ) (value : BookValue) → BookShows trace st value → BookShows trace (count_done p st) value
+pub counted_shows : (trace : Trace) (st : State) (p : ℕ) (value : BookValue) → BookShows trace st value → BookShows trace (count_done p st) value
 unfolding count_done
 counted_shows trace st p value seen = record {
   part = seen.part ∙ sym (count_done_on_book trace st p);
