@@ -8,7 +8,7 @@ ghost use Rattle.k_entered.specs.Entered.{HasRehomed};
 ghost use Rattle.k_limits.specs.Limits.{full_at, use_at};
 ghost use Rattle.k_shares.specs.Sharers.{bytes_in_phase, GainsEnded, GainsShare, LosesShare};
 ghost use Rattle.k_book.specs.Books.{book_entries, book_limits, book_pins};
-ghost use Rattle.k_limits.specs.Resizes.{ExplainsResize, full_for_at, with_max_at};
+ghost use Rattle.k_limits.specs.Resizes.{ExplainsResize, full_for_at};
 ghost use Rattle.k_types.specs.Trace.{row_of};
 
 use crate::parts::Book;
@@ -42,7 +42,7 @@ impl Book {
         requires there { at.0 < length self.old.rows }
         requires below { IsTrue (is_some (row_of self.old.rows at.0).parent) }
         requires small { max < 2 ^ 40 }
-        ensures resized { IfOk result (λ _. (self.new ≡ record self.old { value = record self.old.value { maxima = slice_set self.old.value.maxima at.0 max }; rows = (with_max_at at.0 max (book_limits self.old)).rows }) × (use_at (book_limits self.old) at.0 ≤ max) × (full_for_at (book_limits self.old) at.0 max ≡ None)) }
+        ensures resized { IfOk result (λ _. (self.new ≡ record self.old { value = record self.old.value { maxima = slice_set self.old.value.maxima at.0 max } }) × (use_at (book_limits self.old) at.0 ≤ max) × (full_for_at (book_limits self.old) at.0 max ≡ None)) }
         ensures refused { IfErr result (λ why. (self.new ≡ self.old) × ExplainsResize (book_limits self.old) at.0 max why) }
     {
         self.limits.resize(at, max)?;
