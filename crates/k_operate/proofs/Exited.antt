@@ -81,11 +81,11 @@ module _ (world : WorldValue) (p : Process) (k : HoldingsValue) (b : BookRecord)
     exited = subst (HasAppended world.trace b l) s.event_is (record { possible = s.possible; lawful = s.lawful; journal = s.journal; same_table = s.same_table; book_is = s.book_is; agrees = s.book_agrees })
 
     pid_kept : c.pid ≡ p.cell.pid
-    pid_kept = ap (λ (y : HeapRecord). y.pid) s.cell_is
+    pid_kept = ap (λ (y : HeapRecord). y.pid) s.ends.cell_is
 
     book_kept : BookKeeps world.trace world.table l
     book_kept = book_keeps_on world.trace world.table b l (Done p.cell.pid Exit DoneReply) n.own.pair.book exited
-        (in_turn world.trace world.table p.cell c b l Exit DoneReply n.own.next.rest n.own.pair.process.cell n.own.pair.book n.own.next.left s.agrees pid_kept s.met.list s.settled exited.journal s.done) refl
+        (in_turn world.trace world.table p.cell c b l Exit DoneReply n.own.next.rest n.own.pair.process.cell n.own.pair.book n.own.next.left s.ends.agrees pid_kept s.ends.met.list s.ends.settled exited.journal s.done) refl
 
     left_then : operations_left world.trace c ≡ n.own.next.rest
     left_then = left_by_done world.trace p.cell c Exit n.own.next.rest n.own.next.left pid_kept s.done
@@ -98,32 +98,32 @@ module _ (world : WorldValue) (p : Process) (k : HoldingsValue) (b : BookRecord)
       own = record {
         pair = record {
           process = record {
-            cell = heap_keeps_by world.trace world.table c l book_kept s.agrees s.table s.idle s.met.list s.settled
-                (ap (λ (y : HeapRecord). y.bodies) s.cell_is ∙ n.own.pair.process.cell.bodies ∙ ap (bodies_of world.trace.types) n.own.next.left ∙ ap (bodies_of world.trace.types) (sym left_then))
+            cell = heap_keeps_by world.trace world.table c l book_kept s.ends.agrees s.ends.table s.ends.idle s.ends.met.list s.ends.settled
+                (ap (λ (y : HeapRecord). y.bodies) s.ends.cell_is ∙ n.own.pair.process.cell.bodies ∙ ap (bodies_of world.trace.types) n.own.next.left ∙ ap (bodies_of world.trace.types) (sym left_then))
                 (record {
-                  exits = subst (λ (y : HeapRecord). stores_in (operations_of world.trace y.pid.0) ≤ y.exit_room) (sym s.cell_is) n.own.pair.process.cell.rooms.exits;
-                  serials = λ lives. absurd (false≢true (sym lives ∙ s.ended));
-                  tail = subst (λ (y : HeapRecord). length (operations_of world.trace y.pid.0) ≤ y.tail_room) (sym s.cell_is) n.own.pair.process.cell.rooms.tail;
+                  exits = subst (λ (y : HeapRecord). stores_in (operations_of world.trace y.pid.0) ≤ y.exit_room) (sym s.ends.cell_is) n.own.pair.process.cell.rooms.exits;
+                  serials = λ lives. absurd (false≢true (sym lives ∙ s.ends.ended));
+                  tail = subst (λ (y : HeapRecord). length (operations_of world.trace y.pid.0) ≤ y.tail_room) (sym s.ends.cell_is) n.own.pair.process.cell.rooms.tail;
                 });
-            operations = n.own.pair.process.operations ∙ ap (λ (y : HeapRecord). operations_of world.trace y.pid.0) (sym s.cell_is);
+            operations = n.own.pair.process.operations ∙ ap (λ (y : HeapRecord). operations_of world.trace y.pid.0) (sym s.ends.cell_is);
           };
           book = book_kept;
         };
         done = record { pid = pid_kept; left = n.own.next.left ∙ ap (λ (ops : List Op). Exit ∷ ops) (sym left_then) };
-        settled = s.settled;
+        settled = s.ends.settled;
       };
       kernel = record {
         rules = n.kernel.rules;
-        agrees = s.kernel_agrees;
-        table = s.kernel_table ∙ book_kept.table;
-        idle = s.kernel_idle;
-        exits = subst (λ (w : HoldingsValue). exit_room world.trace ≤ w.exit_room) (sym s.kernel_is) n.kernel.exits;
-        serials = subst (λ (w : HoldingsValue). CanGive world.trace w.serial_rooms 0) (sym s.kernel_is) (gives_else world.trace k.serial_rooms (own_segment p.cell.pid) _ not_first n.kernel.serials);
-        numbers = subst (λ (w : HoldingsValue). segment_count world.trace ≤ w.bound) (sym s.kernel_is) n.kernel.numbers;
+        agrees = s.ends.kernel_agrees;
+        table = s.ends.kernel_table ∙ book_kept.table;
+        idle = s.ends.kernel_idle;
+        exits = subst (λ (w : HoldingsValue). exit_room world.trace ≤ w.exit_room) (sym s.ends.kernel_is) n.kernel.exits;
+        serials = subst (λ (w : HoldingsValue). CanGive world.trace w.serial_rooms 0) (sym s.ends.kernel_is) (gives_else world.trace k.serial_rooms (own_segment p.cell.pid) _ not_first n.kernel.serials);
+        numbers = subst (λ (w : HoldingsValue). segment_count world.trace ≤ w.bound) (sym s.ends.kernel_is) n.kernel.numbers;
       };
     }
 
     pub exit_adds : AddsOperation world.trace p.cell.pid Exit (known_to p b) (known_to (record p { cell = c }) l)
     exit_adds =
-        adds_known world.trace Exit p.cell.pid p (record p { cell = c }) b l n.own.settled s.settled
+        adds_known world.trace Exit p.cell.pid p (record p { cell = c }) b l n.own.settled s.ends.settled
         (adds_exit world.trace p.cell.pid b.journal.list l.journal.list (record { said = DoneReply; new_is = exited.journal }))
