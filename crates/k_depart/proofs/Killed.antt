@@ -131,7 +131,7 @@ module _ (trace : Trace) (c0 c t0 t : HeapRecord) (k0 k : HoldingsValue) (b0 b1 
   apart_too = ne_eqb c0.pid.0 t0.pid.0 (above_another trace can.book_stands.keeps.limits c0.pid.0 t0.pid.0 target_known parts.0)
 
   room_here : HasRoomToExit (record t0 { note = met_note b0.journal t0.note }) (record k0 { note = met_note b0.journal k0.note }) b0
-  room_here = let room = can.room target_fits kernel_fits in record { events = room.events; exits = room.exits }
+  room_here = let room = can.room one.told.fits target_fits kernel_fits in record { events = room.events; exits = room.exits }
 
   pub met_here : HaveMetToExit trace (record t0 { note = met_note b0.journal t0.note }) (record k0 { note = met_note b0.journal k0.note }) b0
   met_here = record {

@@ -42,7 +42,7 @@ pub record CanKill (trace : Trace) (cell target : HeapRecord) (kernel : Holdings
   pub numbers : segment_count trace ≤ kernel.bound
   pub asks : op ≡ Kill target.pid
   pub reaches : ReachesEnd trace cell target.pid book op
-  pub room : Fits book.journal target.note → Fits book.journal kernel.note → HasRoomToExit target kernel book
+  pub room : Fits book.journal cell.note → Fits book.journal target.note → Fits book.journal kernel.note → HasRoomToExit target kernel book
 
 -- the process has done the operation, as by any step; and the target has ended, as by any end of a process, with as many operations done
 -- as before

@@ -4,23 +4,26 @@ use Rattle.k_types.specs.declared.event.Event.TheVariants.{Done}
 use Rattle.k_types.specs.declared.event.Fault.TheVariants.{ProcNotBelow}
 use Rattle.k_types.specs.declared.event.Reply.{Reply}
 use Rattle.k_types.specs.declared.event.Reply.TheVariants.{Done as DoneReply, Loaded, Made, Refused, Value}
-use Rattle.k_types.specs.declared.names.Heap.TheVariants.{Kernel, User}
+use Rattle.k_types.specs.declared.names.Heap.{Heap}
+use Rattle.k_types.specs.declared.names.Heap.TheVariants.{Kernel, Shared, User}
 use Rattle.k_types.specs.declared.names.LimitId.{LimitId}
+use Rattle.k_types.specs.declared.names.Name.{Name}
 use Rattle.k_types.specs.declared.names.Pid.{Pid}
-use Rattle.k_types.specs.declared.op.Op.TheVariants.{Kill, Resize}
+use Rattle.k_types.specs.declared.op.Op.{Op}
+use Rattle.k_types.specs.declared.op.Op.TheVariants.{Get, Kill, Load, Put, Resize, Store}
 use Rattle.k_types.specs.Cells.{BookPart, Cell, CellPart}
 use Rattle.k_types.specs.Limits.{is_above}
 use Rattle.k_types.specs.Owners.{user}
 use Rattle.k_types.specs.Replies.{fault_where, first_fault, refused_or}
 use Rattle.k_types.specs.Trace.{Trace}
 use Rattle.k_base.proofs.NameTests.{heap_eq_refl}
-use Rattle.k_frame.specs.PartUpdates.{with_done}
+use Rattle.k_frame.specs.PartUpdates.{held_in, with_done}
 use Rattle.k_changes.specs.BookChanges.{owner_in, when_ended, with_max}
 use Rattle.k_changes.specs.CellChanges.{at_its_end}
 use Rattle.k_squares.specs.Answers.{answer_in, faults_in, reply_in}
 use Rattle.k_squares.specs.BookAfter.{book_after, book_operated}
 use Rattle.k_squares.specs.CellAfter.{at_cell, cell_after, cells_given, cells_operated, unless_refused}
-use Rattle.k_squares.specs.Touches.{ends_other_in, other_cells_in}
+use Rattle.k_squares.specs.Touches.{access_cell_in, base_cell_in, ends_other_in, other_cells_in}
 use Rattle.k_moves.specs.Moves.{GivesAlone}
 use Rattle.k_moves.specs.Shown.{part_alone}
 use Rattle.k_moves.proofs.Given.{refused_alone}
@@ -80,3 +83,31 @@ module _ (trace : Trace) (b k : BookPart) (v : CellPart) (pid : Pid) (m : LimitI
         ∙ ap (λ (parts : Cell → CellPart). at_cell (user pid.0) with_done parts (User pid)) (sym (same_unless said (part_alone v)));
     book = book;
   }
+
+-- an operation that touches another process's cell and the kernel's is the kill of that process, which it ends
+module _ (trace : Trace) (b : BookPart) (p : ℕ) (q : Pid) where
+  base_one : (h : Heap) → base_cell_in b p h ≡ User q ∷ Kernel ∷ [] → ⊥
+  base_one Kernel e = absurd (cc e)
+  base_one (User r) e = absurd (cc e)
+  base_one (Shared s) e = go (b.shares p s.0) e
+    where
+      go : (t : Bool) → cond t (Shared s ∷ []) [] ≡ User q ∷ Kernel ∷ [] → ⊥
+      go true f = absurd (cc f)
+      go false f = absurd (cc f)
+
+  access_one : (held : Option Name) → access_cell_in trace b p held ≡ User q ∷ Kernel ∷ [] → ⊥
+  access_one None e = absurd (cc e)
+  access_one (Some x) e = base_one (owner_in trace b x.seg.0) e
+
+  which : (r : Pid) (ends : Bool) → ends_other_in trace b p r.0 ≡ ends → cond ends (User r ∷ Kernel ∷ []) [] ≡ User q ∷ Kernel ∷ [] → (Kill r ≡ Kill q) × (ends_other_in trace b p q.0 ≡ true)
+  which r true is e = let same : r ≡ q = cc e in (ap Kill same, ap (λ (k : Pid). ends_other_in trace b p k.0) (sym same) ∙ is)
+  which r false is e = absurd (cc e)
+
+  pub ends_by : (own : CellPart) (op : Op) → other_cells_in trace b own p op ≡ User q ∷ Kernel ∷ [] → (op ≡ Kill q) × (ends_other_in trace b p q.0 ≡ true)
+  unfolding other_cells_in
+  ends_by own (Kill r) e = which r (ends_other_in trace b p r.0) refl e
+  ends_by own (Store base i value) e = absurd (access_one (held_in own.process base.0) e)
+  ends_by own (Load r base i) e = absurd (access_one (held_in own.process base.0) e)
+  ends_by own (Put base i number) e = absurd (access_one (held_in own.process base.0) e)
+  ends_by own (Get base i) e = absurd (access_one (held_in own.process base.0) e)
+  ends_by own _ e = absurd (cc e)

@@ -1,5 +1,5 @@
 -- The end of a process keeps what the locks ask.
-use Rattle.std.proofs.Common.{◌≡◌, ◌≢◌, ◌+◌, ◌≤◌, ℕ, refl, sym, ap, ◌∙◌, subst, List, ◌∷◌, length, arith}
+use Rattle.std.proofs.Common.{◌≡◌, ◌≢◌, ◌+◌, ◌≤◌, ℕ, refl, sym, ap, ◌∙◌, subst, List, [], ◌∷◌, length, arith}
 use Rattle.std.proofs.lemmas.Bool.{false≢true}
 use Rattle.k_types.specs.declared.event.Event.{Event}
 use Rattle.k_types.specs.declared.event.Event.TheVariants.{Done}
@@ -28,7 +28,7 @@ use Rattle.k_cell.specs.Holdings.{HoldingsValue}
 use Rattle.k_heap.specs.Heaps.{HeapRecord, own_segment}
 use Rattle.k_collect.specs.Begun.{HasAppended}
 use Rattle.k_depart.specs.Exiting.{CanExit, HasExited}
-use Rattle.k_locked.specs.Keeping.{BookKeeps, CanGive, operations_left}
+use Rattle.k_locked.specs.Keeping.{BookKeeps, CanGive, HeapKeeps, KernelKeeps, operations_left}
 use Rattle.k_locked.proofs.CanDo.{exits_many, heap_stands}
 use Rattle.k_process.specs.declared.process.Process.{Process}
 use Rattle.k_process.specs.Worlds.{WorldValue}
@@ -53,27 +53,29 @@ exits_together exits q =
     let all = ones exits in
     omega (arith, both, most, all)
 
+-- the exit items of a process's heap fit beside the kernel's
+pub exits_fit : (world : WorldValue) (c : HeapRecord) (k : HoldingsValue) (b : BookRecord) → HeapKeeps world.trace world.table c → c.value.tail ≡ [] → KernelKeeps world.trace world.table k → BookKeeps world.trace world.table b →
+    AreDistinctNames c.value.exits → AreDistinctNames k.value.exits → Fits b.journal c.note → Fits b.journal k.note → length c.value.exits + length k.value.exits ≤ k.exit_room
+exits_fit world c k b heap settled kernel_keeps keeps distinct kernel_distinct fits kernel_fits =
+    let sound = book_sound world.trace b.journal b.value keeps.stands.keeps.limits keeps.stands.agrees in
+    let own = (meeting world.trace b.journal b.value (User c.pid) c.note c.value heap.agrees keeps.stands.agrees fits).shows settled in
+    let kernel = (meeting world.trace b.journal b.value Kernel k.note k.value kernel_keeps.agrees keeps.stands.agrees kernel_fits).shows kernel_keeps.agrees.tail in
+    let many = exits_many world.trace (state_after world.trace b.journal.list) (User c.pid) c.value sound own distinct in
+    let more = exits_many world.trace (state_after world.trace b.journal.list) Kernel k.value sound kernel kernel_distinct in
+    let both = exits_together (state_after world.trace b.journal.list).exits c.pid.0 in
+    let all = (fits_rooms world.trace b.journal.list keeps.stands.keeps keeps.stands.agrees.legal keeps.follows.operations).exits in
+    let room = kernel_keeps.exits in
+    omega (arith, many, more, both, all, room)
+
 -- the end of a process
 module _ (world : WorldValue) (p : Process) (k : HoldingsValue) (b : BookRecord) (n : CanExitNow world p k b) where
-  room_to_exit : AreDistinctNames p.cell.value.exits → AreDistinctNames k.value.exits → Fits b.journal p.cell.note → Fits b.journal k.note → length p.cell.value.exits + length k.value.exits ≤ k.exit_room
-  room_to_exit distinct kernel_distinct fits kernel_fits =
-      let sound = book_sound world.trace b.journal b.value n.own.pair.book.stands.keeps.limits n.own.pair.book.stands.agrees in
-      let own = (meeting world.trace b.journal b.value (User p.cell.pid) p.cell.note p.cell.value n.own.pair.process.cell.agrees n.own.pair.book.stands.agrees fits).shows n.own.settled in
-      let kernel = (meeting world.trace b.journal b.value Kernel k.note k.value n.kernel.agrees n.own.pair.book.stands.agrees kernel_fits).shows n.kernel.agrees.tail in
-      let many = exits_many world.trace (state_after world.trace b.journal.list) (User p.cell.pid) p.cell.value sound own distinct in
-      let more = exits_many world.trace (state_after world.trace b.journal.list) Kernel k.value sound kernel kernel_distinct in
-      let both = exits_together (state_after world.trace b.journal.list).exits p.cell.pid.0 in
-      let all = (fits_rooms world.trace b.journal.list n.own.pair.book.stands.keeps n.own.pair.book.stands.agrees.legal n.own.pair.book.follows.operations).exits in
-      let room = n.kernel.exits in
-      omega (arith, many, more, both, all, room)
-
   pub can_exit : AreDistinctNames p.cell.value.exits → AreDistinctNames k.value.exits → CanExit world.trace p.cell k b
   can_exit distinct kernel_distinct = record {
     book_stands = n.own.pair.book.stands;
     heap_stands = heap_stands world.trace world.table p.cell n.own.pair.process.cell Exit n.own.next.rest n.own.next.left b n.own.pair.book n.own.settled n.own.next.lives;
     kernel_stands = record { agrees = n.kernel.agrees; table = n.kernel.table ∙ sym n.own.pair.book.table; idle = n.kernel.idle };
     numbers = n.kernel.numbers;
-    room = λ fits kernel_fits. record { events = room_for_next world p b Exit n.own fits; exits = room_to_exit distinct kernel_distinct fits kernel_fits };
+    room = λ fits kernel_fits. record { events = room_for_next world p b Exit n.own fits; exits = exits_fit world p.cell k b n.own.pair.process.cell n.own.settled n.kernel n.own.pair.book distinct kernel_distinct fits kernel_fits };
   }
 
   module _ (c : HeapRecord) (x : HoldingsValue) (l : BookRecord) (event : Event) (s : HasExited world.trace p.cell c k x b l event) where
