@@ -86,6 +86,7 @@ impl<W: WorldName> LockedProcess<W> {
             }
             Reach::Kernel => {}
             Reach::Shared(_) => {}
+            Reach::End(_) => {}
         }
         reached
     }
@@ -110,6 +111,7 @@ impl<W: WorldName> LockedProcess<W> {
                 true
             }
             Reach::Shared(_) => false,
+            Reach::End(_) => false,
         }
     }
 
@@ -136,6 +138,7 @@ impl<W: WorldName> LockedProcess<W> {
                 do_with_shared(&mut self.process, &mut shared.shared, &mut book.book, op);
                 true
             }
+            Reach::End(_) => false,
         }
     }
 }
