@@ -1,4 +1,5 @@
 pub mod EndKept
+pub mod PlacedKept
 pub mod Closings
 pub mod ClosedKept
 pub mod Added

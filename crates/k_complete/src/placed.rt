@@ -1,9 +1,8 @@
 //! The next operation of one process among all. A `kill` is lent two of them.
-ghost use Rattle.std.specs.Prelude.{◌≡◌, ◌≢◌, Some, length, slice_get};
-ghost use Rattle.k_complete.specs.Placed.{CanDoAt, HasDoneAt};
+ghost use Rattle.std.specs.Prelude.{◌≡◌, Some, slice_get};
+ghost use Rattle.k_complete.specs.Placed.{CanDoAt, CanKillAt, HasDoneAt, HasKilledAt};
 ghost use Rattle.k_process.specs.declared.process.Process.{Process as ProcessValue};
 ghost use Rattle.k_process.specs.Worlds.{WorldValue};
-ghost use Rattle.k_types.specs.declared.op.Op.TheVariants.{Kill};
 
 use k_book::Book;
 use k_kernel::KernelCell;
@@ -12,7 +11,7 @@ use k_process::Process;
 use k_shared::SharedCell;
 use k_types::Op;
 
-/// Does the `kill` of the process of the second number by that of the first.
+/// Does the `kill` of the process of the second number by that of the first. The cost is that of `do_kill`.
 fn kill_at(
     processes: &mut [Process],
     at: usize,
@@ -20,7 +19,11 @@ fn kill_at(
     kernel: &mut KernelCell,
     book: &mut Book,
     op: &Op,
-) {
+)
+    ghost world: { WorldValue }
+    requires { (p : ProcessValue) × (t : ProcessValue) × CanKillAt world processes.old at target p t kernel.old book.old op.now }
+    ensures { (p t : ProcessValue) → slice_get processes.old at ≡ Some p → slice_get processes.old target ≡ Some t → HasKilledAt world op.now at target p t processes.old processes.new kernel.new book.old book.new }
+{
     if at < target {
         let (front, back) = processes.split_at_mut(target);
         do_kill(&mut front[at], &mut back[0], kernel, book, op);
@@ -41,9 +44,8 @@ pub(crate) fn do_at(
     op: &Op,
 )
     ghost world: { WorldValue }
-    ghost process: { ProcessValue }
-    requires { CanDoAt world processes.old.items at process kernel.old shared.old.items book.old op.now }
-    ensures { HasDoneAt world op.now at process processes.old.items processes.new.items kernel.new shared.new.items book.old book.new }
+    requires { (p : ProcessValue) × CanDoAt world processes.old.items at p kernel.old shared.old.items book.old op.now }
+    ensures { (p : ProcessValue) → slice_get processes.old.items at ≡ Some p → HasDoneAt world op.now at p processes.old.items processes.new.items kernel.new shared.new.items book.old book.new }
 {
     if let Op::Kill { target } = *op {
         if target.0 as usize != at {

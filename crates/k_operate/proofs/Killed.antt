@@ -118,18 +118,18 @@ module _ (world : WorldValue) (p t : Process) (k : HoldingsValue) (b : BookRecor
 
 -- any kill, once both have published
 module _ (world : WorldValue) (p t : Process) (k : HoldingsValue) (b : BookRecord) (op : Op) (n : CanKillNow world p t k b op)
-    (t1 : Process) (b1 : BookRecord) (first : HasPublishedAll world t t1 b b1) (p1 : Process) (b2 : BookRecord) (second : HasPublishedAll world p p1 b1 b2) where
-  pub pair_after_first : PairStands world p b1
-  pair_after_first = record { process = n.pair.process; book = first.pair.book }
+    (p1 : Process) (b1 : BookRecord) (first : HasPublishedAll world p p1 b b1) (t1 : Process) (b2 : BookRecord) (second : HasPublishedAll world t t1 b1 b2) where
+  pair_then : PairStands world p1 b2
+  pair_then = record { process = first.pair.process; book = second.pair.book }
 
   next_then : ComesNext world.trace p1.cell op
-  next_then = next_since world p p1 b2 op second n.next
+  next_then = next_since world p p1 b1 op first n.next
 
   pub reaches : CanReach world.trace p1.cell b2 op
-  reaches = can_reach world p1 b2 op second.pair next_then
+  reaches = can_reach world p1 b2 op pair_then next_then
 
   same_target : t1.cell.pid ≡ t.cell.pid
-  same_target = ap (λ (c : HeapRecord). c.pid) first.cell_is
+  same_target = ap (λ (c : HeapRecord). c.pid) second.cell_is
 
   asks_then : op ≡ Kill t1.cell.pid
   asks_then = n.asks ∙ ap Kill (sym same_target)
@@ -142,7 +142,7 @@ module _ (world : WorldValue) (p t : Process) (k : HoldingsValue) (b : BookRecor
   steps = ap begins_or_ends n.asks
 
   due_with : (cells : List Cell) → cells ≡ other_cells_in world.trace (book_shown_by b2.value) (idle_part p1.cell.value) p1.cell.pid.0 op → IsDueWith world p1 b2 op cells
-  due_with cells reached = record { pair = second.pair; settled = second.settled; next = next_then; outside = outside; touches = sym reached; steps = steps }
+  due_with cells reached = record { pair = pair_then; settled = first.settled; next = next_then; outside = outside; touches = sym reached; steps = steps }
 
   pub can_alone_now : [] ≡ other_cells_in world.trace (book_shown_by b2.value) (idle_part p1.cell.value) p1.cell.pid.0 op → CanDoAlone world p1 b2 op
   can_alone_now reached = due_with [] reached
@@ -153,8 +153,8 @@ module _ (world : WorldValue) (p t : Process) (k : HoldingsValue) (b : BookRecor
       let same : q ≡ t1.cell.pid = target_of (sym by.0 ∙ asks_then) in
       record {
         due = due_with (User t1.cell.pid ∷ Kernel ∷ []) (ap (λ (r : Pid). User r ∷ Kernel ∷ []) (sym same) ∙ reached);
-        target = first.pair.process;
-        published = first.settled;
+        target = second.pair.process;
+        published = second.settled;
         kernel = n.kernel;
         asks = asks_then;
       }
@@ -171,11 +171,11 @@ module _ (world : WorldValue) (p t : Process) (k : HoldingsValue) (b : BookRecor
 
   known_then : known_to p1 b2 ≡ known_to_both p t b
   known_then =
-      ap (λ tail. b2.journal.list ++ tail) second.settled ∙ append-nil b2.journal.list ∙ second.journal
-      ∙ ap (λ list. list ++ p.cell.value.tail) first.journal
+      ap (λ tail. b2.journal.list ++ tail) first.settled ∙ append-nil b2.journal.list ∙ second.journal
+      ∙ ap (λ list. list ++ t.cell.value.tail) first.journal
 
   same_own : HasSameLeft world.trace p.cell p1.cell
-  same_own = record { pid = pid_since world p p1 b2 op second n.next; left = ap (operations_left world.trace) second.cell_is }
+  same_own = record { pid = pid_since world p p1 b1 op first n.next; left = ap (operations_left world.trace) first.cell_is }
 
   pub kill_adds_now : (new : List Event) → AddsOperation world.trace p1.cell.pid op (known_to p1 b2) new → AddsOperation world.trace p.cell.pid op (known_to_both p t b) new
   kill_adds_now new a =
@@ -196,8 +196,8 @@ module _ (world : WorldValue) (p t : Process) (k : HoldingsValue) (b : BookRecor
     kernel = a.kernel;
     target = a.target;
     published = a.published;
-    same = record { pid = a.same.pid ∙ same_target; left = a.same.left ∙ ap (operations_left world.trace) first.cell_is };
-    through = λ was. a.through (record { published = first.settled; all = λ lives. ap (operations_left world.trace) first.cell_is ∙ was.all (sym (ap (λ (c : HeapRecord). has_ended_in c.value.process) first.cell_is) ∙ lives) });
+    same = record { pid = a.same.pid ∙ same_target; left = a.same.left ∙ ap (operations_left world.trace) second.cell_is };
+    through = λ was. a.through (record { published = second.settled; all = λ lives. ap (operations_left world.trace) second.cell_is ∙ was.all (sym (ap (λ (c : HeapRecord). has_ended_in c.value.process) second.cell_is) ∙ lives) });
   }
 
   -- or nobody
@@ -205,8 +205,8 @@ module _ (world : WorldValue) (p t : Process) (k : HoldingsValue) (b : BookRecor
   spared_now q l a = record {
     own = own_since q l a;
     kernel = n.kernel;
-    target = first.pair.process;
-    published = first.settled;
-    same = record { pid = same_target; left = ap (operations_left world.trace) first.cell_is };
-    through = λ was. record { published = first.settled; all = λ lives. ap (operations_left world.trace) first.cell_is ∙ was.all (sym (ap (λ (c : HeapRecord). has_ended_in c.value.process) first.cell_is) ∙ lives) };
+    target = second.pair.process;
+    published = second.settled;
+    same = record { pid = same_target; left = ap (operations_left world.trace) second.cell_is };
+    through = λ was. record { published = second.settled; all = λ lives. ap (operations_left world.trace) second.cell_is ∙ was.all (sym (ap (λ (c : HeapRecord). has_ended_in c.value.process) second.cell_is) ∙ lives) };
   }

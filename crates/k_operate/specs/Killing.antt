@@ -10,6 +10,7 @@ use Rattle.k_locked.specs.Keeping.{KernelKeeps}
 use Rattle.k_process.specs.declared.process.Process.{Process}
 use Rattle.k_process.specs.Standing.{ComesNext, IsThroughWith, ProcessStands}
 use Rattle.k_process.specs.Worlds.{WorldValue}
+use Rattle.k_operate.specs.Adding.{known_to}
 use Rattle.k_operate.specs.Collecting.{HasSameLeft}
 use Rattle.k_operate.specs.Steps.{HasDoneAlone, IsDueWith, PairStands}
 
@@ -29,9 +30,9 @@ pub record CanEndOther (world : WorldValue) (p t : Process) (k : HoldingsValue) 
   pub kernel : KernelKeeps world.trace world.table k
   pub asks : op ≡ Kill t.cell.pid
 
--- what the journal has, then what the target has not published, and then what the process has not
+-- what the journal has, then what the process has not published, and then what the target has not
 abbrev pub known_to_both : Process → Process → BookRecord → List Event
-known_to_both p t b = (b.journal.list ++ t.cell.value.tail) ++ p.cell.value.tail
+known_to_both p t b = known_to p b ++ t.cell.value.tail
 
 -- all stand still with nothing unpublished, and the process has done the operation. The target is the same one and has done nothing; it is
 -- through where it was

@@ -29,8 +29,8 @@ fn end_other(
     kill(&mut process.cell, &mut target.cell, kernel, book, op);
 }
 
-/// Does the operation `kill` of the target, another process. What either did inside its heap is published first, the target's before
-/// the own; then the target ends, unless it has ended before or the kill is refused, which changes nothing of it. The cost is that of
+/// Does the operation `kill` of the target, another process. What either did inside its heap is published first, the own before the
+/// target's; then the target ends, unless it has ended before or the kill is refused, which changes nothing of it. The cost is that of
 /// the target's `exit`, after that of `publish_all` for both.
 pub fn do_kill(
     process: &mut Process,
@@ -44,8 +44,8 @@ pub fn do_kill(
     ensures done { HasDoneKill world op.now process.old process.new target.old target.new kernel.new book.new }
     ensures events { AddsOperation world.trace process.old.cell.pid op.now (known_to_both process.old target.old book.old) (known_to process.new book.new) }
 {
-    publish_all(target, book);
     publish_all(process, book);
+    publish_all(target, book);
     match reach(&process.cell, book, op) {
         Reach::End(_) => end_other(process, target, kernel, book, op),
         Reach::Own => do_alone(process, book, op),

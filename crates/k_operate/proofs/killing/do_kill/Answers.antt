@@ -1,13 +1,13 @@
 use Rattle.std.proofs.Common.{sym}
 use Rattle.k_types.specs.declared.names.Heap.TheVariants.{Kernel, Shared}
-use Rattle.k_operate.proofs.Killed.{can_alone_now, can_end, ended_now, kill_adds_now, never_one_now, pair_after_first, reaches, spared_now}
+use Rattle.k_operate.proofs.Killed.{can_alone_now, can_end, ended_now, kill_adds_now, never_one_now, reaches, spared_now}
 use Rattle.k_operate.proofs.killing.do_kill.Goals as goal
 
 pub publish_all-requires : goal.publish_all-requires
-publish_all-requires g c = record { process = c.requires.target; book = c.requires.pair.book }
+publish_all-requires g c = c.requires.pair
 
 pub publish_all-2-requires : goal.publish_all-2-requires
-publish_all-2-requires g c = record { process = c.requires.pair.process; book = c.publish_all.ensures.pair.book }
+publish_all-2-requires g c = record { process = c.requires.target; book = c.publish_all.ensures.pair.book }
 
 pub reach-requires : goal.reach-requires
 reach-requires g c = reaches g.world' c.args.process.now c.args.target.now c.args.kernel.now c.args.book.now c.args.op.now c.requires c.publish_all.new.process c.publish_all.new.book c.publish_all.ensures c.publish_all-2.new.process c.publish_all-2.new.book c.publish_all-2.ensures
