@@ -1,15 +1,14 @@
 -- What serves goes on serving after a step.
-use Rattle.std.proofs.Common.{◌≡◌, ℕ, ◌+◌, ◌≤◌, sym, ap, ◌∙◌, subst, List, ◌++◌, append-nil, map, replicate, IsFalse, false, true, get_or, Some, None, inl, inr}
+use Rattle.std.proofs.Common.{◌≡◌, ℕ, ◌+◌, ◌≤◌, sym, ap, ◌∙◌, subst, List, ◌++◌, append-nil, replicate, IsFalse, false, true, get_or, Some, None, inl, inr}
 use Rattle.std.proofs.lemmas.Bool.{cases_Bool, false≢true}
 use Rattle.atomic_table.specs.Seated.{TableId}
 use Rattle.k_types.specs.declared.event.Event.{Event}
 use Rattle.k_types.specs.declared.names.CellPhase.TheVariants.{Idle}
 use Rattle.k_types.specs.declared.names.Heap.TheVariants.{Kernel, Shared, User}
 use Rattle.k_types.specs.declared.names.SharedId.{SharedId}
-use Rattle.k_types.specs.declared.setup.LimitRow.{LimitRow}
-use Rattle.k_types.specs.Cells.{BookPart, ShownPart, book_part, part}
+use Rattle.k_types.specs.Cells.{ShownPart, part}
 use Rattle.k_types.specs.Owners.{is_absorbed, phase_of}
-use Rattle.k_types.specs.State.{State, opening}
+use Rattle.k_types.specs.State.{State}
 use Rattle.k_types.specs.Steps.{state_after}
 use Rattle.k_types.specs.Trace.{Trace, process_count, segment_count, segment_of}
 use Rattle.k_agree.proofs.AtTheEnd.{maxima_counted}

@@ -1,14 +1,14 @@
 -- What the book tells of limits below a process's, and what another maximum of one is to the machine.
 use Rattle.std.proofs.Common.{◌≡◌, ◌<◌, ◌≤◌, ◌&&◌, ℕ, zero, suc, not, nat_lt, Bool, true, false, cond, refl, sym, ap, ap₂, subst, ◌∙◌, List, [], ◌∷◌, length, replicate, slice_index_or, slice_set, Option, Some, None, is_some, arith}
 use Rattle.std.proofs.lemmas.Bool.{false≢true, le-ltb, lt-ltb}
-use Rattle.k_types.specs.declared.event.Fault.TheVariants.{InUse, LimitFull, LimitNotBelow}
+use Rattle.k_types.specs.declared.event.Fault.TheVariants.{InUse, LimitNotBelow}
 use Rattle.k_types.specs.declared.event.Reply.{Reply}
 use Rattle.k_types.specs.declared.event.Reply.TheVariants.{Done as DoneReply, Refused}
 use Rattle.k_types.specs.declared.names.LimitId.{LimitId}
 use Rattle.k_types.specs.declared.names.Pid.{Pid}
 use Rattle.k_types.specs.declared.op.Op.TheVariants.{Resize}
 use Rattle.k_types.specs.declared.setup.LimitRow.{LimitRow}
-use Rattle.k_types.specs.Agree.{BookValue, book_shown_by}
+use Rattle.k_types.specs.Agree.{book_shown_by}
 use Rattle.k_types.specs.Cells.{BookPart, Cell, CellPart, use_shown}
 use Rattle.k_types.specs.Limits.{ancestors_above, ancestors_of, ancestors_within, full_above, limits_in, max_of}
 use Rattle.k_types.specs.Names.{among}
@@ -20,7 +20,6 @@ use Rattle.k_types.specs.Trace.{Trace, limit_of, row_of}
 use Rattle.k_base.proofs.Ancestors.{ancestors_in}
 use Rattle.k_base.proofs.Maxima.{length_in, parent_in}
 use Rattle.k_laws.proofs.SoundSteps.{legal_sound}
-use Rattle.k_changes.specs.BookChanges.{with_max}
 use Rattle.k_changes.specs.Told.{full_for_in}
 use Rattle.k_changes.proofs.ToldBy.{full_for_told, use_told}
 use Rattle.k_limits.specs.declared.error.ResizeRefusal.{ResizeRefusal}
@@ -28,7 +27,6 @@ use Rattle.k_limits.specs.declared.error.ResizeRefusal.TheVariants.{InUse as Use
 use Rattle.k_limits.specs.Limits.{use_at}
 use Rattle.k_limits.specs.Resizes.{ExplainsResize, full_for_at}
 use Rattle.k_squares.specs.Answers.{answer_in, faults_in, reply_in}
-use Rattle.k_squares.specs.CellAfter.{unless_refused}
 use Rattle.k_book.specs.Books.{BookRecord, book_limits}
 use Rattle.k_book.specs.Machine.{IsBookOf, TellsTheLimits}
 use Rattle.k_book.proofs.Telling.{tells_limits}

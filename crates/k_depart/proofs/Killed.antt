@@ -1,9 +1,8 @@
 -- The end of a process by another: what it asks of the pieces, and what it leaves once the event is appended.
-use Rattle.std.proofs.Common.{◌≡◌, ◌+◌, ◌-◌, ◌^◌, ◌<◌, ◌≤◌, ◌&&◌, not, Bool, true, false, cond, refl, sym, ap, ◌∙◌, subst, List, [], ◌∷◌, length, get_or, set, Some, None, IsFalse, IsTrue, arith, ne_eqb}
+use Rattle.std.proofs.Common.{◌≡◌, ◌-◌, ◌^◌, ◌<◌, not, Bool, true, false, cond, refl, sym, ap, ◌∙◌, subst, List, [], ◌∷◌, length, get_or, set, Some, None, IsFalse, IsTrue, ne_eqb}
 use Rattle.std.specs.List.{list_all}
 use Rattle.std.proofs.lemmas.Bool.{and_from, and_parts, lt-ltb, not-true}
 use Rattle.k_types.specs.declared.event.Event.{Event}
-use Rattle.k_types.specs.declared.event.Event.TheVariants.{Done}
 use Rattle.k_types.specs.declared.event.Fault.TheVariants.{ProcNotBelow}
 use Rattle.k_types.specs.declared.event.Reply.TheVariants.{Done as DoneReply}
 use Rattle.k_types.specs.declared.names.Heap.TheVariants.{Kernel, User}
@@ -11,21 +10,19 @@ use Rattle.k_types.specs.declared.names.Pid.{Pid}
 use Rattle.k_types.specs.declared.op.Op.{Op}
 use Rattle.k_types.specs.declared.op.Op.TheVariants.{Kill}
 use Rattle.k_types.specs.Agree.{CellValue, book_shown_by}
-use Rattle.k_types.specs.Cells.{BookPart, ProcessPart, ShownPart, book_part, cells_touched, other_cells, part}
+use Rattle.k_types.specs.Cells.{BookPart, ProcessPart, ShownPart, cells_touched, other_cells, part}
 use Rattle.k_types.specs.Effects.{after_end_of}
 use Rattle.k_types.specs.Limits.{is_above}
 use Rattle.k_types.specs.Names.{among, heap_eq}
-use Rattle.k_types.specs.Owners.{user}
 use Rattle.k_types.specs.Replies.{answer, ends_other, fault_where, faults, first_fault, refused_or, reply_to}
 use Rattle.k_types.specs.Sound.{IsSound}
 use Rattle.k_types.specs.State.{State, is_scanned}
 use Rattle.k_types.specs.Steps.{IsPossible, in_range, state_after}
-use Rattle.k_types.specs.Trace.{Trace, process_count, segment_count}
+use Rattle.k_types.specs.Trace.{Trace, process_count}
 use Rattle.k_types.specs.Updates.{count_done}
 use Rattle.k_base.proofs.Ancestors.{above_another}
 use Rattle.k_frame.proofs.Histories.{state_next}
 use Rattle.k_frame.specs.PartUpdates.{done_in}
-use Rattle.k_tie.specs.Values.{NoteValue}
 use Rattle.k_laws.specs.Termination.{CreditsTheCharge}
 use Rattle.k_laws.proofs.Laws.{termination_credits_the_whole_charge-kill, termination_leaves_the_rest-exits, termination_leaves_the_rest-kill, termination_leaves_the_rest-rest}
 use Rattle.k_laws.proofs.SoundSteps.{legal_sound}

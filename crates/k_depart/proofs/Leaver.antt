@@ -1,7 +1,6 @@
 -- A process that ends, as its cell, the kernel's and the book show it before.
 use Rattle.std.proofs.Common.{◌≡◌, ℕ, zero, suc, ◌+◌, ◌<◌, ◌≤◌, ◌^◌, ◌==◌, ◌&&◌, not, true, false, refl, sym, ap, ◌∙◌, List, [], ◌∷◌, length, get_or, replicate, arith, eq-eqb, ne_eqb, Option, IsTrue, IsFalse}
 use Rattle.std.proofs.lemmas.Bool.{and_from, and_parts, false≢true, not-true}
-use Rattle.k_types.specs.declared.event.Reply.TheVariants.{Done as DoneReply}
 use Rattle.k_types.specs.declared.names.Heap.{Heap}
 use Rattle.k_types.specs.declared.names.Heap.TheVariants.{Kernel, Shared, User}
 use Rattle.k_types.specs.declared.names.LimitId.{LimitId}
@@ -9,7 +8,7 @@ use Rattle.k_types.specs.declared.names.Name.{Name}
 use Rattle.k_types.specs.declared.setup.LimitRow.{LimitRow}
 use Rattle.k_base.proofs.Maxima.{length_in}
 use Rattle.k_types.specs.Cells.{BookPart, ProcessPart, ShownPart, book_part, cells_touched, other_cells, part}
-use Rattle.k_types.specs.Limits.{direct_by, limits_in, max_of, use_within, with_maxima}
+use Rattle.k_types.specs.Limits.{direct_by, limits_in, use_within, with_maxima}
 use Rattle.k_types.specs.Names.{among, heap_eq, name_among}
 use Rattle.k_types.specs.Owners.{charge_of, object_bytes, owner_of}
 use Rattle.k_types.specs.Reach.{is_shared_heap}

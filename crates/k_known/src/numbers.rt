@@ -1,5 +1,5 @@
 //! How large the numbers of a history can be that does the operations of a trace.
-ghost use Rattle.std.specs.Prelude.{List, length, ◌≡◌, ◌≤◌, ℕ, ◌<◌};
+ghost use Rattle.std.specs.Prelude.{List, length, ◌≡◌, ◌≤◌, ◌<◌};
 ghost use Rattle.k_bounds.specs.Counts.{operation_count};
 ghost use Rattle.k_known.specs.Fits.{DoesOperationsOf, NumbersFit};
 ghost use Rattle.k_types.specs.Numbers.{numbers_below};

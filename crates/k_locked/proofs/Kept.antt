@@ -1,5 +1,5 @@
 -- What the locks keep they keep over each step.
-use Rattle.std.proofs.Common.{◌≡◌, ℕ, zero, suc, ◌+◌, ◌≤◌, true, false, cond, refl, sym, ap, ap₂, ◌∙◌, subst, List, [], ◌∷◌, ◌++◌, append-nil, append_assoc, length, drop, arith, map, eq-eqb, IsFalse, Some, inl, inr}
+use Rattle.std.proofs.Common.{◌≡◌, ℕ, zero, suc, ◌+◌, ◌≤◌, true, false, cond, refl, sym, ap, ap₂, ◌∙◌, subst, List, [], ◌∷◌, ◌++◌, append-nil, append_assoc, length, drop, arith, eq-eqb, IsFalse, Some, inl, inr}
 use Rattle.std.proofs.lemmas.Bool.{cases_Bool, false≢true}
 use Rattle.std.proofs.lemmas.List.{length-append}
 use Rattle.atomic_table.specs.Seated.{TableId}
@@ -7,17 +7,16 @@ use Rattle.k_types.specs.declared.event.Event.{Event}
 use Rattle.k_types.specs.declared.event.Event.TheVariants.{Done}
 use Rattle.k_types.specs.declared.names.Heap.TheVariants.{Kernel, Shared, User}
 use Rattle.k_types.specs.declared.op.Op.{Op}
-use Rattle.k_types.specs.declared.op.Op.TheVariants.{New, KNew, SNew, Store, Load, Move, Clear, Dir, Put, Get, Collect, KCollect, Share, Freeze, Attach, Exit, Kill, Resize}
-use Rattle.k_types.specs.Cells.{BookPart, ShownPart, book_part, part}
+use Rattle.k_types.specs.declared.op.Op.TheVariants.{New}
+use Rattle.k_types.specs.Cells.{ShownPart, part}
 use Rattle.k_types.specs.Following.{FollowsOwn, FollowsTrace}
 use Rattle.k_types.specs.Owners.{is_absorbed, owner_of, phase_of, shared}
-use Rattle.k_types.specs.State.{State}
 use Rattle.k_types.specs.Steps.{done_by, state_after}
 use Rattle.k_types.specs.Trace.{Trace, operations_of, process_count, segment_count, segment_of}
 use Rattle.k_bounds.proofs.ByProcess.{follows_own}
 use Rattle.k_bounds.proofs.Dones.{done_count}
 use Rattle.k_frame.specs.PartUpdates.{done_in}
-use Rattle.k_frame.proofs.Histories.{done_append, state_next}
+use Rattle.k_frame.proofs.Histories.{done_append}
 use Rattle.k_frame.proofs.OwnerOf.{owner_shared, segment_of_shared}
 use Rattle.k_kept.proofs.Owning.{stays_kernel}
 use Rattle.k_agree.specs.Rooms.{IsNext, event_room, exit_room}

@@ -11,7 +11,7 @@ use Rattle.k_types.specs.declared.names.Heap.TheVariants.{User}
 use Rattle.k_types.specs.declared.names.Name.{Name}
 use Rattle.k_types.specs.declared.names.Pid.{Pid}
 use Rattle.k_types.specs.declared.op.Op.{Op}
-use Rattle.k_types.specs.declared.op.Op.TheVariants.{New, KNew, SNew, Store, Load, Move, Clear, Dir, Put, Get, Collect, KCollect, Share, Freeze, Attach, Exit, Kill, Resize}
+use Rattle.k_types.specs.declared.op.Op.TheVariants.{Store, Put, KCollect}
 use Rattle.k_types.specs.Agree.{CellValue}
 use Rattle.k_types.specs.Cells.{Cell, CellPart, ShownPart, book_part, cells_touched, part, touches}
 use Rattle.k_types.specs.Effects.{step}

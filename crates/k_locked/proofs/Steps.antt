@@ -10,7 +10,7 @@ use Rattle.k_types.specs.declared.event.Event.TheVariants.{Done, Ended, Absorbed
 use Rattle.k_types.specs.declared.event.Reply.{Reply}
 use Rattle.k_types.specs.declared.names.Heap.TheVariants.{Kernel, Shared, User}
 use Rattle.k_types.specs.declared.op.Op.{Op}
-use Rattle.k_types.specs.declared.op.Op.TheVariants.{New, KNew, SNew, Store, Load, Move, Clear, Dir, Put, Get, Collect, KCollect, Share, Freeze, Attach, Exit, Kill, Resize}
+use Rattle.k_types.specs.declared.op.Op.TheVariants.{New, KNew, SNew, Store, Load, Move, Clear, Dir, Put, Get, Freeze, Attach}
 use Rattle.k_types.specs.declared.names.Pid.{Pid}
 use Rattle.k_types.specs.Agree.{CellValue}
 use Rattle.k_types.specs.Cells.{BookPart, Cell, CellPart}
@@ -39,7 +39,7 @@ use Rattle.k_bodies.specs.Bodies.{bodies_of}
 use Rattle.k_book.specs.Books.{BookRecord}
 use Rattle.k_heap.specs.Heaps.{HeapRecord, has_ended_in}
 use Rattle.k_local.specs.Locals.{HasRegisters, after_local, local_answer}
-use Rattle.k_locked.specs.Keeping.{BookKeeps, HasHeapRooms, HeapKeeps, operations_left}
+use Rattle.k_locked.specs.Keeping.{BookKeeps, HeapKeeps, operations_left}
 use Rattle.k_locked.proofs.CanDo.{done_shown, next_in_range, next_known}
 use Rattle.k_locked.proofs.Kept.{drop_more}
 use Rattle.k_locked.proofs.LocalKept.{local_agrees, local_idle}

@@ -1,5 +1,5 @@
 -- What one event more leaves of what the locks ask.
-use Rattle.std.proofs.Common.{◌≡◌, ◌<◌, ◌+◌, ◌-◌, ◌^◌, ◌≤◌, ℕ, ◌++◌, refl, sym, ap, ap₂, ◌∙◌, subst, List, [], ◌∷◌, append-nil, drop, length, map, cond, eq-eqb, arith, ◌≢◌, true, false, Option, None, is_some, set}
+use Rattle.std.proofs.Common.{◌≡◌, ◌<◌, ◌+◌, ◌-◌, ◌^◌, ◌≤◌, ℕ, ◌++◌, refl, sym, ap, ap₂, ◌∙◌, subst, List, [], ◌∷◌, append-nil, drop, length, cond, eq-eqb, arith, ◌≢◌, true, false, Option, None, is_some, set}
 use Rattle.std.proofs.lemmas.List.{get_or-set_other, length-append}
 use Rattle.std.proofs.Math.Seq.{drop-append_seam}
 use Rattle.atomic_table.specs.Seated.{TableId}
@@ -13,16 +13,16 @@ use Rattle.k_types.specs.declared.names.Heap.TheVariants.{User}
 use Rattle.k_types.specs.declared.names.Pid.{Pid}
 use Rattle.k_types.specs.declared.op.Op.{Op}
 use Rattle.k_types.specs.Agree.{AreMarks, CellValue}
-use Rattle.k_types.specs.Cells.{BookPart, Cell, book_part}
+use Rattle.k_types.specs.Cells.{Cell}
 use Rattle.k_types.specs.Following.{FollowsOwn, FollowsTrace, is_closing}
-use Rattle.k_types.specs.State.{State, is_scanned, scan_of}
+use Rattle.k_types.specs.State.{is_scanned, scan_of}
 use Rattle.k_types.specs.Steps.{IsPossible, done_by, state_after}
 use Rattle.k_types.specs.Trace.{Trace, operations_of, process_count}
 use Rattle.k_bounds.proofs.ByProcess.{follows_own}
 use Rattle.k_bounds.proofs.Dones.{done_count}
 use Rattle.k_known.proofs.Counted.{all_ordered}
 use Rattle.k_frame.specs.PartUpdates.{done_in}
-use Rattle.k_frame.proofs.Histories.{done_append, state_next}
+use Rattle.k_frame.proofs.Histories.{done_append}
 use Rattle.k_tie.specs.Values.{NoteValue}
 use Rattle.k_agree.specs.Agreement.{Agrees}
 use Rattle.k_agree.specs.Meeting.{Fits}

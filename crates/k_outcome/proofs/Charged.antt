@@ -1,5 +1,5 @@
 -- What a process is charged, summed over the shared heaps one after the other.
-use Rattle.std.proofs.Common.{◌≡◌, ℕ, zero, suc, ◌+◌, ◌^◌, ◌<◌, ◌≤◌, cond, not, Bool, true, false, refl, sym, ap, ◌∙◌, List, arith}
+use Rattle.std.proofs.Common.{◌≡◌, ℕ, zero, suc, ◌+◌, ◌^◌, ◌<◌, ◌≤◌, cond, not, Bool, true, false, refl, sym, ap, ◌∙◌, arith}
 use Rattle.std.specs.Prelude.{◌==◌, IsFalse, IsTrue, filter}
 use Rattle.std.proofs.lemmas.Bool.{false≢true}
 use Rattle.k_types.specs.Names.{among}

@@ -11,7 +11,7 @@ use Rattle.k_types.specs.declared.event.Reply.{Reply}
 use Rattle.k_types.specs.declared.event.Reply.TheVariants.{Done as DoneReply, Loaded, Made, Refused, Value}
 use Rattle.k_types.specs.declared.names.Name.{Name}
 use Rattle.k_types.specs.declared.op.Op.{Op}
-use Rattle.k_types.specs.declared.op.Op.TheVariants.{New, KNew, SNew, Store, Load, Move, Clear, Dir, Put, Get, Collect, KCollect, Share, Freeze, Attach, Exit, Kill, Resize}
+use Rattle.k_types.specs.declared.op.Op.TheVariants.{Store, Put, Freeze, Kill}
 use Rattle.k_types.specs.Effects.{after_absorbed, after_closing, after_end_of, after_ended, after_operation, effect, effect_unless, step}
 use Rattle.k_types.specs.Replies.{answer, faults, first_fault, refused_or, reply_to}
 use Rattle.k_types.specs.Known.{IsKnownEvent, IsKnownName, IsKnownReply}

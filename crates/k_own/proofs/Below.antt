@@ -1,5 +1,5 @@
 -- A kill that ends nobody, and another maximum of a limit.
-use Rattle.std.proofs.Common.{◌≡◌, ◌<◌, ◌&&◌, ℕ, not, nat_lt, Bool, true, false, cond, refl, sym, ap, subst, ◌∙◌, List, [], ◌∷◌, length, IsFalse, IsTrue}
+use Rattle.std.proofs.Common.{◌≡◌, ◌<◌, ◌&&◌, ℕ, not, nat_lt, Bool, true, false, cond, refl, sym, ap, subst, ◌∙◌, [], ◌∷◌, length}
 use Rattle.std.proofs.lemmas.Bool.{and_parts, false≢true, ltb-true}
 use Rattle.k_types.specs.declared.event.Fault.TheVariants.{ProcNotBelow}
 use Rattle.k_types.specs.declared.event.Reply.{Reply}

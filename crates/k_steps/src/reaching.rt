@@ -1,5 +1,5 @@
 //! The cells beside the process's own that an operation touches.
-ghost use Rattle.std.specs.Prelude.{◌≡◌, ◌<◌, ◌∷◌, [], Some, length, option_map, if◌then◌else◌};
+ghost use Rattle.std.specs.Prelude.{◌≡◌, ◌∷◌, [], Some, if◌then◌else◌};
 ghost use Rattle.k_frame.specs.PartUpdates.{held_in};
 ghost use Rattle.k_moves.specs.Shown.{idle_part};
 ghost use Rattle.k_squares.specs.Touches.{access_cell_in, base_cell_in, ends_other_in, other_cells_in};

@@ -8,7 +8,7 @@ use Rattle.std.proofs.lemmas.List.{get_or-set_other, length-replicate, length-se
 use Rattle.k_frame.proofs.Sizes.{zeros_at}
 use Rattle.std.proofs.lemmas.Option.{get_or_from_slice_get, slice_get_within}
 use Rattle.k_types.specs.declared.op.Op.{Op}
-use Rattle.k_types.specs.declared.op.Op.TheVariants.{New, KNew, SNew, Store, Load, Move, Clear, Dir, Put, Get, Collect, KCollect, Share, Freeze, Attach, Exit, Kill, Resize}
+use Rattle.k_types.specs.declared.op.Op.TheVariants.{New, KNew, SNew}
 use Rattle.k_types.specs.Bounds.{register_count}
 use Rattle.k_types.specs.Numbers.{numbers_below}
 use Rattle.k_types.specs.Steps.{in_range}

@@ -1,5 +1,4 @@
 use Rattle.std.proofs.Common.{◌∙◌, sym}
-use Rattle.std.proofs.lemmas.Bool.{not-true}
 use Rattle.k_commit.proofs.Resizing.{can_compare, kept, limit_there, not_below, parent_there, resized}
 use Rattle.k_commit.proofs.limits.resize_limit.Goals as goal
 

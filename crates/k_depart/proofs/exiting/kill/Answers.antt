@@ -9,7 +9,7 @@ use Rattle.k_agree.specs.GivingAway.{with_one_done}
 use Rattle.k_book.specs.Books.{BookRecord}
 use Rattle.k_commit.specs.Met.{CanMeet}
 use Rattle.k_heap.specs.Heaps.{HeapRecord}
-use Rattle.k_depart.proofs.Killed.{cell_met, kill_ends, lists, met_to_end, own_counts, room, tables}
+use Rattle.k_depart.proofs.Killed.{kill_ends, lists, met_to_end, own_counts, room, tables}
 use Rattle.k_depart.proofs.exiting.kill.Goals as goal
 
 pub meet_heap-requires : goal.meet_heap-requires

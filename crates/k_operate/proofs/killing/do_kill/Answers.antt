@@ -1,4 +1,3 @@
-use Rattle.std.proofs.Common.{sym}
 use Rattle.k_types.specs.declared.names.Heap.TheVariants.{Kernel, Shared}
 use Rattle.k_operate.proofs.Killed.{can_alone_now, can_end, ended_now, kill_adds_now, never_one_now, reaches, spared_now}
 use Rattle.k_operate.proofs.killing.do_kill.Goals as goal

@@ -1,4 +1,4 @@
-use Rattle.std.proofs.Common.{◌≡◌, ◌<◌, ◌≤◌, ap, ap₂, sym, ◌∙◌, subst, None, List, length, slice_set, is_some, IsTrue, replicate}
+use Rattle.std.proofs.Common.{◌≡◌, ◌<◌, ◌≤◌, ap, ap₂, sym, ◌∙◌, subst, None, List, length, slice_set, is_some, replicate}
 use Rattle.k_types.specs.declared.setup.LimitRow.{LimitRow}
 use Rattle.k_types.specs.Trace.{row_of}
 use Rattle.k_base.proofs.Maxima.{parent_in}
