@@ -38,6 +38,7 @@ use Rattle.k_agree.proofs.Touched.{as_listed}
 use Rattle.k_book.specs.Books.{BookRecord}
 use Rattle.k_cell.specs.Holdings.{HoldingsValue}
 use Rattle.k_squares.specs.Touches.{ends_other_in, other_cells_in}
+use Rattle.k_commit.specs.Beside.{HasSteppedBeside}
 use Rattle.k_squares.proofs.CellSquares.{ends_told}
 use Rattle.k_commit.specs.Met.{FitsTheBook, HaveMet, HeapHasMet, KernelHasMet}
 use Rattle.k_commit.proofs.Fitting.{done_small}
@@ -348,3 +349,15 @@ module _ (trace : Trace) (c0 c t0 t : HeapRecord) (k0 k : HoldingsValue) (b0 b1 
         ∙ ap (λ (x : HoldingsValue). record l { journal = journal_after e (c0.note.cell ∷ t0.note.cell ∷ x.note.cell ∷ []) l.journal }) g.kernel_is
         ∙ ap (λ (x : BookRecord). record x { journal = journal_after e (c0.note.cell ∷ t0.note.cell ∷ k0.note.cell ∷ []) x.journal }) g.book_is in
         rw (cell_is, t_is, k_is, m_is, can.asks, is) (killed_here t1 k1 l g)
+
+-- a kill that ends its target is a step beside the target's cell and the kernel's
+pub kill_beside : (trace : Trace) (op : Op) (c w t u : HeapRecord) (k x : HoldingsValue) (b l : BookRecord) (event : Event) → HasKilled trace c w t u k x b l op event →
+    HasSteppedBeside trace op c w (noted (User u.pid) u.note u.value ∷ noted Kernel x.note x.value ∷ []) b l event
+kill_beside trace op c w t u k x b l event s = record {
+  own = s.own;
+  others = (
+    record { stands = record { agrees = s.ends.agrees; table = s.ends.table; settled = s.ends.settled; idle = s.ends.idle }; met = s.ends.met },
+    record { stands = record { agrees = s.ends.kernel_agrees; table = s.ends.kernel_table; settled = s.ends.kernel_agrees.tail; idle = s.ends.kernel_idle }; met = s.ends.kernel_met },
+    tt,
+  );
+}

@@ -9,8 +9,10 @@ mod absorbing;
 mod charges;
 mod exiting;
 mod exits;
+mod laws;
 mod registers;
 mod segments;
 
 pub use absorbing::absorb;
 pub use exiting::{exit, kill};
+pub use laws::kills_step_beside;
