@@ -1,6 +1,7 @@
 -- One operation in the order of the file.
 use Rattle.std.proofs.Common.{◌≡◌, ◌≢◌, ℕ, zero, suc, Bool, true, false, refl, sym, ap, ap₂, ◌∙◌, subst, List, [], ◌∷◌, ◌++◌, append-nil, drop, get_or, set, Some, None, slice_get, if◌then◌else◌, inl, inr, arith}
 use Rattle.std.proofs.lemmas.Bool.{cases_eq}
+use Rattle.std.proofs.lemmas.List.{length-set}
 use Rattle.std.proofs.lemmas.Option.{slice_get-get_or, slice_get_within}
 use Rattle.k_types.specs.declared.event.Event.{Event}
 use Rattle.k_types.specs.declared.names.Heap.TheVariants.{User}
@@ -32,7 +33,7 @@ use Rattle.k_complete.specs.Placed.{CanDoAt, HasDoneAt}
 use Rattle.k_complete.specs.Replaying.{CanDoLine, HasDoneLine}
 use Rattle.k_complete.proofs.Added.{adds_events_of}
 use Rattle.k_complete.proofs.EndKept.{met_stands}
-use Rattle.k_complete.proofs.PlacedKept.{got_other, got_own, only}
+use Rattle.k_complete.proofs.PlacedKept.{got_other, got_own, only, read_there}
 
 -- the first of what is left, and nothing where nothing is left
 got_first : {A : Type 0} (n : ℕ) (xs : List A) (x : A) (rest : List A) → drop n xs ≡ x ∷ rest → slice_get xs n ≡ Some x
@@ -105,6 +106,10 @@ module _ (world : WorldValue) (ps : List Process) (at : ℕ) (k : HoldingsValue)
 
     pub line_there : slice_get met at ≡ Some (record p { cell = w })
     line_there = got_own ps at (record p { cell = w }) p there
+
+    -- what is read in its place after the meeting
+    pub read_met : (q : Process) → q ≡ get_or met at q → record p { cell = w } ≡ q
+    read_met q read = only (sym line_there ∙ read_there met ps at q (length-set ps at (record p { cell = w })) can.inside read)
 
     no_next : IsNextOf world.trace w None → next_operation world.trace now p.cell.pid.0 ≡ None
     no_next none = go (among p.cell.pid.0 now.ended) refl

@@ -1,7 +1,7 @@
 -- One operation of the process of a number leaves all that stands.
 use Rattle.std.proofs.Common.{◌≡◌, ◌≢◌, ◌<◌, ◌+◌, ◌++◌, ℕ, zero, suc, refl, sym, ap, ◌∙◌, subst, List, [], ◌∷◌, append-nil, length, set, get_or, Option, Some, None, slice_get, inl, inr, arith, ltb-true}
 use Rattle.std.proofs.lemmas.Bool.{cases_eq}
-use Rattle.std.proofs.lemmas.Option.{slice_get-get_or, slice_get_within}
+use Rattle.std.proofs.lemmas.Option.{slice_get-get_or, slice_get_read, slice_get_within}
 use Rattle.k_types.specs.declared.names.Pid.{Pid}
 use Rattle.k_types.specs.declared.op.Op.{Op}
 use Rattle.k_types.specs.declared.op.Op.TheVariants.{Kill}
@@ -42,6 +42,10 @@ got_other (z ∷ xs) (suc k) (suc j) x ne = got_other xs k j x (λ e. ne (ap suc
 
 pub only : {A : Type 0} {x y : A} → Some x ≡ Some y → x ≡ y
 only e = cc e
+
+-- what a place holds that is read, where no process has come or gone
+pub read_there : {A : Type 0} (xs first : List A) (k : ℕ) (x : A) → length xs ≡ length first → k < length first → x ≡ get_or xs k x → slice_get xs k ≡ Some x
+read_there xs first k x same inside read = slice_get_read xs (length first) k x (sym same) inside read
 
 pub kept_same : (trace : Trace) (c : HeapRecord) → IsKept trace c c
 kept_same trace c = record { same = record { pid = refl; left = refl }; through = λ was. was; published = λ none. none }
