@@ -15,7 +15,7 @@ use Rattle.k_types.specs.declared.op.Op.TheVariants.{New, KNew, SNew, Store, Loa
 use Rattle.k_types.specs.declared.event.Fault.{Fault}
 use Rattle.k_types.specs.declared.event.Fault.TheVariants.{NotPopulating, Segv}
 use Rattle.k_types.specs.declared.event.Reply.{Reply}
-use Rattle.k_types.specs.Bounds.{register_count}
+use Rattle.k_types.specs.Bounds.{maximum_below, register_count}
 use Rattle.k_types.specs.Names.{heap_eq, leads_to}
 use Rattle.k_types.specs.Trace.{Trace, IsHeap, limit_of, process_count, row_of, size_of_type}
 use Rattle.k_types.specs.TraceRules.{AreLimits, IsTree}
@@ -201,6 +201,6 @@ module _ (trace : Trace) (st : State) (rules : AreLimits trace) (sound : IsSound
   reply_known Exit ranged = refused_known trace [] _ tt tt
   reply_known (Kill q) ranged = refused_known trace (fault_where _ _ ∷ []) _ (where_known trace _ _ (ltb-true _ _ ranged), tt) tt
   reply_known (Resize m max) ranged =
-      let inside = ltb-true _ _ ranged in
+      let inside = ltb-true _ _ (and_parts (nat_lt m.0 (length trace.limits)) (nat_lt max maximum_below) ranged).0 in
       refused_known trace ((cond (may_resize trace p m.0) (limit_fault (full_for trace st m.0 max)) None) ∷ fault_where _ _ ∷ fault_where _ _ ∷ []) _
       (grown_known m.0 max inside (may_resize trace p m.0), (where_known trace _ _ inside, (where_known trace _ _ inside, tt))) tt

@@ -17,6 +17,7 @@ use Rattle.k_types.specs.declared.op.Op.TheVariants.{New, KNew, SNew, Store, Loa
 use Rattle.k_types.specs.declared.event.Fault.TheVariants.{Foreign, NoField, WrongKind, Segv, NotPopulating, NotFrozen, Taken, ProcNotBelow, LimitNotBelow, InUse}
 use Rattle.k_types.specs.declared.names.Field.TheVariants.{Int}
 use Rattle.k_types.specs.TraceRules.{AreLimits}
+use Rattle.k_types.specs.Bounds.{maximum_below}
 use Rattle.k_types.specs.Trace.{Trace, process_count, size_of_type, limit_of}
 use Rattle.k_types.specs.Names.{heap_eq, among, leads_to, directory}
 use Rattle.k_types.specs.State.{State, Content, Refers, Holds, Object, has, has_share, scan_of, is_scanned, register, in_registers, refers, refers_in, object_at, fields_of, field_kind, content_leads_to}
@@ -325,7 +326,7 @@ module _ (trace : Trace) (rules_hold : AreLimits trace) (st : State) (pid : Pid)
       let fits = (none_on (may_resize trace p m.0 && nat_lt max (use_of trace st m.0)) (InUse m) [] (none_on (not (may_resize trace p m.0)) (LimitNotBelow m) _ rest.1).1).0 in
       let parent = has_parent trace.limits (length trace.limits) m.0 (limit_of trace p) may in
       record {
-        known = ltb-true _ _ acts.in_range;
+        known = ltb-true _ _ (and_parts (nat_lt m.0 (length trace.limits)) (nat_lt max maximum_below) acts.in_range).0;
         parent = parent.0;
         below = parent.1;
         used = ltb-false _ _ (sym (ap (λ b. b && nat_lt max (use_of trace st m.0)) may) ∙ fits);

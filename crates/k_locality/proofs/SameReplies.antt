@@ -19,6 +19,7 @@ use Rattle.k_types.specs.declared.event.Event.TheVariants.{Done as DoneEvent, En
 use Rattle.k_types.specs.Barrier.{legal_store}
 use Rattle.k_types.specs.Updates.{next_name}
 use Rattle.k_types.specs.Names.{heap_eq, kind_of, among}
+use Rattle.k_types.specs.Bounds.{maximum_below}
 use Rattle.k_types.specs.Trace.{Trace, process_count, limit_of, size_of_type, segment_of}
 use Rattle.k_types.specs.TraceRules.{AreLimits}
 use Rattle.k_types.specs.State.{State, object_at, fields_of, register, has_share, Holds}
@@ -189,7 +190,7 @@ module _ (trace : Trace) (st su : State) (book : book_part trace st ≡ book_par
     reply_same Exit inside cells = refl
     reply_same (Kill q) inside cells = refl
     reply_same (Resize m max) inside cells =
-        let known = ltb-true _ _ inside in
+        let known = ltb-true _ _ (and_parts (nat_lt m.0 (length trace.limits)) (nat_lt max maximum_below) inside).0 in
         ap₂ (λ full used. refused_or (first_fault (cond (may_resize trace p m.0) (limit_fault full) None ∷ fault_where (not (may_resize trace p m.0)) (LimitNotBelow m) ∷ fault_where (may_resize trace p m.0 && nat_lt max used) (InUse m) ∷ [])) Done)
         (full_for_same trace st su book limits m.0 max known) (use_same trace st su book m.0 known)
 

@@ -15,7 +15,7 @@ use Rattle.k_types.specs.declared.event.Reply.TheVariants.{Made, Loaded, Value}
 use Rattle.k_types.specs.declared.event.Event.{Event}
 use Rattle.k_types.specs.declared.event.Event.TheVariants.{Done, Ended, Absorbed, Closing}
 use Rattle.k_types.specs.Barrier.{legal_store}
-use Rattle.k_types.specs.Bounds.{register_count}
+use Rattle.k_types.specs.Bounds.{maximum_below, register_count}
 use Rattle.k_types.specs.Names.{heap_eq, kind_of, among}
 use Rattle.k_types.specs.Trace.{Trace, process_count, limit_of, size_of_type}
 use Rattle.k_types.specs.TraceRules.{AreLimits}
@@ -210,7 +210,7 @@ module _ (trace : Trace) (st : State) where
     faults_told Exit inside = refl
     faults_told (Kill q) inside = refl
     faults_told (Resize m max) inside =
-        let known = ltb-true _ _ inside in
+        let known = ltb-true _ _ (and_parts (nat_lt m.0 (length trace.limits)) (nat_lt max maximum_below) inside).0 in
         ap₂ (λ full used. cond (may_resize trace p m.0) (limit_fault full) None ∷ fault_where (not (may_resize trace p m.0)) (LimitNotBelow m) ∷ fault_where (may_resize trace p m.0 && nat_lt max used) (InUse m) ∷ [])
         (sym (full_for_told trace limits st m.0 max known)) (sym (use_told trace st m.0 known))
 
