@@ -362,6 +362,15 @@ before_a_resize_of_no_limit =
 abbrev pub a_resize_of_no_limit : Event
 a_resize_of_no_limit = did 0 (Resize (record { 0 = 3 }) 5) Fine
 
+-- A maximum that is set is below 2^40, also that of a soft limit, which reserves nothing. Before the event:
+abbrev pub before_a_resize_beyond_all_maxima : List Event
+before_a_resize_beyond_all_maxima =
+    []
+
+-- the event
+abbrev pub a_resize_beyond_all_maxima : Event
+a_resize_beyond_all_maxima = did 0 (Resize (record { 0 = 2 }) 1099511627776) Fine
+
 -- No maximum is set below what is used. Before the event:
 abbrev pub before_a_resize_below_what_is_used : List Event
 before_a_resize_below_what_is_used =
