@@ -67,5 +67,6 @@ module _ (world : WorldValue) (p : Process) (b : BookRecord) (pair : PairStands 
     };
     settled = ap (λ (x : HeapRecord). x.value.tail) s.cell_is;
     journal = s.journal;
+    met = s.met.list;
     cell_is = s.cell_is;
   }

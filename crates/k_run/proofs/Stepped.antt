@@ -90,20 +90,21 @@ some_touched : (c : Cell) → c ∷ [] ≡ [] → ⊥
 some_touched c e = cc
 
 -- an operation that touches another cell, and does not end its process, may be left
-pub may_be_left : (world : WorldValue) (p : Process) (b : BookRecord) (op : Op) (cell : Cell) → PairStands world p b → ComesNext world.trace p.cell op → op ≢ Exit →
+pub may_be_left : (world : WorldValue) (p : Process) (b : BookRecord) (op : Op) (cell : Cell) → PairStands world p b → p.cell.note.list ≡ b.journal.list → ComesNext world.trace p.cell op → op ≢ Exit →
     cell ∷ [] ≡ other_cells_in world.trace (book_shown_by b.value) (idle_part p.cell.value) p.cell.pid.0 op → IsLeft world p.cell op
-may_be_left world p b op cell pair next stays touched = record {
+may_be_left world p b op cell pair met next stays touched = record {
   next = next;
   stays = stays;
   book = b;
   keeps = pair.book;
+  met = met;
   touches = λ none. some_touched cell (touched ∙ none);
 }
 
 -- so may `kcollect`, which touches the kernel's cell
-pub may_wait : (world : WorldValue) (p : Process) (b : BookRecord) → PairStands world p b → ComesNext world.trace p.cell KCollect → IsLeft world p.cell KCollect
+pub may_wait : (world : WorldValue) (p : Process) (b : BookRecord) → PairStands world p b → p.cell.note.list ≡ b.journal.list → ComesNext world.trace p.cell KCollect → IsLeft world p.cell KCollect
 unfolding other_cells_in
-may_wait world p b pair next = may_be_left world p b KCollect Kernel pair next kept refl
+may_wait world p b pair met next = may_be_left world p b KCollect Kernel pair met next kept refl
   where
     kept : KCollect ≢ Exit
     kept e = cc

@@ -28,12 +28,14 @@ pub record HasDoneUnless (trace : Trace) (op : Op) (old new : HeapRecord) (answe
   pub same : IsFalse answer → new ≡ old
   pub outside : IsFalse answer → IsOutside trace new op
 
--- the operation still comes next, does not end its process, and touches another cell than the own one, as cell and a book of the run told
+-- the operation still comes next, does not end its process, and touches another cell than the own one, as the cell told and a book of the run
+-- whose journal the cell has met
 pub record IsLeft (world : WorldValue) (c : HeapRecord) (op : Op) : Type 0 where
   pub next : ComesNext world.trace c op
   pub stays : op ≢ Exit
   pub book : BookRecord
   pub keeps : BookKeeps world.trace world.table book
+  pub met : c.note.list ≡ book.journal.list
   pub touches : other_cells_in world.trace (book_shown_by book.value) (idle_part c.value) c.pid.0 op ≢ []
 
 -- the process has done an operation where the answer is yes; where it is no, none comes next, or the one that does is left

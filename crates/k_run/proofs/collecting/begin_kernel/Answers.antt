@@ -24,7 +24,7 @@ returns-in-Some g c =
     let next = subst (λ (x : HeapRecord). ComesNext g.W.WorldName.world.trace x KCollect) (sym c.process.view_is) c.requires.next in
     let left = published_left g.W.WorldName.world c.process.inside.process c.publish_all.new.process c.book.inside.book c.publish_all.new.book c.publish_all.ensures in (
       subst (λ (x : HeapRecord). WaitsToCollect g.W.WorldName.world x c.publish_all.new.process.cell) c.process.view_is (record {
-        left = may_wait g.W.WorldName.world c.publish_all.new.process c.publish_all.new.book c.publish_all.ensures.pair
+        left = may_wait g.W.WorldName.world c.publish_all.new.process c.publish_all.new.book c.publish_all.ensures.pair c.publish_all.ensures.met
             (next_since g.W.WorldName.world c.process.inside.process c.publish_all.new.process c.publish_all.new.book KCollect c.publish_all.ensures next);
         same = left;
       }),

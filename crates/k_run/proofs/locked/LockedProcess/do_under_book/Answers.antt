@@ -33,7 +33,7 @@ returns-in-Kernel g c =
     subst (λ (r : Reach). IsReadyFor r g.W.WorldName.world c.args.op.now c.args.self.now c.publish_all.new.process.cell) (sym c.in-Kernel.is) (record {
       ready = ready_since g.W.WorldName.world c.self.inside.process c.publish_all.new.process c.publish_all.new.book c.args.op.now c.publish_all.ensures before.next before.outside;
       same = subst (λ (x : HeapRecord). HasSameLeft g.W.WorldName.world.trace x c.publish_all.new.process.cell) c.self.view_is left;
-      left = may_be_left g.W.WorldName.world c.publish_all.new.process c.publish_all.new.book c.args.op.now Kernel c.publish_all.ensures.pair
+      left = may_be_left g.W.WorldName.world c.publish_all.new.process c.publish_all.new.book c.args.op.now Kernel c.publish_all.ensures.pair c.publish_all.ensures.met
           (next_since g.W.WorldName.world c.self.inside.process c.publish_all.new.process c.publish_all.new.book c.args.op.now c.publish_all.ensures before.next)
           (steps_stay c.args.op.now c.requires.steps) c.in-Kernel.ensures;
     })
@@ -45,7 +45,7 @@ returns-in-Shared g c =
     subst (λ (r : Reach). IsReadyFor r g.W.WorldName.world c.args.op.now c.args.self.now c.publish_all.new.process.cell) (sym c.in-Shared.is) (record {
       ready = ready_since g.W.WorldName.world c.self.inside.process c.publish_all.new.process c.publish_all.new.book c.args.op.now c.publish_all.ensures before.next before.outside;
       same = subst (λ (x : HeapRecord). HasSameLeft g.W.WorldName.world.trace x c.publish_all.new.process.cell) c.self.view_is left;
-      left = may_be_left g.W.WorldName.world c.publish_all.new.process c.publish_all.new.book c.args.op.now (Shared c.in-Shared.field-0) c.publish_all.ensures.pair
+      left = may_be_left g.W.WorldName.world c.publish_all.new.process c.publish_all.new.book c.args.op.now (Shared c.in-Shared.field-0) c.publish_all.ensures.pair c.publish_all.ensures.met
           (next_since g.W.WorldName.world c.self.inside.process c.publish_all.new.process c.publish_all.new.book c.args.op.now c.publish_all.ensures before.next)
           (steps_stay c.args.op.now c.requires.steps) c.in-Shared.ensures;
     })
