@@ -1,7 +1,7 @@
 """Reads the report of a trace: each event is looked at in its place, and the rest is compared with what the events leave."""
 from __future__ import annotations
 
-from typing import List, Optional
+from typing import Iterator, List, Optional, Tuple
 
 from . import effects, replies, report, rules
 from .effects import Freed
@@ -97,8 +97,11 @@ def _quoted(text: str) -> str:
     return f"'{text}'"
 
 
-def read_history(trace: Trace, text: Text) -> List[Event]:
-    """The events of a trace's report; raises BadInput at the first line that is not as the machine leaves it."""
+def judged(trace: Trace, text: Text) -> Iterator[Tuple[Event, State]]:
+    """Each event of a trace's report with the state after it, which is one object that goes on changing.
+
+    Raises BadInput at the first line that is not as the machine leaves it.
+    """
     if not text.lines or text.lines[0] != "report 1":
         raise text.bad(1, "a report begins with the line 'report 1'")
     judge, names, events = Judge(trace), NameTable(trace.setup), []
@@ -108,7 +111,7 @@ def read_history(trace: Trace, text: Text) -> List[Event]:
             if why:
                 raise text.bad(at, why)
             _compare(text, at, report.ending(judge.state))
-            return events
+            return
         try:
             event = read_event(names, line)
         except BadInput as bad:
@@ -118,7 +121,13 @@ def read_history(trace: Trace, text: Text) -> List[Event]:
             raise text.bad(at, f"'{line}' is not what happens there: {why}; is this the report of another trace?")
         judge.take(event)
         events.append(event)
+        yield event, judge.state
     raise text.bad(len(text.lines) + 1, "the report ends before its line 'graph'")
+
+
+def read_history(trace: Trace, text: Text) -> List[Event]:
+    """The events of a trace's report; raises BadInput at the first line that is not as the machine leaves it."""
+    return [event for event, _ in judged(trace, text)]
 
 
 def _compare(text: Text, first: int, wanted: List[str]) -> None:

@@ -1,0 +1,50 @@
+"""What is run on one random trace, and what has to come of it."""
+from __future__ import annotations
+
+from collections import Counter
+from typing import Tuple
+
+from showing import history, report
+from showing.random_traces import random_trace
+from showing.trace import Trace, read_trace
+from showing.words import Text
+
+from . import samples
+from .many import Case
+from .program import Program, Wrong
+
+
+def _trace(program: Program, case: Case, version: int) -> Tuple[str, Trace]:
+    """The text and the trace of a case."""
+    text = random_trace(case.seed, version)
+    program.texts = {"kaffe": text}
+    return text, read_trace(Text(f"the trace of seed {case.seed}", text.splitlines()))
+
+
+def watched(program: Program, case: Case, version: int, count: int) -> Counter:
+    """Watches one run of the case's trace. Each sample has to be on the journal, and the report to be good."""
+    text, trace = _trace(program, case, version)
+    output = program.done(["watch", str(count)], text)
+    judged, events, seen = samples.judge(trace, output, count)
+    program.check(text, judged)
+    distinct = set(seen)
+    between = sum(0 < sample.events < events for sample in distinct)
+    return Counter(runs=1, events=events, samples=len(seen), distinct=len(distinct), between=between, caught=bool(between))
+
+
+def unwatched(program: Program, case: Case, version: int) -> Counter:
+    """Replays the case's trace, which has to give the model's report, and runs it so many times; each report has to be good."""
+    text, trace = _trace(program, case, version)
+    replay = history.Replay(trace)
+    wanted = "\n".join(report.whole(replay.events, replay.state)) + "\n"
+    output = program.done(["replay"], text)
+    if output != wanted:
+        program.texts["wanted"] = wanted
+        raise Wrong("the report of replay is not the model's")
+    reports = set()
+    for _ in range(case.runs):
+        output = program.done(["run"], text)
+        if output not in reports:
+            program.check(text, output)
+            reports.add(output)
+    return Counter(traces=1, runs=case.runs, events=case.runs * len(replay.events), reports=len(reports), others=len(reports - {wanted}))
