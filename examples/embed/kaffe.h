@@ -21,7 +21,8 @@ typedef struct kaffe_host kaffe_host;
 /* What a call lacks. Nothing has changed. */
 enum kaffe_status {
     KAFFE_OK = 0,       /* the call is done */
-    KAFFE_UNKNOWN = 1,  /* no such process, register, type, limit or shared heap is declared; or the question has no answer */
+    KAFFE_UNKNOWN = 1,  /* no such process, register, type, limit or shared heap is declared, or a maximum is 2^40 or more; or the
+                           question has no answer */
     KAFFE_OWN_CALL = 2, /* the operation has a call of its own: no function of this header answers it */
     KAFFE_ENDED = 3,    /* the process has ended */
     KAFFE_PHASE = 4,    /* a collection of a heap that is touched is open: the functions of this header leave none open */
@@ -45,8 +46,11 @@ enum kaffe_fault {
     KAFFE_NOT_POPULATING = 8,  /* the process does not populate shared heap `at` */
     KAFFE_NOT_FROZEN = 9,      /* shared heap `at` is not frozen */
     KAFFE_TAKEN = 10,          /* shared heap `at` has been made before */
-    KAFFE_LIMIT_FULL = 11,     /* limit `at` is full: collect a heap that it counts, or kill a guest */
-    KAFFE_KERNEL_FULL = 12     /* the kernel heap is at its ceiling */
+    KAFFE_LIMIT_FULL = 11,     /* limit `at` is full: collect a heap that it counts, or kill a guest; on resize, the path above a hard limit */
+    KAFFE_KERNEL_FULL = 12,    /* the kernel heap is at its ceiling */
+    KAFFE_PROC_NOT_BELOW = 13, /* the limit of process `at` is not strictly below that of the process that would kill it */
+    KAFFE_LIMIT_NOT_BELOW = 14, /* limit `at` is not strictly below that of the process that would resize it */
+    KAFFE_IN_USE = 15          /* more bytes are in use at limit `at` than the maximum that it would get */
 };
 
 /* What the numbers of an answer are. */
@@ -60,18 +64,18 @@ enum kaffe_what {
 typedef struct kaffe_request { /* 32 bytes, passed by value */
     uint32_t call;             /* enum kaffe_call_number */
     uint32_t pid;              /* the process, from 0 in order of declaration */
-    uint32_t at;               /* a field, a type, a limit or a shared heap, from 0 in order of declaration */
+    uint32_t at;               /* a field, a type, a limit, a shared heap or the process that is killed, from 0 in order of declaration */
     uint32_t to;               /* the type, where at is a shared heap */
     uint8_t reg, base;         /* registers, 0 to 15 */
     uint8_t unused0, unused1;
     uint32_t unused2;
-    uint64_t number;           /* what a field becomes */
+    uint64_t number;           /* what a field or a limit's maximum becomes */
 } kaffe_request;
 
 typedef struct kaffe_answer {
     uint32_t status; /* enum kaffe_status */
     uint32_t fault;  /* enum kaffe_fault */
-    uint32_t at;     /* the limit or shared heap that the fault names */
+    uint32_t at;     /* the limit, process or shared heap that the fault names */
     uint32_t what;   /* enum kaffe_what */
     uint32_t seg, serial;
     uint64_t number;
@@ -91,6 +95,8 @@ enum kaffe_call_number {
     KAFFE_CALL_SHARE = 10,
     KAFFE_CALL_FREEZE = 11,
     KAFFE_CALL_ATTACH = 12,
+    KAFFE_CALL_KILL_BY = 13,
+    KAFFE_CALL_RESIZE = 14,
     KAFFE_CALL_COLLECT = 16,
     KAFFE_CALL_KCOLLECT = 17,
     KAFFE_CALL_KILL = 18,
@@ -184,6 +190,16 @@ static inline kaffe_answer kaffe_freeze(kaffe_host *h, uint32_t pid, uint32_t sh
 /* The process shares the frozen heap; register reg refers to its root. */
 static inline kaffe_answer kaffe_attach(kaffe_host *h, uint32_t pid, uint8_t reg, uint32_t shared) {
     return kaffe_request_call(h, KAFFE_CALL_ATTACH, pid, shared, 0, reg, 0, 0);
+}
+
+/* The process kills the target, whose limit must be strictly below its own. Nothing changes where the target has ended before. */
+static inline kaffe_answer kaffe_kill_by(kaffe_host *h, uint32_t pid, uint32_t target) {
+    return kaffe_request_call(h, KAFFE_CALL_KILL_BY, pid, target, 0, 0, 0, 0);
+}
+
+/* The process gives the limit, which must be strictly below its own, another maximum, which is below 2^40. */
+static inline kaffe_answer kaffe_resize(kaffe_host *h, uint32_t pid, uint32_t limit, uint64_t most) {
+    return kaffe_request_call(h, KAFFE_CALL_RESIZE, pid, limit, 0, 0, 0, most);
 }
 
 /* Collects the heap of the process, whole. Answers what was freed. */

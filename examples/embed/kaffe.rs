@@ -64,6 +64,8 @@ mod call {
     pub const SHARE: u32 = 10;
     pub const FREEZE: u32 = 11;
     pub const ATTACH: u32 = 12;
+    pub const KILL_BY: u32 = 13;
+    pub const RESIZE: u32 = 14;
     pub const COLLECT: u32 = 16;
     pub const KCOLLECT: u32 = 17;
     pub const KILL: u32 = 18;
@@ -116,7 +118,7 @@ pub struct Freed {
 /// What a call lacks. Nothing has changed.
 #[derive(Clone, Copy, Debug, PartialEq, Eq)]
 pub enum Lack {
-    /// No such process, register, type, limit or shared heap is declared; or the question has no answer.
+    /// No such process, register, type, limit or shared heap is declared, or a maximum is 2^40 or more; or the question has no answer.
     Unknown,
     /// The operation has a call of its own. No method answers it.
     OwnCall,
@@ -157,10 +159,16 @@ pub enum Fault {
     NotFrozen(SharedId),
     /// The shared heap has been made before.
     Taken(SharedId),
-    /// The limit is full: collect a heap that it counts, or kill a guest.
+    /// The limit is full: collect a heap that it counts, or kill a guest. On `resize`, one of the path above a hard limit.
     LimitFull(LimitId),
     /// The kernel heap is at its ceiling.
     KernelFull,
+    /// The limit of the process is not strictly below that of the process that would kill it.
+    ProcNotBelow(Pid),
+    /// The limit is not strictly below that of the process that would resize it.
+    LimitNotBelow(LimitId),
+    /// More bytes are in use at the limit than the maximum that it would get.
+    InUse(LimitId),
 }
 
 /// Why a call is not done.
@@ -226,6 +234,9 @@ fn fault_of(fault: u32, at: u32) -> Refusal {
         10 => Fault::Taken(SharedId(at)),
         11 => Fault::LimitFull(LimitId(at)),
         12 => Fault::KernelFull,
+        13 => Fault::ProcNotBelow(Pid(at)),
+        14 => Fault::LimitNotBelow(LimitId(at)),
+        15 => Fault::InUse(LimitId(at)),
         _ => return Refusal::Lack(Lack::NoCall),
     })
 }
@@ -349,6 +360,16 @@ impl Host {
         self.call(Request { call: call::ATTACH, pid, at, reg, ..Request::default() }).map(target)
     }
 
+    /// The process kills the target, whose limit must be strictly below its own. Nothing changes where the target has ended before.
+    pub fn kill_by(&mut self, Pid(pid): Pid, Pid(at): Pid) -> Result<(), Refusal> {
+        self.call(Request { call: call::KILL_BY, pid, at, ..Request::default() }).map(|_| ())
+    }
+
+    /// The process gives the limit, which must be strictly below its own, another maximum, which is below 2^40.
+    pub fn resize(&mut self, Pid(pid): Pid, LimitId(at): LimitId, number: u64) -> Result<(), Refusal> {
+        self.call(Request { call: call::RESIZE, pid, at, number, ..Request::default() }).map(|_| ())
+    }
+
     /// Collects the heap of the process, whole.
     pub fn collect(&mut self, Pid(pid): Pid) -> Result<Freed, Refusal> {
         self.call(Request { call: call::COLLECT, pid, ..Request::default() }).map(freed)
@@ -367,7 +388,7 @@ impl Host {
         }
     }
 
-    /// Ends the process: from here on its charge is 0, and its heap is the kernel's.
+    /// Ends the process, whoever asks: from here on its charge is 0, and its heap is the kernel's.
     pub fn kill(&mut self, Pid(pid): Pid) -> Result<(), Refusal> {
         self.call(Request { call: call::KILL, pid, ..Request::default() }).map(|_| ())
     }

@@ -4,8 +4,8 @@ import sys
 
 from launcher import commands, sources
 
-# The version of the project, which is that of the traces that it reads.
-VERSION = "1"
+# The version of the project, which is the latest one of the traces that it reads.
+VERSION = "2"
 MEMORY_FAULT = "exitcode=70"
 
 

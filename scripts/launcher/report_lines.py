@@ -71,6 +71,18 @@ def done_before(report, number):
     return found
 
 
+def ended_before(report, number):
+    """The processes that the event lines before this one end, each with the number of the line that ends it first."""
+    found = {}
+    for at, line in enumerate(report.lines[1 : number - 1], 2):
+        words = line.split(" ")
+        if words[1:] == ["exit", "=", "ok"]:
+            found.setdefault(words[0], at)
+        elif words[1:2] == ["kill"] and words[3:] == ["=", "ok"]:
+            found.setdefault(words[2], at)
+    return found
+
+
 def event_detail(report, number, operations):
     line = report.line(number)
     operation, equals, reply = line.partition(" = ")
@@ -80,8 +92,11 @@ def event_detail(report, number, operations):
         return [f"`{reply}` is no reply: `ok`, an object's name, `null`, a number, or `fault` with the fault's text."]
     if not equals:
         return ["The machine has no such event there, or with other numbers. `./kaffe replay TRACE` shows one history that is right."]
+    process, ended = operation.split(" ")[0], ended_before(report, number)
+    if process in ended:
+        return [f"`{process}` does nothing more: it was ended by line {ended[process]}, `{report.line(ended[process])}`."]
     if operations is not None:
-        process, done = operation.split(" ")[0], done_before(report, number)
+        done = done_before(report, number)
         mine = operations.get(process, [])
         if done.get(process, 0) >= len(mine):
             return [f"The trace has no further operation of `{process}`: it has {len(mine)}."]
@@ -95,8 +110,7 @@ def event_detail(report, number, operations):
 def history_detail(report, number, operations):
     """What the history lacks at the line `graph`."""
     events, found = report.lines[1 : number - 1], []
-    done = done_before(report, number)
-    ended = {line.split(" ")[0] for line in events if line.endswith(" exit = ok")}
+    done, ended = done_before(report, number), ended_before(report, number)
     for process, mine in (operations or {}).items():
         if process not in ended and done.get(process, 0) < len(mine):
             found.append(f"`{process}` has done {done.get(process, 0)} of its {len(mine)} operations; the next one is `{mine[done.get(process, 0)]}`.")

@@ -68,7 +68,7 @@ REASONS = {
     ),
     4: Meaning(
         "The line has none of the forms that may stand in its place.",
-        "Write one of the forms of this place. Words are separated by exactly one space, and there are no empty lines and no comments.",
+        "Write one of the forms of this place. Words are separated by exactly one space, and there are no empty lines and no comments. `kill` and `resize` have a form only in a trace that begins with `kaffe 2`.",
     ),
     5: Meaning(
         "A word in the place of a number or a register is none, or is out of range.",
@@ -146,12 +146,24 @@ FAULTS = {
         "Each shared heap is populated once, by one process. Declare another one, or let this process attach.",
     ),
     "LimitFull L": Meaning(
-        "The size does not fit: L is the first full limit from the process's own upward.",
-        "Raise the maximum of L, or free memory first: drop registers and `collect`, which also ends shares that are no longer used.",
+        "The size does not fit: L is the first full limit from the process's own upward. On `resize` it is what a hard limit gets more that does not fit, and L is the first full limit from its parent upward.",
+        "Raise the maximum of L, in the header or by `resize`. Or free memory first: drop registers and `collect`, which also ends shares that are no longer used.",
     ),
     "KernelFull": Meaning(
         "The bytes of the kernel's heap and the new object's size pass the ceiling.",
         "Raise the ceiling in the kernel line, or free memory by `kcollect` once nothing refers to the kernel's objects.",
+    ),
+    "ProcNotBelow P": Meaning(
+        "The process may not end the process P, whose limit is not below its own.",
+        "Let a process ask that is charged at a limit above that of P, as a supervisor is. A process ends itself by `exit`.",
+    ),
+    "LimitNotBelow L": Meaning(
+        "The process may not change the maximum of the limit L, which is not below its own limit.",
+        "Let a process ask that is charged at a limit above L. The maximum of the root never changes.",
+    ),
+    "InUse L": Meaning(
+        "More bytes are used at the limit L than its maximum was to be.",
+        "Ask for a maximum that is no less than what is used at L, or free memory there first. What hard limits just below L reserve counts as used.",
     ),
 }
 

@@ -12,20 +12,19 @@ HEADER_BYTES, FIELD_BYTES = 16, 8
 OPERATIONS = {
     "new": ["rD", "T"], "knew": ["rD", "T"], "snew": ["rD", "S", "T"], "store": ["rX", "f", "rY"], "load": ["rD", "rX", "f"],
     "move": ["rD", "rS"], "drop": ["rD"], "dir": ["rD"], "put": ["rX", "f", "n"], "get": ["rX", "f"], "collect": [], "kcollect": [],
-    "exit": [], "share": ["S"], "attach": ["rD", "S"], "freeze": ["S", "rX"],
+    "exit": [], "share": ["S"], "attach": ["rD", "S"], "freeze": ["S", "rX"], "kill": ["P"], "resize": ["L", "n"],
 }  # fmt: skip
-KINDS = {"T": "type", "S": "shared heap"}
+OF_SECOND_VERSION = ["kill", "resize"]
+SECOND_VERSION = "kaffe 2"
 HEADER = ["kaffe", "kernel", "type", "limit", "proc", "shared"]
-OPERATION_FORMS = "; ".join(" ".join([name, *words]) for name, words in OPERATIONS.items())
 FORMS = {
-    "kaffe": "`kaffe 1`",
+    "kaffe": "`kaffe 1` or `kaffe 2`",
     "kernel": "`kernel CEILING FIELDS`",
     "type": "`type NAME`, followed by 0 to 16 words `ref` or `int`",
     "root": "`limit NAME MAX`, for the root of the limits",
     "limit": "`limit NAME PARENT hard MAX` or `limit NAME PARENT soft MAX`",
     "proc": "`proc NAME LIMIT`",
     "shared": "`shared NAME`",
-    "operation": "an operation, which is a process's name and one of: " + OPERATION_FORMS,
 }
 
 Limit = namedtuple("Limit", "parent is_hard maximum")
@@ -37,7 +36,7 @@ class Before:
     def __init__(self, lines):
         self.lines = lines
         self.names = {"type": {}, "limit": {}, "process": {}, "shared heap": {}}
-        self.limits, self.exits, self.operations, self.version, self.kernel = {}, {}, 0, False, False
+        self.limits, self.exits, self.operations, self.version, self.kernel, self.is_second = {}, {}, 0, False, False, False
         for number, line in enumerate(lines, 1):
             self.take(number, line.split(" "))
 
@@ -53,6 +52,7 @@ class Before:
                 parent = words[2] if len(words) == 5 else None
                 self.limits[words[1]] = Limit(parent, len(words) < 5 or words[3] == "hard", int(words[-1]))
         self.version |= number == 1 and words[0] == "kaffe"
+        self.is_second |= number == 1 and " ".join(words) == SECOND_VERSION
         self.kernel |= words[0] == "kernel"
 
     def places(self):
@@ -72,17 +72,22 @@ class Before:
     def heaps(self):
         return {**self.names["process"], **self.names["shared heap"]}
 
+    def operations_there(self):
+        """The operations of the trace's version, each with the words that follow it."""
+        return {name: words for name, words in OPERATIONS.items() if self.is_second or name not in OF_SECOND_VERSION}
+
 
 def form_of(words, before):
     """The pattern words of the form that a line has, with their places' names, or None where it has none."""
     first = words[0]
     if "operation" in before.places() and first not in HEADER:
-        found = OPERATIONS.get(words[1]) if len(words) > 1 else None
+        found = before.operations_there().get(words[1]) if len(words) > 1 else None
+        found = ["L", "MAX"] if words[1:2] == ["resize"] and found else found
         return None if found is None or len(found) != len(words) - 2 else ["P", "_", *found]
     if first == "limit" and len(words) == 5 and before.names["limit"]:
-        return ["_", "L", "PARENT", "_", "MAX"]
+        return ["_", "NEW", "PARENT", "_", "MAX"]
     return {
-        ("kernel", 3): ["_", "CEILING", "FIELDS"], ("limit", 3): ["_", "L", "MAX"], ("proc", 3): ["_", "NEW", "LIMIT"], ("shared", 2): ["_", "NEW"],
+        ("kernel", 3): ["_", "CEILING", "FIELDS"], ("limit", 3): ["_", "NEW", "MAX"], ("proc", 3): ["_", "NEW", "LIMIT"], ("shared", 2): ["_", "NEW"],
     }.get((first, len(words)), ["_", "TYPE", *["_"] * (len(words) - 2)] if first == "type" and len(words) > 1 else None)  # fmt: skip
 
 
@@ -119,7 +124,12 @@ def detail(reason, line, before, size):
 
 
 def allowed(before):
-    return ", or ".join(FORMS[it] for it in before.places())
+    return ", or ".join(operation_forms(before) if it == "operation" else FORMS[it] for it in before.places())
+
+
+def operation_forms(before):
+    forms = "; ".join(" ".join([name, *words]) for name, words in before.operations_there().items())
+    return f"an operation, which is a process's name and one of: {forms}"
 
 
 def bad_byte(line):
@@ -139,6 +149,8 @@ def no_form(line, words, before):
         found.append("Words are not separated by single spaces, or the line begins or ends with a space.")
     elif line.startswith("#") or line.startswith("//"):
         found.append("A trace has no comments.")
+    elif len(words) > 1 and words[1] in OF_SECOND_VERSION and "operation" in before.places() and not before.is_second:
+        return [f"`{words[1]}` is an operation of the second version, of which the first line is `{SECOND_VERSION}`."]
     elif len(words) > 1 and words[1] in OPERATIONS and "operation" in before.places():
         return [f"`{words[1]}` is written `{' '.join([words[0], words[1], *OPERATIONS[words[1]]])}`."]
     elif len(words) > 1 and "operation" in before.places() and words[0] in before.names["process"]:
@@ -162,7 +174,7 @@ def declared_before(words, before):
 
 def undeclared(form, words, before):
     """The first word that names what is not declared, and what is."""
-    kinds = {"T": "type", "S": "shared heap", "P": "process", "PARENT": "limit", "LIMIT": "limit"}
+    kinds = {"T": "type", "S": "shared heap", "P": "process", "L": "limit", "PARENT": "limit", "LIMIT": "limit"}
     for place, word in zip(form, words):
         kind = kinds.get(place)
         if kind and word not in before.names[kind]:

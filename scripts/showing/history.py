@@ -55,12 +55,16 @@ class Replay:
         self.state = State(trace.setup)
         self.events: List[Event] = []
         for operation in trace.operations:
-            if not self.state.ended[operation.process]:
-                self._operate(operation)
+            self.take(operation)
         if all(self.state.ended):
             self._absorb_orphans()
             self._add(Event("closing"))
             self._end_collection(KERNEL)
+
+    def take(self, operation: Operation) -> None:
+        """Does one operation more, unless its process has ended."""
+        if not self.state.ended[operation.process]:
+            self._operate(operation)
 
     def _add(self, event: Event) -> None:
         step(self.state, event)

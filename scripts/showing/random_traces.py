@@ -5,7 +5,10 @@ import random
 from dataclasses import dataclass, field
 from typing import Callable, Iterator, List, Optional, Set, Tuple
 
-from .trace import Limit, reserved
+from . import rules
+from .history import Replay
+from .trace import Limit, NameTable, Trace, read_trace, reserved
+from .words import MAXIMA, Text
 
 FEW_REGISTERS = 5  # so that operations meet what others left
 FIELD_WEIGHTS = {"ref": (8, 5, 1, 1), "int": (1, 1, 8, 1)}  # most objects have the fields of a list's node: two references, a number
@@ -44,9 +47,10 @@ def _header(rng: random.Random, version: int) -> _Header:
         header.types.append(f"T{number}")
         header.lines.append(" ".join(["type", f"T{number}", *kinds]))
     _limits(rng, header)
-    for number in range(rng.randint(1, 5)):
+    for number in range(rng.randint(1, 5) if version == 1 else rng.randint(2, 7)):
         header.processes.append(f"p{number}")
-        header.lines.append(f"proc p{number} {rng.choice(header.limits).name}")
+        at_the_root = version == 2 and number == 0 and rng.random() < 0.8
+        header.lines.append(f"proc p{number} {header.limits[0].name if at_the_root else rng.choice(header.limits).name}")
     for number in range(rng.choice((0, 1, 1, 2, 3))):
         header.shared.append(f"s{number}")
         header.lines.append(f"shared s{number}")
@@ -58,8 +62,9 @@ def _limits(rng: random.Random, header: _Header) -> None:
     root = rng.choice((200, 600, 2000, 20000))
     header.limits.append(Limit("root", None, True, root))
     header.lines.append(f"limit root {root}")
-    for number in range(rng.choice((0, 1, 2, 3, 4, 6))):
-        parent = rng.randrange(len(header.limits))
+    chain = header.version == 2 and rng.random() < 0.4
+    for number in range(rng.choice((0, 1, 2, 3, 4, 6)) if header.version == 1 else rng.randint(1, 6)):
+        parent = len(header.limits) - 1 if chain else rng.randrange(len(header.limits))
         maximum = rng.choice((0, 40, 120, 300, root // 3, root))
         hard = rng.random() < 0.5 and _fits(header.limits, parent, maximum)
         header.limits.append(Limit(f"l{number}", parent, hard, maximum))
@@ -144,16 +149,6 @@ class _Operations:
             for _ in range(self.rng.randint(0, 2)):
                 self.add(self.process(), "attach", self.reg(), shared)
 
-    def in_version_2(self) -> None:
-        """A process ends another or sets a limit's maximum."""
-        if self.header.version == 2:
-            if self.rng.random() < 0.4:
-                self.add(self.process(), "kill", self.process())
-            else:
-                limit = self.rng.choice(self.header.limits)
-                maximum = self.rng.choice((0, 40, 80, limit.maximum, limit.maximum + 40, 2 * limit.maximum, 2**40 - 1))
-                self.add(self.process(), "resize", limit.name, maximum)
-
     def finish(self) -> None:
         """Drops registers and collects, and now and then lets every process end."""
         for process in self.header.processes:
@@ -165,21 +160,111 @@ class _Operations:
                 self.add(process, "exit")
 
 
+class _Governing(_Operations):
+    """The same with the operations of version 2. A replay of what was written so far tells who lives and what is used at the limits."""
+
+    def __init__(self, rng: random.Random, header: _Header) -> None:
+        super().__init__(rng, header)
+        setup = read_trace(Text("the header", header.lines)).setup
+        self.names, self.replay = NameTable(setup), Replay(Trace(setup, []))
+        self.state, self.setup = self.replay.state, setup
+
+    def add(self, process: str, *words: object) -> None:
+        """Writes an operation; after its process was killed only now and then, since such a line gives no event."""
+        count = len(self.lines)
+        if process in self.over or not self.state.ended[self.header.processes.index(process)] or self.rng.random() < 0.1:
+            super().add(process, *words)
+        for line in self.lines[count:]:
+            self.replay.take(self.names.operation(line))
+
+    def above(self, limit: int) -> List[int]:
+        """The processes that live and may kill and resize at a limit."""
+        rows = enumerate(self.setup.processes)
+        return [each for each, row in rows if not self.state.ended[each] and rules.is_below(self.state, limit, row.limit)]
+
+    def kill(self) -> None:
+        """A process ends another one that lives, if there is one below; else, and now and then, any kill."""
+        rows = self.setup.processes
+        pairs = [(by, of) for of, row in enumerate(rows) if not self.state.ended[of] for by in self.above(row.limit)]
+        again = [(by, of) for of, row in enumerate(rows) if self.state.ended[of] for by in self.above(row.limit)]
+        chance = self.rng.random()
+        chosen = pairs if chance < 0.5 else again if chance < 0.7 else []
+        by, of = self.rng.choice(chosen) if chosen else (self.rng.randrange(len(rows)), self.rng.randrange(len(rows)))
+        self.add(rows[by].name, "kill", rows[of].name)
+
+    def room(self, limit: int) -> int:
+        """By how much a limit can grow."""
+        row, use = self.setup.limits[limit], rules.uses(self.state)
+        path = rules.path(self.state, row.parent) if row.hard else ()
+        return min((self.state.maxima[at] - use[at] for at in path), default=MAXIMA)
+
+    def resize(self) -> None:
+        """A limit gets another maximum: what is used there, all that its parent has, one byte less or more, or another number."""
+        limit = self.rng.randrange(len(self.setup.limits))
+        used, now, room = rules.uses(self.state)[limit], self.state.maxima[limit], self.room(limit)
+        exact = (used, used - 1, used + 40, now, now + 40, now + room, now + room + 1, now + room // 2)
+        maximum = self.rng.choice((0, 40, MAXIMA - 1, *exact))
+        able = self.above(limit)
+        by = self.rng.choice(able) if able and self.rng.random() < 0.8 else self.rng.randrange(len(self.setup.processes))
+        self.add(self.header.processes[by], "resize", self.setup.limits[limit].name, min(max(maximum, 0), MAXIMA - 1))
+
+    def until_it_fits(self) -> None:
+        """What was refused for want of room, and what the limit gets more then."""
+        by = self.rng.choice([each for each, ended in enumerate(self.state.ended) if not ended] or [0])
+        name, limit = self.header.processes[by], self.setup.processes[by].limit
+        for _ in range(self.rng.randint(1, 4)):
+            self.add(name, "new", self.reg(), self.kind())
+        for at in list(rules.path(self.state, limit)):
+            for one in self.rng.sample(self.above(at), min(1, len(self.above(at)))):
+                self.add(self.header.processes[one], "resize", self.setup.limits[at].name, min(self.state.maxima[at] + 40, MAXIMA - 1))
+        self.add(name, "new", self.reg(), self.kind())
+
+    def orphan(self) -> None:
+        """A process ends that populates a shared heap, or that alone shares it; then the kernel takes the heap over."""
+        self.whole_shared()
+        sharers = [process for process, _ in self.state.shares if self.above(self.setup.processes[process].limit)]
+        for process in sharers[: self.rng.randint(1, 2)]:
+            able = self.above(self.setup.processes[process].limit)
+            if able:
+                self.add(self.header.processes[self.rng.choice(able)], "kill", self.header.processes[process])
+        self.add(self.process(), "kcollect")
+
+    def kill_all(self) -> None:
+        """Whoever may ends all others, and then itself, so that the run is closed."""
+        if self.rng.random() < 0.3:
+            by = self.process()
+            for process in self.rng.sample(self.header.processes, len(self.header.processes)):
+                self.add(by, "kill", process)
+            for process in self.header.processes:
+                self.add(process, "exit")
+
+    def govern(self) -> None:
+        """Any act of version 2."""
+        self.rng.choices((self.kill, self.resize, self.until_it_fits, self.orphan), (4, 8, 1, 1))[0]()
+
+
 _VERBS = "new knew store load move drop dir put get collect kcollect exit".split()
 _WEIGHTS = (22, 6, 22, 10, 5, 7, 5, 5, 5, 5, 4, 0.6)
+
+
+def _nothing() -> None:
+    """What traces of version 1 have in place of an act of version 2."""
 
 
 def random_trace(seed: int, version: int = 1) -> str:
     """The trace of a seed, the same one each time."""
     rng = random.Random(seed)
     header = _header(rng, version)
-    operations = _Operations(rng, header)
+    operations = _Operations(rng, header) if version == 1 else _Governing(rng, header)
+    govern = operations.govern if isinstance(operations, _Governing) else _nothing
     acts: Tuple[Callable[[], None], ...] = (
-        operations.one, operations.hand_over, operations.with_shared, operations.whole_shared, operations.in_version_2,
+        operations.one, operations.hand_over, operations.with_shared, operations.whole_shared, govern,
     )  # fmt: skip
     for _ in range(rng.choice(SIZES)):
-        rng.choices(acts, (20, 1.5, 2, 0.7, 1.5))[0]()
+        rng.choices(acts, (20, 1.5, 2, 0.7, 1.5 if version == 1 else 4))[0]()
     operations.finish()
+    if isinstance(operations, _Governing):
+        operations.kill_all()
     return "\n".join(header.lines + operations.lines) + "\n"
 
 

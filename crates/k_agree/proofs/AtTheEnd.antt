@@ -17,6 +17,7 @@ use Rattle.k_types.specs.Trace.{Trace, IsHeap, process_count, operations_of}
 use Rattle.k_types.specs.TraceRules.{AreLimits}
 use Rattle.k_base.proofs.NameTests.{heap_eq_refl}
 use Rattle.k_bounds.proofs.ByProcess.{follows_own}
+use Rattle.k_frame.proofs.Sizes.{history_sized}
 use Rattle.k_laws.proofs.SoundOpening.{opening_sound}
 use Rattle.k_laws.proofs.SoundSteps.{run_sound}
 use Rattle.k_tie.specs.Values.{JournalValue, NoteValue}
@@ -28,6 +29,11 @@ cell_sound trace cell note value limits a = run_sound trace limits (opening trac
 
 pub book_sound : (trace : Trace) (journal : JournalValue) (book : BookValue) → AreLimits trace → BookAgrees trace journal book → IsSound trace (state_after trace journal.list)
 book_sound trace journal book limits b = run_sound trace limits (opening trace) journal.list (opening_sound trace limits) b.legal
+
+-- a book that agrees has a maximum for each limit
+pub maxima_counted : (trace : Trace) (journal : JournalValue) (book : BookValue) → BookAgrees trace journal book → length book.maxima ≡ length trace.limits
+unfolding book_part
+maxima_counted trace journal book b = ap (λ (p : BookPart). length p.maxima) b.shows.part ∙ (history_sized trace journal.list).maxima
 
 -- a list of shares has a sharer where its tests have
 sharer_tested : (shares others : List Sharing) (s : ℕ) → ((p : ℕ) → has_share shares p s ≡ has_share others p s) → has_sharer shares s ≡ true → has_sharer others s ≡ true

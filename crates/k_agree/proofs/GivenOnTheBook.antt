@@ -1,5 +1,5 @@
 -- The book's value when a heap becomes the kernel's.
-use Rattle.std.proofs.Common.{◌≡◌, ◌≢◌, ℕ, zero, suc, ◌+◌, ◌-◌, ◌<◌, ◌==◌, ◌||◌, ◌&&◌, not, Bool, true, false, cond, refl, sym, ap, ap₂, ◌∙◌, subst, List, [], ◌∷◌, ◌++◌, map, get_or, set, arith, nat_le, false-eqb, leb-false}
+use Rattle.std.proofs.Common.{◌≡◌, ◌≢◌, ℕ, zero, suc, ◌+◌, ◌-◌, ◌<◌, ◌==◌, ◌||◌, ◌&&◌, not, Bool, true, false, cond, refl, sym, ap, ap₂, ◌∙◌, subst, List, [], ◌∷◌, ◌++◌, map, get_or, set, arith, nat_le, false-eqb, leb-false, IsTrue}
 use Rattle.std.proofs.lemmas.Bool.{false≢true, and_parts, not-true, false_from_ne_true}
 use Rattle.std.proofs.Math.Path.{fun_ext}
 use Rattle.k_types.specs.declared.event.Event.TheVariants.{Absorbed as AbsorbedEvent, Done}
@@ -10,7 +10,7 @@ use Rattle.k_types.specs.declared.names.Name.{Name}
 use Rattle.k_types.specs.declared.names.Phase.TheVariants.{Absorbed}
 use Rattle.k_types.specs.declared.names.Pid.{Pid}
 use Rattle.k_types.specs.declared.names.SharedId.{SharedId}
-use Rattle.k_types.specs.declared.op.Op.TheVariants.{Exit}
+use Rattle.k_types.specs.declared.op.Op.TheVariants.{Exit, Kill}
 use Rattle.k_types.specs.Agree.{BookValue, CellValue, book_shown_by}
 use Rattle.k_types.specs.Counted.{counted}
 use Rattle.k_types.specs.Cells.{BookPart, CellPart, ShownPart, part, book_part, pins_of, cells_touched, other_cells}
@@ -20,7 +20,7 @@ use Rattle.k_types.specs.Numbers.{numbers_below, numbers_from}
 use Rattle.k_types.specs.Owners.{owner_of, owner_of_segment, shared, user, object_bytes, is_absorbed, phase_of}
 use Rattle.k_types.specs.Reach.{is_shared_heap}
 use Rattle.k_types.specs.Sound.{IsSound}
-use Rattle.k_types.specs.Replies.{faults, first_fault}
+use Rattle.k_types.specs.Replies.{faults, first_fault, ends_other}
 use Rattle.k_types.specs.State.{State, has_share, is_scanned}
 use Rattle.k_types.specs.Steps.{IsPossible, has_sharer, is_live, state_after}
 use Rattle.k_types.specs.Totals.{total}
@@ -45,6 +45,7 @@ use Rattle.k_tie.specs.Values.{JournalValue}
 use Rattle.k_agree.proofs.AtTheEnd.{book_sound}
 use Rattle.k_agree.proofs.Swept.{among_kept}
 use Rattle.k_base.proofs.Lists.{none_is}
+use Rattle.k_laws.proofs.Ending.{kill_event, may_end_other}
 
 -- a list over numbers of which one is given another value
 map_above : {A : Type 0} (f g : ℕ → A) (first n k : ℕ) → k < first → ((q : ℕ) → q ≢ k → g q ≡ f q) → map g (numbers_from first n) ≡ map f (numbers_from first n)
@@ -278,7 +279,7 @@ may_exit trace st pid said may =
       kernel_idle = none_is _ (not-true _ last.0);
     }
 
-counted_shows : (trace : Trace) (st : State) (p : ℕ) (value : BookValue) → BookShows trace st value → BookShows trace (count_done p st) value
+pub counted_shows : (trace : Trace) (st : State) (p : ℕ) (value : BookValue) → BookShows trace st value → BookShows trace (count_done p st) value
 unfolding count_done
 counted_shows trace st p value seen = record {
   part = seen.part ∙ sym (count_done_on_book trace st p);
@@ -303,3 +304,13 @@ end_in_journal trace journal pid said heap kernel before drained without after l
     subst (λ su. BookShows trace su after) (sym (state_next trace journal.list (Done pid Exit said) ∙ exit_event trace st pid said))
     (counted_shows trace (after_end_of trace pid.0 st) pid.0 after
     (end_on_the_book trace limits st pid.0 heap kernel before drained without after sound (may_exit trace st pid said possible) agrees.shows shows kernel_shows ended))
+
+pub killed_in_journal : (trace : Trace) (journal : JournalValue) (pid target : Pid) (said : Reply) (heap kernel : CellValue) (before drained without after : BookValue) → AreLimits trace → BookAgrees trace journal before →
+    IsPossible trace (state_after trace journal.list) (Done pid (Kill target) said) → IsTrue (ends_other trace (state_after trace journal.list) pid.0 target.0) → Shows trace (state_after trace journal.list) (user target.0) heap → Shows trace (state_after trace journal.list) Kernel kernel →
+    HasEnded trace (owner_of trace (state_after trace journal.list)) target.0 heap kernel before drained without after → BookShows trace (state_after trace (journal.list ++ Done pid (Kill target) said ∷ [])) after
+killed_in_journal trace journal pid target said heap kernel before drained without after limits agrees possible ends shows kernel_shows ended =
+    let st = state_after trace journal.list in
+    let sound = book_sound trace journal before limits agrees in
+    subst (λ su. BookShows trace su after) (sym (state_next trace journal.list (Done pid (Kill target) said) ∙ kill_event trace st pid target said ends))
+    (counted_shows trace (after_end_of trace target.0 st) pid.0 after
+    (end_on_the_book trace limits st target.0 heap kernel before drained without after sound (may_end_other trace st pid target said possible ends) agrees.shows shows kernel_shows ended))

@@ -10,14 +10,18 @@ ghost use Rattle.k_types.specs.Owners.{user};
 ghost use Rattle.k_types.specs.State.{State};
 ghost use Rattle.k_types.specs.Trace.{Trace};
 ghost use Rattle.k_types.specs.declared.event.Event.{Event};
+ghost use Rattle.k_types.specs.TraceRules.{AreLimits};
+ghost use Rattle.k_types.specs.Steps.{IsPossible};
 
-/// An event touches one or two cells, and none twice. So a list of the cells that it touches, in the order in which the machine
-/// names them, is what `touched_cells_commit` asks for.
+/// An event touches one cell or two, or three where a process ends another, and none twice. So a list of the cells that it touches,
+/// in the order in which the machine names them, is what `touched_cells_commit` asks for.
 pub fn events_touch_few_cells()
     ensures few { (trace : Trace) (st : State) (event : Event) →
-        (1 ≤ length (cells_touched trace st event)) × (length (cells_touched trace st event) ≤ 2) }
-    ensures distinct { (trace : Trace) (st : State) (event : Event) → AreDistinctCells (cells_touched trace st event) }
-    ensures listed { (trace : Trace) (st : State) (event : Event) (cells : List Cell) → cells_touched trace st event ≡ cells →
+        (1 ≤ length (cells_touched trace st event)) × (length (cells_touched trace st event) ≤ 3) }
+    ensures distinct { (trace : Trace) (st : State) (event : Event) → AreLimits trace → IsPossible trace st event →
+        AreDistinctCells (cells_touched trace st event) }
+    ensures listed { (trace : Trace) (st : State) (event : Event) (cells : List Cell) → AreLimits trace → IsPossible trace st event →
+        cells_touched trace st event ≡ cells →
         AreDistinctCells cells × ((c : Cell) → cell_among c cells ≡ touches trace st event c) }
 {}
 

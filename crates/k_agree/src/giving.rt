@@ -1,5 +1,5 @@
 //! Cells that give themselves away: a process that ends, a shared heap that is absorbed.
-ghost use Rattle.std.specs.Prelude.{[], ◌++◌, ◌∷◌, ◌≡◌, ℕ};
+ghost use Rattle.std.specs.Prelude.{[], ◌++◌, ◌∷◌, ◌≡◌, ℕ, IsTrue};
 ghost use Rattle.k_agree.specs.Agreement.{BookAgrees, Shows};
 ghost use Rattle.k_agree.specs.GivingAway.{HasTakenIn, absorbed_cell, ended_cell, with_one_done};
 ghost use Rattle.k_laws.specs.Changes.{MayAbsorb, MayExit};
@@ -18,7 +18,8 @@ ghost use Rattle.k_types.specs.declared.names.CellPhase.TheVariants.{Idle};
 ghost use Rattle.k_types.specs.declared.names.Heap.TheVariants.{Kernel};
 ghost use Rattle.k_types.specs.declared.names.Pid.{Pid};
 ghost use Rattle.k_types.specs.declared.names.SharedId.{SharedId};
-ghost use Rattle.k_types.specs.declared.op.Op.TheVariants.{Exit};
+ghost use Rattle.k_types.specs.declared.op.Op.TheVariants.{Exit, Kill};
+ghost use Rattle.k_types.specs.Replies.{ends_other};
 
 /// At the end of a process its cell is emptied and the kernel's has taken in what was there. No collection of either is open.
 pub fn cells_show_the_end_of_a_process()
@@ -63,4 +64,25 @@ pub fn cells_show_the_event_of_an_exit()
         Shows trace (state_after trace journal.list) (user pid.0) heap → Shows trace (state_after trace journal.list) Kernel kernel →
         kernel.collection ≡ Idle → HasTakenIn (owner_of trace (state_after trace journal.list)) (user pid.0) heap kernel after →
         Shows trace (state_after trace (journal.list ++ Done pid Exit said ∷ [])) Kernel after }
+{}
+
+/// The cells that a kill touches where it ends its target show the state after its event: the operation counts in the cell of the
+/// process that asks, and the target's cell and the kernel's are as after the end of the target.
+pub fn cells_show_the_event_of_a_kill()
+    ensures own { (trace : Trace) (journal : JournalValue) (pid target : Pid) (said : Reply) (own : CellValue) (book : BookValue) →
+        AreLimits trace → BookAgrees trace journal book → IsPossible trace (state_after trace journal.list) (Done pid (Kill target) said) →
+        IsTrue (ends_other trace (state_after trace journal.list) pid.0 target.0) →
+        Shows trace (state_after trace journal.list) (user pid.0) own → own.collection ≡ Idle →
+        Shows trace (state_after trace (journal.list ++ Done pid (Kill target) said ∷ [])) (user pid.0) (with_one_done own) }
+    ensures target { (trace : Trace) (journal : JournalValue) (pid target : Pid) (said : Reply) (heap : CellValue) (book : BookValue) →
+        AreLimits trace → BookAgrees trace journal book → IsPossible trace (state_after trace journal.list) (Done pid (Kill target) said) →
+        IsTrue (ends_other trace (state_after trace journal.list) pid.0 target.0) →
+        Shows trace (state_after trace journal.list) (user target.0) heap → heap.collection ≡ Idle →
+        Shows trace (state_after trace (journal.list ++ Done pid (Kill target) said ∷ [])) (user target.0) (ended_cell heap) }
+    ensures kernel { (trace : Trace) (journal : JournalValue) (pid target : Pid) (said : Reply) (heap kernel after : CellValue) (book : BookValue) →
+        AreLimits trace → BookAgrees trace journal book → IsPossible trace (state_after trace journal.list) (Done pid (Kill target) said) →
+        IsTrue (ends_other trace (state_after trace journal.list) pid.0 target.0) →
+        Shows trace (state_after trace journal.list) (user target.0) heap → Shows trace (state_after trace journal.list) Kernel kernel →
+        kernel.collection ≡ Idle → HasTakenIn (owner_of trace (state_after trace journal.list)) (user target.0) heap kernel after →
+        Shows trace (state_after trace (journal.list ++ Done pid (Kill target) said ∷ [])) Kernel after }
 {}

@@ -25,7 +25,8 @@ ghost use Rattle.k_types.specs.declared.names.Heap.TheVariants.{Kernel};
 ghost use Rattle.k_types.specs.declared.names.Name.{Name};
 ghost use Rattle.k_types.specs.declared.names.Pid.{Pid};
 ghost use Rattle.k_types.specs.declared.names.SharedId.{SharedId};
-ghost use Rattle.k_types.specs.declared.op.Op.TheVariants.{Exit};
+ghost use Rattle.k_types.specs.declared.op.Op.TheVariants.{Exit, Kill};
+ghost use Rattle.k_types.specs.Replies.{ends_other};
 
 /// The book shows an absorption once it has left the exit items of the heap and the kernel's into it, and the heap is absorbed.
 pub fn the_book_shows_an_absorption()
@@ -56,6 +57,14 @@ pub fn the_book_shows_the_end_of_a_process()
         Shows trace (state_after trace journal.list) Kernel kernel →
         HasEnded trace (owner_of trace (state_after trace journal.list)) pid.0 heap kernel before drained without after →
         BookShows trace (state_after trace (journal.list ++ Done pid Exit said ∷ [])) after }
+    ensures killed { (trace : Trace) (journal : JournalValue) (pid target : Pid) (said : Reply) (heap kernel : CellValue)
+        (before drained without after : BookValue) → AreLimits trace → BookAgrees trace journal before →
+        IsPossible trace (state_after trace journal.list) (Done pid (Kill target) said) →
+        IsTrue (ends_other trace (state_after trace journal.list) pid.0 target.0) →
+        Shows trace (state_after trace journal.list) (user target.0) heap →
+        Shows trace (state_after trace journal.list) Kernel kernel →
+        HasEnded trace (owner_of trace (state_after trace journal.list)) target.0 heap kernel before drained without after →
+        BookShows trace (state_after trace (journal.list ++ Done pid (Kill target) said ∷ [])) after }
 {}
 
 /// The book has what it gives up: an exit item of a cell is counted, and the kernel's into the heap still after the drain of the

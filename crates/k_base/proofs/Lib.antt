@@ -2,7 +2,9 @@ pub mod NameTests
 pub mod Sums
 pub mod Lists
 pub mod Maxima
+pub mod Ancestors
 pub mod Charges
+pub mod Resized
 pub mod Tests
 pub mod Objects
 pub mod Numbered

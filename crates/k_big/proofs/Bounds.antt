@@ -11,7 +11,7 @@ use Rattle.k_types.specs.declared.op.Op.TheVariants.{New, Store, Move, Clear, Di
 use Rattle.k_types.specs.Numbers.{numbers_below, numbers_from}
 use Rattle.k_types.specs.Steps.{in_range}
 use Rattle.k_types.specs.Totals.{total}
-use Rattle.k_types.specs.TraceRules.{EndsWithExit, is_exit, is_spelled}
+use Rattle.k_types.specs.TraceRules.{EndsWithExit, is_exit, is_of_version, is_spelled}
 use Rattle.k_base.proofs.Sums.{bit, count_is_total, one_counts, sum_same, total_append}
 use Rattle.k_laws.proofs.UsesRaised.{times}
 use Rattle.k_trace.specs.Grown.{has_exit}
@@ -169,6 +169,16 @@ spelled_if false false i j known small = rw small refl
 pub operations_spelled : (objects i : ℕ) → objects ≤ 5000 → i < 8 → list_all is_spelled (operations_for objects i) ≡ true
 operations_spelled objects i few known =
     operations_pass is_spelled objects i refl refl (λ j low. spelled_if (j % 5 == 0) ((j + 1) % 10 == 0) i j (lt-ltb i 16 (omega (arith, known))) (lt-ltb j (2 ^ 64) (omega (arith, low, few))))
+
+version_if : (b c : Bool) (i j : ℕ) → list_all (is_of_version 1) (four j ++ (kept_if b i ++ collected_if c)) ≡ true
+version_if true true i j = refl
+version_if true false i j = refl
+version_if false true i j = refl
+version_if false false i j = refl
+
+-- they are of the first version
+pub operations_versioned : (objects i : ℕ) → list_all (is_of_version 1) (operations_for objects i) ≡ true
+operations_versioned objects i = operations_pass (is_of_version 1) objects i refl refl (λ j low. version_if (j % 5 == 0) ((j + 1) % 10 == 0) i j)
 
 -- ---- exits
 

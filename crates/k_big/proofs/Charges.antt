@@ -1,32 +1,24 @@
 -- The charges of all processes have a small sum.
-use Rattle.std.proofs.Common.{◌≡◌, ◌∙◌, ℕ, zero, suc, ◌+◌, ◌*◌, ◌<◌, ◌≤◌, ◌^◌, ap, List, arith}
+use Rattle.std.proofs.Common.{ℕ, zero, suc, ◌+◌, ◌*◌, ◌<◌, ◌≤◌, ◌^◌, List, arith}
 use Rattle.k_types.specs.declared.event.Event.{Event}
-use Rattle.k_types.specs.Limits.{limits_in, max_of, with_maxima}
 use Rattle.k_types.specs.Numbers.{numbers_from}
 use Rattle.k_types.specs.Owners.{charge_of}
-use Rattle.k_types.specs.State.{opening}
 use Rattle.k_types.specs.Steps.{IsLegalHistory, state_after}
 use Rattle.k_types.specs.Totals.{total}
 use Rattle.k_types.specs.Trace.{Trace, limit_of, process_count}
 use Rattle.k_types.specs.TraceRules.{KeepsRules}
-use Rattle.k_base.proofs.Maxima.{own_maxima}
-use Rattle.k_frame.proofs.Constant.{run_maxima}
+use Rattle.k_known.proofs.Maxima.{max_small}
 use Rattle.k_laws.proofs.Laws.{uses_fit}
 use Rattle.k_solo.proofs.Known.{charge_at_most}
 use Rattle.k_big.specs.Summary.{HasSmallCharges}
-
--- the limits stay as the trace declares them
-limits_stay : (trace : Trace) (history : List Event) → limits_in trace (state_after trace history) ≡ trace.limits
-limits_stay trace history = ap (with_maxima trace.limits) (run_maxima trace (opening trace) history) ∙ own_maxima trace.limits
 
 charge_small : (trace : Trace) (history : List Event) (p : ℕ) → KeepsRules trace → IsLegalHistory trace history → p < process_count trace → charge_of trace (state_after trace history) p < 2 ^ 40
 charge_small trace history p rules legal known =
     let limited = rules.limits.limited p known in
     let charge = charge_at_most trace (state_after trace history) p known rules.limits in
     let used = uses_fit trace history (limit_of trace p) rules.limits legal limited in
-    let same = ap (λ rows. max_of rows (limit_of trace p)) (limits_stay trace history) in
-    let small = rules.limits.small (limit_of trace p) limited in
-    omega (arith, charge, used, same, small)
+    let small = max_small trace history rules.limits legal (limit_of trace p) limited in
+    omega (arith, charge, used, small)
 
 sum_small : (f : ℕ → ℕ) (most first n : ℕ) → ((p : ℕ) → p < first + n → f p ≤ most) → total f (numbers_from first n) ≤ n * most
 sum_small f most first zero small = omega arith

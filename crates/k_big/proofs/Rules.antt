@@ -11,7 +11,7 @@ use Rattle.k_types.specs.TraceRules.{AreLimits, AreOperations, IsTree, EndsWithE
 use Rattle.k_trace.specs.Rules.{IsTrace}
 use Rattle.k_big.specs.Workload.{big_trace, operations_for, processes, root, share, turns}
 use Rattle.k_agree.proofs.Openings.{at_number}
-use Rattle.k_big.proofs.Bounds.{few_operations, operations_end, operations_ranged, operations_spelled, short_pieces, turns_counted, turns_known}
+use Rattle.k_big.proofs.Bounds.{few_operations, operations_end, operations_ranged, operations_spelled, operations_versioned, short_pieces, turns_counted, turns_known}
 use Rattle.k_big.proofs.Declared.{bare_is_trace}
 
 -- the rows of the limits
@@ -73,6 +73,7 @@ operations_kept objects few = record {
   each = refl;
   in_range = λ p inside. rw (own_operations objects p inside) (operations_ranged objects (map (operations_for objects) (numbers_below processes)) (flat_map (turns objects) (numbers_below processes)) p);
   spelled = λ p inside. rw (own_operations objects p inside) (operations_spelled objects p few inside);
+  of_version = λ p inside. rw (own_operations objects p inside) (operations_versioned objects p);
   ends = λ p inside. subst EndsWithExit (sym (own_operations objects p inside)) (operations_end objects p);
   ordered = turns_known objects;
   counted = λ p inside. turns_counted objects p inside ∙ ap length (sym (own_operations objects p inside));
@@ -83,7 +84,7 @@ operations_kept objects few = record {
 pub big_is_trace : (objects : ℕ) → objects ≤ 5000 → IsTrace (big_trace objects)
 big_is_trace objects few = record {
   rules = record {
-    version = refl;
+    version = bare_is_trace.rules.version;
     ceiling = bare_is_trace.rules.ceiling;
     directory = bare_is_trace.rules.directory;
     directory_fits = bare_is_trace.rules.directory_fits;

@@ -5,7 +5,7 @@ use Rattle.std.specs.List.{AllByRecursion, list_all}
 use Rattle.std.proofs.lemmas.Bool.{and_parts}
 use Rattle.std.proofs.lemmas.List.{get_or-map, length-map, map-append, take_more}
 use Rattle.k_types.specs.declared.op.Op.{Op}
-use Rattle.k_types.specs.declared.op.Op.TheVariants.{New, KNew, SNew, Store, Load, Move, Clear, Dir, Put, Get, Collect, KCollect, Share, Freeze, Attach, Exit}
+use Rattle.k_types.specs.declared.op.Op.TheVariants.{New, KNew, SNew}
 use Rattle.k_types.specs.Bounds.{register_count}
 use Rattle.k_types.specs.Steps.{in_range}
 use Rattle.k_types.specs.Trace.{Trace as MachineTrace, operations_of}
@@ -23,19 +23,7 @@ unfolding in_range
 typed_op trace (New r ty) h = ltb-true ty.0 (length trace.types) (and_parts (nat_lt r.0 register_count) (nat_lt ty.0 (length trace.types)) h).1
 typed_op trace (KNew r ty) h = ltb-true ty.0 (length trace.types) (and_parts (nat_lt r.0 register_count) (nat_lt ty.0 (length trace.types)) h).1
 typed_op trace (SNew r s ty) h = ltb-true ty.0 (length trace.types) (and_parts (nat_lt r.0 register_count && nat_lt s.0 trace.shared_heaps) (nat_lt ty.0 (length trace.types)) h).1
-typed_op trace (Store base i value) h = tt
-typed_op trace (Load r base i) h = tt
-typed_op trace (Move r from) h = tt
-typed_op trace (Clear r) h = tt
-typed_op trace (Dir r) h = tt
-typed_op trace (Put base i number) h = tt
-typed_op trace (Get base i) h = tt
-typed_op trace Collect h = tt
-typed_op trace KCollect h = tt
-typed_op trace (Share s) h = tt
-typed_op trace (Freeze s root) h = tt
-typed_op trace (Attach r s) h = tt
-typed_op trace Exit h = tt
+typed_op trace _ h = tt
 
 pub typed_ops : (trace : MachineTrace) (ops : List Op) → IsTrue (list_all (in_range trace) ops) → AllByRecursion (IsTyped (length trace.types)) ops
 typed_ops trace [] ranged = tt

@@ -1,3 +1,4 @@
 pub mod Numbers
+pub mod Resized
 pub mod Telling
 pub mod OnPart

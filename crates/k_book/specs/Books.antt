@@ -1,10 +1,11 @@
 -- What contracts see of the book.
-use Rattle.std.specs.Prelude.{◌≡◌, ℕ, ◌+◌, ◌*◌, ◌^◌, ◌<◌, Bool, List, [], map, length}
+use Rattle.std.specs.Prelude.{ℕ, ◌+◌, ◌*◌, ◌^◌, ◌<◌, Bool, List, [], map, length, replicate}
 use Rattle.k_types.specs.declared.names.LimitId.{LimitId}
 use Rattle.k_types.specs.declared.setup.LimitRow.{LimitRow}
 use Rattle.k_types.specs.declared.setup.Setup.{Setup}
 use Rattle.k_types.specs.Agree.{BookValue}
 use Rattle.k_types.specs.Bounds.{register_count}
+use Rattle.k_types.specs.Limits.{with_maxima}
 use Rattle.k_types.specs.Trace.{trace_of}
 use Rattle.k_limits.specs.Limits.{ChargedLimits, charged_limits}
 use Rattle.k_entry.specs.Entries.{EntryValue}
@@ -14,8 +15,12 @@ use Rattle.k_shares.specs.Sharers.{ShareValue}
 use Rattle.k_journal.specs.Kept.{KeptJournal}
 use Rattle.k_entered.specs.Entered.{EnteredValue}
 
--- what is seen of the state, the journal, and what a step has to know beside: the rows of the limits, the limit of each process,
--- the kernel's ceiling, and for how many entry items, pins and events there is room
+-- the limits with no maxima: which is whose parent, and which are hard
+abbrev pub without_maxima : List LimitRow → List LimitRow
+without_maxima rows = with_maxima rows (replicate (length rows) 0)
+
+-- what is seen of the state, the journal, and what a step has to know beside: the limits without the maxima, which are of the state,
+-- the limit of each process, the kernel's ceiling, and for how many entry items, pins and events there is room
 pub record BookRecord : Type 0 where
   pub value : BookValue
   pub journal : JournalValue
@@ -26,9 +31,9 @@ pub record BookRecord : Type 0 where
   pub pin_room : ℕ
   pub event_room : ℕ
 
--- the limits with what is charged directly at each
+-- the limits with their maxima and what is charged directly at each
 abbrev pub book_limits : BookRecord → ChargedLimits
-book_limits b = charged_limits b.rows b.value.direct
+book_limits b = charged_limits (with_maxima b.rows b.value.maxima) b.value.direct
 
 -- the entry items with the owners of the segments
 abbrev pub book_entries : BookRecord → EntryValue
@@ -54,7 +59,7 @@ book_by limits entered table kept procs ceiling closed = record {
     pins = entered.pins;
   };
   journal = kept.journal;
-  rows = limits.rows;
+  rows = without_maxima limits.rows;
   procs = procs;
   ceiling = ceiling;
   entry_room = entered.entry_room;
@@ -75,7 +80,7 @@ abbrev pub opened : Setup → ℕ → ℕ → JournalValue → BookRecord
 opened setup exits events journal = record {
   value = opening_book (trace_of setup [] []);
   journal = journal;
-  rows = setup.limits.items;
+  rows = without_maxima setup.limits.items;
   procs = setup.procs.items;
   ceiling = setup.ceiling;
   entry_room = exits;

@@ -1,9 +1,9 @@
 -- How a book stands to the one-thread machine.
-use Rattle.std.specs.Prelude.{◌≡◌, ℕ, ◌<◌, nat_lt, ◌+◌, map, length, find, slice_index, Option}
+use Rattle.std.specs.Prelude.{◌≡◌, ℕ, ◌<◌, length, find, slice_index}
 use Rattle.k_types.specs.declared.names.Name.{Name}
 use Rattle.k_types.specs.Cells.{entries, pins}
 use Rattle.k_types.specs.Counted.{counted}
-use Rattle.k_types.specs.Limits.{full_limit, max_of, limits_in, use_of}
+use Rattle.k_types.specs.Limits.{ancestors_of, full_for, full_limit, is_ancestor, limits_in, max_of, use_of}
 use Rattle.k_types.specs.Names.{among}
 use Rattle.k_types.specs.Numbers.{numbers_below}
 use Rattle.k_types.specs.Owners.{bytes_of, owner_of, phase_of, shared}
@@ -13,14 +13,15 @@ use Rattle.k_types.specs.Trace.{Trace, segment_count}
 use Rattle.k_entry.specs.Entries.{home_of}
 use Rattle.k_limits.specs.Limits.{full_at, use_at}
 use Rattle.k_shares.specs.Sharers.{lowest_orphan}
-use Rattle.k_book.specs.Books.{BookRecord, book_limits}
+use Rattle.k_book.specs.Books.{BookRecord, book_limits, without_maxima}
+use Rattle.k_limits.specs.Resizes.{full_for_at}
 
--- the book is of that trace: its limits, processes and ceiling are the trace's, and the maxima that it shows are those of its rows
+-- the book is of that trace: its limits but for the maxima, its processes and its ceiling are the trace's, and each limit has a maximum
 pub record IsBookOf (trace : Trace) (b : BookRecord) : Type 0 where
-  pub rows : b.rows ≡ trace.limits
+  pub rows : b.rows ≡ without_maxima trace.limits
   pub procs : b.procs ≡ trace.procs
   pub ceiling : b.ceiling ≡ trace.ceiling
-  pub maxima : b.value.maxima ≡ map (λ row. row.max) b.rows
+  pub maxima : length b.value.maxima ≡ length trace.limits
 
 -- what the book answers is what the machine has in the state
 pub record TellsTheMachine (trace : Trace) (st : State) (b : BookRecord) : Type 0 where
@@ -37,6 +38,8 @@ pub record TellsTheMachine (trace : Trace) (st : State) (b : BookRecord) : Type 
 
 -- the limits of the book are those of the machine in the state
 pub record TellsTheLimits (trace : Trace) (st : State) (b : BookRecord) : Type 0 where
-  pub max : (m : ℕ) → max_of b.rows m ≡ max_of (limits_in trace st) m
+  pub max : (m : ℕ) → max_of (book_limits b).rows m ≡ max_of (limits_in trace st) m
   pub uses : (m : ℕ) → m < length trace.limits → use_at (book_limits b) m ≡ use_of trace st m
   pub full : (m n : ℕ) → m < length trace.limits → full_at (book_limits b) m n ≡ full_limit trace st m n
+  pub below : (upper lower : ℕ) → among upper (ancestors_of b.rows lower) ≡ is_ancestor trace.limits upper lower
+  pub full_for : (m max : ℕ) → m < length trace.limits → full_for_at (book_limits b) m max ≡ full_for trace st m max

@@ -1,15 +1,18 @@
 //! What a step changes in the book beside the journal.
-ghost use Rattle.std.specs.Prelude.{◌≡◌, ◌+◌, ◌-◌, ◌<◌, ◌≤◌, ◌^◌, Some, None, true, IfOk, IfErr, IsTrue, IsFalse, length, slice_index, slice_set};
+ghost use Rattle.std.specs.Prelude.{◌≡◌, ◌+◌, ◌-◌, ◌<◌, ◌≤◌, ◌^◌, Some, None, true, IfOk, IfErr, IsTrue, IsFalse, length, slice_index, slice_set, is_some};
 ghost use Rattle.k_types.specs.Counted.{counted};
 ghost use Rattle.k_types.specs.Names.{among, name_of};
 ghost use Rattle.k_types.specs.State.{has_share};
 ghost use Rattle.k_entry.specs.Entries.{AreEntries, HasLess, HasMore};
 ghost use Rattle.k_entered.specs.Entered.{HasRehomed};
-ghost use Rattle.k_limits.specs.Limits.{full_at};
+ghost use Rattle.k_limits.specs.Limits.{full_at, use_at};
 ghost use Rattle.k_shares.specs.Sharers.{bytes_in_phase, GainsEnded, GainsShare, LosesShare};
 ghost use Rattle.k_book.specs.Books.{book_entries, book_limits, book_pins};
+ghost use Rattle.k_limits.specs.Resizes.{ExplainsResize, full_for_at};
+ghost use Rattle.k_types.specs.Trace.{row_of};
 
 use crate::parts::Book;
+use k_limits::ResizeRefusal;
 use k_types::{Heap, LimitId, Link, Name, Phase, Pid, Seg, SharedId};
 
 impl Book {
@@ -31,6 +34,19 @@ impl Book {
         ensures { self.new ≡ record self.old { value = record self.old.value { direct = slice_set self.old.value.direct at.0 (slice_index self.old.value.direct at.0 - n) } } }
     {
         self.limits.credit(at, n);
+    }
+
+    /// Gives the limit, which is below another, this maximum. `InUse` says that more is used at it, and `Full` names the first limit
+    /// from its parent upward where what it would get more doesn't fit; then nothing changes.
+    pub fn resize(&mut self, at: LimitId, max: u64) -> Result<(), ResizeRefusal>
+        requires there { at.0 < length self.old.rows }
+        requires below { IsTrue (is_some (row_of self.old.rows at.0).parent) }
+        requires small { max < 2 ^ 40 }
+        ensures resized { IfOk result (λ _. (self.new ≡ record self.old { value = record self.old.value { maxima = slice_set self.old.value.maxima at.0 max } }) × (use_at (book_limits self.old) at.0 ≤ max) × (full_for_at (book_limits self.old) at.0 max ≡ None)) }
+        ensures refused { IfErr result (λ why. (self.new ≡ self.old) × ExplainsResize (book_limits self.old) at.0 max why) }
+    {
+        self.limits.resize(at, max)?;
+        Ok(())
     }
 
     /// One heap more has an exit item to the object.

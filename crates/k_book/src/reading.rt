@@ -67,7 +67,7 @@ impl Book {
     pub fn use_of(&self, limit: LimitId) -> u64
         requires { limit.0 < length self.now.rows }
         ensures sum { result ≡ use_at (book_limits self.now) limit.0 }
-        ensures fits { result ≤ max_of self.now.rows limit.0 }
+        ensures fits { result ≤ max_of (book_limits self.now).rows limit.0 }
     {
         self.limits.use_of(limit)
     }
@@ -75,7 +75,7 @@ impl Book {
     /// The most bytes that may be in use at the limit.
     pub fn max_of(&self, limit: LimitId) -> u64
         requires { limit.0 < length self.now.rows }
-        ensures value { result ≡ max_of self.now.rows limit.0 }
+        ensures value { result ≡ max_of (book_limits self.now).rows limit.0 }
         ensures small { result < 2 ^ 40 }
     {
         self.limits.max_of(limit)

@@ -7,7 +7,7 @@ use Rattle.k_types.specs.declared.names.Heap.TheVariants.{Shared}
 use Rattle.k_types.specs.declared.names.Phase.{Phase}
 use Rattle.k_types.specs.declared.names.Phase.TheVariants.{Unmade, Populating, Frozen, Absorbed}
 use Rattle.k_types.specs.declared.op.Op.{Op}
-use Rattle.k_types.specs.declared.op.Op.TheVariants.{New, KNew, SNew, Store, Load, Move, Clear, Dir, Put, Get, Collect, KCollect, Share, Freeze, Attach, Exit}
+use Rattle.k_types.specs.declared.op.Op.TheVariants.{New, KNew, SNew, Store, Load, Move, Clear, Dir, Put, Get, Collect, KCollect, Share, Freeze, Attach, Exit, Kill, Resize}
 use Rattle.k_types.specs.declared.event.Fault.{Fault}
 use Rattle.k_types.specs.declared.event.Fault.TheVariants.{Segv, NotPopulating, Taken}
 use Rattle.k_types.specs.declared.event.Event.{Event}
@@ -18,7 +18,7 @@ use Rattle.k_types.specs.Trace.{Trace}
 use Rattle.k_types.specs.State.{State, register}
 use Rattle.k_types.specs.Owners.{owner_of, phase_of, is_absorbed}
 use Rattle.k_types.specs.Replies.{first_fault, faults, fault_where, at_base, is_unmade, is_populating}
-use Rattle.k_types.specs.Updates.{count_done, set_register, create, open_scan, set_phase, add_share, keep_objects, keep_exits, keep_shares, close_scan, clear_registers, end_process, turn_exits, close}
+use Rattle.k_types.specs.Updates.{count_done, set_register, create, open_scan, set_phase, add_share, keep_objects, keep_exits, keep_shares, close_scan, clear_registers, end_process, turn_exits, close, set_max}
 use Rattle.k_types.specs.Effects.{step, effect, effect_unless, after_operation, after_store, after_put, after_freeze, after_end_of, after_ended, after_absorbed, after_closing}
 use Rattle.k_types.specs.Steps.{IsPossible, IsLegalHistory, state_after, is_live, has_sharer}
 use Rattle.k_bounds.specs.Counts.{one_if, is_absorption, absorbed_count, is_closing_event, closing_count}
@@ -28,7 +28,7 @@ use Rattle.k_frame.proofs.FrameSteps.{none_on}
 use Rattle.k_frame.proofs.Histories.{history_induction, state_next}
 use Rattle.k_frame.proofs.Sizes.{history_sized}
 use Rattle.k_laws.proofs.SoundEffects.{is_unmade_so, is_populating_by}
-use Rattle.k_frame.proofs.Rest.{store_rest, put_rest, freeze_rest}
+use Rattle.k_frame.proofs.Rest.{store_rest, put_rest, freeze_rest, kill_rest}
 use Rattle.k_base.proofs.Sums.{total_push, total_set}
 
 abbrev gone : Phase → ℕ
@@ -64,7 +64,7 @@ module _ (trace : Trace) (st : State) where
       freeze_gone p s (Some x) (ap is_absorbed phase.1)
 
   effect_gone : (p : ℕ) (op : Op) → first_fault (faults trace st p op) ≡ None → total gone (effect trace p op st).phases ≡ total gone st.phases
-  unfolding effect set_register create open_scan add_share set_phase after_end_of end_process clear_registers keep_shares turn_exits faults
+  unfolding effect set_register create open_scan add_share set_phase after_end_of end_process clear_registers keep_shares turn_exits faults set_max
   effect_gone p (New r ty) fine = refl
   effect_gone p (KNew r ty) fine = refl
   effect_gone p (SNew r s ty) fine = refl
@@ -82,6 +82,8 @@ module _ (trace : Trace) (st : State) where
   effect_gone p (Freeze s root) fine = froze p s.0 (register st.registers p root.0) fine
   effect_gone p (Attach r s) fine = refl
   effect_gone p Exit fine = refl
+  effect_gone p (Kill q) fine = ap (λ (s : State). total gone s.phases) (kill_rest trace st q.0)
+  effect_gone p (Resize m max) fine = refl
 
   pub done_gone : (p : ℕ) (op : Op) → total gone (after_operation trace p op st).phases ≡ total gone st.phases
   unfolding after_operation count_done
@@ -141,7 +143,7 @@ module _ (trace : Trace) where
   freeze_closed st s root = ap (λ (s : State). s.closed) (freeze_rest st s root)
 
   effect_closed : (st : State) (p : ℕ) (op : Op) → (effect trace p op st).closed ≡ st.closed
-  unfolding effect set_register create open_scan add_share set_phase after_end_of end_process clear_registers keep_shares turn_exits
+  unfolding effect set_register create open_scan add_share set_phase after_end_of end_process clear_registers keep_shares turn_exits set_max
   effect_closed st p (New r ty) = refl
   effect_closed st p (KNew r ty) = refl
   effect_closed st p (SNew r s ty) = refl
@@ -158,6 +160,8 @@ module _ (trace : Trace) where
   effect_closed st p (Freeze s root) = freeze_closed st s.0 (register st.registers p root.0)
   effect_closed st p (Attach r s) = refl
   effect_closed st p Exit = refl
+  effect_closed st p (Kill q) = ap (λ (s : State). s.closed) (kill_rest trace st q.0)
+  effect_closed st p (Resize m max) = refl
 
   unless_closed : (f : Option Fault) (st : State) (p : ℕ) (op : Op) → (effect_unless f trace p op st).closed ≡ st.closed
   unless_closed None st p op = effect_closed st p op

@@ -4,18 +4,18 @@ use Rattle.k_types.specs.declared.names.Name.{Name}
 use Rattle.k_types.specs.declared.names.Heap.{Heap}
 use Rattle.k_types.specs.declared.names.Heap.TheVariants.{Kernel}
 use Rattle.k_types.specs.declared.op.Op.{Op}
-use Rattle.k_types.specs.declared.op.Op.TheVariants.{New, KNew, SNew, Store, Load, Move, Clear, Dir, Put, Get, Collect, KCollect, Share, Freeze, Attach, Exit}
+use Rattle.k_types.specs.declared.op.Op.TheVariants.{New, KNew, SNew, Store, Load, Move, Clear, Dir, Put, Get, Collect, KCollect, Share, Freeze, Attach, Exit, Kill, Resize}
 use Rattle.k_types.specs.declared.event.Fault.{Fault}
 use Rattle.k_types.specs.declared.event.Event.{Event}
 use Rattle.k_types.specs.declared.event.Event.TheVariants.{Done, Ended, Absorbed, Closing}
-use Rattle.k_types.specs.Names.{heap_eq}
+use Rattle.k_types.specs.Names.{heap_eq, among}
 use Rattle.k_types.specs.Totals.{total}
 use Rattle.k_types.specs.Trace.{Trace}
 use Rattle.k_types.specs.State.{State, ExitItem, opening, has_exit, register}
 use Rattle.k_types.specs.Owners.{owner_of, user}
 use Rattle.k_types.specs.Replies.{first_fault, faults}
-use Rattle.k_types.specs.Updates.{count_done, set_register, create, write, add_exit, with_exit, open_scan, set_phase, add_share, keep_objects, keep_exits, keep_shares, close_scan, clear_registers, end_process, turn_exits, close}
-use Rattle.k_types.specs.Effects.{step, effect, effect_unless, after_operation, after_store, after_put, with_exit_of_store, after_freeze, after_end_of, exit_after, passes_to_kernel, leads_back, after_ended, after_absorbed, after_closing, exit_stays, stays_after_absorb}
+use Rattle.k_types.specs.Updates.{count_done, set_register, create, write, add_exit, with_exit, open_scan, set_phase, add_share, keep_objects, keep_exits, keep_shares, close_scan, clear_registers, end_process, turn_exits, close, set_max}
+use Rattle.k_types.specs.Effects.{step, effect, effect_unless, after_operation, after_store, after_put, with_exit_of_store, after_freeze, after_end_of, exit_after, passes_to_kernel, leads_back, after_ended, after_absorbed, after_closing, exit_stays, stays_after_absorb, after_kill}
 use Rattle.k_types.specs.Steps.{run, state_after}
 use Rattle.k_bounds.specs.Counts.{one_if, is_store, has_stored, store_count}
 use Rattle.k_bounds.proofs.Counting.{total_turned, total_fewer, option_count}
@@ -69,8 +69,15 @@ module _ (trace : Trace) where
       cases false b true = zero-le
       cases false b false = omega arith
 
+  killed : (st : State) (q : ℕ) → total one (after_kill trace q st).exits ≤ total one st.exits
+  unfolding after_kill after_end_of end_process clear_registers keep_shares turn_exits
+  killed st q = elim (among q st.ended) as (λ b. total one (cond b st (after_end_of trace q st)).exits ≤ total one st.exits) [
+    | true ↦ le_refl (total one st.exits)
+    | false ↦ total_turned one one (exit_after trace st q) (turned st q) st.exits
+  ]
+
   effect_exits : (st : State) (p : ℕ) (op : Op) → total one (effect trace p op st).exits ≤ total one st.exits + one_if (is_store op)
-  unfolding effect set_register create open_scan add_share set_phase after_end_of end_process clear_registers keep_shares turn_exits
+  unfolding effect set_register create open_scan add_share set_phase after_end_of end_process clear_registers keep_shares turn_exits set_max
   effect_exits st p (New r ty) = omega arith
   effect_exits st p (KNew r ty) = omega arith
   effect_exits st p (SNew r s ty) = omega arith
@@ -87,6 +94,8 @@ module _ (trace : Trace) where
   effect_exits st p (Freeze s root) = omega (arith, frozen st s.0 (register st.registers p root.0))
   effect_exits st p (Attach r s) = omega arith
   effect_exits st p Exit = omega (arith, total_turned one one (exit_after trace st p) (turned st p) st.exits)
+  effect_exits st p (Kill q) = omega (arith, killed st q.0)
+  effect_exits st p (Resize m max) = omega arith
 
   unless_exits : (f : Option Fault) (st : State) (p : ℕ) (op : Op) → total one (effect_unless f trace p op st).exits ≤ total one st.exits + one_if (is_store op)
   unless_exits None st p op = effect_exits st p op

@@ -6,7 +6,7 @@ use Rattle.k_types.specs.declared.names.Name.{Name}
 use Rattle.k_types.specs.declared.names.Pid.{Pid}
 use Rattle.k_types.specs.declared.names.Heap.{Heap}
 use Rattle.k_types.specs.declared.op.Op.{Op}
-use Rattle.k_types.specs.declared.op.Op.TheVariants.{New, KNew, SNew, Store, Load, Move, Clear, Dir, Put, Get, Collect, KCollect, Share, Freeze, Attach, Exit}
+use Rattle.k_types.specs.declared.op.Op.TheVariants.{New, KNew, SNew, Store, Load, Move, Clear, Dir, Put, Get, Collect, KCollect, Share, Freeze, Attach, Exit, Kill, Resize}
 use Rattle.k_types.specs.declared.event.Fault.{Fault}
 use Rattle.k_types.specs.declared.event.Event.{Event}
 use Rattle.k_types.specs.declared.event.Event.TheVariants.{Done, Ended, Absorbed, Closing}
@@ -14,7 +14,7 @@ use Rattle.k_types.specs.TraceRules.{AreLimits}
 use Rattle.k_types.specs.Trace.{Trace, process_count}
 use Rattle.k_types.specs.State.{State, opening, register}
 use Rattle.k_types.specs.Replies.{first_fault, faults}
-use Rattle.k_types.specs.Updates.{count_done, set_register, create, open_scan, set_phase, add_share, keep_objects, keep_exits, keep_shares, close_scan, clear_registers, end_process, turn_exits, close}
+use Rattle.k_types.specs.Updates.{count_done, set_register, create, open_scan, set_phase, add_share, keep_objects, keep_exits, keep_shares, close_scan, clear_registers, end_process, turn_exits, close, set_max}
 use Rattle.k_types.specs.Effects.{step, effect, effect_unless, after_operation, after_store, after_put, after_freeze, after_end_of, after_ended, after_absorbed, after_closing}
 use Rattle.k_types.specs.Steps.{IsPossible, IsLegalHistory, run, state_after, done_by}
 use Rattle.k_bounds.specs.Counts.{one_if, operation_count, is_operation, ended_count, is_end, absorbed_count, is_absorption, closing_count, is_closing_event, begun_count, has_begun, begins_collection}
@@ -24,7 +24,7 @@ use Rattle.k_bounds.proofs.ScanCounts.{collections_balance}
 use Rattle.k_frame.proofs.Histories.{history_induction, state_next, done_append}
 use Rattle.k_base.proofs.Lists.{get_or-set_cases}
 use Rattle.k_frame.proofs.Sizes.{history_sized, zeros_at}
-use Rattle.k_frame.proofs.Rest.{store_rest, put_rest, freeze_rest}
+use Rattle.k_frame.proofs.Rest.{store_rest, put_rest, freeze_rest, kill_rest}
 
 module _ (trace : Trace) where
   store_done : (st : State) (x : Option Name) (i : ℕ) (v : Option Name) → (after_store trace x i v st).done ≡ st.done
@@ -37,7 +37,7 @@ module _ (trace : Trace) where
   freeze_done st s root = ap (λ (s : State). s.done) (freeze_rest st s root)
 
   effect_done : (st : State) (p : ℕ) (op : Op) → (effect trace p op st).done ≡ st.done
-  unfolding effect set_register create open_scan add_share set_phase after_end_of end_process clear_registers keep_shares turn_exits
+  unfolding effect set_register create open_scan add_share set_phase after_end_of end_process clear_registers keep_shares turn_exits set_max
   effect_done st p (New r ty) = refl
   effect_done st p (KNew r ty) = refl
   effect_done st p (SNew r s ty) = refl
@@ -54,6 +54,8 @@ module _ (trace : Trace) where
   effect_done st p (Freeze s root) = freeze_done st s.0 (register st.registers p root.0)
   effect_done st p (Attach r s) = refl
   effect_done st p Exit = refl
+  effect_done st p (Kill q) = ap (λ (s : State). s.done) (kill_rest trace st q.0)
+  effect_done st p (Resize m max) = refl
 
   unless_done : (f : Option Fault) (st : State) (p : ℕ) (op : Op) → (effect_unless f trace p op st).done ≡ st.done
   unless_done None st p op = effect_done st p op

@@ -7,7 +7,7 @@ use Rattle.k_types.specs.declared.names.Reg.{Reg}
 use Rattle.k_types.specs.declared.names.Heap.{Heap}
 use Rattle.k_types.specs.declared.names.Heap.TheVariants.{Kernel}
 use Rattle.k_types.specs.declared.op.Op.{Op}
-use Rattle.k_types.specs.declared.op.Op.TheVariants.{New, KNew, SNew, Store, Load, Move, Clear, Dir, Put, Get, Collect, KCollect, Share, Freeze, Attach, Exit}
+use Rattle.k_types.specs.declared.op.Op.TheVariants.{New, KNew, SNew, Store, Load, Move, Clear, Dir, Put, Get, Collect, KCollect, Share, Freeze, Attach, Exit, Kill, Resize}
 use Rattle.k_types.specs.declared.event.Fault.{Fault}
 use Rattle.k_types.specs.declared.event.Fault.TheVariants.{Foreign, NoField, WrongKind, Frozen as FrozenFault}
 use Rattle.k_types.specs.declared.event.Reply.{Reply}
@@ -87,6 +87,8 @@ module _ (trace : Trace) (st : State) (h : Heap) (apart : IsFalse (heap_eq Kerne
   op_cases pid (Freeze s root) fine = inl refl
   op_cases pid (Attach r s) fine = inl refl
   op_cases pid Exit fine = inl refl
+  op_cases pid (Kill q) fine = inl refl
+  op_cases pid (Resize m max) fine = inl refl
 
   stores_low : (p : ℕ) (op : Op) → stores_to trace st h p op ≤ 1
   stores_low p (Store base i value) = go (register st.registers p base.0)
@@ -109,6 +111,8 @@ module _ (trace : Trace) (st : State) (h : Heap) (apart : IsFalse (heap_eq Kerne
   stores_low p (Freeze s root) = zero-le
   stores_low p (Attach r s) = zero-le
   stores_low p Exit = zero-le
+  stores_low p (Kill q) = zero-le
+  stores_low p (Resize m max) = zero-le
 
   -- an operation adds no exit item of the heap, or it is a store into one of its objects and adds at most one
   pub done_cases : (pid : Pid) (op : Op) → (exit_count (after_operation trace pid.0 op st).exits h ≤ exit_count st.exits h)

@@ -4,13 +4,13 @@ use Rattle.k_types.specs.declared.names.Name.{Name}
 use Rattle.k_types.specs.declared.names.Heap.{Heap}
 use Rattle.k_types.specs.declared.names.Heap.TheVariants.{Kernel}
 use Rattle.k_types.specs.declared.op.Op.{Op}
-use Rattle.k_types.specs.declared.op.Op.TheVariants.{New, KNew, SNew, Store, Load, Move, Clear, Dir, Put, Get, Collect, KCollect, Share, Freeze, Attach, Exit}
-use Rattle.k_types.specs.Names.{heap_eq}
+use Rattle.k_types.specs.declared.op.Op.TheVariants.{New, KNew, SNew, Store, Load, Move, Clear, Dir, Put, Get, Collect, KCollect, Share, Freeze, Attach, Exit, Kill, Resize}
+use Rattle.k_types.specs.Names.{heap_eq, among}
 use Rattle.k_types.specs.Trace.{Trace}
 use Rattle.k_types.specs.State.{State, ExitItem, has_exit, register}
 use Rattle.k_types.specs.Owners.{owner_of, user}
-use Rattle.k_types.specs.Updates.{set_register, create, write, add_exit, with_exit, open_scan, set_phase, add_share, keep_shares, clear_registers, end_process, turn_exits}
-use Rattle.k_types.specs.Effects.{effect, after_store, after_put, with_exit_of_store, after_freeze, after_end_of, exit_after, passes_to_kernel, leads_back}
+use Rattle.k_types.specs.Updates.{set_register, create, write, add_exit, with_exit, open_scan, set_phase, add_share, keep_shares, clear_registers, end_process, turn_exits, set_max}
+use Rattle.k_types.specs.Effects.{effect, after_store, after_put, with_exit_of_store, after_freeze, after_end_of, exit_after, passes_to_kernel, leads_back, after_kill}
 use Rattle.k_bounds.specs.Counts.{one_if, exit_count}
 use Rattle.k_bounds.proofs.Counting.{total_turned, option_count}
 use Rattle.k_base.proofs.Sums.{total_push}
@@ -68,8 +68,15 @@ module _ (trace : Trace) (st : State) (h : Heap) where
       cases false b true = zero-le
       cases false b false = le_refl (weight h e)
 
+  killed : (q : ℕ) → IsFalse (heap_eq Kernel h) → exit_count (after_kill trace q st).exits h ≤ exit_count st.exits h
+  unfolding after_kill after_end_of end_process clear_registers keep_shares turn_exits
+  killed q apart = elim (among q st.ended) as (λ b. exit_count (cond b st (after_end_of trace q st)).exits h ≤ exit_count st.exits h) [
+    | true ↦ le_refl (exit_count st.exits h)
+    | false ↦ total_turned (weight h) (weight h) (exit_after trace st q) (turned q apart) st.exits
+  ]
+
   pub effect_exits : (p : ℕ) (op : Op) → IsFalse (heap_eq Kernel h) → exit_count (effect trace p op st).exits h ≤ exit_count st.exits h + stores_to trace st h p op
-  unfolding effect set_register create open_scan add_share set_phase after_end_of end_process clear_registers keep_shares turn_exits
+  unfolding effect set_register create open_scan add_share set_phase after_end_of end_process clear_registers keep_shares turn_exits set_max
   effect_exits p (New r ty) apart = omega arith
   effect_exits p (KNew r ty) apart = omega arith
   effect_exits p (SNew r s ty) apart = omega arith
@@ -86,3 +93,5 @@ module _ (trace : Trace) (st : State) (h : Heap) where
   effect_exits p (Freeze s root) apart = omega (arith, frozen s.0 (register st.registers p root.0))
   effect_exits p (Attach r s) apart = omega arith
   effect_exits p Exit apart = omega (arith, total_turned (weight h) (weight h) (exit_after trace st p) (turned p apart) st.exits)
+  effect_exits p (Kill q) apart = omega (arith, killed q.0 apart)
+  effect_exits p (Resize m max) apart = omega arith

@@ -1,11 +1,11 @@
 -- The objects that are there are at most the allocations, and one more for the directory.
-use Rattle.std.proofs.Common.{◌≡◌, ℕ, suc, ◌+◌, ◌≤◌, Bool, true, false, cond, refl, ap, ◌∙◌, List, [], ◌∷◌, length, map, filter, Option, Some, None, arith}
+use Rattle.std.proofs.Common.{◌≡◌, ℕ, suc, ◌+◌, ◌≤◌, Bool, true, false, cond, refl, ap, ◌∙◌, List, [], ◌∷◌, length, filter, Option, Some, None, arith}
 use Rattle.std.proofs.lemmas.List.{length-map}
 use Rattle.k_types.specs.declared.names.Name.{Name}
 use Rattle.k_types.specs.declared.names.TypeId.{TypeId}
 use Rattle.k_types.specs.declared.names.Heap.TheVariants.{Kernel, Shared}
 use Rattle.k_types.specs.declared.op.Op.{Op}
-use Rattle.k_types.specs.declared.op.Op.TheVariants.{New, KNew, SNew, Store, Load, Move, Clear, Dir, Put, Get, Collect, KCollect, Share, Freeze, Attach, Exit}
+use Rattle.k_types.specs.declared.op.Op.TheVariants.{New, KNew, SNew, Store, Load, Move, Clear, Dir, Put, Get, Collect, KCollect, Share, Freeze, Attach, Exit, Kill, Resize}
 use Rattle.k_types.specs.declared.event.Fault.{Fault}
 use Rattle.k_types.specs.declared.event.Event.{Event}
 use Rattle.k_types.specs.declared.event.Event.TheVariants.{Done, Ended, Absorbed, Closing}
@@ -14,11 +14,11 @@ use Rattle.k_types.specs.Trace.{Trace, segment_of}
 use Rattle.k_types.specs.State.{State, Object, Refers, Holds, opening, register}
 use Rattle.k_types.specs.Owners.{user, owner_of}
 use Rattle.k_types.specs.Replies.{first_fault, faults}
-use Rattle.k_types.specs.Updates.{count_done, set_register, create, with_object, write, object_after_write, add_exit, open_scan, set_phase, add_share, keep_objects, keep_exits, keep_shares, close_scan, clear_registers, end_process, turn_exits, close}
+use Rattle.k_types.specs.Updates.{count_done, set_register, create, with_object, write, object_after_write, add_exit, open_scan, set_phase, add_share, keep_objects, keep_exits, keep_shares, close_scan, clear_registers, end_process, turn_exits, close, set_max}
 use Rattle.k_types.specs.Effects.{step, survives, effect, effect_unless, after_new, after_operation, after_store, after_put, after_freeze, after_end_of, after_ended, after_absorbed, after_closing, with_exit_of_store}
 use Rattle.k_types.specs.Steps.{run, state_after}
 use Rattle.k_bounds.specs.Counts.{one_if, is_allocation, has_allocated, allocations}
-use Rattle.k_frame.proofs.Rest.{freeze_rest}
+use Rattle.k_frame.proofs.Rest.{freeze_rest, kill_rest}
 
 placed_length : (o : Object) (xs : List Object) → length (with_object o xs) ≡ length xs + 1
 placed_length o [] = refl
@@ -64,7 +64,7 @@ module _ (trace : Trace) where
   freeze_objects st s root = ap (λ (s : State). s.objects) (freeze_rest st s root)
 
   effect_objects : (st : State) (p : ℕ) (op : Op) → length (effect trace p op st).objects ≤ length st.objects + one_if (is_allocation op)
-  unfolding effect set_register open_scan add_share set_phase after_end_of end_process clear_registers keep_shares turn_exits
+  unfolding effect set_register open_scan add_share set_phase after_end_of end_process clear_registers keep_shares turn_exits set_max
   effect_objects st p (New r ty) = omega (arith, new_objects st p r.0 (segment_of trace (user p)) ty)
   effect_objects st p (KNew r ty) = omega (arith, new_objects st p r.0 (segment_of trace Kernel) ty)
   effect_objects st p (SNew r s ty) = omega (arith, new_objects st p r.0 (segment_of trace (Shared s)) ty)
@@ -81,6 +81,8 @@ module _ (trace : Trace) where
   effect_objects st p (Freeze s root) = omega (arith, ap (λ (xs : List Object). length xs) (freeze_objects st s.0 (register st.registers p root.0)))
   effect_objects st p (Attach r s) = omega arith
   effect_objects st p Exit = omega arith
+  effect_objects st p (Kill q) = omega (arith, ap (λ (s : State). length s.objects) (kill_rest trace st q.0))
+  effect_objects st p (Resize m max) = omega arith
 
   unless_objects : (f : Option Fault) (st : State) (p : ℕ) (op : Op) → length (effect_unless f trace p op st).objects ≤ length st.objects + one_if (is_allocation op)
   unless_objects None st p op = effect_objects st p op

@@ -8,20 +8,20 @@ use Rattle.k_types.specs.declared.names.Heap.{Heap}
 use Rattle.k_types.specs.declared.names.Phase.{Phase}
 use Rattle.k_types.specs.declared.names.Phase.TheVariants.{Unmade, Populating, Frozen, Absorbed}
 use Rattle.k_types.specs.declared.op.Op.{Op}
-use Rattle.k_types.specs.declared.op.Op.TheVariants.{New, KNew, SNew, Store, Load, Move, Clear, Dir, Put, Get, Collect, KCollect, Share, Freeze, Attach, Exit}
+use Rattle.k_types.specs.declared.op.Op.TheVariants.{New, KNew, SNew, Store, Load, Move, Clear, Dir, Put, Get, Collect, KCollect, Share, Freeze, Attach, Exit, Kill, Resize}
 use Rattle.k_types.specs.declared.event.Fault.{Fault}
 use Rattle.k_types.specs.declared.event.Fault.TheVariants.{Taken as TakenFault}
 use Rattle.k_types.specs.Trace.{Trace}
 use Rattle.k_types.specs.State.{State, register}
 use Rattle.k_types.specs.Owners.{phase_of}
 use Rattle.k_types.specs.Replies.{first_fault, faults, is_unmade}
-use Rattle.k_types.specs.Updates.{count_done, set_register, create, open_scan, set_phase, add_share, keep_objects, keep_exits, keep_shares, close_scan, clear_registers, end_process, turn_exits, close}
+use Rattle.k_types.specs.Updates.{count_done, set_register, create, open_scan, set_phase, add_share, keep_objects, keep_exits, keep_shares, close_scan, clear_registers, end_process, turn_exits, close, set_max}
 use Rattle.k_types.specs.Effects.{effect, effect_unless, after_operation, after_store, after_put, after_freeze, after_end_of, after_ended, after_absorbed, after_closing}
 use Rattle.k_bounds.specs.Counts.{is_share_of}
 use Rattle.k_base.proofs.Lists.{get_or-set_cases}
 use Rattle.k_frame.proofs.FrameSteps.{none_on}
 use Rattle.k_laws.proofs.SoundEffects.{is_unmade_so}
-use Rattle.k_frame.proofs.Rest.{store_rest, put_rest}
+use Rattle.k_frame.proofs.Rest.{store_rest, put_rest, kill_rest}
 
 -- the shared heap's phase stays, or the operation takes the unmade heap, or it is frozen or absorbed now
 pub data Phased (s : ℕ) (before after : Phase) (ops : List Op) (p : ℕ) : Type 0 where
@@ -43,7 +43,7 @@ module _ (trace : Trace) where
   freeze_phases st t (Some root) s p ops = elim (get_or-set_cases st.phases t s (Frozen root) Unmade) [ inl same ↦ Stays same | inr here ↦ IsFrozen root here.1 ]
 
   effect_phases : (st : State) (p : ℕ) (op : Op) (s : ℕ) → first_fault (faults trace st p op) ≡ None → Phased s (phase_of st.phases s) (phase_of (effect trace p op st).phases s) (op ∷ []) p
-  unfolding effect set_register create open_scan add_share set_phase after_end_of end_process clear_registers keep_shares turn_exits faults
+  unfolding effect set_register create open_scan add_share set_phase after_end_of end_process clear_registers keep_shares turn_exits faults set_max
   effect_phases st p (New r ty) s fine = Stays refl
   effect_phases st p (KNew r ty) s fine = Stays refl
   effect_phases st p (SNew r t ty) s fine = Stays refl
@@ -66,6 +66,8 @@ module _ (trace : Trace) where
   effect_phases st p (Freeze t root) s fine = freeze_phases st t.0 (register st.registers p root.0) s p (Freeze t root ∷ [])
   effect_phases st p (Attach r t) s fine = Stays refl
   effect_phases st p Exit s fine = Stays refl
+  effect_phases st p (Kill q) s fine = Stays (ap (λ (su : State). phase_of su.phases s) (kill_rest trace st q.0))
+  effect_phases st p (Resize m max) s fine = Stays refl
 
   unless_phases : (f : Option Fault) (st : State) (p : ℕ) (op : Op) (s : ℕ) → first_fault (faults trace st p op) ≡ f → Phased s (phase_of st.phases s) (phase_of (effect_unless f trace p op st).phases s) (op ∷ []) p
   unless_phases None st p op s e = effect_phases st p op s e

@@ -4,7 +4,7 @@ use Rattle.std.proofs.lemmas.Bool.{false≢true, cases_Bool}
 use Rattle.k_types.specs.declared.names.Name.{Name}
 use Rattle.k_types.specs.declared.names.Heap.{Heap}
 use Rattle.k_types.specs.declared.op.Op.{Op}
-use Rattle.k_types.specs.declared.op.Op.TheVariants.{New, KNew, SNew, Store, Load, Move, Clear, Dir, Put, Get, Collect, KCollect, Share, Freeze, Attach, Exit}
+use Rattle.k_types.specs.declared.op.Op.TheVariants.{New, KNew, SNew, Store, Load, Move, Clear, Dir, Put, Get, Collect, KCollect, Share, Freeze, Attach, Exit, Kill, Resize}
 use Rattle.k_types.specs.declared.event.Fault.{Fault}
 use Rattle.k_types.specs.declared.event.Event.{Event}
 use Rattle.k_types.specs.declared.event.Event.TheVariants.{Done, Ended, Absorbed as AbsorbedEvent, Closing}
@@ -13,7 +13,7 @@ use Rattle.k_types.specs.TraceRules.{AreLimits}
 use Rattle.k_types.specs.Trace.{Trace}
 use Rattle.k_types.specs.State.{State, Scan, register, scan_of}
 use Rattle.k_types.specs.Replies.{first_fault, faults}
-use Rattle.k_types.specs.Updates.{count_done, set_register, create, open_scan, set_phase, add_share, keep_objects, keep_exits, keep_shares, close_scan, clear_registers, end_process, turn_exits, close}
+use Rattle.k_types.specs.Updates.{count_done, set_register, create, open_scan, set_phase, add_share, keep_objects, keep_exits, keep_shares, close_scan, clear_registers, end_process, turn_exits, close, set_max}
 use Rattle.k_types.specs.Effects.{step, effect, effect_unless, after_operation, after_store, after_put, after_freeze, after_end_of, after_ended, after_absorbed, after_closing}
 use Rattle.k_types.specs.Steps.{IsPossible, IsLegalHistory, state_after}
 use Rattle.k_types.specs.Sound.{IsSound, AreDistinctScans}
@@ -22,7 +22,7 @@ use Rattle.k_base.proofs.NameTests.{heap_eq-true}
 use Rattle.k_base.proofs.Objects.{some_is}
 use Rattle.k_frame.proofs.Histories.{history_induction, state_next}
 use Rattle.k_laws.proofs.SoundSteps.{legal_sound}
-use Rattle.k_frame.proofs.Rest.{store_rest, put_rest, freeze_rest}
+use Rattle.k_frame.proofs.Rest.{store_rest, put_rest, freeze_rest, kill_rest}
 use Rattle.k_base.proofs.Sums.{total_push}
 
 module _ (trace : Trace) where
@@ -36,7 +36,7 @@ module _ (trace : Trace) where
   freeze_scans st s root = ap (λ (s : State). s.scans) (freeze_rest st s root)
 
   effect_scans : (st : State) (p : ℕ) (op : Op) → length (effect trace p op st).scans ≡ length st.scans + one_if (begins_collection op)
-  unfolding effect set_register create open_scan add_share set_phase after_end_of end_process clear_registers keep_shares turn_exits
+  unfolding effect set_register create open_scan add_share set_phase after_end_of end_process clear_registers keep_shares turn_exits set_max
   effect_scans st p (New r ty) = omega arith
   effect_scans st p (KNew r ty) = omega arith
   effect_scans st p (SNew r s ty) = omega arith
@@ -53,6 +53,8 @@ module _ (trace : Trace) where
   effect_scans st p (Freeze s root) = let same = ap length (freeze_scans st s.0 (register st.registers p root.0)) in omega arith
   effect_scans st p (Attach r s) = omega arith
   effect_scans st p Exit = omega arith
+  effect_scans st p (Kill q) = let same = ap (λ (s : State). length s.scans) (kill_rest trace st q.0) in omega arith
+  effect_scans st p (Resize m max) = omega arith
 
   -- a collection is never refused
   pub never_refused : (st : State) (p : ℕ) (op : Op) → IsTrue (begins_collection op) → first_fault (faults trace st p op) ≡ None
@@ -73,6 +75,8 @@ module _ (trace : Trace) where
   never_refused st p (Freeze s root) t = absurd (false≢true t)
   never_refused st p (Attach r s) t = absurd (false≢true t)
   never_refused st p Exit t = absurd (false≢true t)
+  never_refused st p (Kill q) t = absurd (false≢true t)
+  never_refused st p (Resize m max) t = absurd (false≢true t)
 
   pub done_scans : (st : State) (p : ℕ) (op : Op) → length (after_operation trace p op st).scans ≡ length st.scans + one_if (begins_collection op)
   unfolding after_operation count_done

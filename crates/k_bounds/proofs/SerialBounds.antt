@@ -4,7 +4,7 @@ use Rattle.k_types.specs.declared.names.Name.{Name}
 use Rattle.k_types.specs.declared.names.TypeId.{TypeId}
 use Rattle.k_types.specs.declared.names.Heap.TheVariants.{Kernel, Shared}
 use Rattle.k_types.specs.declared.op.Op.{Op}
-use Rattle.k_types.specs.declared.op.Op.TheVariants.{New, KNew, SNew, Store, Load, Move, Clear, Dir, Put, Get, Collect, KCollect, Share, Freeze, Attach, Exit}
+use Rattle.k_types.specs.declared.op.Op.TheVariants.{New, KNew, SNew, Store, Load, Move, Clear, Dir, Put, Get, Collect, KCollect, Share, Freeze, Attach, Exit, Kill, Resize}
 use Rattle.k_types.specs.declared.event.Fault.{Fault}
 use Rattle.k_types.specs.declared.event.Event.{Event}
 use Rattle.k_types.specs.declared.event.Event.TheVariants.{Done, Ended, Absorbed, Closing}
@@ -12,13 +12,13 @@ use Rattle.k_types.specs.Trace.{Trace, segment_of}
 use Rattle.k_types.specs.State.{State, opening, register}
 use Rattle.k_types.specs.Owners.{user}
 use Rattle.k_types.specs.Replies.{first_fault, faults}
-use Rattle.k_types.specs.Updates.{count_done, set_register, create, open_scan, set_phase, add_share, keep_objects, keep_exits, keep_shares, close_scan, clear_registers, end_process, turn_exits, close}
+use Rattle.k_types.specs.Updates.{count_done, set_register, create, open_scan, set_phase, add_share, keep_objects, keep_exits, keep_shares, close_scan, clear_registers, end_process, turn_exits, close, set_max}
 use Rattle.k_types.specs.Effects.{step, effect, effect_unless, after_new, after_operation, after_store, after_put, after_freeze, after_end_of, after_ended, after_absorbed, after_closing}
 use Rattle.k_types.specs.Steps.{run, state_after}
 use Rattle.k_bounds.specs.Counts.{one_if, allocates_in, has_allocated_in, allocation_count}
 use Rattle.k_base.proofs.Lists.{get_or-set_cases}
 use Rattle.k_frame.proofs.Sizes.{zeros_at}
-use Rattle.k_frame.proofs.Rest.{store_rest, put_rest, freeze_rest}
+use Rattle.k_frame.proofs.Rest.{store_rest, put_rest, freeze_rest, kill_rest}
 
 module _ (trace : Trace) (seg : ℕ) where
   made_new : (st : State) (p r at : ℕ) (ty : TypeId) → get_or (after_new trace p r at ty st).made seg 0 ≤ get_or st.made seg 0 + one_if (at == seg)
@@ -45,7 +45,7 @@ module _ (trace : Trace) (seg : ℕ) where
   same_made made made' e = let same = ap (λ given. get_or given seg 0) e in omega (arith, same)
 
   effect_made : (st : State) (p : ℕ) (op : Op) → get_or (effect trace p op st).made seg 0 ≤ get_or st.made seg 0 + one_if (allocates_in trace seg p op)
-  unfolding effect set_register open_scan add_share set_phase after_end_of end_process clear_registers keep_shares turn_exits
+  unfolding effect set_register open_scan add_share set_phase after_end_of end_process clear_registers keep_shares turn_exits set_max
   effect_made st p (New r ty) = made_new st p r.0 (segment_of trace (user p)) ty
   effect_made st p (KNew r ty) = made_new st p r.0 (segment_of trace Kernel) ty
   effect_made st p (SNew r s ty) = made_new st p r.0 (segment_of trace (Shared s)) ty
@@ -62,6 +62,8 @@ module _ (trace : Trace) (seg : ℕ) where
   effect_made st p (Freeze s root) = same_made st.made _ (freeze_made st s.0 (register st.registers p root.0))
   effect_made st p (Attach r s) = omega arith
   effect_made st p Exit = omega arith
+  effect_made st p (Kill q) = same_made st.made _ (ap (λ (s : State). s.made) (kill_rest trace st q.0))
+  effect_made st p (Resize m max) = omega arith
 
   unless_made : (f : Option Fault) (st : State) (p : ℕ) (op : Op) → get_or (effect_unless f trace p op st).made seg 0 ≤ get_or st.made seg 0 + one_if (allocates_in trace seg p op)
   unless_made None st p op = effect_made st p op

@@ -1,18 +1,17 @@
 -- What serves goes on serving after a step.
-use Rattle.std.proofs.Common.{◌≡◌, ℕ, ◌+◌, ◌≤◌, sym, ap, ◌∙◌, subst, List, ◌++◌, append-nil, map, replicate, IsFalse, false, true, get_or, Some, None, inl, inr}
+use Rattle.std.proofs.Common.{◌≡◌, ℕ, ◌+◌, ◌≤◌, sym, ap, ◌∙◌, subst, List, ◌++◌, append-nil, replicate, IsFalse, false, true, get_or, Some, None, inl, inr}
 use Rattle.std.proofs.lemmas.Bool.{cases_Bool, false≢true}
 use Rattle.atomic_table.specs.Seated.{TableId}
 use Rattle.k_types.specs.declared.event.Event.{Event}
 use Rattle.k_types.specs.declared.names.CellPhase.TheVariants.{Idle}
 use Rattle.k_types.specs.declared.names.Heap.TheVariants.{Kernel, Shared, User}
 use Rattle.k_types.specs.declared.names.SharedId.{SharedId}
-use Rattle.k_types.specs.declared.setup.LimitRow.{LimitRow}
-use Rattle.k_types.specs.Cells.{BookPart, ShownPart, book_part, part}
+use Rattle.k_types.specs.Cells.{ShownPart, part}
 use Rattle.k_types.specs.Owners.{is_absorbed, phase_of}
-use Rattle.k_types.specs.State.{State, opening}
+use Rattle.k_types.specs.State.{State}
 use Rattle.k_types.specs.Steps.{state_after}
 use Rattle.k_types.specs.Trace.{Trace, process_count, segment_count, segment_of}
-use Rattle.k_frame.proofs.Constant.{run_maxima}
+use Rattle.k_agree.proofs.AtTheEnd.{maxima_counted}
 use Rattle.k_frame.proofs.OwnerOf.{owner_stands}
 use Rattle.k_agree.specs.Agreement.{Agrees, BookAgrees, Shows}
 use Rattle.k_book.specs.Books.{BookRecord, pin_room_of}
@@ -57,14 +56,6 @@ module _ (basis : Basis) where
     numbers = subst (λ (y : HoldingsValue). segment_count basis.trace ≤ y.bound) (sym is) serves.numbers;
   }
 
-  maxima_same : (b l : BookRecord) → BookAgrees basis.trace b.journal b.value → BookAgrees basis.trace l.journal l.value → l.value.maxima ≡ b.value.maxima
-  unfolding book_part
-  maxima_same b l before after =
-      ap (λ (p : BookPart). p.maxima) after.shows.part
-      ∙ run_maxima basis.trace (opening basis.trace) l.journal.list
-      ∙ sym (run_maxima basis.trace (opening basis.trace) b.journal.list)
-      ∙ sym (ap (λ (p : BookPart). p.maxima) before.shows.part)
-
   -- the book that has changed journal and value
   pub book_goes_on : (b l : BookRecord) → BookServes basis b → l ≡ record b { journal = l.journal; value = l.value } → BookAgrees basis.trace l.journal l.value → BookServes basis l
   book_goes_on b l serves is agrees = record {
@@ -74,7 +65,7 @@ module _ (basis : Basis) where
         rows = ap (λ (x : BookRecord). x.rows) is ∙ serves.stands.of_trace.rows;
         procs = ap (λ (x : BookRecord). x.procs) is ∙ serves.stands.of_trace.procs;
         ceiling = ap (λ (x : BookRecord). x.ceiling) is ∙ serves.stands.of_trace.ceiling;
-        maxima = maxima_same b l serves.stands.agrees agrees ∙ serves.stands.of_trace.maxima ∙ ap (λ (x : BookRecord). map (λ (row : LimitRow). row.max) x.rows) (sym is);
+        maxima = maxima_counted basis.trace l.journal l.value agrees;
       };
       agrees = agrees;
       pins = subst (λ (x : BookRecord). pin_room_of (process_count basis.trace) ≤ x.pin_room) (sym is) serves.stands.pins;

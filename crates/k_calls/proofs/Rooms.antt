@@ -3,7 +3,7 @@ use Rattle.std.proofs.Common.{◌≡◌, ℕ, zero, suc, ◌+◌, ◌-◌, ◌<�
 use Rattle.std.proofs.lemmas.List.{drop-replicate}
 use Rattle.k_types.specs.declared.names.TypeId.{TypeId}
 use Rattle.k_types.specs.declared.op.Op.{Op}
-use Rattle.k_types.specs.declared.op.Op.TheVariants.{New, KNew, SNew, Store, Load, Move, Clear, Dir, Put, Get, Collect, KCollect, Share, Freeze, Attach, Exit}
+use Rattle.k_types.specs.declared.op.Op.TheVariants.{New, KNew, SNew, Store, Load, Move, Clear, Dir, Put, Get, Collect, KCollect, Share, Freeze, Attach, Exit, Kill, Resize}
 use Rattle.k_types.specs.Agree.{CellValue}
 use Rattle.k_types.specs.Cells.{BookPart, Cell, book_part, entries}
 use Rattle.k_types.specs.Counted.{counted}
@@ -94,6 +94,8 @@ module _ (basis : Basis) (bodies : List BodyValue) (n : ℕ) (stock : bodies ≡
     table_room (Freeze s root) body serial exits = tt
     table_room (Attach r s) body serial exits = tt
     table_room Exit body serial exits = tt
+    table_room (Kill q) body serial exits = tt
+    table_room (Resize m max) body serial exits = tt
 
 -- the bodies that are left once the operation has taken its own
 pub bodies_left : (x : BodyValue) (n : ℕ) (op : Op) → bodies_after op (replicate n x) ≡ replicate (n - one_if (is_allocation op)) x
@@ -113,6 +115,8 @@ bodies_left x n (Share s) = ap (λ k. replicate k x) (omega arith)
 bodies_left x n (Freeze s root) = ap (λ k. replicate k x) (omega arith)
 bodies_left x n (Attach r s) = ap (λ k. replicate k x) (omega arith)
 bodies_left x n Exit = ap (λ k. replicate k x) (omega arith)
+bodies_left x n (Kill q) = ap (λ k. replicate k x) (omega arith)
+bodies_left x n (Resize m max) = ap (λ k. replicate k x) (omega arith)
 
 -- an operation takes no more bodies than there are
 pub takes_few : (basis : Basis) (n : ℕ) (op : Op) → HasItsBody basis n op → one_if (is_allocation op) ≤ n
@@ -132,3 +136,5 @@ takes_few basis n (Share s) body = omega arith
 takes_few basis n (Freeze s root) body = omega arith
 takes_few basis n (Attach r s) body = omega arith
 takes_few basis n Exit body = omega arith
+takes_few basis n (Kill q) body = omega arith
+takes_few basis n (Resize m max) body = omega arith

@@ -7,7 +7,7 @@ use Rattle.k_types.specs.declared.names.CellPhase.TheVariants.{Idle}
 use Rattle.k_types.specs.declared.names.Heap.TheVariants.{Kernel, Shared}
 use Rattle.k_types.specs.declared.names.SharedId.{SharedId}
 use Rattle.k_types.specs.declared.op.Op.{Op}
-use Rattle.k_types.specs.declared.op.Op.TheVariants.{New, KNew, SNew, Store, Load, Move, Clear, Dir, Put, Get, Collect, KCollect, Share, Freeze, Attach, Exit}
+use Rattle.k_types.specs.declared.op.Op.TheVariants.{New, KNew, SNew, Store, Load, Move, Clear, Dir, Put, Get, Collect, KCollect, Share, Freeze, Attach, Exit, Kill, Resize}
 use Rattle.k_types.specs.Agree.{book_shown_by}
 use Rattle.k_types.specs.Cells.{Cell}
 use Rattle.k_types.specs.Steps.{IsPossible, in_range, state_after}
@@ -44,6 +44,8 @@ HasItsBody basis bodies (Share s) = Unit {0}
 HasItsBody basis bodies (Freeze s root) = Unit {0}
 HasItsBody basis bodies (Attach r s) = Unit {0}
 HasItsBody basis bodies Exit = Unit {0}
+HasItsBody basis bodies (Kill q) = Unit {0}
+HasItsBody basis bodies (Resize m max) = Unit {0}
 
 -- the process lives, and its heap is not collected
 pub record IsAwake (g : Guest) : Type 0 where

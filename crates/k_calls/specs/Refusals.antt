@@ -1,7 +1,8 @@
 -- When a call is refused, and with which error: a refused call changes nothing, and its error names what is lacking.
 use Rattle.std.specs.Prelude.{◌≡◌, ◌⊎◌, ◌||◌, ◌<◌, Bool, not, IsFalse, IsTrue, List, Some, [], ◌∷◌, length, slice_get}
 use Rattle.k_types.specs.declared.names.CellPhase.TheVariants.{Idle}
-use Rattle.k_types.specs.declared.names.Heap.TheVariants.{Kernel, Shared}
+use Rattle.k_types.specs.declared.names.Heap.TheVariants.{Kernel, Shared, User}
+use Rattle.k_types.specs.declared.names.Pid.{Pid}
 use Rattle.k_types.specs.declared.names.SharedId.{SharedId}
 use Rattle.k_types.specs.declared.op.Op.{Op}
 use Rattle.k_types.specs.Steps.{in_range}
@@ -64,6 +65,17 @@ CanNotOperate basis k shared b op g why =
     ⊎ Lacks Full (HasEventsLeft basis g b) why
     ⊎ IsKernelBarred basis g k b op why
     ⊎ IsSharedBarred basis g shared b op why
+
+-- the operation ends another process: it has a call of its own, which is lent that process too
+pub record EndsAnother (basis : Basis) (g : Guest) (b : BookRecord) (op : Op) (why : HostError) : Type 0 where
+  pub target : Pid
+  pub in_range : IsTrue (in_range basis.trace op)
+  pub touches : touched_by basis g b op ≡ User target ∷ Kernel ∷ []
+  pub error_is : why ≡ OwnCall
+
+-- the process can't do the operation where no other process is lent
+abbrev pub CanNotOperateAlone : Basis → HoldingsValue → List SharedRecord → BookRecord → Op → Guest → HostError → Type 0
+CanNotOperateAlone basis k shared b op g why = CanNotOperate basis k shared b op g why ⊎ EndsAnother basis g b op why
 
 -- the process can't try the operation inside its heap: it names what the setup does not declare, or the process is not awake or has no
 -- room for one more unpublished event

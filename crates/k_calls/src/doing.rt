@@ -44,8 +44,8 @@ pub(crate) fn publish_all(terms: &Terms, guest: &mut Guest, book: &mut Book)
     publish(&mut guest.cell, book);
 }
 
-/// The cell that the operation touches beside its process's own.
-pub(crate) fn reached(terms: &Terms, guest: &Guest, book: &Book, op: &Op) -> Reach
+/// The cells that the operation touches beside its process's own.
+pub fn reached(terms: &Terms, guest: &Guest, book: &Book, op: &Op) -> Reach
     ghost basis: { Basis }
     requires { CanReach basis.trace guest.now.cell book.now op.now }
     ensures { cells_of result ≡ other_cells_in basis.trace (book_shown_by book.now.value) (idle_part guest.now.cell.value) guest.now.cell.pid.0 op.now }
@@ -78,7 +78,7 @@ fn bodies_taken(op: &Op) -> u32
 }
 
 /// Publishes, and does an operation that touches the process's own cell alone.
-pub(crate) fn do_alone(terms: &Terms, guest: &mut Guest, book: &mut Book, op: &Op) -> Event
+pub fn do_alone(terms: &Terms, guest: &mut Guest, book: &mut Book, op: &Op) -> Event
     ghost basis: { Basis }
     requires { IsDueWith basis guest.old book.old op.now [] }
     ensures { HasDoneAlone basis op.now guest.old guest.new book.old book.new result }

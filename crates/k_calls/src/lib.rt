@@ -1,9 +1,10 @@
 //! Operations of a host's processes, each tested before it is done.
 //!
 //! [`operate_with`] does an operation inside the process's heap where it needs that heap alone, and else publishes and calls the step of
-//! the cells that it touches. [`try_inside`] does what needs the heap alone or nothing, and [`try_publish`] publishes. What a step asks
-//! beyond what the parts of a host keep, such as room in the journal, is tested first: a test that fails is a [`HostError`], which names
-//! what is lacking, and nothing has changed.
+//! the cells that it touches. A `kill` that ends another process has a call of its own, in `k_ends`. [`try_inside`] does what needs the
+//! heap alone or nothing, and [`try_publish`] publishes. What a step asks beyond what the parts of a host keep, such as room in the
+//! journal, is tested first: a test that fails is a [`HostError`], which names what is lacking, and nothing has changed.
+//! [`ready`], [`room_left`] and [`reached`] are the tests that all operations have in common.
 #![tactic(auto)]
 
 mod doing;
@@ -12,6 +13,7 @@ mod ranges;
 mod readiness;
 mod stepping;
 
+pub use doing::{do_alone, reached};
 pub use errors::HostError;
-pub use readiness::{awake, has_events_left, is_begun, is_idle, is_marked};
+pub use readiness::{awake, has_events_left, is_begun, is_idle, is_marked, ready, room_left};
 pub use stepping::{operate_with, try_inside, try_publish};

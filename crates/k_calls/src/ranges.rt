@@ -1,10 +1,10 @@
 //! Whether the numbers in an operation are those of a setup.
 ghost use Rattle.std.specs.Prelude.{◌≡◌, nat_lt, length};
-ghost use Rattle.k_types.specs.Bounds.{register_count};
+ghost use Rattle.k_types.specs.Bounds.{maximum_below, register_count};
 ghost use Rattle.k_types.specs.Steps.{in_range};
 ghost use Rattle.k_guests.specs.Serving.{open_trace};
 
-use k_types::{Op, REGISTERS, Reg, Setup, SharedId, TypeId};
+use k_types::{LimitId, MAXIMUM_BELOW, Op, Pid, REGISTERS, Reg, Setup, SharedId, TypeId};
 
 fn is_register(reg: Reg) -> bool
     ensures { result ≡ nat_lt reg.0 register_count }
@@ -24,7 +24,25 @@ fn is_type(setup: &Setup, ty: TypeId) -> bool
     (ty.0 as usize) < setup.types.len()
 }
 
-/// Whether the numbers in the operation are those of the setup.
+fn is_process(setup: &Setup, pid: Pid) -> bool
+    ensures { result ≡ nat_lt pid.0 (length setup.now.procs.items) }
+{
+    (pid.0 as usize) < setup.procs.len()
+}
+
+fn is_limit(setup: &Setup, limit: LimitId) -> bool
+    ensures { result ≡ nat_lt limit.0 (length setup.now.limits.items) }
+{
+    (limit.0 as usize) < setup.limits.len()
+}
+
+fn is_maximum(max: u64) -> bool
+    ensures { result ≡ nat_lt max maximum_below }
+{
+    max < MAXIMUM_BELOW
+}
+
+/// Whether the numbers in the operation are those of the setup, and a maximum that it sets is one that a limit may have.
 #[tactic(auto, unfolding(k_types::specs::Steps::in_range))]
 pub(crate) fn is_in_range(setup: &Setup, op: &Op) -> bool
     ensures { result ≡ in_range (open_trace setup.now) op.now }
@@ -48,5 +66,7 @@ pub(crate) fn is_in_range(setup: &Setup, op: &Op) -> bool
         Op::Freeze { shared, root } => is_shared(setup, shared) && is_register(root),
         Op::Attach { reg, shared } => is_register(reg) && is_shared(setup, shared),
         Op::Exit => true,
+        Op::Kill { target } => is_process(setup, target),
+        Op::Resize { limit, max } => is_limit(setup, limit) && is_maximum(max),
     }
 }

@@ -48,6 +48,8 @@ fn is_plain(op: &Op) -> bool
         Op::Share { shared: _ } => true,
         Op::Freeze { shared: _, root: _ } => true,
         Op::Attach { reg: _, shared: _ } => true,
+        Op::Kill { target: _ } => true,
+        Op::Resize { limit: _, max: _ } => true,
     }
 }
 
@@ -113,7 +115,7 @@ pub(crate) fn has_room_to_publish(terms: &Terms, guest: &Guest, book: &Book) -> 
 }
 
 /// Tells that the journal has room for what the process has unpublished and one event more.
-pub(crate) fn room_left(terms: &Terms, guest: &Guest, book: &Book) -> Result<(), HostError>
+pub fn room_left(terms: &Terms, guest: &Guest, book: &Book) -> Result<(), HostError>
     ensures ok { OnOk result (HasEventsLeft (basis_of terms.now) guest.now book.now) }
     ensures why { IfErr result (λ why. Lacks HostError.Full (HasEventsLeft (basis_of terms.now) guest.now book.now) why) }
 {
@@ -174,11 +176,13 @@ fn has_its_body(terms: &Terms, guest: &Guest, op: &Op) -> bool
         Op::Freeze { shared: _, root: _ } => true,
         Op::Attach { reg: _, shared: _ } => true,
         Op::Exit => true,
+        Op::Kill { target: _ } => true,
+        Op::Resize { limit: _, max: _ } => true,
     }
 }
 
 /// Whether the process can try the operation now.
-pub(crate) fn ready(terms: &Terms, guest: &Guest, op: &Op) -> Result<(), HostError>
+pub fn ready(terms: &Terms, guest: &Guest, op: &Op) -> Result<(), HostError>
     ensures ok { OnOk result (IsReady (basis_of terms.now) guest.now op.now) }
     ensures why { IfErr result (λ why. IsNotReady (basis_of terms.now) guest.now op.now why) }
 {

@@ -4,7 +4,7 @@ ghost use Rattle.k_moves.specs.Shown.{idle_part};
 ghost use Rattle.k_squares.specs.Locals.{is_local_in};
 ghost use Rattle.k_guests.specs.Serving.{BookServes, GuestServes, basis_of};
 ghost use Rattle.k_calls.specs.Doing.{CanOperate, HasDoneInside, HasOperated, HasPublishedAll};
-ghost use Rattle.k_calls.specs.Refusals.{CanNotDoInside, CanNotOperate, CanNotPublish};
+ghost use Rattle.k_calls.specs.Refusals.{CanNotDoInside, CanNotOperateAlone, CanNotPublish};
 
 use crate::doing::{do_alone, do_inside, do_with_kernel, do_with_shared, publish_all, reached};
 use crate::errors::HostError;
@@ -51,7 +51,8 @@ pub fn try_publish(terms: &Terms, guest: &mut Guest, book: &mut Book) -> Result<
     Ok(())
 }
 
-/// Does the operation with whatever it touches, if it is ready and there is room.
+/// Does the operation with whatever it touches, if it is ready and there is room. A `kill` that ends another process has a call of its
+/// own, which is lent that process too.
 pub fn operate_with(
     terms: &Terms,
     guest: &mut Guest,
@@ -63,7 +64,7 @@ pub fn operate_with(
     requires { CanOperate (basis_of terms.now) guest.old kernel.old shared.old.items book.old }
     ensures done { IfOk result (λ event. HasOperated (basis_of terms.now) op.now guest.old guest.new kernel.old kernel.new shared.old.items shared.new.items book.old book.new event) }
     ensures same { IfErr result (λ why. (guest.new ≡ guest.old) × (kernel.new ≡ kernel.old) × (shared.new.items ≡ shared.old.items) × (book.new ≡ book.old)) }
-    ensures why { IfErr result (λ why. CanNotOperate (basis_of terms.now) kernel.old shared.old.items book.old op.now guest.old why) }
+    ensures why { IfErr result (λ why. CanNotOperateAlone (basis_of terms.now) kernel.old shared.old.items book.old op.now guest.old why) }
 {
     ready(terms, guest, op)?;
     room_left(terms, guest, book)?;
@@ -88,5 +89,6 @@ pub fn operate_with(
             }
             Ok(do_with_shared(terms, guest, heap, book, op))
         }
+        Reach::End(_) => Err(HostError::OwnCall),
     }
 }

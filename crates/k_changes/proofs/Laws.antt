@@ -2,7 +2,7 @@
 use Rattle.std.specs.Prelude.{IsFalse, List, Some, ◌≡◌, ℕ, length, not, ◌+◌, ◌<◌, Option, IsTrue, slice_index_or}
 use Rattle.k_types.specs.Cells.{book_part, part, Cell}
 use Rattle.k_types.specs.Effects.{after_absorbed, after_end_of, after_ended}
-use Rattle.k_types.specs.Limits.{full_limit}
+use Rattle.k_types.specs.Limits.{full_limit, full_for}
 use Rattle.k_types.specs.Names.{among, heap_eq}
 use Rattle.k_types.specs.Owners.{charge_of, owner_of, shared, user, phase_of, is_absorbed, bytes_of}
 use Rattle.k_types.specs.Reach.{roots_of}
@@ -10,7 +10,7 @@ use Rattle.k_types.specs.Sound.{IsSound, IsOrdered, IsSized}
 use Rattle.k_types.specs.State.{State, scan_of, Content, has_exit, register, has_share, object_at}
 use Rattle.k_types.specs.Trace.{Trace, kinds_of, limit_of, process_count, size_of_type}
 use Rattle.k_types.specs.TraceRules.{AreLimits}
-use Rattle.k_types.specs.Updates.{open_scan, add_exit, create, write, count_done, set_register, add_share, close, set_phase, next_name}
+use Rattle.k_types.specs.Updates.{open_scan, add_exit, create, write, count_done, set_register, add_share, close, set_phase, next_name, set_max}
 use Rattle.k_types.specs.declared.names.Field.{Field}
 use Rattle.k_types.specs.declared.names.Heap.{Heap}
 use Rattle.k_types.specs.declared.names.Heap.TheVariants.{Kernel}
@@ -24,17 +24,17 @@ use Rattle.k_changes.proofs.CollectedOnBook.{kernel_collected_on_book, collected
 use Rattle.k_changes.proofs.EndsOnBook.{charge_told, end_on_book}
 use Rattle.k_changes.proofs.GivenAway.{end_on_cell, end_on_kernel, absorbed_on_cell, absorbed_on_kernel}
 use Rattle.k_changes.proofs.MadeOnBook.{new_on_book, new_in_kernel_on_book, new_in_shared_on_book}
-use Rattle.k_changes.proofs.OnBook.{open_scan_on_book, write_on_book, add_exit_on_book, owner_told, count_done_on_book, set_phase_on_book, add_share_on_book, share_again, close_on_book}
+use Rattle.k_changes.proofs.OnBook.{open_scan_on_book, write_on_book, add_exit_on_book, owner_told, count_done_on_book, set_phase_on_book, add_share_on_book, share_again, close_on_book, set_max_on_book}
 use Rattle.k_changes.proofs.OnCells.{open_scan_on_cell, write_on_cell, create_on_cell, add_exit_on_cell, set_phase_on_cell}
 use Rattle.k_changes.proofs.PinsOnBook.{set_register_on_book}
 use Rattle.k_changes.proofs.RootsTold.{roots_told}
 use Rattle.k_changes.proofs.TakenOnBook.{taken_on_book}
-use Rattle.k_changes.proofs.ToldBy.{object_told, register_told, name_told, bytes_told, shared_bytes_told, limit_told}
-use Rattle.k_changes.specs.BookChanges.{charge_in, drops, when_collected, when_ended, when_taken, without_entries, with_charge, with_entry, with_shared_bytes, owner_in, with_pin_moved, when_closed, with_phase, with_share, bytes_in}
+use Rattle.k_changes.proofs.ToldBy.{object_told, register_told, name_told, bytes_told, shared_bytes_told, limit_told, full_for_told}
+use Rattle.k_changes.specs.BookChanges.{charge_in, drops, when_collected, when_ended, when_taken, without_entries, with_charge, with_entry, with_shared_bytes, owner_in, with_pin_moved, when_closed, with_phase, with_share, bytes_in, with_max}
 use Rattle.k_changes.specs.CellChanges.{at_its_end, collected, taking_in, when_absorbed, with_scan, with_created, with_exit_to, in_phase, next_name_in}
 use Rattle.k_changes.specs.Roots.{roots_in}
-use Rattle.k_changes.specs.Told.{full_limit_in}
-use Rattle.k_frame.proofs.Elsewhere.{open_scan_elsewhere, write_elsewhere, create_elsewhere, add_exit_elsewhere, count_done_elsewhere, set_register_elsewhere, add_share_elsewhere, close_elsewhere}
+use Rattle.k_changes.specs.Told.{full_limit_in, full_for_in}
+use Rattle.k_frame.proofs.Elsewhere.{open_scan_elsewhere, write_elsewhere, create_elsewhere, add_exit_elsewhere, count_done_elsewhere, set_register_elsewhere, add_share_elsewhere, close_elsewhere, set_max_elsewhere}
 use Rattle.k_frame.proofs.ElsewhereOther.{collected_elsewhere, exited_elsewhere, absorbed_elsewhere, set_phase_elsewhere}
 use Rattle.k_frame.proofs.LocalEffects.{part_done, part_register}
 use Rattle.k_frame.specs.PartUpdates.{with_written, with_done, with_register, held_in}
@@ -181,6 +181,13 @@ what_a_new_share_changes-book = λ trace st p s limits known lives inside new. a
 pub what_a_new_share_changes-again : (st : State) (p s : ℕ) → IsTrue (has_share st.shares p s) → add_share p s st ≡ st
 what_a_new_share_changes-again = share_again
 
+-- a maximum shows in the book alone
+pub what_a_new_maximum_changes-cells : (trace : Trace) (st : State) (c : Cell) (m max : ℕ) → part trace (set_max m max st) c ≡ part trace st c
+what_a_new_maximum_changes-cells = set_max_elsewhere
+
+pub what_a_new_maximum_changes-book : (trace : Trace) (st : State) (m max : ℕ) → book_part trace (set_max m max st) ≡ with_max m max (book_part trace st)
+what_a_new_maximum_changes-book = set_max_on_book
+
 -- the closing shows in the book alone, but for the collection that it begins
 pub what_closing_changes-cells : (trace : Trace) (st : State) (c : Cell) → part trace (close st) c ≡ part trace st c
 what_closing_changes-cells = close_elsewhere
@@ -207,3 +214,6 @@ the_book_tells_what_fits-shared = shared_bytes_told
 
 pub the_book_tells_what_fits-limits : (trace : Trace) (st : State) (m n : ℕ) → AreLimits trace → m < length trace.limits → full_limit_in trace (book_part trace st) m n ≡ full_limit trace st m n
 the_book_tells_what_fits-limits = λ trace st m n limits known. limit_told trace limits st m n known
+
+pub the_book_tells_what_fits-maxima : (trace : Trace) (st : State) (m max : ℕ) → AreLimits trace → m < length trace.limits → full_for_in trace (book_part trace st) m max ≡ full_for trace st m max
+the_book_tells_what_fits-maxima = λ trace st m max limits known. full_for_told trace limits st m max known

@@ -13,9 +13,9 @@ use Rattle.k_types.specs.Trace.{Trace, process_count, limit_of}
 use Rattle.k_types.specs.State.{State, Content, ExitItem, has_exit, has_share}
 use Rattle.k_types.specs.Owners.{owner_of, owner_of_segment, user, shared, bytes_by, bytes_of, charge_of, charge_by, phase_of, is_absorbed}
 use Rattle.k_types.specs.Limits.{direct_by}
-use Rattle.k_types.specs.Updates.{count_done, write, add_exit, with_exit, open_scan, set_phase, add_share, close}
+use Rattle.k_types.specs.Updates.{count_done, write, add_exit, with_exit, open_scan, set_phase, add_share, close, set_max}
 use Rattle.k_types.specs.Cells.{book_part, pins_of}
-use Rattle.k_changes.specs.BookChanges.{owner_in, with_charge, with_entry, with_phase, with_share, when_closed}
+use Rattle.k_changes.specs.BookChanges.{owner_in, with_charge, with_entry, with_phase, with_share, when_closed, with_max}
 use Rattle.k_frame.proofs.Bytes.{bytes-written}
 use Rattle.k_base.proofs.Sums.{bit}
 use Rattle.k_laws.proofs.Raised.{direct_added, charge_sharing}
@@ -61,6 +61,10 @@ module _ (trace : Trace) (st : State) where
   pub open_scan_on_book : (h : Heap) (roots : List Name) → book_part trace (open_scan h roots st) ≡ book_part trace st
   unfolding book_part open_scan
   open_scan_on_book h roots = refl
+
+  pub set_max_on_book : (m max : ℕ) → book_part trace (set_max m max st) ≡ with_max m max (book_part trace st)
+  unfolding book_part set_max
+  set_max_on_book m max = refl
 
   pub close_on_book : book_part trace (close st) ≡ when_closed (book_part trace st)
   unfolding book_part close

@@ -1,26 +1,27 @@
 -- What a step reads is told by the parts of the cells that it touches and of the book.
-use Rattle.std.proofs.Common.{◌≡◌, ℕ, ◌+◌, ◌<◌, nat_lt, ◌==◌, Bool, cond, refl, ap, ap₂, ◌∙◌, List, [], ◌∷◌, find, length, Some, None, get_or, arith, IsTrue, eq-eqb}
+use Rattle.std.proofs.Common.{◌≡◌, ℕ, ◌+◌, ◌<◌, nat_lt, ◌==◌, Bool, cond, refl, ap, ap₂, ◌∙◌, List, [], ◌∷◌, find, length, Some, None, get_or, arith, IsTrue, eq-eqb, ◌&&◌, ◌-◌, Option}
 use Rattle.std.proofs.lemmas.Bool.{or_left, or_right}
 use Rattle.k_types.specs.declared.names.Name.{Name}
 use Rattle.k_types.specs.declared.names.Heap.{Heap}
 use Rattle.k_types.specs.Names.{heap_eq, among}
 use Rattle.k_types.specs.TraceRules.{AreLimits}
-use Rattle.k_types.specs.Trace.{Trace}
+use Rattle.k_types.specs.Trace.{Trace, row_of}
 use Rattle.k_types.specs.State.{State, object_at, register}
 use Rattle.k_types.specs.Owners.{owner_of, user, shared, bytes_by, bytes_of}
-use Rattle.k_types.specs.Limits.{full_limit, limits_in, max_of, path_of, use_of}
+use Rattle.k_types.specs.Limits.{full_limit, limits_in, max_of, path_of, use_of, full_above, full_for}
 use Rattle.k_types.specs.Updates.{next_name}
 use Rattle.k_types.specs.Cells.{part, book_part, use_shown}
 use Rattle.k_frame.specs.PartUpdates.{held_in}
 use Rattle.k_changes.specs.CellChanges.{given, next_name_in}
 use Rattle.k_changes.specs.BookChanges.{bytes_in}
-use Rattle.k_changes.specs.Told.{full_limit_in}
+use Rattle.k_changes.specs.Told.{full_limit_in, limits_shown, full_above_in, full_for_in}
 use Rattle.k_base.proofs.Charges.{path_low}
 use Rattle.k_base.proofs.Maxima.{length_in, tree_in}
 use Rattle.k_base.proofs.NameTests.{heap_eq-same}
 use Rattle.k_base.proofs.Objects.{object_at-kept}
 use Rattle.k_laws.proofs.UseShown.{use_is_shown}
 use Rattle.k_base.proofs.Lists.{get_mapped}
+use Rattle.k_types.specs.declared.names.LimitId.{LimitId}
 
 -- an object is found in its owner's cell
 pub object_told : (trace : Trace) (st : State) (c : Heap) (x : Name) → owner_of trace st x.seg.0 ≡ c → object_at (part trace st c).objects x ≡ object_at st.objects x
@@ -61,3 +62,21 @@ limit_told trace limits st m n known =
     let long = length_in trace.limits st.maxima in
     let low = path_low (limits_in trace st) (tree_in trace.limits st.maxima limits.tree) (length (limits_in trace st)) m q (omega (arith, known, long)) t in
     ap (λ used. nat_lt (max_of (limits_in trace st) q) (used + n)) (use_is_shown trace st q (omega (arith, low, known))))
+
+-- the use and the maximum of a limit, and the limit that is full where another maximum is asked for
+pub use_told : (trace : Trace) (st : State) (m : ℕ) → m < length trace.limits → use_shown trace (book_part trace st) m ≡ use_of trace st m
+use_told = use_is_shown
+
+pub maxima_told : (trace : Trace) (st : State) → limits_shown trace (book_part trace st) ≡ limits_in trace st
+unfolding book_part
+maxima_told trace st = refl
+
+pub full_for_told : (trace : Trace) → AreLimits trace → (st : State) (m max : ℕ) → m < length trace.limits → full_for_in trace (book_part trace st) m max ≡ full_for trace st m max
+full_for_told trace limits st m max known =
+    ap (λ rows. cond ((row_of trace.limits m).hard && nat_lt (max_of rows m) max) (full_above_in trace (book_part trace st) (row_of trace.limits m).parent (max - max_of rows m)) None) (maxima_told trace st)
+    ∙ ap (λ o. cond ((row_of trace.limits m).hard && nat_lt (max_of (limits_in trace st) m) max) o None) (above (row_of trace.limits m).parent refl)
+  where
+    above : (parent : Option LimitId) → (row_of trace.limits m).parent ≡ parent →
+        full_above_in trace (book_part trace st) parent (max - max_of (limits_in trace st) m) ≡ full_above trace st parent (max - max_of (limits_in trace st) m)
+    above None e = refl
+    above (Some r) e = let lower = limits.tree m r known e in limit_told trace limits st r.0 (max - max_of (limits_in trace st) m) (omega (arith, lower, known))

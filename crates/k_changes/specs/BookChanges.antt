@@ -56,6 +56,10 @@ with_phase s phase b = record b { phases = slice_set b.phases s phase }
 abbrev pub with_share : ℕ → ℕ → BookPart → BookPart
 with_share p s b = record b { shares = λ q t. b.shares q t || ((p == q) && (s == t)) }
 
+-- the limit has this maximum
+abbrev pub with_max : ℕ → ℕ → BookPart → BookPart
+with_max m max b = record b { maxima = slice_set b.maxima m max }
+
 -- the closing has happened
 abbrev pub when_closed : BookPart → BookPart
 when_closed b = record b { closed = true }

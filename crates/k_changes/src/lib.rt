@@ -28,5 +28,8 @@ pub use registers::{
     the_book_tells_the_owners, what_a_counted_operation_changes, what_a_register_changes,
 };
 pub use roots::a_collection_begins_from_its_cell_and_the_book;
-pub use sharing::{what_a_new_share_changes, what_a_phase_changes, what_closing_changes};
+pub use sharing::{
+    what_a_new_maximum_changes, what_a_new_share_changes, what_a_phase_changes,
+    what_closing_changes,
+};
 pub use told::{cells_tell_what_is_read_of_them, the_book_tells_what_fits};

@@ -1,6 +1,6 @@
-//! What sharing, freezing and attaching change in the parts.
+//! What sharing, freezing, attaching and another maximum change in the parts.
 ghost use Rattle.std.specs.Prelude.{IsFalse, IsTrue, length, slice_index_or, ◌<◌, ◌≡◌, ℕ};
-ghost use Rattle.k_changes.specs.BookChanges.{when_closed, with_charge, with_phase, with_share};
+ghost use Rattle.k_changes.specs.BookChanges.{when_closed, with_charge, with_phase, with_share, with_max};
 ghost use Rattle.k_changes.specs.CellChanges.{in_phase};
 ghost use Rattle.k_types.specs.Cells.{Cell, book_part, part};
 ghost use Rattle.k_types.specs.Names.{among, heap_eq};
@@ -8,7 +8,7 @@ ghost use Rattle.k_types.specs.Owners.{is_absorbed, phase_of, shared};
 ghost use Rattle.k_types.specs.State.{State, has_share};
 ghost use Rattle.k_types.specs.Trace.{Trace, limit_of, process_count};
 ghost use Rattle.k_types.specs.TraceRules.{AreLimits};
-ghost use Rattle.k_types.specs.Updates.{add_share, close, set_phase};
+ghost use Rattle.k_types.specs.Updates.{add_share, close, set_phase, set_max};
 ghost use Rattle.k_types.specs.declared.names.Phase.{Phase};
 
 /// A phase that is set, and makes the heap neither absorbed nor unabsorbed, shows in the shared heap's cell and in the book.
@@ -32,6 +32,13 @@ pub fn what_a_new_share_changes()
         book_part trace (add_share p s st)
         ≡ with_charge (limit_of trace p) (slice_index_or (book_part trace st).shared_bytes s 0) (with_share p s (book_part trace st)) }
     ensures again { (st : State) (p s : ℕ) → IsTrue (has_share st.shares p s) → add_share p s st ≡ st }
+{}
+
+/// A maximum shows in the book alone.
+pub fn what_a_new_maximum_changes()
+    ensures cells { (trace : Trace) (st : State) (c : Cell) (m max : ℕ) → part trace (set_max m max st) c ≡ part trace st c }
+    ensures book { (trace : Trace) (st : State) (m max : ℕ) →
+        book_part trace (set_max m max st) ≡ with_max m max (book_part trace st) }
 {}
 
 /// The closing shows in the book alone, but for the collection that it begins.

@@ -2,9 +2,9 @@
 ghost use Rattle.std.specs.Prelude.{length, slice_index_or, ◌<◌, ◌≡◌, ℕ};
 ghost use Rattle.k_changes.specs.BookChanges.{bytes_in};
 ghost use Rattle.k_changes.specs.CellChanges.{next_name_in};
-ghost use Rattle.k_changes.specs.Told.{full_limit_in};
+ghost use Rattle.k_changes.specs.Told.{full_limit_in, full_for_in};
 ghost use Rattle.k_types.specs.Cells.{Cell, book_part, part};
-ghost use Rattle.k_types.specs.Limits.{full_limit};
+ghost use Rattle.k_types.specs.Limits.{full_limit, full_for};
 ghost use Rattle.k_types.specs.Owners.{bytes_of, owner_of, shared, user};
 ghost use Rattle.k_frame.specs.PartUpdates.{held_in};
 ghost use Rattle.k_types.specs.State.{State, object_at, register};
@@ -25,10 +25,13 @@ pub fn cells_tell_what_is_read_of_them()
     ensures bytes { (trace : Trace) (st : State) (c : Cell) → bytes_in (part trace st c) ≡ bytes_of trace st c }
 {}
 
-/// The book tells the bytes of each shared heap, and for each limit and size the first limit on the path that is full.
+/// The book tells the bytes of each shared heap, for each limit and size the first limit on the path that is full, and for each
+/// limit and maximum the first that is full where the limit is to have it.
 pub fn the_book_tells_what_fits()
     ensures shared { (trace : Trace) (st : State) (s : ℕ) → s < trace.shared_heaps →
         slice_index_or (book_part trace st).shared_bytes s 0 ≡ bytes_of trace st (shared s) }
     ensures limits { (trace : Trace) (st : State) (m n : ℕ) → AreLimits trace → m < length trace.limits →
         full_limit_in trace (book_part trace st) m n ≡ full_limit trace st m n }
+    ensures maxima { (trace : Trace) (st : State) (m max : ℕ) → AreLimits trace → m < length trace.limits →
+        full_for_in trace (book_part trace st) m max ≡ full_for trace st m max }
 {}

@@ -149,8 +149,8 @@ module _ (trace : Trace) (c : HeapRecord) (b : BookRecord) (stands : BookStands 
       legal = stands.agrees.legal;
       totals = stands.agrees.totals;
       possible = collect_possible;
-      exactly = (as_listed trace now collect (heap ∷ []) collect_touches).1;
-      distinct = (as_listed trace now collect (heap ∷ []) collect_touches).0;
+      exactly = (as_listed trace now collect (heap ∷ []) stands.keeps.limits collect_possible collect_touches).1;
+      distinct = (as_listed trace now collect (heap ∷ []) stands.keeps.limits collect_possible collect_touches).0;
       ready = (record { met = met.after.met; settled = heap_stands.settled; shows = shows_then }, tt);
       shows = book_follows trace now (step trace now collect) b.value b.value stands.agrees.shows (record { homes = refl; owners = refl }) (stands.agrees.shows.part ∙ sym collect_book);
     }

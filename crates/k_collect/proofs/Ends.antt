@@ -1,5 +1,5 @@
 -- The end of a collection: what goes, and its event, appended.
-use Rattle.std.proofs.Common.{◌≡◌, ◌+◌, ◌-◌, ◌*◌, ◌<◌, ◌≤◌, ◌^◌, ◌==◌, ◌&&◌, ◌||◌, not, Bool, true, false, ℕ, refl, sym, ap, ap₂, ◌∙◌, subst, List, [], ◌∷◌, length, get_or, set, Option, Some, None, arith, IsFalse}
+use Rattle.std.proofs.Common.{◌≡◌, ◌+◌, ◌-◌, ◌*◌, ◌<◌, ◌≤◌, ◌^◌, ◌==◌, ◌&&◌, ◌||◌, not, Bool, true, false, ℕ, refl, sym, ap, ap₂, ◌∙◌, subst, List, [], ◌∷◌, length, get_or, set, Option, Some, None, arith, IsFalse, replicate}
 use Rattle.std.proofs.Math.Path.{fun_ext}
 use Rattle.std.proofs.lemmas.Bool.{and_parts, false≢true}
 use Rattle.k_types.specs.declared.event.Event.{Event}
@@ -20,6 +20,7 @@ use Rattle.k_types.specs.State.{Sharing, State, has_share, scan_of}
 use Rattle.k_types.specs.Steps.{IsPossible, has_sharer, state_after}
 use Rattle.k_types.specs.Trace.{Trace, limit_of, process_count}
 use Rattle.k_base.proofs.Lists.{any_weaker}
+use Rattle.k_base.proofs.Maxima.{length_in}
 use Rattle.k_bounds.specs.Counts.{one_if}
 use Rattle.k_laws.proofs.SoundSteps.{legal_sound}
 use Rattle.k_tie.specs.Values.{NoteValue}
@@ -125,8 +126,8 @@ module _ (trace : Trace) (cell : Cell) (note : NoteValue) (v : CellValue) (b : B
       legal = can.book_stands.agrees.legal;
       totals = can.book_stands.agrees.totals;
       possible = possible;
-      exactly = (as_listed trace now event (cell ∷ []) ended_touches).1;
-      distinct = (as_listed trace now event (cell ∷ []) ended_touches).0;
+      exactly = (as_listed trace now event (cell ∷ []) can.book_stands.keeps.limits possible ended_touches).1;
+      distinct = (as_listed trace now event (cell ∷ []) can.book_stands.keeps.limits possible ended_touches).0;
       ready = (
         record {
           met = can.after.met;
@@ -200,7 +201,7 @@ module _ (trace : Trace) (c : HeapRecord) (b : BookRecord) (can : CanSweep trace
   credit_fits = let low = bytes_small trace (User c.pid) c.note c.value b can in omega (arith, low, unshared_few)
 
   pub limit_there : limit_of trace p < length b.rows
-  limit_there = subst (λ (n : ℕ). limit_of trace p < n) (sym (ap length can.book_stands.of_trace.rows)) (can.book_stands.keeps.limits.limited p known)
+  limit_there = subst (λ (n : ℕ). limit_of trace p < n) (sym (ap length can.book_stands.of_trace.rows ∙ length_in trace.limits (replicate (length trace.limits) 0))) (can.book_stands.keeps.limits.limited p known)
 
   pub limit_told : (get_or b.procs p (record { 0 = 0 })).0 ≡ limit_of trace p
   limit_told = ap (λ (procs : List LimitId). (get_or procs p (record { 0 = 0 })).0) can.book_stands.of_trace.procs

@@ -158,8 +158,8 @@ module _ (trace : Trace) (c : HeapRecord) (k : HoldingsValue) (b : BookRecord) (
       legal = can.book_stands.agrees.legal;
       totals = can.book_stands.agrees.totals;
       possible = kcollect_possible;
-      exactly = (as_listed trace now kcollect (heap ∷ Kernel ∷ []) kcollect_touches).1;
-      distinct = (as_listed trace now kcollect (heap ∷ Kernel ∷ []) kcollect_touches).0;
+      exactly = (as_listed trace now kcollect (heap ∷ Kernel ∷ []) can.book_stands.keeps.limits kcollect_possible kcollect_touches).1;
+      distinct = (as_listed trace now kcollect (heap ∷ Kernel ∷ []) can.book_stands.keeps.limits kcollect_possible kcollect_touches).0;
       ready = (
         record { met = both_met.after.met; settled = can.heap_stands.settled; shows = own_then.shows },
         (record { met = kernel_told.shows.met; settled = can.kernel_stands.agrees.tail; shows = kernel_then }, tt),
@@ -241,8 +241,8 @@ module _ (trace : Trace) (k : HoldingsValue) (b : BookRecord) (can : CanClose tr
       legal = can.book_stands.agrees.legal;
       totals = can.book_stands.agrees.totals;
       possible = closing_possible;
-      exactly = (as_listed trace st Closing (Kernel ∷ []) closing_touches).1;
-      distinct = (as_listed trace st Closing (Kernel ∷ []) closing_touches).0;
+      exactly = (as_listed trace st Closing (Kernel ∷ []) can.book_stands.keeps.limits closing_possible closing_touches).1;
+      distinct = (as_listed trace st Closing (Kernel ∷ []) can.book_stands.keeps.limits closing_possible closing_touches).0;
       ready = (record { met = told.shows.met; settled = can.kernel_stands.agrees.tail; shows = closing_shows }, tt);
       shows = book_follows trace st (step trace st Closing) b.value (record b.value { closed = true }) can.book_stands.agrees.shows (record { homes = refl; owners = refl })
           (ap when_closed can.book_stands.agrees.shows.part ∙ sym closing_book);

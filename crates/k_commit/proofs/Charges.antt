@@ -1,13 +1,13 @@
 -- A charge goes to the limit of the process, and the book tells whether it fits.
-use Rattle.std.proofs.Common.{◌≡◌, ◌<◌, ◌+◌, ℕ, sym, ap, subst, ◌∙◌, length, slice_index, slice_index_or, slice_set, List, None, Some, Result, Ok, Err, IfErr, IfOk}
+use Rattle.std.proofs.Common.{◌≡◌, ◌<◌, ◌+◌, ℕ, sym, ap, subst, ◌∙◌, length, replicate, slice_index, slice_index_or, slice_set, List, None, Some, Result, Ok, Err, IfErr, IfOk}
 use Rattle.k_types.specs.declared.names.LimitId.{LimitId}
-use Rattle.k_types.specs.declared.setup.LimitRow.{LimitRow}
 use Rattle.k_types.specs.Agree.{book_shown_by}
 use Rattle.k_types.specs.Cells.{BookPart}
 use Rattle.k_types.specs.Replies.{limit_fault}
 use Rattle.k_types.specs.State.{State}
 use Rattle.k_types.specs.Steps.{state_after}
 use Rattle.k_types.specs.Trace.{Trace, limit_of}
+use Rattle.k_base.proofs.Maxima.{length_in}
 use Rattle.k_limits.specs.Limits.{full_at}
 use Rattle.k_book.specs.Books.{BookRecord, book_limits}
 use Rattle.k_book.proofs.Telling.{tells_limits}
@@ -24,7 +24,9 @@ module _ (trace : Trace) (b : BookRecord) (p : ℕ) (can : CanCharge trace b p) 
   limit_is = ap (λ (procs : List LimitId). (slice_index_or procs p (record { 0 = 0 })).0) can.stands.of_trace.procs
 
   pub limit_inside : limit_of trace p < length b.rows
-  limit_inside = subst (λ (rows : List LimitRow). limit_of trace p < length rows) (sym can.stands.of_trace.rows) (can.stands.keeps.limits.limited p can.known)
+  limit_inside =
+      subst (λ n. limit_of trace p < n) (sym (ap length can.stands.of_trace.rows ∙ length_in trace.limits (replicate (length trace.limits) 0)))
+      (can.stands.keeps.limits.limited p can.known)
 
   full_told : (bytes : ℕ) → limit_fault (full_at (book_limits b) (limit_of trace p) bytes) ≡ size_fault_in trace (book_shown_by b.value) p bytes
   unfolding size_fault_in

@@ -6,3 +6,5 @@ pub mod Changing
 pub mod Commits
 pub mod Charges
 pub mod Tails
+pub mod Beside
+pub mod Resizing

@@ -3,7 +3,7 @@ use Rattle.std.proofs.Common.{◌≡◌, ◌<◌, ◌^◌, ℕ, List, sym, subst
 use Rattle.k_types.specs.declared.event.Event.{Event}
 use Rattle.k_types.specs.declared.names.TypeId.{TypeId}
 use Rattle.k_types.specs.declared.op.Op.{Op}
-use Rattle.k_types.specs.declared.op.Op.TheVariants.{New, KNew, SNew, Store, Load, Move, Clear, Dir, Put, Get, Collect, KCollect, Share, Freeze, Attach, Exit}
+use Rattle.k_types.specs.declared.op.Op.TheVariants.{New, KNew, SNew, Store}
 use Rattle.k_types.specs.Agree.{CellValue}
 use Rattle.k_types.specs.Cells.{Cell}
 use Rattle.k_types.specs.Trace.{Trace}
@@ -89,18 +89,7 @@ module _ (trace : Trace) (bodies : List BodyValue) (heap : HoldingsValue) (note 
   tables_noted (KNew r ty) room = new_noted ty room
   tables_noted (SNew r s ty) room = new_noted ty room
   tables_noted (Store base i value) room = record { exits = room.exits; entries = room.entries }
-  tables_noted (Load r base i) room = room
-  tables_noted (Move r from) room = room
-  tables_noted (Clear r) room = room
-  tables_noted (Dir r) room = room
-  tables_noted (Put base i number) room = room
-  tables_noted (Get base i) room = room
-  tables_noted Collect room = room
-  tables_noted KCollect room = room
-  tables_noted (Share s) room = room
-  tables_noted (Freeze s root) room = room
-  tables_noted (Attach r s) room = room
-  tables_noted Exit room = room
+  tables_noted _ room = room
 
   pub room_noted : (op : Op) → HasRoomFor trace bodies heap seg b op → HasRoomFor trace bodies noted seg b op
   room_noted op room = record { events = room.events; tables = tables_noted op room.tables }

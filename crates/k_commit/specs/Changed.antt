@@ -5,7 +5,7 @@ use Rattle.k_types.specs.declared.names.CellPhase.TheVariants.{Idle}
 use Rattle.k_types.specs.declared.names.Heap.TheVariants.{Kernel, Shared}
 use Rattle.k_types.specs.declared.names.Name.{Name}
 use Rattle.k_types.specs.declared.op.Op.{Op}
-use Rattle.k_types.specs.declared.op.Op.TheVariants.{New, KNew, SNew, Store, Load, Move, Clear, Dir, Put, Get, Collect, KCollect, Share, Freeze, Attach, Exit}
+use Rattle.k_types.specs.declared.op.Op.TheVariants.{New, KNew, SNew, Store, Load, Move, Clear, Dir, Put, Get, Collect, KCollect, Share, Freeze, Attach, Exit, Kill, Resize}
 use Rattle.k_types.specs.Agree.{book_shown_by}
 use Rattle.k_types.specs.Steps.{in_range, waits_for_orphans}
 use Rattle.k_types.specs.Trace.{segment_count}
@@ -39,6 +39,8 @@ bodies_after (Share s) bodies = bodies
 bodies_after (Freeze s root) bodies = bodies
 bodies_after (Attach r s) bodies = bodies
 bodies_after Exit bodies = bodies
+bodies_after (Kill q) bodies = bodies
+bodies_after (Resize m max) bodies = bodies
 
 -- the operation may be the next event: it names what the trace declares, waits for no orphan, and the journal has room
 pub record MayCommit (before : Before) (op : Op) : Type 0 where

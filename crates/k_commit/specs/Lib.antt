@@ -4,5 +4,7 @@ pub mod Met
 pub mod Changed
 pub mod Owning
 pub mod Stepped
+pub mod Beside
 pub mod Charging
 pub mod Published
+pub mod Resizing

@@ -2,7 +2,7 @@
 use Rattle.std.specs.Prelude.{◌≡◌, ◌<◌, ℕ, List, ◌∷◌, IsTrue, Some, None, length, slice_index_or}
 use Rattle.k_types.specs.declared.names.TypeId.{TypeId}
 use Rattle.k_types.specs.declared.op.Op.{Op}
-use Rattle.k_types.specs.declared.op.Op.TheVariants.{New, KNew, SNew, Store, Load, Move, Clear, Dir, Put, Get, Collect, KCollect, Share, Freeze, Attach, Exit}
+use Rattle.k_types.specs.declared.op.Op.TheVariants.{New, KNew, SNew, Store, Load, Move, Clear, Dir, Put, Get, Collect, KCollect, Share, Freeze, Attach, Exit, Kill, Resize}
 use Rattle.k_types.specs.Steps.{in_range}
 use Rattle.k_types.specs.Trace.{Trace}
 use Rattle.k_space.specs.Objects.{BodyValue, new_body}
@@ -50,6 +50,8 @@ HasTableRoom trace bodies heap seg book (Share s) = Unit {0}
 HasTableRoom trace bodies heap seg book (Freeze s root) = Unit {0}
 HasTableRoom trace bodies heap seg book (Attach r s) = Unit {0}
 HasTableRoom trace bodies heap seg book Exit = Unit {0}
+HasTableRoom trace bodies heap seg book (Kill q) = Unit {0}
+HasTableRoom trace bodies heap seg book (Resize m max) = Unit {0}
 
 -- there is room for the event of the operation, and for what it may add to the heap
 pub record HasRoomFor (trace : Trace) (bodies : List BodyValue) (heap : HoldingsValue) (seg : ℕ) (book : BookRecord) (op : Op) : Type 0 where

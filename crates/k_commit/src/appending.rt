@@ -55,6 +55,31 @@ pub fn append_heap_and_kernel(
     book.meet(kernel.note_mut());
 }
 
+/// Appends an event that touches the process's cell, that of another process, and the kernel's.
+pub fn append_heaps_and_kernel(
+    cell: &mut HeapCell,
+    other: &mut HeapCell,
+    kernel: &mut KernelCell,
+    book: &mut Book,
+    event: Event,
+)
+    requires table { (cell.old.note.table ≡ book.old.journal.table) × (other.old.note.table ≡ book.old.journal.table) × (kernel.old.note.table ≡ book.old.journal.table) }
+    requires met { (cell.old.note.list ≡ book.old.journal.list) × (other.old.note.list ≡ book.old.journal.list) × (kernel.old.note.list ≡ book.old.journal.list) }
+    requires room { length book.old.journal.list < book.old.event_room }
+    ensures cell { cell.new ≡ record cell.old { note = note_after event cell.old.note } }
+    ensures other { other.new ≡ record other.old { note = note_after event other.old.note } }
+    ensures kernel { kernel.new ≡ record kernel.old { note = note_after event kernel.old.note } }
+    ensures book { book.new ≡ record book.old { journal = journal_after event (cell.old.note.cell ∷ other.old.note.cell ∷ kernel.old.note.cell ∷ []) book.old.journal } }
+{
+    book.append(event);
+    book.touch(cell.note_mut());
+    book.touch(other.note_mut());
+    book.touch(kernel.note_mut());
+    book.meet(cell.note_mut());
+    book.meet(other.note_mut());
+    book.meet(kernel.note_mut());
+}
+
 /// Appends an event that touches the process's cell and that of a shared heap.
 pub fn append_heap_and_shared(
     cell: &mut HeapCell,

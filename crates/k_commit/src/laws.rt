@@ -1,5 +1,5 @@
 //! What cells and book that have met tell beyond what a step asks.
-ghost use Rattle.std.specs.Prelude.{◌≡◌, ◌+◌, ◌-◌, ◌<◌, ◌^◌, ℕ, length, slice_index_or};
+ghost use Rattle.std.specs.Prelude.{◌+◌, ◌-◌, ◌<◌, ◌^◌, ℕ, [], ◌∷◌, length, slice_index_or};
 ghost use Rattle.k_book.specs.Books.{BookRecord, book_pins};
 ghost use Rattle.k_cell.specs.Holdings.{HoldingsValue};
 ghost use Rattle.k_entry.specs.Entries.{AreEntries};
@@ -11,8 +11,11 @@ ghost use Rattle.k_types.specs.Owners.{object_bytes};
 ghost use Rattle.k_types.specs.Totals.{total};
 ghost use Rattle.k_types.specs.Trace.{Trace};
 ghost use Rattle.k_types.specs.declared.event.Event.{Event};
+ghost use Rattle.k_types.specs.declared.names.Heap.TheVariants.{Kernel, Shared};
 ghost use Rattle.k_types.specs.declared.names.Name.{Name};
 ghost use Rattle.k_types.specs.declared.op.Op.{Op};
+ghost use Rattle.k_moves.specs.Moves.{noted};
+ghost use Rattle.k_commit.specs.Beside.{HasSteppedBeside};
 ghost use Rattle.k_commit.specs.Met.{Before, BeforeWithKernel, BeforeWithShared, HaveMet, HaveMetWithKernel, HaveMetWithShared, HeapHasMet, KernelHasMet, SharedHasMet};
 ghost use Rattle.k_commit.specs.Rooms.{HasEventRoom};
 ghost use Rattle.k_commit.specs.Standing.{BookStands, HeapStands, KernelStands, SharedStands};
@@ -40,6 +43,14 @@ pub fn steps_began_before_the_meeting()
     ensures shared { (trace : Trace) (op : Op) (c cell w : HeapRecord) (s shared x : SharedRecord) (b book last l : BookRecord) (event : Event) →
         HeapHasMet trace c cell b book → SharedHasMet trace s shared book last →
         HasSteppedWithShared trace op cell w shared x last l event → HasSteppedWithShared trace op c w s x b l event }
+{}
+
+/// A step with one more cell, of whatever heap, is a step beside that cell.
+pub fn steps_stand_beside()
+    ensures kernel { (trace : Trace) (op : Op) (c w : HeapRecord) (k x : HoldingsValue) (b l : BookRecord) (event : Event) →
+        HasSteppedWithKernel trace op c w k x b l event → HasSteppedBeside trace op c w (noted Kernel x.note x.value ∷ []) b l event }
+    ensures shared { (trace : Trace) (op : Op) (c w : HeapRecord) (s x : SharedRecord) (b l : BookRecord) (event : Event) →
+        HasSteppedWithShared trace op c w s x b l event → HasSteppedBeside trace op c w (noted (Shared x.id) x.note x.value ∷ []) b l event }
 {}
 
 /// What is counted fits 32 bits, and the pins have room for one more: the operations that the process has done, the entries and the

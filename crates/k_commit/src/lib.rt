@@ -4,7 +4,7 @@
 //! [`meet_kernel`], [`meet_shared`]), changes cells and book, and commits: [`commit_heap`], [`commit_with_kernel`] or
 //! [`commit_with_shared`] counts the operation, appends its event, and lets the cells touch and meet the journal again, so that
 //! cells and book agree. An event that is no such operation is appended by a call of its own. [`set_register`] moves a pin with
-//! its register, and [`charge_process`] charges a process. [`publish`] appends what a process did inside its heap. No call takes
+//! its register, [`charge_process`] charges a process, and [`resize_limit`] sets a maximum. [`publish`] appends what a process did inside its heap. No call takes
 //! memory.
 //!
 //! The laws give the conditions of the calls of cells and book that no step asks of its caller: counts fit 32 bits, and bytes 64.
@@ -14,17 +14,22 @@ mod appending;
 mod charging;
 mod committing;
 mod laws;
+mod limits;
 mod meeting;
 mod publishing;
 mod registers;
 
 pub use appending::{
-    append_heap, append_heap_and_kernel, append_heap_and_shared, append_kernel,
-    append_shared_and_kernel,
+    append_heap, append_heap_and_kernel, append_heap_and_shared, append_heaps_and_kernel,
+    append_kernel, append_shared_and_kernel,
 };
 pub use charging::charge_process;
 pub use committing::{commit_heap, commit_with_kernel, commit_with_shared};
-pub use laws::{bytes_fit, cells_that_met_have_met, counts_fit, steps_began_before_the_meeting};
+pub use laws::{
+    bytes_fit, cells_that_met_have_met, counts_fit, steps_began_before_the_meeting,
+    steps_stand_beside,
+};
+pub use limits::{is_above, is_below, resize_limit};
 pub use meeting::{meet_heap, meet_kernel, meet_shared};
 pub use publishing::publish;
 pub use registers::set_register;

@@ -1,5 +1,5 @@
 -- What is left of processes, done one after the other.
-use Rattle.std.proofs.Common.{◌≡◌, ◌<◌, ℕ, refl, sym, ap, ◌∙◌, subst, List, length, set, Some, None, slice_get, IsTrue, inl, inr, arith}
+use Rattle.std.proofs.Common.{◌≡◌, ◌<◌, ℕ, refl, sym, ap, ◌∙◌, subst, List, length, set, Some, slice_get, IsTrue, inl, inr, arith}
 use Rattle.k_types.specs.declared.op.Op.{Op}
 use Rattle.k_types.specs.Trace.{operations_of}
 use Rattle.k_tie.specs.Values.{NoteValue}
@@ -7,19 +7,17 @@ use Rattle.k_agree.specs.Settled.{all_ended_in, no_orphan_in}
 use Rattle.k_types.specs.Complete.{EndsWithClosing}
 use Rattle.k_book.specs.Books.{BookRecord}
 use Rattle.k_cell.specs.Holdings.{HoldingsValue}
-use Rattle.k_heap.specs.Heaps.{HeapRecord, has_ended_in}
+use Rattle.k_heap.specs.Heaps.{HeapRecord}
 use Rattle.k_shared.specs.SharedHeaps.{SharedRecord}
 use Rattle.k_commit.specs.Met.{HeapHasMet, KernelHasMet, SharedHasMet}
 use Rattle.k_commit.specs.Standing.{BookStands}
 use Rattle.k_locked.specs.Keeping.{operations_left}
 use Rattle.k_process.specs.declared.process.Process.{Process}
-use Rattle.k_process.specs.Standing.{IsNextOf}
 use Rattle.k_complete.specs.Closing.{HasClosedAll}
-use Rattle.k_complete.specs.Ended.{AllStand, AllThrough, CanComplete, HasCompleted}
+use Rattle.k_complete.specs.Ended.{AllThrough}
 use Rattle.k_process.specs.Over.{AllEnded, AllMet, BookEnds}
 use Rattle.k_complete.specs.Meetings.{AreSameButNotes, CellsAndBook, CellsMet, HeapsAndBook, HeapsMet, ProcessesAndBook, ProcessesMet}
-use Rattle.k_process.specs.Standing.{HasDone, IsThroughWith, ProcessStands, RestStands}
-use Rattle.k_operate.specs.Steps.{HasPublishedAll}
+use Rattle.k_process.specs.Standing.{HasDone, IsThroughWith, ProcessStands}
 use Rattle.k_process.specs.Worlds.{WorldValue}
 use Rattle.k_process.proofs.Written.{get_set_cases}
 use Rattle.k_process.proofs.Kept.{met_heap, met_kernel, met_shared, process_set, shared_set}
@@ -27,29 +25,6 @@ use Rattle.k_process.proofs.Kept.{met_heap, met_kernel, met_shared, process_set,
 -- fewer operations are left
 pub fewer_left : (world : WorldValue) (op : Op) (old new : HeapRecord) → HasDone world.trace op old new → length (operations_left world.trace new) < length (operations_left world.trace old)
 fewer_left world op old new d = let all = ap length d.left in omega (arith, all)
-
--- a process of which nothing is left has published its last events
-pub completed : (world : WorldValue) (first p q : Process) (k : HoldingsValue) (s : List SharedRecord) (b l : BookRecord) → ProcessStands world p → RestStands world k s b → p.cell.pid ≡ first.cell.pid →
-    IsNextOf world.trace p.cell None → HasPublishedAll world p q b l → HasCompleted world first q k s l
-completed world first p q k s b l stands rest same none t = record {
-  process = t.pair.process;
-  rest = record { kernel = rest.kernel; shared = rest.shared; book = t.pair.book };
-  pid = ap (λ (c : HeapRecord). c.pid) t.cell_is ∙ same;
-  through = record {
-    published = t.settled;
-    all = λ lives. ap (operations_left world.trace) t.cell_is ∙ none (sym (ap (λ (c : HeapRecord). has_ended_in c.value.process) t.cell_is) ∙ lives);
-  };
-}
-
-module _ (world : WorldValue) (ps : List Process) (k : HoldingsValue) (s : List SharedRecord) (b : BookRecord) where
-  pub all_begin : AllStand world ps k s b → (j : ℕ) (p : Process) → j < 0 → slice_get ps j ≡ Some p → IsThroughWith world.trace p.cell
-  all_begin a j p inside = absurd (omega (arith, inside))
-
-  pub can_complete : AllStand world ps k s b → (n : ℕ) (p : Process) → slice_get ps n ≡ Some p → CanComplete world p k s b
-  can_complete a n p at = record { process = a.processes.each n p at; rest = a.rest }
-
-  pub one_completed : AllStand world ps k s b → (n : ℕ) (p q : Process) → slice_get ps n ≡ Some p → (x : HoldingsValue) (t : List SharedRecord) (l : BookRecord) → HasCompleted world p q x t l → AllStand world (set ps n q) x t l
-  one_completed a n p q at x t l h = record { processes = process_set world ps n p q a.processes at h.process h.pid; rest = h.rest }
 
 -- a process whose cell is as it was but for its note is through as before
 pub through_kept : (world : WorldValue) (c w : HeapRecord) → w ≡ record c { note = w.note } → IsThroughWith world.trace c → IsThroughWith world.trace w

@@ -1,7 +1,10 @@
 pub mod EndKept
+pub mod PlacedKept
 pub mod Closings
 pub mod ClosedKept
 pub mod Added
 pub mod LineKept
 pub mod ReplayKept
 pub mod Grown
+pub mod Halves
+pub mod KilledAt

@@ -1,5 +1,9 @@
 -- One operation in the order of the file.
-use Rattle.std.proofs.Common.{◌≡◌, ℕ, zero, suc, Bool, true, false, refl, sym, ap, ap₂, ◌∙◌, subst, List, [], ◌∷◌, ◌++◌, append-nil, drop, get_or, Some, None, slice_get, if◌then◌else◌}
+use Rattle.std.proofs.Common.{◌≡◌, ◌≢◌, ℕ, zero, suc, Bool, true, false, refl, sym, ap, ap₂, ◌∙◌, subst, List, [], ◌∷◌, ◌++◌, append-nil, drop, get_or, set, Some, None, slice_get, if◌then◌else◌, inl, inr, arith}
+use Rattle.std.proofs.lemmas.Bool.{cases_eq}
+use Rattle.std.proofs.lemmas.List.{length-set}
+use Rattle.std.proofs.lemmas.Option.{slice_get-get_or, slice_get_within}
+use Rattle.k_types.specs.declared.event.Event.{Event}
 use Rattle.k_types.specs.declared.names.Heap.TheVariants.{User}
 use Rattle.k_types.specs.declared.names.Pid.{Pid}
 use Rattle.k_types.specs.declared.op.Op.{Op}
@@ -19,14 +23,17 @@ use Rattle.k_shared.specs.SharedHeaps.{SharedRecord}
 use Rattle.k_commit.specs.Met.{CanMeet, HeapHasMet}
 use Rattle.k_locked.specs.Keeping.{operations_left}
 use Rattle.k_process.specs.declared.process.Process.{Process}
-use Rattle.k_process.specs.Standing.{ComesNext, IsNextOf, ProcessStands, RestStands}
+use Rattle.k_process.specs.Standing.{ArePublished, ComesNext, IsNextOf, ProcessStands, ProcessesStand, RestStands}
 use Rattle.k_process.specs.Worlds.{WorldValue}
-use Rattle.k_process.proofs.Kept.{heap_can_meet}
+use Rattle.k_process.proofs.Kept.{heap_can_meet, process_set}
+use Rattle.k_process.proofs.Written.{get_set_cases}
 use Rattle.k_operate.specs.Adding.{AddsOperation, known_to}
-use Rattle.k_operate.specs.Steps.{CanDoNext, HasDoneNext, HasPublishedAll}
+use Rattle.k_operate.specs.Steps.{HasPublishedAll}
+use Rattle.k_complete.specs.Placed.{CanDoAt, HasDoneAt}
 use Rattle.k_complete.specs.Replaying.{CanDoLine, HasDoneLine}
 use Rattle.k_complete.proofs.Added.{adds_events_of}
 use Rattle.k_complete.proofs.EndKept.{met_stands}
+use Rattle.k_complete.proofs.PlacedKept.{got_other, got_own, only, read_there}
 
 -- the first of what is left, and nothing where nothing is left
 got_first : {A : Type 0} (n : ℕ) (xs : List A) (x : A) (rest : List A) → drop n xs ≡ x ∷ rest → slice_get xs n ≡ Some x
@@ -47,22 +54,31 @@ pub process_shown : (trace : Trace) (st : State) (pid : Pid) (v : CellValue) →
 unfolding part
 process_shown trace st pid v shows = ap (λ (s : ShownPart). s.process) shows.part
 
-module _ (world : WorldValue) (p : Process) (k : HoldingsValue) (ss : List SharedRecord) (b : BookRecord) (can : CanDoLine world p k ss b) where
+module _ (world : WorldValue) (ps : List Process) (at : ℕ) (k : HoldingsValue) (ss : List SharedRecord) (b : BookRecord) (can : CanDoLine world ps at k ss b) (p : Process) (there : slice_get ps at ≡ Some p) where
   abbrev now : State
   now = state_after world.trace b.journal.list
 
+  stands : ProcessStands world p
+  stands = can.processes.each at p there
+
+  number : p.cell.pid.0 ≡ at
+  number = can.processes.placed at p there
+
   pub line_can_meet : CanMeet world.trace (User p.cell.pid) p.cell.note p.cell.value b
-  line_can_meet = heap_can_meet world.trace world.table b b can.rest.book.stands can.rest.book.table p.cell can.process.cell
+  line_can_meet = heap_can_meet world.trace world.table b b can.rest.book.stands can.rest.book.table p.cell stands.cell
 
   module _ (w : HeapRecord) (l : BookRecord) (s : HeapHasMet world.trace p.cell w b l) where
+    abbrev met : List Process
+    met = set ps at (record p { cell = w })
+
     pub line_stands : ProcessStands world (record p { cell = w })
-    line_stands = met_stands world p b l can.rest.book.stands can.rest.book.table can.process w s
+    line_stands = met_stands world p b l can.rest.book.stands can.rest.book.table stands w s
 
     pub line_rest : RestStands world k ss l
     line_rest = subst (RestStands world k ss) (sym s.book_is) can.rest
 
     process_now : w.value.process ≡ Some (record { registers = get_or now.registers p.cell.pid.0 []; done = get_or now.done p.cell.pid.0 0; has_ended = among p.cell.pid.0 now.ended })
-    process_now = ap (λ (c : HeapRecord). c.value.process) s.cell_is ∙ process_shown world.trace now p.cell.pid p.cell.value (s.told.shows.shows can.published)
+    process_now = ap (λ (c : HeapRecord). c.value.process) s.cell_is ∙ process_shown world.trace now p.cell.pid p.cell.value (s.told.shows.shows (can.published at p there))
 
     ended_now : has_ended_in w.value.process ≡ among p.cell.pid.0 now.ended
     ended_now = ap has_ended_in process_now
@@ -74,10 +90,26 @@ module _ (world : WorldValue) (p : Process) (k : HoldingsValue) (ss : List Share
     journal_met = ap (λ (x : BookRecord). x.journal.list) s.book_is
 
     published_met : w.value.tail ≡ []
-    published_met = ap (λ (c : HeapRecord). c.value.tail) s.cell_is ∙ can.published
+    published_met = ap (λ (c : HeapRecord). c.value.tail) s.cell_is ∙ can.published at p there
 
     pid_met : w.pid ≡ p.cell.pid
     pid_met = ap (λ (c : HeapRecord). c.pid) s.cell_is
+
+    pub line_processes : ProcessesStand world met
+    line_processes = process_set world ps at p (record p { cell = w }) can.processes there line_stands pid_met
+
+    pub line_published : ArePublished met
+    line_published j q found = elim (get_set_cases ps at j (record p { cell = w }) q found) [
+      | inl here ↦ subst (λ (x : Process). x.cell.value.tail ≡ []) here.1 published_met
+      | inr other ↦ can.published j q other
+    ]
+
+    pub line_there : slice_get met at ≡ Some (record p { cell = w })
+    line_there = got_own ps at (record p { cell = w }) p there
+
+    -- what is read in its place after the meeting
+    pub read_met : (q : Process) → q ≡ get_or met at q → record p { cell = w } ≡ q
+    read_met q read = only (sym line_there ∙ read_there met ps at q (length-set ps at (record p { cell = w })) can.inside read)
 
     no_next : IsNextOf world.trace w None → next_operation world.trace now p.cell.pid.0 ≡ None
     no_next none = go (among p.cell.pid.0 now.ended) refl
@@ -91,36 +123,51 @@ module _ (world : WorldValue) (p : Process) (k : HoldingsValue) (ss : List Share
         ap (λ t. if t then None else slice_get (operations_of world.trace p.cell.pid.0) (get_or now.done p.cell.pid.0 0)) (sym ended_now ∙ next.lives)
         ∙ got_first (get_or now.done p.cell.pid.0 0) (operations_of world.trace p.cell.pid.0) op next.rest (sym left_now ∙ next.left)
 
-    pub line_of_none : IsNextOf world.trace w None → HasDoneLine world p (record p { cell = w }) k ss b l
+    -- the events are told by the number
+    by_number : (new : List Event) → new ≡ b.journal.list ++ events_of world.trace now p.cell.pid.0 (next_operation world.trace now p.cell.pid.0) → new ≡ b.journal.list ++ events_of world.trace now at (next_operation world.trace now at)
+    by_number new is = subst (λ n. new ≡ b.journal.list ++ events_of world.trace now n (next_operation world.trace now n)) number is
+
+    pub line_of_none : IsNextOf world.trace w None → HasDoneLine world at met k ss b l
     line_of_none none = record {
-      process = line_stands;
+      processes = line_processes;
       rest = line_rest;
-      pid = pid_met;
-      published = published_met;
-      journal = journal_met ∙ sym (append-nil b.journal.list) ∙ ap (λ next. b.journal.list ++ events_of world.trace now p.cell.pid.0 next) (sym (no_next none));
+      published = line_published;
+      journal = by_number l.journal.list
+          (journal_met ∙ sym (append-nil b.journal.list) ∙ ap (λ next. b.journal.list ++ events_of world.trace now p.cell.pid.0 next) (sym (no_next none)));
     }
 
     module _ (op : Op) (next : ComesNext world.trace w op) where
-      pub line_can_do : CanDoNext world (record p { cell = w }) k ss l op
-      line_can_do = record { process = line_stands; rest = line_rest; next = next }
+      pub line_can_do : CanDoAt world met at (record p { cell = w }) k ss l op
+      line_can_do = record { stand = record { processes = line_processes; rest = line_rest }; there = line_there; next = next }
 
       known_now : known_to (record p { cell = w }) l ≡ b.journal.list
       known_now = ap₂ (λ xs ys. xs ++ ys) journal_met published_met ∙ append-nil b.journal.list
 
-      module _ (q r : Process) (x : HoldingsValue) (ts : List SharedRecord) (m e : BookRecord) (d : HasDoneNext world op (record p { cell = w }) q x ts m)
-          (adds : AddsOperation world.trace w.pid op (known_to (record p { cell = w }) l) (known_to q m)) (t : HasPublishedAll world q r m e) where
+      module _ (qs : List Process) (x : HoldingsValue) (ts : List SharedRecord) (m e : BookRecord) (d : HasDoneAt world op at (record p { cell = w }) met qs x ts l m) (r : Process) (t : HasPublishedAll world d.process r m e) where
         adds_now : AddsOperation world.trace p.cell.pid op b.journal.list e.journal.list
         adds_now =
             subst (AddsOperation world.trace p.cell.pid op b.journal.list) (sym t.journal)
-            (subst (λ (old : List Rattle.k_types.specs.declared.event.Event.Event). AddsOperation world.trace p.cell.pid op old (known_to q m)) known_now
-            (subst (λ (pid : Pid). AddsOperation world.trace pid op (known_to (record p { cell = w }) l) (known_to q m)) pid_met adds))
+            (subst (λ (old : List Event). AddsOperation world.trace p.cell.pid op old (known_to d.process m)) known_now
+            (subst (λ (pid : Pid). AddsOperation world.trace pid op (known_to (record p { cell = w }) l) (known_to d.process m)) pid_met (d.events line_published)))
 
-        pub line_of_some : HasDoneLine world p r x ts b e
+        -- nothing of the others was unpublished, and nothing of them is
+        others_published : (j : ℕ) (q : Process) → j ≢ at → slice_get qs j ≡ Some q → q.cell.value.tail ≡ []
+        others_published j q ne found =
+            let within = slice_get_within qs j q found in
+            let count = d.stand.processes.count in
+            let all = line_processes.count in
+            let was = slice_get-get_or met j q (omega (arith, within, count, all)) in
+            (d.others j (get_or met j q) q ne was found).published (line_published j (get_or met j q) was)
+
+        pub line_of_some : HasDoneLine world at (set qs at r) x ts b e
         line_of_some = record {
-          process = t.pair.process;
-          rest = record { kernel = d.rest.kernel; shared = d.rest.shared; book = t.pair.book };
-          pid = ap (λ (c : HeapRecord). c.pid) t.cell_is ∙ d.done.pid ∙ pid_met;
-          published = t.settled;
-          journal = adds_events_of world.trace p.cell.pid op b.journal.list e.journal.list t.pair.book.stands.agrees.legal adds_now
-              ∙ ap (λ o. b.journal.list ++ events_of world.trace now p.cell.pid.0 o) (sym (next_is op next));
+          processes = process_set world qs at d.process r d.stand.processes d.there t.pair.process (ap (λ (c : HeapRecord). c.pid) t.cell_is);
+          rest = record { kernel = d.stand.rest.kernel; shared = d.stand.rest.shared; book = t.pair.book };
+          published = λ j q found. elim (cases_eq j at) [
+            | inl is ↦ subst (λ (y : Process). y.cell.value.tail ≡ []) (only (sym (got_own qs at r d.process d.there) ∙ ap (slice_get (set qs at r)) (sym is) ∙ found)) t.settled
+            | inr other ↦ others_published j q other (sym (got_other qs at j r other) ∙ found)
+          ];
+          journal = by_number e.journal.list
+              (adds_events_of world.trace p.cell.pid op b.journal.list e.journal.list t.pair.book.stands.agrees.legal adds_now
+              ∙ ap (λ o. b.journal.list ++ events_of world.trace now p.cell.pid.0 o) (sym (next_is op next)));
         }

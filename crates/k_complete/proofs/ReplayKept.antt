@@ -1,5 +1,5 @@
 -- All operations in the order of the file.
-use Rattle.std.proofs.Common.{◌≡◌, ℕ, zero, suc, ◌+◌, ◌<◌, ◌≤◌, nat_lt, true, refl, sym, ap, ap₂, ◌∙◌, subst, List, [], ◌∷◌, ◌++◌, append-nil, append_assoc, map, drop, set, get_or, length, arith, Some, slice_get, IsTrue, inl, inr}
+use Rattle.std.proofs.Common.{◌≡◌, ℕ, zero, suc, ◌+◌, ◌<◌, ◌≤◌, nat_lt, true, refl, sym, ap, ap₂, ◌∙◌, subst, List, [], ◌∷◌, ◌++◌, append-nil, append_assoc, map, drop, get_or, length, arith, IsTrue}
 use Rattle.std.specs.List.{list_all}
 use Rattle.std.proofs.lemmas.Bool.{and_parts}
 use Rattle.std.proofs.lemmas.Bool.Decides.{nat_tests}
@@ -9,7 +9,7 @@ use Rattle.k_types.specs.declared.names.Pid.{Pid}
 use Rattle.k_types.specs.Complete.{EndsWithClosing, IsComplete}
 use Rattle.k_types.specs.FileOrder.{events_of, file_order, file_order_from, last_events, next_operation}
 use Rattle.k_types.specs.State.{State, opening}
-use Rattle.k_types.specs.Steps.{done_by, run, state_after}
+use Rattle.k_types.specs.Steps.{run, state_after}
 use Rattle.k_types.specs.Trace.{Trace, operations_of, process_count}
 use Rattle.k_types.specs.TraceRules.{KeepsRules}
 use Rattle.k_base.proofs.Numbered.{drop_all}
@@ -28,11 +28,9 @@ use Rattle.k_locked.specs.Keeping.{HeapKeeps}
 use Rattle.k_process.specs.declared.process.Process.{Process}
 use Rattle.k_process.specs.Standing.{ArePublished, IsThroughWith, ProcessesStand, RestStands}
 use Rattle.k_process.specs.Worlds.{WorldValue}
-use Rattle.k_process.proofs.Kept.{process_set}
-use Rattle.k_process.proofs.Written.{get_set_cases}
 use Rattle.k_complete.specs.Closing.{HasClosedAll}
 use Rattle.k_complete.specs.Meetings.{CellsMet}
-use Rattle.k_complete.specs.Replaying.{CanDoLine, HasDoneLine, HasReplayed}
+use Rattle.k_complete.specs.Replaying.{CanDoLine, HasReplayed}
 use Rattle.k_complete.proofs.LineKept.{process_shown}
 
 -- what is left of the order, and the journal, are together the history of the file's order
@@ -91,25 +89,9 @@ next_known trace order i d rules is inside =
     place_known (process_count trace) order i d (subst (λ (ps : List ℕ). list_all (λ p. nat_lt p (process_count trace)) ps ≡ true) (sym is) rules.operations.ordered) inside
 
 -- one line more
-module _ (world : WorldValue) (ps : List Process) (k : HoldingsValue) (ss : List SharedRecord) (b : BookRecord) (processes : ProcessesStand world ps) (rest : RestStands world k ss b) (published : ArePublished ps)
-    (n : ℕ) (p : Process) (at : slice_get ps n ≡ Some p) where
-  pub can_do_line : CanDoLine world p k ss b
-  can_do_line = record { process = processes.each n p at; rest = rest; published = published n p at }
-
-  module _ (q : Process) (x : HoldingsValue) (ts : List SharedRecord) (l : BookRecord) (d : HasDoneLine world p q x ts b l) where
-    pub processes_next : ProcessesStand world (set ps n q)
-    processes_next = process_set world ps n p q processes at d.process d.pid
-
-    pub published_next : ArePublished (set ps n q)
-    published_next j r found = elim (get_set_cases ps n j q r found) [
-      | inl here ↦ subst (λ (y : Process). y.cell.value.tail ≡ []) here.1 d.published
-      | inr there ↦ published j r there
-    ]
-
-    pub files_on : (order : List ℕ) → Files world.trace b.journal.list (n ∷ order) → Files world.trace l.journal.list order
-    files_on order files =
-        files_next world.trace b.journal.list l.journal.list n order files
-        (subst (λ m. l.journal.list ≡ b.journal.list ++ events_of world.trace (state_after world.trace b.journal.list) m (next_operation world.trace (state_after world.trace b.journal.list) m)) (processes.placed n p at) d.journal)
+pub can_do_line : (world : WorldValue) (ps : List Process) (k : HoldingsValue) (ss : List SharedRecord) (b : BookRecord) → ProcessesStand world ps → RestStands world k ss b → ArePublished ps → (n : ℕ) → n < process_count world.trace →
+    CanDoLine world ps n k ss b
+can_do_line world ps k ss b processes rest published n known = record { processes = processes; rest = rest; inside = subst (λ m. n < m) (sym processes.count) known; published = published }
 
 -- a process whose cell has met a complete history is through
 through_all : (world : WorldValue) (c : HeapRecord) (history : List Event) → HeapKeeps world.trace world.table c → c.note.list ≡ history → c.value.tail ≡ [] → IsComplete world.trace history → IsThroughWith world.trace c

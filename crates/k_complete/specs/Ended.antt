@@ -1,23 +1,14 @@
 -- Cells of which the work is over.
-use Rattle.std.specs.Prelude.{◌≡◌, ℕ, List, Some, slice_get}
+use Rattle.std.specs.Prelude.{◌≡◌, ◌≢◌, ◌<◌, ℕ, List, [], Some, length, slice_get}
+use Rattle.k_types.specs.Trace.{Trace}
 use Rattle.k_book.specs.Books.{BookRecord}
 use Rattle.k_cell.specs.Holdings.{HoldingsValue}
+use Rattle.k_heap.specs.Heaps.{HeapRecord}
 use Rattle.k_shared.specs.SharedHeaps.{SharedRecord}
 use Rattle.k_process.specs.declared.process.Process.{Process}
-use Rattle.k_process.specs.Standing.{IsThroughWith, ProcessStands, ProcessesStand, RestStands}
+use Rattle.k_process.specs.Standing.{IsThroughWith, ProcessesStand, RestStands}
 use Rattle.k_process.specs.Worlds.{WorldValue}
-
--- process, kernel, shared heaps and book stand
-pub record CanComplete (world : WorldValue) (p : Process) (kernel : HoldingsValue) (shared : List SharedRecord) (book : BookRecord) : Type 0 where
-  pub process : ProcessStands world p
-  pub rest : RestStands world kernel shared book
-
--- all stands still, and the process is through
-pub record HasCompleted (world : WorldValue) (old new : Process) (kernel : HoldingsValue) (shared : List SharedRecord) (book : BookRecord) : Type 0 where
-  pub process : ProcessStands world new
-  pub rest : RestStands world kernel shared book
-  pub pid : new.cell.pid ≡ old.cell.pid
-  pub through : IsThroughWith world.trace new.cell
+use Rattle.k_operate.specs.Collecting.{HasSameLeft}
 
 -- all processes, the kernel, the shared heaps and the book stand
 pub record AllStand (world : WorldValue) (ps : List Process) (kernel : HoldingsValue) (shared : List SharedRecord) (book : BookRecord) : Type 0 where
@@ -28,3 +19,24 @@ pub record AllStand (world : WorldValue) (ps : List Process) (kernel : HoldingsV
 pub record AllThrough (world : WorldValue) (processes : List Process) (kernel : HoldingsValue) (shared : List SharedRecord) (book : BookRecord) : Type 0 where
   pub stand : AllStand world processes kernel shared book
   pub through : (k : ℕ) (p : Process) → slice_get processes k ≡ Some p → IsThroughWith world.trace p.cell
+
+-- the process has done nothing, though another may have ended it: it is through where it was, and has nothing unpublished where it had none
+pub record IsKept (trace : Trace) (old new : HeapRecord) : Type 0 where
+  pub same : HasSameLeft trace old new
+  pub through : IsThroughWith trace old → IsThroughWith trace new
+  pub published : old.value.tail ≡ [] → new.value.tail ≡ []
+
+-- so has each process but that of the number
+abbrev pub AreKeptBut : Trace → ℕ → List Process → List Process → Type 0
+AreKeptBut trace at old new = (k : ℕ) (p q : Process) → k ≢ at → slice_get old k ≡ Some p → slice_get new k ≡ Some q → IsKept trace p.cell q.cell
+
+-- all stand, and there is a process of that number
+pub record CanComplete (world : WorldValue) (ps : List Process) (at : ℕ) (kernel : HoldingsValue) (shared : List SharedRecord) (book : BookRecord) : Type 0 where
+  pub stand : AllStand world ps kernel shared book
+  pub inside : at < length ps
+
+-- all stand still, the process of that number is through, and each other is kept
+pub record HasCompleted (world : WorldValue) (at : ℕ) (old new : List Process) (kernel : HoldingsValue) (shared : List SharedRecord) (book : BookRecord) : Type 0 where
+  pub stand : AllStand world new kernel shared book
+  pub through : (p : Process) → slice_get new at ≡ Some p → IsThroughWith world.trace p.cell
+  pub others : AreKeptBut world.trace at old new

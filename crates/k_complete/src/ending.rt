@@ -6,33 +6,35 @@ ghost use Rattle.k_process.specs.Worlds.{WorldValue};
 ghost use Rattle.k_types.specs.Complete.{IsPrefixOf};
 
 use crate::closing::close_all;
+use crate::placed::do_at;
 use k_book::Book;
 use k_commit::{meet_heap, meet_kernel, meet_shared};
 use k_kernel::KernelCell;
-use k_operate::{do_next, publish_all};
+use k_operate::publish_all;
 use k_process::{Process, next};
 use k_shared::SharedCell;
 
-/// Does all operations of the process that are left, and publishes its events.
+/// Does all operations that are left of the process of that number, and publishes its events.
 fn complete(
-    process: &mut Process,
+    processes: &mut Vec<Process>,
+    at: usize,
     kernel: &mut KernelCell,
     shared: &mut Vec<SharedCell>,
     book: &mut Book,
 )
     ghost world: { WorldValue }
-    requires { CanComplete world process.old kernel.old shared.old.items book.old }
-    ensures done { HasCompleted world process.old process.new kernel.new shared.new.items book.new }
+    requires { CanComplete world processes.old.items at kernel.old shared.old.items book.old }
+    ensures done { HasCompleted world at processes.old.items processes.new.items kernel.new shared.new.items book.new }
     ensures grows { IsPrefixOf book.old.journal.list book.new.journal.list }
 {
-    while let Some(op) = next(process) {
-        do_next(process, kernel, shared, book, &op);
+    while let Some(op) = next(&processes[at]) {
+        do_at(processes, at, kernel, shared, book, &op);
     }
-    publish_all(process, book);
+    publish_all(&mut processes[at], book);
 }
 
-/// Does all operations that are left of each process, in the order of their numbers, and publishes their events. The cost is that of
-/// the operations.
+/// Does all operations that are left of each process, in the order of their numbers, and publishes their events. A later process may
+/// end an earlier one, which is through by then and stays so. The cost is that of the operations.
 pub fn complete_all(
     processes: &mut Vec<Process>,
     kernel: &mut KernelCell,
@@ -44,8 +46,8 @@ pub fn complete_all(
     ensures through { AllThrough world processes.new.items kernel.new shared.new.items book.new }
     ensures grows { IsPrefixOf book.old.journal.list book.new.journal.list }
 {
-    for process in processes.iter_mut() {
-        complete(process, kernel, shared, book);
+    for at in 0..processes.len() {
+        complete(processes, at, kernel, shared, book);
     }
 }
 

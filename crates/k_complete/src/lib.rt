@@ -3,6 +3,7 @@
 
 mod closing;
 mod ending;
+mod placed;
 mod replaying;
 
 pub use closing::close_all;

@@ -4,30 +4,32 @@ ghost use Rattle.k_process.specs.Worlds.{WorldValue};
 
 use crate::closing::close_all;
 use crate::ending::meet_all;
+use crate::placed::do_at;
 use k_book::Book;
 use k_commit::meet_heap;
 use k_kernel::KernelCell;
-use k_operate::{do_next, publish_all};
+use k_operate::publish_all;
 use k_process::{Process, next};
 use k_shared::SharedCell;
 use k_types::Pid;
 
-/// Does the process's next operation, if it has one, and publishes its events.
+/// Does the next operation of the process of that number, if it has one, and publishes its events.
 fn do_line(
-    process: &mut Process,
+    processes: &mut Vec<Process>,
+    at: usize,
     kernel: &mut KernelCell,
     shared: &mut Vec<SharedCell>,
     book: &mut Book,
 )
     ghost world: { WorldValue }
-    requires { CanDoLine world process.old kernel.old shared.old.items book.old }
-    ensures { HasDoneLine world process.old process.new kernel.new shared.new.items book.old book.new }
+    requires { CanDoLine world processes.old.items at kernel.old shared.old.items book.old }
+    ensures { HasDoneLine world at processes.new.items kernel.new shared.new.items book.old book.new }
 {
-    meet_heap(&mut process.cell, book);
-    match next(process) {
+    meet_heap(&mut processes[at].cell, book);
+    match next(&processes[at]) {
         Some(op) => {
-            do_next(process, kernel, shared, book, &op);
-            publish_all(process, book);
+            do_at(processes, at, kernel, shared, book, &op);
+            publish_all(&mut processes[at], book);
         }
         None => {}
     }
@@ -48,8 +50,7 @@ pub fn replay(
     ensures { HasReplayed world processes.new.items kernel.new shared.new.items book.new }
 {
     for pid in order {
-        let process = &mut processes[pid.0 as usize];
-        do_line(process, kernel, shared, book);
+        do_line(processes, pid.0 as usize, kernel, shared, book);
     }
     close_all(kernel, shared, book);
     meet_all(processes, kernel, shared, book);

@@ -1,13 +1,19 @@
 -- An absorption, and the end of a process, once the event is appended.
-use Rattle.std.proofs.Common.{◌≡◌, ◌<◌, ◌≤◌, refl, sym, ap, ◌∙◌, subst, List, [], ◌∷◌, length, get_or, set, None}
+use Rattle.std.proofs.Common.{◌≡◌, ◌+◌, ◌-◌, ◌^◌, ◌<◌, ◌≤◌, true, refl, sym, ap, ◌∙◌, subst, List, [], ◌∷◌, length, get_or, set, Option, Some, None, option_map, arith}
+use Rattle.std.proofs.lemmas.Bool.{false≢true}
 use Rattle.k_types.specs.declared.event.Event.{Event}
 use Rattle.k_types.specs.declared.event.Event.TheVariants.{Absorbed}
 use Rattle.k_types.specs.declared.event.Reply.TheVariants.{Done as DoneReply}
 use Rattle.k_types.specs.declared.names.Heap.TheVariants.{Kernel, Shared, User}
-use Rattle.k_types.specs.Cells.{cells_touched, other_cells}
+use Rattle.k_types.specs.Agree.{CellValue}
+use Rattle.k_types.specs.Cells.{ProcessPart, cells_touched, other_cells}
+use Rattle.k_types.specs.Effects.{after_end_of}
+use Rattle.k_types.specs.Sound.{IsSound}
 use Rattle.k_types.specs.State.{State}
 use Rattle.k_types.specs.Steps.{state_after}
-use Rattle.k_types.specs.Trace.{Trace, segment_count}
+use Rattle.k_types.specs.Trace.{Trace, process_count, segment_count}
+use Rattle.k_types.specs.Updates.{count_done}
+use Rattle.k_frame.specs.PartUpdates.{done_in, process_with_done}
 use Rattle.k_tie.specs.Values.{NoteValue}
 use Rattle.k_frame.proofs.Histories.{state_next}
 use Rattle.k_laws.specs.Termination.{CreditsTheCharge}
@@ -15,14 +21,18 @@ use Rattle.k_laws.proofs.Laws.{termination_credits_the_whole_charge-exit, termin
 use Rattle.k_lawful.proofs.Laws.{possible_events_are_lawful}
 use Rattle.k_agree.specs.Agreement.{BookShows, Shows}
 use Rattle.k_agree.specs.Committing.{CanCommit, IsCommitted, NotedCell, journal_after, note_after, state_to_come}
+use Rattle.k_agree.specs.GivingAway.{with_one_done}
 use Rattle.k_agree.specs.Meeting.{Fits, met_note}
 use Rattle.k_agree.proofs.Commits.{committed}
+use Rattle.k_agree.proofs.GivenInJournal.{counted_apart, counted_cell, still_counted}
+use Rattle.k_agree.proofs.GivenOnTheBook.{counted_shows}
 use Rattle.k_agree.proofs.Touched.{as_listed}
 use Rattle.k_book.specs.Books.{BookRecord}
 use Rattle.k_cell.specs.Holdings.{HoldingsValue}
 use Rattle.k_commit.specs.Met.{FitsTheBook, HeapHasMet, KernelHasMet, SharedHasMet}
+use Rattle.k_commit.proofs.Fitting.{done_small}
 use Rattle.k_commit.proofs.Meetings.{kernel_has_met}
-use Rattle.k_heap.specs.Heaps.{HeapRecord, own_segment}
+use Rattle.k_heap.specs.Heaps.{HeapRecord, has_ended_in, own_segment}
 use Rattle.k_moves.specs.Moves.{noted}
 use Rattle.k_shared.specs.SharedHeaps.{SharedRecord}
 use Rattle.k_depart.specs.Absorbing.{CanAbsorb, HasAbsorbedHeap, HasTakenOver, HaveMetToAbsorb}
@@ -90,7 +100,7 @@ module _ (trace : Trace) (s0 s1 : SharedRecord) (k0 k1 : HoldingsValue) (b0 l : 
 
   absorption_can : CanCommit trace b0.journal absorption absorbing l.value
   absorption_can =
-      let listed = as_listed trace (state_after trace b0.journal.list) absorption (Shared s0.id ∷ Kernel ∷ []) (touched_by_absorption trace (state_after trace b0.journal.list) s0) in
+      let listed = as_listed trace (state_after trace b0.journal.list) absorption (Shared s0.id ∷ Kernel ∷ []) met.book_stands.keeps.limits (absorption_possible trace (record s0 { note = ns }) (record k0 { note = nk }) b0 met) (touched_by_absorption trace (state_after trace b0.journal.list) s0) in
       record {
         legal = met.book_stands.agrees.legal;
         totals = met.book_stands.agrees.totals;
@@ -215,84 +225,126 @@ module _ (trace : Trace) (c0 c : HeapRecord) (k0 k : HoldingsValue) (b0 b1 b : B
       room_here : HasRoomToExit (record c0 { note = met_note b0.journal c0.note }) (record k0 { note = met_note b0.journal k0.note }) b0
       room_here = let room = can.room one.told.fits kernel_told.fits in record { events = room.events; exits = room.exits }
 
--- the end of the process is appended
+-- the exit counts as done
+ended_counted : (process : Option ProcessPart) → has_ended_in process ≡ true → has_ended_in (option_map process_with_done process) ≡ true
+ended_counted None e = absurd (false≢true e)
+ended_counted (Some q) e = e
+
+pub one_counted : (process : Option ProcessPart) (q : ProcessPart) → process ≡ Some q → done_in (option_map process_with_done process) ≡ done_in process + 1
+one_counted process q is = ap (λ (p : Option ProcessPart). done_in (option_map process_with_done p)) is ∙ sym (ap (λ (p : Option ProcessPart). done_in p + 1) is)
+
+one_ended : (process : Option ProcessPart) → has_ended_in process ≡ true → done_in (option_map process_with_done process) ≡ done_in process + 1
+one_ended None e = absurd (false≢true e)
+one_ended (Some q) e = refl
+
+-- and is appended
 module _ (trace : Trace) (c0 c1 : HeapRecord) (k0 k1 : HoldingsValue) (b0 l : BookRecord) (nc nk : NoteValue) (met : HaveMetToExit trace (record c0 { note = nc }) (record k0 { note = nk }) b0)
     (given : HasGivenUp trace (record c0 { note = nc }) c1 (record k0 { note = nk }) k1 b0 l) (fits : Fits b0.journal c0.note) (kernel_fits : Fits b0.journal k0.note) where
   abbrev leaving : Event
   leaving = exit_of c0.pid
 
+  abbrev counted : CellValue
+  counted = with_one_done c1.value
+
   abbrev leavers : List NotedCell
-  leavers = noted (User c0.pid) nc c1.value ∷ noted Kernel nk k1.value ∷ []
+  leavers = noted (User c0.pid) nc counted ∷ noted Kernel nk k1.value ∷ []
 
   abbrev st : State
   st = state_after trace b0.journal.list
 
+  abbrev ended : State
+  ended = after_end_of trace c0.pid.0 st
+
+  met_sound : IsSound trace st
+  met_sound = sound trace (record c0 { note = nc }) (record k0 { note = nk }) b0 met
+
+  met_known : c0.pid.0 < process_count trace
+  met_known = known trace (record c0 { note = nc }) (record k0 { note = nk }) b0 met
+
+  -- the state after the exit
   later : state_with trace b0 leaving ≡ state_to_come trace b0.journal leaving
   later = state_next trace b0.journal.list leaving
 
+  comes : count_done c0.pid.0 ended ≡ state_to_come trace b0.journal leaving
+  comes = sym (termination_leaves_the_rest-exit trace st c0.pid DoneReply)
+
+  inside : c0.pid.0 < length st.done
+  inside = rw met_sound.shape.sized.done met_known
+
   exit_can : CanCommit trace b0.journal leaving leavers l.value
   exit_can =
-      let listed = as_listed trace st leaving (User c0.pid ∷ Kernel ∷ []) (touched_by_exit trace st c0) in
+      let possible = exit_possible trace (record c0 { note = nc }) (record k0 { note = nk }) b0 met in
+      let listed = as_listed trace st leaving (User c0.pid ∷ Kernel ∷ []) met.have_met.own.book.keeps.limits possible (touched_by_exit trace st c0) in
       record {
         legal = met.have_met.own.book.agrees.legal;
         totals = met.have_met.own.book.agrees.totals;
-        possible = exit_possible trace (record c0 { note = nc }) (record k0 { note = nk }) b0 met;
+        possible = possible;
         exactly = listed.1;
         distinct = listed.0;
         ready = (
-          record { met = met.have_met.own.after.met; settled = given.settled; shows = subst (λ (su : State). Shows trace su (User c0.pid) c1.value) later given.shows },
+          record {
+            met = met.have_met.own.after.met;
+            settled = given.settled;
+            shows = subst (λ (su : State). Shows trace su (User c0.pid) counted) comes (counted_cell trace ended c0.pid.0 c1.value (still_counted trace st c0.pid.0 inside) given.shows given.idle);
+          },
           (
-            record { met = met.have_met.after.met; settled = given.kernel_settled; shows = subst (λ (su : State). Shows trace su Kernel k1.value) later given.kernel_shows },
+            record {
+              met = met.have_met.after.met;
+              settled = given.kernel_settled;
+              shows = subst (λ (su : State). Shows trace su Kernel k1.value) comes (counted_apart trace ended Kernel c0.pid.0 k1.value refl given.kernel_shows);
+            },
             tt,
           ),
         );
-        shows = subst (λ (su : State). BookShows trace su l.value) later given.book_shows;
+        shows = subst (λ (su : State). BookShows trace su l.value) comes (counted_shows trace ended c0.pid.0 l.value given.book_shows);
       }
 
   exit_after : IsCommitted trace b0.journal leaving leavers l.value
   exit_after = committed trace b0.journal leaving leavers l.value exit_can
 
-  exited_here : HasExited trace c0 (record c0 { note = note_after leaving nc; value = c1.value; serial_rooms = set c0.serial_rooms (own_segment c0.pid) None }) k0
+  exited_here : HasExited trace c0 (record c0 { note = note_after leaving nc; value = counted; serial_rooms = set c0.serial_rooms (own_segment c0.pid) None }) k0
       (record k0 { note = note_after leaving nk; value = k1.value; serial_rooms = set k0.serial_rooms (own_segment c0.pid) (get_or c0.serial_rooms (own_segment c0.pid) None) })
       b0 (record b0 { journal = journal_after leaving (nc.cell ∷ nk.cell ∷ []) b0.journal; value = l.value }) leaving
   exited_here = record {
     event_is = refl;
     possible = exit_can.possible;
     lawful = possible_events_are_lawful trace b0.journal.list leaving met.have_met.own.book.keeps.limits met.have_met.own.book.agrees.legal exit_can.possible;
-    fits = fits;
-    kernel_fits = kernel_fits;
     journal = refl;
     same_table = refl;
-    table = met.have_met.own.heap.table;
-    kernel_table = met.have_met.kernel.table;
-    cell_is = refl;
-    kernel_is = refl;
     book_is = refl;
-    settled = given.settled;
-    idle = given.idle;
-    kernel_idle = given.kernel_idle;
-    ended = given.ended;
-    done = given.done;
-    met = exit_after.cells_met.0;
-    kernel_met = exit_after.cells_met.1.0;
-    agrees = exit_after.cells_agree.0;
-    kernel_agrees = exit_after.cells_agree.1.0;
+    done = one_ended c1.value.process given.ended ∙ ap (λ n. n + 1) given.done;
     book_agrees = exit_after.book_agrees;
-    credits = subst (λ (su : State). CreditsTheCharge trace st c0.pid.0 su) (sym later)
-        (termination_credits_the_whole_charge-exit trace st c0.pid DoneReply met.have_met.own.book.keeps.limits exit_can.possible);
-    counts = later ∙ termination_leaves_the_rest-exit trace st c0.pid DoneReply;
-    leaves = termination_leaves_the_rest-rest trace st c0.pid.0 (sound trace (record c0 { note = nc }) (record k0 { note = nk }) b0 met) (known trace (record c0 { note = nc }) (record k0 { note = nk }) b0 met);
-    exits = λ h n. termination_leaves_the_rest-exits trace st c0.pid.0 h n (sound trace (record c0 { note = nc }) (record k0 { note = nk }) b0 met);
+    ends = record {
+      fits = fits;
+      kernel_fits = kernel_fits;
+      table = met.have_met.own.heap.table;
+      kernel_table = met.have_met.kernel.table;
+      cell_is = refl;
+      kernel_is = refl;
+      settled = given.settled;
+      idle = given.idle;
+      kernel_idle = given.kernel_idle;
+      ended = ended_counted c1.value.process given.ended;
+      met = exit_after.cells_met.0;
+      kernel_met = exit_after.cells_met.1.0;
+      agrees = exit_after.cells_agree.0;
+      kernel_agrees = exit_after.cells_agree.1.0;
+      credits = subst (λ (su : State). CreditsTheCharge trace st c0.pid.0 su) (sym later)
+          (termination_credits_the_whole_charge-exit trace st c0.pid DoneReply met.have_met.own.book.keeps.limits exit_can.possible);
+      counts = later ∙ termination_leaves_the_rest-exit trace st c0.pid DoneReply;
+      leaves = termination_leaves_the_rest-rest trace st c0.pid.0 met_sound met_known;
+      exits = λ h n. termination_leaves_the_rest-exits trace st c0.pid.0 h n met_sound;
+    };
   }
 
-  pub exited_whole : HasExited trace c0 (record c1 { note = note_after leaving c1.note }) k0 (record k1 { note = note_after leaving k1.note })
+  pub exited_whole : HasExited trace c0 (record c1 { note = note_after leaving c1.note; value = counted }) k0 (record k1 { note = note_after leaving k1.note })
       b0 (record l { journal = journal_after leaving (c1.note.cell ∷ k1.note.cell ∷ []) l.journal }) leaving
   exited_whole =
-      subst (λ (x : HeapRecord). HasExited trace c0 (record x { note = note_after leaving x.note }) k0 (record k1 { note = note_after leaving k1.note })
+      subst (λ (x : HeapRecord). HasExited trace c0 (record x { note = note_after leaving x.note; value = with_one_done x.value }) k0 (record k1 { note = note_after leaving k1.note })
       b0 (record l { journal = journal_after leaving (x.note.cell ∷ k1.note.cell ∷ []) l.journal }) leaving) (sym given.cell_is)
-      (subst (λ (x : HoldingsValue). HasExited trace c0 (record c0 { note = note_after leaving nc; value = c1.value; serial_rooms = set c0.serial_rooms (own_segment c0.pid) None }) k0 (record x { note = note_after leaving x.note })
+      (subst (λ (x : HoldingsValue). HasExited trace c0 (record c0 { note = note_after leaving nc; value = counted; serial_rooms = set c0.serial_rooms (own_segment c0.pid) None }) k0 (record x { note = note_after leaving x.note })
       b0 (record l { journal = journal_after leaving (nc.cell ∷ x.note.cell ∷ []) l.journal }) leaving) (sym given.kernel_is)
-      (subst (λ (x : BookRecord). HasExited trace c0 (record c0 { note = note_after leaving nc; value = c1.value; serial_rooms = set c0.serial_rooms (own_segment c0.pid) None }) k0
+      (subst (λ (x : BookRecord). HasExited trace c0 (record c0 { note = note_after leaving nc; value = counted; serial_rooms = set c0.serial_rooms (own_segment c0.pid) None }) k0
       (record k0 { note = note_after leaving nk; value = k1.value; serial_rooms = set k0.serial_rooms (own_segment c0.pid) (get_or c0.serial_rooms (own_segment c0.pid) None) })
       b0 (record x { journal = journal_after leaving (nc.cell ∷ nk.cell ∷ []) x.journal }) leaving) (sym given.book_is) exited_here))
 
@@ -314,6 +366,12 @@ module _ (trace : Trace) (c0 c : HeapRecord) (k0 k : HoldingsValue) (b0 b1 b : B
     ap (λ (x : HoldingsValue). x.note.list) given.kernel_is ∙ exiting.have_met.after.met.list ∙ sym (ap (λ (x : BookRecord). x.journal.list) given.book_is),
   )
 
+  pub exit_counts : done_in c1.value.process < 2 ^ 32 - 1
+  exit_counts =
+      let same = given.done in
+      let small = done_small (record { trace = trace; cell = c; book = b }) exiting.have_met.own exiting.room.events in
+      omega (arith, same, small)
+
   pub exit_room : length l.journal.list < l.event_room
   exit_room = subst (λ (x : BookRecord). length x.journal.list < x.event_room) (sym given.book_is) exiting.room.events
 
@@ -332,13 +390,16 @@ module _ (trace : Trace) (c0 c : HeapRecord) (k0 k : HoldingsValue) (b0 b1 b : B
       (subst (λ (x : HoldingsValue). HasGivenUp trace c c1 x k1 b0 l) (kernel_met_too trace c0 c k0 k b0 b1 b can one two)
       (subst (λ (x : BookRecord). HasGivenUp trace c c1 k k1 x l) (book_same trace c0 c k0 k b0 b1 b can one two) given))
 
-  pub exit_ends : (e : Event) (c2 : HeapRecord) (k2 : HoldingsValue) (m : BookRecord) → e ≡ exit_of c0.pid → c2 ≡ record c1 { note = note_after e c1.note } →
-      k2 ≡ record k1 { note = note_after e k1.note } → m ≡ record l { journal = journal_after e (c1.note.cell ∷ k1.note.cell ∷ []) l.journal } → HasExited trace c0 c2 k0 k2 b0 m e
-  exit_ends e c2 k2 m is cell_is kernel_is book_is =
+  pub exit_ends : (e : Event) (c2 c3 : HeapRecord) (k2 : HoldingsValue) (m : BookRecord) → e ≡ exit_of c0.pid → c2 ≡ record c1 { value = with_one_done c1.value } → c3 ≡ record c2 { note = note_after e c2.note } →
+      k2 ≡ record k1 { note = note_after e k1.note } → m ≡ record l { journal = journal_after e (c2.note.cell ∷ k1.note.cell ∷ []) l.journal } → HasExited trace c0 c3 k0 k2 b0 m e
+  exit_ends e c2 c3 k2 m is counts cell_is kernel_is book_is =
       let fits = both_fit trace c0 c k0 k b0 b1 b can one two in
-      subst (λ (x : HeapRecord). HasExited trace c0 x k0 k2 b0 m e) (sym cell_is)
-      (subst (λ (x : HoldingsValue). HasExited trace c0 (record c1 { note = note_after e c1.note }) k0 x b0 m e) (sym kernel_is)
-      (subst (λ (x : BookRecord). HasExited trace c0 (record c1 { note = note_after e c1.note }) k0 (record k1 { note = note_after e k1.note }) b0 x e) (sym book_is)
-      (subst (λ (f : Event). HasExited trace c0 (record c1 { note = note_after f c1.note }) k0 (record k1 { note = note_after f k1.note })
+      let counted_is : c3 ≡ record c1 { note = note_after e c1.note; value = with_one_done c1.value } = cell_is ∙ ap (λ (x : HeapRecord). record x { note = note_after e x.note }) counts in
+      let noted_is : m ≡ record l { journal = journal_after e (c1.note.cell ∷ k1.note.cell ∷ []) l.journal } =
+      book_is ∙ ap (λ (x : HeapRecord). record l { journal = journal_after e (x.note.cell ∷ k1.note.cell ∷ []) l.journal }) counts in
+      subst (λ (x : HeapRecord). HasExited trace c0 x k0 k2 b0 m e) (sym counted_is)
+      (subst (λ (x : HoldingsValue). HasExited trace c0 (record c1 { note = note_after e c1.note; value = with_one_done c1.value }) k0 x b0 m e) (sym kernel_is)
+      (subst (λ (x : BookRecord). HasExited trace c0 (record c1 { note = note_after e c1.note; value = with_one_done c1.value }) k0 (record k1 { note = note_after e k1.note }) b0 x e) (sym noted_is)
+      (subst (λ (f : Event). HasExited trace c0 (record c1 { note = note_after f c1.note; value = with_one_done c1.value }) k0 (record k1 { note = note_after f k1.note })
       b0 (record l { journal = journal_after f (c1.note.cell ∷ k1.note.cell ∷ []) l.journal }) f) (sym is)
       (exited_whole trace c0 c1 k0 k1 b0 l (met_note b0.journal c0.note) (met_note b0.journal k0.note) met_there given_here fits.0 fits.1))))

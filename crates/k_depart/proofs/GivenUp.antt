@@ -2,7 +2,6 @@
 use Rattle.std.proofs.Common.{◌≡◌, ℕ, ◌+◌, ◌-◌, ◌==◌, ◌&&◌, ◌||◌, not, Bool, true, false, cond, refl, sym, ap, ap₂, ◌∙◌, subst, List, [], length, get_or, set, arith, Option, Some, None, option_map}
 use Rattle.std.proofs.Math.Path.{fun_ext}
 use Rattle.std.proofs.lemmas.Bool.{false≢true}
-use Rattle.k_types.specs.declared.event.Reply.TheVariants.{Done as DoneReply}
 use Rattle.k_types.specs.declared.names.Heap.{Heap}
 use Rattle.k_types.specs.declared.names.Heap.TheVariants.{Kernel, Shared, User}
 use Rattle.k_types.specs.declared.names.Name.{Name}
@@ -18,11 +17,11 @@ use Rattle.k_types.specs.Trace.{Trace, limit_of}
 use Rattle.k_base.proofs.NameTests.{heap_eq_sym}
 use Rattle.k_agree.specs.Agreement.{BookShows, Shows}
 use Rattle.k_agree.specs.Ending.{HasLeft}
-use Rattle.k_agree.specs.GivingAway.{HasTakenIn, ended_cell, with_one_done}
+use Rattle.k_agree.specs.GivingAway.{HasTakenIn, ended_cell}
 use Rattle.k_agree.specs.GivingOnTheBook.{CanBeEnded, HasEnded, charged, leading_into, new_to_kernel}
 use Rattle.k_agree.proofs.DrainedOnTheBook.{end_there}
-use Rattle.k_agree.proofs.GivenInJournal.{exited_cell_shows, exited_kernel_shows}
-use Rattle.k_agree.proofs.GivenOnTheBook.{end_in_journal}
+use Rattle.k_agree.proofs.GivenAway.{exit_cell, exit_kernel}
+use Rattle.k_agree.proofs.GivenOnTheBook.{end_on_the_book}
 use Rattle.k_agree.proofs.Swept.{among_kept}
 use Rattle.k_bounds.specs.Counts.{one_if}
 use Rattle.k_book.specs.Books.{BookRecord}
@@ -30,15 +29,15 @@ use Rattle.k_book.specs.Calls.{ChangesEntries, ChangesPins}
 use Rattle.k_cell.specs.Holdings.{HoldingsValue}
 use Rattle.k_changes.specs.BookChanges.{registers_in}
 use Rattle.k_changes.specs.CellChanges.{either_of, ended_process, with_objects}
-use Rattle.k_frame.specs.PartUpdates.{done_in, process_with_done}
+use Rattle.k_frame.specs.PartUpdates.{done_in}
 use Rattle.k_heap.specs.Heaps.{HeapRecord, has_ended_in, holdings_of, own_segment, with_process_ended}
 use Rattle.k_depart.specs.Charges.{HasCredited, bytes_shared, limit_in}
-use Rattle.k_depart.specs.Ending.{MarksEnded, state_with}
-use Rattle.k_depart.specs.Exiting.{HasGivenUp, HaveMetToExit, exit_of}
+use Rattle.k_depart.specs.Ending.{MarksEnded}
+use Rattle.k_depart.specs.Exiting.{HasGivenUp, HaveMetToExit, ended_state}
 use Rattle.k_depart.specs.Exits.{EntriesFollow, HasCut, HasNoExits, HasPassed, into_segment, is_passed}
 use Rattle.k_depart.specs.Registers.{HasLetGo}
 use Rattle.k_depart.specs.Segments.{HasGiven}
-use Rattle.k_depart.proofs.Leaver.{booked, charge_is, kernel_shows, limit_is, may, now, numbered, passed_is, possible, shows, sound}
+use Rattle.k_depart.proofs.Leaver.{booked, charge_is, kernel_shows, limit_is, may, now, numbered, passed_is, shows, sound}
 use Rattle.k_depart.proofs.Leaving.{entries_change}
 use Rattle.k_depart.proofs.Once.{each_once, once_among, once_distinct}
 use Rattle.k_depart.proofs.Told.{led_by_segment, none_shown, shows_as}
@@ -66,12 +65,12 @@ apart Kernel p t = absurd (false≢true t)
 apart (User q) p t = absurd (false≢true t)
 apart (Shared s) p t = refl
 
-ended_once : (process : Option ProcessPart) (q : ProcessPart) → process ≡ Some q → has_ended_in (option_map process_with_done (option_map ended_process process)) ≡ true
-ended_once process q is = ap (λ (p : Option ProcessPart). has_ended_in (option_map process_with_done (option_map ended_process p))) is
+ended_once : (process : Option ProcessPart) (q : ProcessPart) → process ≡ Some q → has_ended_in (option_map ended_process process) ≡ true
+ended_once process q is = ap (λ (p : Option ProcessPart). has_ended_in (option_map ended_process p)) is
 
-done_once : (process : Option ProcessPart) (q : ProcessPart) → process ≡ Some q → done_in (option_map process_with_done (option_map ended_process process)) ≡ done_in process + 1
-done_once process q is =
-    ap (λ (p : Option ProcessPart). done_in (option_map process_with_done (option_map ended_process p))) is ∙ sym (ap (λ (p : Option ProcessPart). done_in p + 1) is)
+done_once : (process : Option ProcessPart) → done_in (option_map ended_process process) ≡ done_in process
+done_once None = refl
+done_once (Some q) = refl
 
 -- the cells and the book on the way
 pub drained_heap : (c c1 : HeapRecord) → c1 ≡ record c { value = c1.value } → HasNoExits c.value c1.value → c1 ≡ record c { value = record c.value { exits = []; black_exits = c1.value.black_exits } }
@@ -104,7 +103,7 @@ module _ (c c1 c2 c3 : HeapRecord) (k k1 k2 k3 : HoldingsValue)
     (kernel_same : k1 ≡ record k { value = k1.value }) (cut : HasCut (own_segment c.pid) k.value k1.value)
     (same : c1 ≡ record c { value = c1.value }) (none : HasNoExits c.value c1.value) (passed : k2 ≡ record k1 { value = record k1.value { exits = k2.value.exits } })
     (rest : c2 ≡ record c1 { value = record c1.value { objects = c2.value.objects; made = c2.value.made }; serial_rooms = c2.serial_rooms })
-    (given : HasGiven (own_segment c1.pid) (holdings_of c1) (holdings_of c2) k2 k3) (marked : c3 ≡ record c2 { value = with_one_done (with_process_ended c2.value) }) where
+    (given : HasGiven (own_segment c1.pid) (holdings_of c1) (holdings_of c2) k2 k3) (marked : c3 ≡ record c2 { value = with_process_ended c2.value }) where
   pub heap_drained : c1 ≡ record c { value = record c.value { exits = []; black_exits = c1.value.black_exits } }
   heap_drained = drained_heap c c1 same none
 
@@ -118,14 +117,14 @@ module _ (c c1 c2 c3 : HeapRecord) (k k1 k2 k3 : HoldingsValue)
       (ap (λ (h : HoldingsValue). h.value.objects) given.given_is) (ap (λ (h : HoldingsValue). h.serial_rooms) given.given_is)
 
   pub heap_then : c3 ≡ record c {
-    value = record c.value { objects = []; made = c2.value.made; exits = []; black_exits = c1.value.black_exits; process = option_map process_with_done (option_map ended_process c.value.process) };
+    value = record c.value { objects = []; made = c2.value.made; exits = []; black_exits = c1.value.black_exits; process = option_map ended_process c.value.process };
     serial_rooms = set c.serial_rooms (own_segment c.pid) None;
   }
   heap_then =
       marked
-      ∙ ap (λ (x : HeapRecord). record x { value = with_one_done (with_process_ended x.value) }) emptied
+      ∙ ap (λ (x : HeapRecord). record x { value = with_process_ended x.value }) emptied
       ∙ ap (λ (x : HeapRecord). record x {
-        value = record x.value { objects = []; made = c2.value.made; process = option_map process_with_done (option_map ended_process x.value.process) };
+        value = record x.value { objects = []; made = c2.value.made; process = option_map ended_process x.value.process };
         serial_rooms = set x.serial_rooms (own_segment x.pid) None;
       }) heap_drained
 
@@ -173,11 +172,10 @@ module _ (trace : Trace) (c : HeapRecord) (k : HoldingsValue) (b : BookRecord) (
       takes_in : HasTakenIn own (User c.pid) c.value k.value taken
       takes_in = record { objects = refl; made = made_is; exits = exits_then; rest = refl }
 
-      pub kernel_shows_then : Shows trace (state_with trace b (exit_of c.pid)) Kernel (record taken { black_exits = black })
+      pub kernel_shows_then : Shows trace (ended_state trace b c.pid) Kernel (record taken { black_exits = black })
       kernel_shows_then =
-          shows_as trace (state_with trace b (exit_of c.pid)) Kernel taken (record taken { black_exits = black })
-          (exited_kernel_shows trace b.journal c.pid DoneReply c.value k.value taken b.value met.have_met.own.book.keeps.limits met.have_met.own.book.agrees (possible trace c k b met) (shows trace c k b met)
-          (kernel_shows trace c k b met) met.have_met.kernel.idle takes_in)
+          shows_as trace (ended_state trace b c.pid) Kernel taken (record taken { black_exits = black })
+          (exit_kernel trace (now trace c k b met) c.pid.0 c.value k.value taken (sound trace c k b met) (may trace c k b met) (shows trace c k b met) (kernel_shows trace c k b met) met.have_met.kernel.idle takes_in)
           met.have_met.kernel.idle met.have_met.kernel.idle refl
 
     -- what the kernel is passed anew
@@ -191,14 +189,14 @@ module _ (trace : Trace) (c : HeapRecord) (k : HoldingsValue) (b : BookRecord) (
 
   -- the heap's cell
   pub heap_shows_then : (made : List (Option ℕ)) (black : List Name) → ((j : ℕ) → get_or made j None ≡ None) →
-      Shows trace (state_with trace b (exit_of c.pid)) (User c.pid)
-      (record c.value { objects = []; made = made; exits = []; black_exits = black; process = option_map process_with_done (option_map ended_process c.value.process) })
+      Shows trace (ended_state trace b c.pid) (User c.pid)
+      (record c.value { objects = []; made = made; exits = []; black_exits = black; process = option_map ended_process c.value.process })
   heap_shows_then made black none =
-      shows_as trace (state_with trace b (exit_of c.pid)) (User c.pid) (with_one_done (ended_cell c.value))
-      (record c.value { objects = []; made = made; exits = []; black_exits = black; process = option_map process_with_done (option_map ended_process c.value.process) })
-      (exited_cell_shows trace b.journal c.pid DoneReply c.value b.value met.have_met.own.book.keeps.limits met.have_met.own.book.agrees (possible trace c k b met) (shows trace c k b met) met.have_met.own.heap.idle)
+      shows_as trace (ended_state trace b c.pid) (User c.pid) (ended_cell c.value)
+      (record c.value { objects = []; made = made; exits = []; black_exits = black; process = option_map ended_process c.value.process })
+      (exit_cell trace (now trace c k b met) c.pid.0 c.value (sound trace c k b met) (may trace c k b met) (shows trace c k b met) met.have_met.own.heap.idle)
       met.have_met.own.heap.idle met.have_met.own.heap.idle
-      (none_shown (record c.value { objects = []; exits = []; black_exits = black; process = option_map process_with_done (option_map ended_process c.value.process) }) made none)
+      (none_shown (record c.value { objects = []; exits = []; black_exits = black; process = option_map ended_process c.value.process }) made none)
 
   -- values of the book between the drains, for the exit items without repetition
   abbrev heap_once : CellValue
@@ -306,9 +304,9 @@ module _ (trace : Trace) (c : HeapRecord) (k : HoldingsValue) (b : BookRecord) (
             ∙ ap (λ t. t && heap_eq (own n.seg.0) (User c.pid)) (sym (once_among k.value.exits n))
             ∙ sym (among_kept (λ m. heap_eq (own m.seg.0) (User c.pid)) kernel_once.exits n)
 
-    pub book_shows_then : BookShows trace (state_with trace b (exit_of c.pid)) b5.value
+    pub book_shows_then : BookShows trace (ended_state trace b c.pid) b5.value
     book_shows_then =
-        end_in_journal trace b.journal c.pid DoneReply c.value k.value b.value can_be_ended.0 can_be_ended.1 b5.value met.have_met.own.book.keeps.limits met.have_met.own.book.agrees (possible trace c k b met)
+        end_on_the_book trace met.have_met.own.book.keeps.limits (now trace c k b met) c.pid.0 c.value k.value b.value can_be_ended.0 can_be_ended.1 b5.value (sound trace c k b met) (may trace c k b met) (booked trace c k b met)
         (shows trace c k b met) (kernel_shows trace c k b met) ends
 
   process_there : (q : ProcessPart) × (c.value.process ≡ Some q)
@@ -324,7 +322,7 @@ module _ (trace : Trace) (c : HeapRecord) (k : HoldingsValue) (b : BookRecord) (
       HasPassed b3.value.homes c.value.exits k1.value.exits k2.value.exits → EntriesFollow c.value.exits k1.value.exits k2.value.exits b3.value b4.value → ChangesEntries b3 b4 →
       c2 ≡ record c1 { value = record c1.value { objects = c2.value.objects; made = c2.value.made }; serial_rooms = c2.serial_rooms } →
       HasGiven (own_segment c1.pid) (holdings_of c1) (holdings_of c2) k2 k3 →
-      c3 ≡ record c2 { value = with_one_done (with_process_ended c2.value) } → MarksEnded b4 b5 c.pid.0 seg → HasGivenUp trace c c3 k k3 b b5
+      c3 ≡ record c2 { value = with_process_ended c2.value } → MarksEnded b4 b5 c.pid.0 seg → HasGivenUp trace c c3 k k3 b b5
   given_up c1 c2 c3 k1 k2 k3 b1 b2 b3 b4 b5 unpinned first credited kernel_same cut left second same none passed_kernel passed follow third rest given marked marks =
       let heap_is = heap_then c c1 c2 c3 k k1 k2 k3 kernel_same cut same none passed_kernel rest given marked in
       let kernel_is = kernel_then c c1 c2 c3 k k1 k2 k3 kernel_same cut same none passed_kernel rest given marked in
@@ -341,9 +339,9 @@ module _ (trace : Trace) (c : HeapRecord) (k : HoldingsValue) (b : BookRecord) (
         idle = ap (λ (x : HeapRecord). x.value.collection) heap_is ∙ met.have_met.own.heap.idle;
         kernel_idle = ap (λ (x : HoldingsValue). x.value.collection) kernel_is ∙ met.have_met.kernel.idle;
         ended = ap (λ (x : HeapRecord). has_ended_in x.value.process) heap_is ∙ ended_once c.value.process process.0 process.1;
-        done = ap (λ (x : HeapRecord). done_in x.value.process) heap_is ∙ done_once c.value.process process.0 process.1;
-        shows = subst (λ (x : HeapRecord). Shows trace (state_with trace b (exit_of c.pid)) (User c.pid) x.value) (sym heap_is) (heap_shows_then c2.value.made c1.value.black_exits given.none);
-        kernel_shows = subst (λ (x : HoldingsValue). Shows trace (state_with trace b (exit_of c.pid)) Kernel x.value) (sym kernel_is)
+        done = ap (λ (x : HeapRecord). done_in x.value.process) heap_is ∙ done_once c.value.process;
+        shows = subst (λ (x : HeapRecord). Shows trace (ended_state trace b c.pid) (User c.pid) x.value) (sym heap_is) (heap_shows_then c2.value.made c1.value.black_exits given.none);
+        kernel_shows = subst (λ (x : HoldingsValue). Shows trace (ended_state trace b c.pid) Kernel x.value) (sym kernel_is)
             (kernel_shows_then k1.value.exits k2.value.exits cut.exits homes k3.value.made k1.value.black_exits made_is);
         book_shows = book_shows_then k1 k2 b1 b2 b3 b4 b5 unpinned first credited cut left second passed follow third marks;
       }

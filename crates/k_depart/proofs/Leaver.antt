@@ -1,14 +1,14 @@
 -- A process that ends, as its cell, the kernel's and the book show it before.
-use Rattle.std.proofs.Common.{◌≡◌, ℕ, zero, suc, ◌+◌, ◌<◌, ◌≤◌, ◌^◌, ◌==◌, ◌&&◌, not, true, false, refl, sym, ap, ◌∙◌, List, [], ◌∷◌, length, get_or, arith, eq-eqb, ne_eqb, Option, IsTrue, IsFalse}
-use Rattle.std.proofs.lemmas.Bool.{and_from, and_parts, false≢true}
-use Rattle.k_types.specs.declared.event.Reply.TheVariants.{Done as DoneReply}
+use Rattle.std.proofs.Common.{◌≡◌, ℕ, zero, suc, ◌+◌, ◌<◌, ◌≤◌, ◌^◌, ◌==◌, ◌&&◌, not, true, false, refl, sym, ap, ◌∙◌, List, [], ◌∷◌, length, get_or, replicate, arith, eq-eqb, ne_eqb, Option, IsTrue, IsFalse}
+use Rattle.std.proofs.lemmas.Bool.{and_from, and_parts, false≢true, not-true}
 use Rattle.k_types.specs.declared.names.Heap.{Heap}
 use Rattle.k_types.specs.declared.names.Heap.TheVariants.{Kernel, Shared, User}
 use Rattle.k_types.specs.declared.names.LimitId.{LimitId}
 use Rattle.k_types.specs.declared.names.Name.{Name}
 use Rattle.k_types.specs.declared.setup.LimitRow.{LimitRow}
+use Rattle.k_base.proofs.Maxima.{length_in}
 use Rattle.k_types.specs.Cells.{BookPart, ProcessPart, ShownPart, book_part, cells_touched, other_cells, part}
-use Rattle.k_types.specs.Limits.{direct_by, limits_in, max_of, use_within, with_maxima}
+use Rattle.k_types.specs.Limits.{direct_by, limits_in, use_within, with_maxima}
 use Rattle.k_types.specs.Names.{among, heap_eq, name_among}
 use Rattle.k_types.specs.Owners.{charge_of, object_bytes, owner_of}
 use Rattle.k_types.specs.Reach.{is_shared_heap}
@@ -18,20 +18,19 @@ use Rattle.k_types.specs.State.{State, has_share, is_scanned}
 use Rattle.k_types.specs.Steps.{IsPossible, in_range, state_after}
 use Rattle.k_types.specs.Totals.{total}
 use Rattle.k_types.specs.Trace.{Trace, limit_of, process_count, segment_count}
-use Rattle.k_base.proofs.Lists.{get_mapped}
+use Rattle.k_base.proofs.Lists.{get_mapped, none_is}
 use Rattle.k_base.proofs.NameTests.{heap_eq_sym}
 use Rattle.k_laws.specs.Changes.{MayExit}
 use Rattle.k_laws.proofs.SoundSteps.{legal_sound}
 use Rattle.k_agree.specs.Agreement.{BookShows, Shows}
 use Rattle.k_agree.specs.Ending.{HasLeft}
 use Rattle.k_agree.specs.GivingOnTheBook.{charged}
-use Rattle.k_agree.proofs.GivenOnTheBook.{may_exit}
 use Rattle.k_agree.proofs.HeldOnTheBook.{charge_there, left_there, pins_there}
 use Rattle.k_agree.proofs.Openings.{home_at}
 use Rattle.k_agree.proofs.Swept.{among_kept}
 use Rattle.k_bounds.specs.Counts.{one_if}
 use Rattle.k_book.specs.Books.{BookRecord}
-use Rattle.k_book.proofs.Telling.{tells_limits}
+use Rattle.k_known.proofs.Maxima.{max_small}
 use Rattle.k_cell.specs.Holdings.{HoldingsValue}
 use Rattle.k_changes.specs.BookChanges.{registers_in}
 use Rattle.k_commit.specs.Met.{Before}
@@ -97,7 +96,12 @@ module _ (trace : Trace) (c : HeapRecord) (k : HoldingsValue) (b : BookRecord) (
   }
 
   pub may : MayExit trace now c.pid.0
-  may = may_exit trace now c.pid DoneReply possible
+  may = record {
+    known = known;
+    lives = lives;
+    idle = none_is _ (not-true _ (unscanned trace now (User c.pid) c.value (record { shows = shows; idle = met.have_met.own.heap.idle })));
+    kernel_idle = none_is _ (not-true _ (unscanned trace now Kernel k.value (record { shows = kernel_shows; idle = met.have_met.kernel.idle })));
+  }
 
   pub numbered : (j : ℕ) → heap_eq (owner_of trace now j) (User c.pid) ≡ (j == own_segment c.pid)
   numbered = user_numbered trace now c.pid.0 known lives
@@ -132,7 +136,10 @@ module _ (trace : Trace) (c : HeapRecord) (k : HoldingsValue) (b : BookRecord) (
   limited = met.have_met.own.book.keeps.limits.limited c.pid.0 known
 
   pub limit_there : limit_in b c.pid.0 < length b.rows
-  limit_there = let same = ap length met.have_met.own.book.of_trace.rows in let limit = limit_is in omega (arith, same, limit, limited)
+  limit_there =
+      let same = ap length met.have_met.own.book.of_trace.rows ∙ length_in trace.limits (replicate (length trace.limits) 0) in
+      let limit = limit_is in
+      omega (arith, same, limit, limited)
 
   phases_are : length b.value.phases ≡ trace.shared_heaps
   unfolding book_part
@@ -172,10 +179,8 @@ module _ (trace : Trace) (c : HeapRecord) (k : HoldingsValue) (b : BookRecord) (
       let direct = direct_is in
       let within = direct_within (limits_in trace now) (direct_by trace (charge_of trace now)) (length (limits_in trace now)) m (some_rows trace.limits now.maxima (let some = limited in omega (arith, some))) in
       let fits = sound.uses m limited in
-      let told = (tells_limits trace now b booked met.have_met.own.book.keeps.limits.tree met.have_met.own.book.of_trace).max m in
-      let rows = ap (λ (rows : List LimitRow). max_of rows m) met.have_met.own.book.of_trace.rows in
-      let few = met.have_met.own.book.keeps.limits.small m limited in
-      omega (arith, limit, direct, within, fits, told, rows, few)
+      let few = max_small trace b.journal.list met.have_met.own.book.keeps.limits met.have_met.own.book.agrees.legal m limited in
+      omega (arith, limit, direct, within, fits, few)
 
   -- the exit items
   pub kernel_entered : AreEntered (into_segment (own_segment c.pid) k.value.exits) b.value

@@ -10,3 +10,4 @@ pub mod Once
 pub mod Leaver
 pub mod GivenUp
 pub mod Appended
+pub mod Killed

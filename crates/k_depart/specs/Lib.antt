@@ -5,3 +5,4 @@ pub mod Segments
 pub mod Ending
 pub mod Absorbing
 pub mod Exiting
+pub mod Killing

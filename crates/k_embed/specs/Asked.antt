@@ -1,11 +1,12 @@
 -- What a request asks for: an operation, or a whole call of another kind.
 use Rattle.std.specs.Prelude.{ℕ, ◌==◌, if◌then◌else◌, Option, Some, None}
+use Rattle.k_types.specs.declared.names.LimitId.{LimitId}
 use Rattle.k_types.specs.declared.names.Pid.{Pid}
 use Rattle.k_types.specs.declared.names.Reg.{Reg}
 use Rattle.k_types.specs.declared.names.SharedId.{SharedId}
 use Rattle.k_types.specs.declared.names.TypeId.{TypeId}
 use Rattle.k_types.specs.declared.op.Op.{Op}
-use Rattle.k_types.specs.declared.op.Op.TheVariants.{New, KNew, SNew, Store, Load, Move, Clear, Dir, Put, Get, Share, Freeze, Attach}
+use Rattle.k_types.specs.declared.op.Op.TheVariants.{New, KNew, SNew, Store, Load, Move, Clear, Dir, Put, Get, Share, Freeze, Attach, Kill as KillOther, Resize}
 use Rattle.k_embed.specs.declared.doing.Whole.{Whole}
 use Rattle.k_embed.specs.declared.doing.Whole.TheVariants.{Absorb, Collect, CollectKernel, Kill}
 use Rattle.k_embed.specs.declared.messages.Request.{Request}
@@ -22,6 +23,13 @@ type_of q = record { 0 = q.at }
 
 abbrev pub shared_of : Request → SharedId
 shared_of q = record { 0 = q.at }
+
+-- the limit that is resized, and the process that is killed by another
+abbrev pub limit_of : Request → LimitId
+limit_of q = record { 0 = q.at }
+
+abbrev pub target_of : Request → Pid
+target_of q = record { 0 = q.at }
 
 abbrev pub pid_of : Request → Pid
 pid_of q = record { 0 = q.pid }
@@ -42,6 +50,8 @@ operation_of q =
     else if q.call == 10 then Some (Share (shared_of q))
     else if q.call == 11 then Some (Freeze (shared_of q) (reg_of q))
     else if q.call == 12 then Some (Attach (reg_of q) (shared_of q))
+    else if q.call == 13 then Some (KillOther (target_of q))
+    else if q.call == 14 then Some (Resize (limit_of q) q.number)
     else None
 
 -- the collection, end or absorption of that number; none where the number is of another call, or of none

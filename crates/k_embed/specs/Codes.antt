@@ -3,7 +3,7 @@ use Rattle.std.specs.Prelude.{ℕ, Option, Some, None, Result, Ok, Err}
 use Rattle.k_types.specs.declared.event.Event.{Event}
 use Rattle.k_types.specs.declared.event.Event.TheVariants.{Done as Happened, Ended, Absorbed, Closing}
 use Rattle.k_types.specs.declared.event.Fault.{Fault}
-use Rattle.k_types.specs.declared.event.Fault.TheVariants.{Null, Foreign, NotSharer, NoField, WrongKind, Frozen, Segv, NotPopulating, NotFrozen, Taken, LimitFull, KernelFull}
+use Rattle.k_types.specs.declared.event.Fault.TheVariants.{Null, Foreign, NotSharer, NoField, WrongKind, Frozen, Segv, NotPopulating, NotFrozen, Taken, LimitFull, KernelFull, ProcNotBelow, LimitNotBelow, InUse}
 use Rattle.k_types.specs.declared.event.Reply.{Reply}
 use Rattle.k_types.specs.declared.event.Reply.TheVariants.{Done, Made, Loaded, Value, Refused}
 use Rattle.k_types.specs.declared.names.Name.{Name}
@@ -38,7 +38,7 @@ of_error Full = plain 5 0 0
 of_error NoBody = plain 6 0 0
 of_error Orphan = plain 7 0 0
 
--- the fault, with the limit or shared heap that it names
+-- the fault, with the limit, process or shared heap that it names
 abbrev pub of_fault : Fault → Answer
 of_fault Null = plain 0 1 0
 of_fault Foreign = plain 0 2 0
@@ -52,6 +52,9 @@ of_fault (NotFrozen s) = plain 0 9 s.0
 of_fault (Taken s) = plain 0 10 s.0
 of_fault (LimitFull m) = plain 0 11 m.0
 of_fault KernelFull = plain 0 12 0
+of_fault (ProcNotBelow p) = plain 0 13 p.0
+of_fault (LimitNotBelow m) = plain 0 14 m.0
+of_fault (InUse m) = plain 0 15 m.0
 
 -- the reply
 abbrev pub of_reply : Reply → Answer

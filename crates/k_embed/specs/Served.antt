@@ -4,12 +4,11 @@ use Rattle.k_types.specs.declared.event.Event.{Event}
 use Rattle.k_types.specs.declared.names.Pid.{Pid}
 use Rattle.k_types.specs.declared.op.Op.{Op}
 use Rattle.k_calls.specs.declared.errors.HostError.{HostError}
-use Rattle.k_calls.specs.Refusals.{CanNotOperate}
 use Rattle.k_ends.specs.Refusals.{CanNotExit}
 use Rattle.k_ends.specs.Whole.{CanNotCollect, CanNotCollectKernel}
-use Rattle.k_host.specs.Calls.{HasAbsorbedIn, HasCollectedIn, HasCollectedKernelIn, HasExitedIn, HasOperatedAs}
+use Rattle.k_host.specs.Calls.{HasAbsorbedIn, HasCollectedIn, HasCollectedKernelIn, HasExitedIn, HasOperatedIn}
 use Rattle.k_host.specs.Hosts.{HostValue}
-use Rattle.k_host.specs.Refusals.{MayRefuse, MayRefuseAbsorption}
+use Rattle.k_host.specs.Refusals.{CanNotOperateIn, MayRefuse, MayRefuseAbsorption}
 use Rattle.k_embed.specs.declared.doing.Whole.{Whole}
 use Rattle.k_embed.specs.declared.doing.Whole.TheVariants.{Absorb, Collect, CollectKernel, Kill}
 use Rattle.k_embed.specs.declared.messages.Answer.{Answer}
@@ -22,9 +21,9 @@ use Rattle.k_embed.specs.Codes.{of_result}
 pub record IsActed (old new : HostValue) (pid : Pid) (op : Op) (answer : Answer) : Type 0 where
   pub came : Result Event HostError
   pub shown : answer ≡ of_result came
-  pub done : IfOk came (λ event. HasOperatedAs old new pid op event)
+  pub done : IfOk came (λ event. HasOperatedIn old new pid op event)
   pub same : OnErr came (new ≡ old)
-  pub why : IfErr came (λ e. MayRefuse old pid (CanNotOperate old.basis old.kernel old.shared old.book op) e)
+  pub why : IfErr came (λ e. MayRefuse old pid (CanNotOperateIn old op) e)
 
 -- what the whole call leaves of the host, where it is done
 abbrev pub HasDoneWhole : HostValue → HostValue → Pid → Whole → Event → Type 0

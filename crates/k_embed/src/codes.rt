@@ -136,6 +136,9 @@ fn refused(fault: Fault) -> Answer
         Fault::Taken(shared) => plain(0, 10, shared.0),
         Fault::LimitFull(limit) => plain(0, 11, limit.0),
         Fault::KernelFull => plain(0, 12, 0),
+        Fault::ProcNotBelow(target) => plain(0, 13, target.0),
+        Fault::LimitNotBelow(limit) => plain(0, 14, limit.0),
+        Fault::InUse(limit) => plain(0, 15, limit.0),
     }
 }
 

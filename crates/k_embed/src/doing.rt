@@ -5,7 +5,7 @@ ghost use Rattle.k_embed.specs.Served.{HasCome};
 
 use crate::messages::Request;
 use k_host::{Host, HostError};
-use k_types::{Event, Op, Pid, Reg, SharedId, TypeId};
+use k_types::{Event, LimitId, Op, Pid, Reg, SharedId, TypeId};
 
 /// A call that is no operation, and changes a host.
 #[derive(Clone, Copy, Debug, PartialEq, Eq)]
@@ -14,7 +14,7 @@ pub enum Whole {
     Collect,
     /// Collects the kernel's heap, as the process.
     CollectKernel,
-    /// Ends the process.
+    /// Ends the process, whoever asks.
     Kill,
     /// Absorbs an orphan.
     Absorb(SharedId),
@@ -70,6 +70,11 @@ pub(crate) fn operation(request: &Request) -> Option<Op>
         12 => Some(Op::Attach {
             reg,
             shared: SharedId(at),
+        }),
+        13 => Some(Op::Kill { target: Pid(at) }),
+        14 => Some(Op::Resize {
+            limit: LimitId(at),
+            max: request.number,
         }),
         _ => None,
     }

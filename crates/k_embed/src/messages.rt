@@ -8,7 +8,7 @@ pub struct Request {
     pub call: u32,
     /// The process.
     pub pid: u32,
-    /// A field, a type, a limit or a shared heap.
+    /// A field, a type, a limit, a shared heap or the process that is killed.
     pub at: u32,
     /// The type, where `at` is a shared heap.
     pub to: u32,
@@ -19,7 +19,7 @@ pub struct Request {
     pub unused0: u8,
     pub unused1: u8,
     pub unused2: u32,
-    /// What a field becomes.
+    /// What a field or a limit's maximum becomes.
     pub number: u64,
 }
 
@@ -31,7 +31,7 @@ pub struct Answer {
     pub status: u32,
     /// 0 where the operation was not refused, else by which fault.
     pub fault: u32,
-    /// The limit or shared heap that the fault names.
+    /// The limit, process or shared heap that the fault names.
     pub at: u32,
     /// What the other numbers are.
     pub what: u32,

@@ -207,30 +207,30 @@ module _ (basis : Basis) (g : Guest) (b : BookRecord) (can : CanGoOn basis g b) 
           went_on v m event
           (record {
             rules = guest_now.rules;
-            agrees = d.agrees;
-            table = d.table;
-            stock = ap (λ (y : HeapRecord). y.bodies) d.cell_is ∙ guest_now.stock;
-            exits = subst (λ (y : HeapRecord). basis.events ≤ y.exit_room) (sym d.cell_is) guest_now.exits;
-            serials = λ lives. absurd (false≢true (sym lives ∙ d.ended));
-            tail = subst (λ (y : HeapRecord). basis.events ≤ y.tail_room) (sym d.cell_is) guest_now.tail;
+            agrees = d.ends.agrees;
+            table = d.ends.table;
+            stock = ap (λ (y : HeapRecord). y.bodies) d.ends.cell_is ∙ guest_now.stock;
+            exits = subst (λ (y : HeapRecord). basis.events ≤ y.exit_room) (sym d.ends.cell_is) guest_now.exits;
+            serials = λ lives. absurd (false≢true (sym lives ∙ d.ends.ended));
+            tail = subst (λ (y : HeapRecord). basis.events ≤ y.tail_room) (sym d.ends.cell_is) guest_now.tail;
           })
           (book_goes_on basis l m book_now d.book_is d.book_agrees) d.same_table
-          (ap (λ (y : HeapRecord). y.pid) d.cell_is) d.journal d.possible d.settled;
+          (ap (λ (y : HeapRecord). y.pid) d.ends.cell_is) d.journal d.possible d.ends.settled;
       event_is = d.event_is ∙ ap (λ (y : HeapRecord). Done y.pid Exit DoneReply) s.cell_is;
       kernel = record {
         rules = kernel.rules;
-        agrees = d.kernel_agrees;
-        table = d.kernel_table;
-        exits = subst (λ (y : HoldingsValue). basis.events ≤ y.exit_room) (sym d.kernel_is) kernel.exits;
-        serials = subst (λ (y : HoldingsValue). GivesSerials basis.events y.serial_rooms 0) (sym d.kernel_is) (record {
+        agrees = d.ends.kernel_agrees;
+        table = d.ends.kernel_table;
+        exits = subst (λ (y : HoldingsValue). basis.events ≤ y.exit_room) (sym d.ends.kernel_is) kernel.exits;
+        serials = subst (λ (y : HoldingsValue). GivesSerials basis.events y.serial_rooms 0) (sym d.ends.kernel_is) (record {
           room = kernel.serials.room;
           there = get_or-set_other k.serial_rooms (own_segment w.pid) 0 (get_or w.serial_rooms (own_segment w.pid) None) None (λ e. omega (arith, e)) ∙ kernel.serials.there;
           enough = kernel.serials.enough;
         });
-        numbers = subst (λ (y : HoldingsValue). segment_count basis.trace ≤ y.bound) (sym d.kernel_is) kernel.numbers;
+        numbers = subst (λ (y : HoldingsValue). segment_count basis.trace ≤ y.bound) (sym d.ends.kernel_is) kernel.numbers;
       };
-      idle = d.kernel_idle;
-      ended = d.ended;
+      idle = d.ends.kernel_idle;
+      ended = d.ends.ended;
     }
 
 -- marking

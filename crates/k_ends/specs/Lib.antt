@@ -1,3 +1,4 @@
 pub mod Collecting
 pub mod Refusals
 pub mod Whole
+pub mod Killing

@@ -189,7 +189,7 @@ pub fn try_exit(
 }
 
 /// Whether the kernel can take the exit items of the process's heap beside its own.
-fn can_hand_on(terms: &Terms, guest: &Guest, kernel: &KernelCell) -> bool
+pub(crate) fn can_hand_on(terms: &Terms, guest: &Guest, kernel: &KernelCell) -> bool
     ensures { IsTrue result ↔ (length guest.now.cell.value.exits + length kernel.now.value.exits ≤ terms.now.events) }
 {
     u64::from(guest.cell.exit_count()) + u64::from(kernel.exit_count()) <= u64::from(terms.events)

@@ -13,7 +13,7 @@ use Rattle.k_types.specs.Names.{name_eq, heap_eq, among}
 use Rattle.k_types.specs.Trace.{Trace}
 use Rattle.k_types.specs.State.{State, Content, ExitItem, has_exit}
 use Rattle.k_types.specs.Owners.{owner_of, user}
-use Rattle.k_types.specs.Updates.{count_done, set_register, create, write, add_exit, with_exit, open_scan, add_share, close}
+use Rattle.k_types.specs.Updates.{count_done, set_register, create, write, add_exit, with_exit, open_scan, add_share, close, set_max}
 use Rattle.k_types.specs.Cells.{part, process_of, Cell}
 use Rattle.k_base.proofs.Objects.{kept-placed_other, kept-written_other}
 
@@ -95,6 +95,10 @@ module _ (trace : Trace) (st : State) (c : Cell) where
   pub add_share_elsewhere : (p s : ℕ) → part trace (add_share p s st) c ≡ part trace st c
   unfolding part add_share
   add_share_elsewhere p s = refl
+
+  pub set_max_elsewhere : (m max : ℕ) → part trace (set_max m max st) c ≡ part trace st c
+  unfolding part set_max
+  set_max_elsewhere m max = refl
 
   pub close_elsewhere : part trace (close st) c ≡ part trace st c
   unfolding part close

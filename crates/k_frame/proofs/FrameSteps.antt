@@ -1,14 +1,14 @@
 -- A step leaves the part of each cell that it doesn't touch.
-use Rattle.std.proofs.Common.{◌≡◌, ℕ, ◌+◌, ◌<◌, ◌||◌, not, cond, Bool, true, false, refl, sym, ap, ◌∙◌, List, [], ◌∷◌, ◌++◌, Option, Some, None, eqb-true, IsTrue, IsFalse}
+use Rattle.std.proofs.Common.{◌≡◌, ℕ, ◌+◌, ◌<◌, ◌||◌, ◌&&◌, not, cond, subst, Bool, true, false, refl, sym, ap, ◌∙◌, List, [], ◌∷◌, ◌++◌, Option, Some, None, eqb-true, IsTrue, IsFalse}
 use Rattle.std.specs.List.{list_any}
 use Rattle.std.proofs.lemmas.Bool.{or_parts, false≢true, not-false}
 use Rattle.k_types.specs.declared.names.Name.{Name}
 use Rattle.k_types.specs.declared.names.Heap.{Heap}
 use Rattle.k_types.specs.declared.names.Heap.TheVariants.{Kernel, User, Shared}
 use Rattle.k_types.specs.declared.op.Op.{Op}
-use Rattle.k_types.specs.declared.op.Op.TheVariants.{New, KNew, SNew, Store, Load, Move, Clear, Dir, Put, Get, Collect, KCollect, Share, Freeze, Attach, Exit}
+use Rattle.k_types.specs.declared.op.Op.TheVariants.{New, KNew, SNew, Store, Load, Move, Clear, Dir, Put, Get, Collect, KCollect, Share, Freeze, Attach, Exit, Kill, Resize}
 use Rattle.k_types.specs.declared.event.Fault.{Fault}
-use Rattle.k_types.specs.declared.event.Fault.TheVariants.{Foreign, NotSharer, Segv, NotPopulating, Taken}
+use Rattle.k_types.specs.declared.event.Fault.TheVariants.{Foreign, NotSharer, Segv, NotPopulating, Taken, ProcNotBelow}
 use Rattle.k_types.specs.declared.names.SharedId.{SharedId}
 use Rattle.k_types.specs.declared.names.Phase.{Phase}
 use Rattle.k_types.specs.declared.names.Phase.TheVariants.{Unmade, Populating, Frozen, Absorbed}
@@ -20,12 +20,13 @@ use Rattle.k_types.specs.Names.{heap_eq, among}
 use Rattle.k_types.specs.Trace.{Trace, process_count, kinds_of}
 use Rattle.k_types.specs.State.{State, Refers, Holds, register, has_share}
 use Rattle.k_types.specs.Owners.{owner_of, user, phase_of, is_absorbed}
+use Rattle.k_types.specs.Limits.{is_above}
 use Rattle.k_types.specs.Reach.{roots_of}
 use Rattle.k_types.specs.Updates.{add_exit}
-use Rattle.k_types.specs.Replies.{fault_where, first_fault, faults, access_faults, is_foreign, sharer_fault, at_base, is_populating, is_unmade}
-use Rattle.k_types.specs.Effects.{effect, effect_unless, after_operation, after_store, after_put, with_exit_of_store, after_freeze, step, after_closing}
+use Rattle.k_types.specs.Replies.{fault_where, first_fault, faults, access_faults, is_foreign, sharer_fault, at_base, is_populating, is_unmade, ends_other}
+use Rattle.k_types.specs.Effects.{effect, effect_unless, after_operation, after_store, after_put, with_exit_of_store, after_freeze, after_end_of, after_kill, step, after_closing}
 use Rattle.k_types.specs.Cells.{part, Cell, base_cell, access_cell, other_cells, cells_touched, touches}
-use Rattle.k_frame.proofs.Elsewhere.{create_elsewhere, write_elsewhere, add_exit_elsewhere, set_register_elsewhere, count_done_elsewhere, open_scan_elsewhere, add_share_elsewhere, close_elsewhere}
+use Rattle.k_frame.proofs.Elsewhere.{create_elsewhere, write_elsewhere, add_exit_elsewhere, set_register_elsewhere, count_done_elsewhere, open_scan_elsewhere, add_share_elsewhere, set_max_elsewhere, close_elsewhere}
 use Rattle.k_frame.proofs.OwnerOf.{owner_user, owner_kernel, owner_shared}
 
 -- of two faults where none applies, neither does
@@ -113,6 +114,16 @@ module _ (trace : Trace) (st : State) (p : ℕ) (c : Cell) (own_apart : IsFalse 
       let populating = none_on (not (is_populating (phase_of st.phases s.0) p)) (NotPopulating s) [] segv.1 in
       set_phase_elsewhere trace st c s.0 _ apart (sym (populating_stands _ p (not-false _ populating.0)))
 
+  killed_elsewhere : (q : ℕ) → is_above trace p q ≡ true → IsFalse (list_any (λ d. heap_eq d c) (cond (ends_other trace st p q) (user q ∷ Kernel ∷ []) [])) → part trace (after_kill trace q st) c ≡ part trace st c
+  unfolding after_kill
+  killed_elsewhere q above u = go (among q st.ended) (subst (λ b. IsFalse (list_any (λ d. heap_eq d c) (cond (b && not (among q st.ended)) (user q ∷ Kernel ∷ []) []))) above u)
+    where
+      go : (b : Bool) → IsFalse (list_any (λ d. heap_eq d c) (cond (not b) (user q ∷ Kernel ∷ []) [])) → part trace (cond b st (after_end_of trace q st)) c ≡ part trace st c
+      go true u = refl
+      go false u =
+          let parts = or_parts (heap_eq (user q) c) (heap_eq Kernel c || false) u in
+          exited_elsewhere trace st c q parts.0 (or_parts (heap_eq Kernel c) false parts.1).0
+
   pub effect_elsewhere : (op : Op) → p < process_count trace → IsFalse (among p st.ended) → first_fault (faults trace st p op) ≡ None → IsFalse (list_any (λ d. heap_eq d c) (other_cells trace st p op)) →
       part trace (effect trace p op st) c ≡ part trace st c
   unfolding effect other_cells faults
@@ -143,6 +154,8 @@ module _ (trace : Trace) (st : State) (p : ℕ) (c : Cell) (own_apart : IsFalse 
   effect_elsewhere (Freeze s root) known lives e u = frozen_elsewhere s (register st.registers p root.0) e (or_parts (heap_eq (Shared s) c) false u).0
   effect_elsewhere (Attach r s) known lives e u = set_register_elsewhere trace _ c p r.0 _ own_apart ∙ add_share_elsewhere trace st c p s.0
   effect_elsewhere Exit known lives e u = exited_elsewhere trace st c p own_apart (or_parts (heap_eq Kernel c) false u).0
+  effect_elsewhere (Kill q) known lives e u = killed_elsewhere q.0 (not-false _ (none_on (not (is_above trace p q.0)) (ProcNotBelow q) [] e).0) u
+  effect_elsewhere (Resize m max) known lives e u = set_max_elsewhere trace st c m.0 max
 
   pub after_operation_elsewhere : (op : Op) → p < process_count trace → IsFalse (among p st.ended) → IsFalse (list_any (λ d. heap_eq d c) (other_cells trace st p op)) →
       part trace (after_operation trace p op st) c ≡ part trace st c

@@ -4,7 +4,7 @@ use Rattle.std.proofs.Math.Path.{fun_ext}
 use Rattle.std.proofs.lemmas.Bool.{false≢true, or_cases, and_parts, false_from_ne_true}
 use Rattle.k_types.specs.declared.names.Name.{Name}
 use Rattle.k_types.specs.declared.op.Op.{Op}
-use Rattle.k_types.specs.declared.op.Op.TheVariants.{New, KNew, SNew, Store, Load, Move, Clear, Dir, Put, Get, Collect, KCollect, Share, Freeze, Attach, Exit}
+use Rattle.k_types.specs.declared.op.Op.TheVariants.{New, KNew, SNew, Store, Load, Move, Clear, Dir, Put, Get, Collect, KCollect, Share, Freeze, Attach, Exit, Kill, Resize}
 use Rattle.k_types.specs.Totals.{total}
 use Rattle.k_types.specs.Names.{heap_eq, among, leads_to}
 use Rattle.k_types.specs.Trace.{Trace, process_count}
@@ -137,6 +137,8 @@ module _ (trace : Trace) (st : State) (p : ℕ) (known : p < process_count trace
   effect_keeps_book' (Freeze s root) l e = absurd (false≢true l)
   effect_keeps_book' (Attach r s) l e = absurd (false≢true l)
   effect_keeps_book' Exit l e = absurd (false≢true l)
+  effect_keeps_book' (Kill q) l e = absurd (false≢true l)
+  effect_keeps_book' (Resize m max) l e = absurd (false≢true l)
 
 pub effect_keeps_book : (trace : Trace) (st : State) (p : ℕ) (op : Op) → p < process_count trace → IsFalse (among p st.ended) → IsTrue (is_local st p op) → first_fault (faults trace st p op) ≡ None → KeepsBook trace st (effect trace p op st)
 effect_keeps_book trace st p op known lives l e = effect_keeps_book' trace st p known lives op l e

@@ -3,7 +3,7 @@ use Rattle.std.proofs.Common.{◌≡◌, ℕ, ◌+◌, ◌==◌, ◌||◌, not, 
 use Rattle.std.proofs.lemmas.Bool.{false≢true, or_cases, and_parts}
 use Rattle.k_types.specs.declared.names.Name.{Name}
 use Rattle.k_types.specs.declared.op.Op.{Op}
-use Rattle.k_types.specs.declared.op.Op.TheVariants.{New, KNew, SNew, Store, Load, Move, Clear, Dir, Put, Get, Collect, KCollect, Share, Freeze, Attach, Exit}
+use Rattle.k_types.specs.declared.op.Op.TheVariants.{New, KNew, SNew, Store, Load, Move, Clear, Dir, Put, Get, Collect, KCollect, Share, Freeze, Attach, Exit, Kill, Resize}
 use Rattle.k_types.specs.declared.event.Fault.{Fault}
 use Rattle.k_types.specs.declared.event.Fault.TheVariants.{WrongKind, Frozen, Segv, NoField}
 use Rattle.k_types.specs.declared.event.Reply.TheVariants.{Loaded, Value}
@@ -138,6 +138,8 @@ module _ (trace : Trace) (p : ℕ) (st su : State) (alike : Alike trace p st su)
   faults_same (Freeze s root) l = absurd (false≢true l)
   faults_same (Attach r s) l = absurd (false≢true l)
   faults_same Exit l = absurd (false≢true l)
+  faults_same (Kill q) l = absurd (false≢true l)
+  faults_same (Resize m max) l = absurd (false≢true l)
 
   pub loaded_same : (b : Option Name) (i : ℕ) (old : Option Name) → IsTrue (is_local_load st p b i old) → reference_from st b i ≡ reference_from su b i
   loaded_same None i old l = refl
@@ -165,6 +167,8 @@ module _ (trace : Trace) (p : ℕ) (st su : State) (alike : Alike trace p st su)
   answer_same (Freeze s root) l = refl
   answer_same (Attach r s) l = absurd (false≢true l)
   answer_same Exit l = refl
+  answer_same (Kill q) l = refl
+  answer_same (Resize m max) l = refl
 
   pub reply_same : (op : Op) → IsTrue (is_local st p op) → reply_to trace st p op ≡ reply_to trace su p op
   unfolding reply_to

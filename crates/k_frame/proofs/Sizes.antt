@@ -8,17 +8,17 @@ use Rattle.k_types.specs.declared.names.Phase.TheVariants.{Unmade}
 use Rattle.k_types.specs.declared.names.Field.{Field}
 use Rattle.k_types.specs.declared.names.Heap.TheVariants.{Kernel}
 use Rattle.k_types.specs.declared.op.Op.{Op}
-use Rattle.k_types.specs.declared.op.Op.TheVariants.{New, KNew, SNew, Store, Load, Move, Clear, Dir, Put, Get, Collect, KCollect, Share, Freeze, Attach, Exit}
+use Rattle.k_types.specs.declared.op.Op.TheVariants.{New, KNew, SNew, Store, Load, Move, Clear, Dir, Put, Get, Collect, KCollect, Share, Freeze, Attach, Exit, Kill, Resize}
 use Rattle.k_types.specs.declared.event.Fault.{Fault}
 use Rattle.k_types.specs.declared.event.Event.{Event}
 use Rattle.k_types.specs.declared.event.Event.TheVariants.{Done, Ended, Absorbed, Closing}
-use Rattle.k_types.specs.Names.{heap_eq}
+use Rattle.k_types.specs.Names.{among, heap_eq}
 use Rattle.k_types.specs.Trace.{Trace, process_count}
 use Rattle.k_types.specs.State.{State, opening}
 use Rattle.k_types.specs.Owners.{owner_of}
 use Rattle.k_types.specs.Replies.{first_fault, faults}
-use Rattle.k_types.specs.Updates.{count_done, set_register, create, write, add_exit, open_scan, set_phase, add_share, keep_objects, keep_exits, keep_shares, close_scan, clear_registers, end_process, turn_exits, close}
-use Rattle.k_types.specs.Effects.{step, effect, effect_unless, after_operation, after_store, after_put, with_exit_of_store, after_freeze, after_end_of, after_ended, after_absorbed, after_closing}
+use Rattle.k_types.specs.Updates.{count_done, set_register, create, write, add_exit, open_scan, set_phase, add_share, keep_objects, keep_exits, keep_shares, close_scan, clear_registers, end_process, turn_exits, set_max, close}
+use Rattle.k_types.specs.Effects.{step, effect, effect_unless, after_operation, after_store, after_put, with_exit_of_store, after_freeze, after_end_of, after_kill, after_ended, after_absorbed, after_closing}
 use Rattle.k_types.specs.Steps.{run, state_after}
 use Rattle.k_types.specs.Sound.{IsSized}
 use Rattle.k_base.proofs.Lists.{get_or-set_cases}
@@ -113,6 +113,14 @@ module _ (trace : Trace) where
   unfolding after_end_of end_process clear_registers keep_shares turn_exits
   exit_sized st p z = let y = row_sized st p (replicate 16 None) (λ q e known. refl) z in record { made = y.made; registers = y.registers; each = y.each; done = y.done; phases = y.phases; maxima = y.maxima }
 
+  kill_sized : (st : State) (q : ℕ) → IsSized trace st → IsSized trace (after_kill trace q st)
+  unfolding after_kill
+  kill_sized st q z = elim (among q st.ended) as (λ b. IsSized trace (cond b st (after_end_of trace q st))) [ true ↦ z | false ↦ exit_sized st q z ]
+
+  max_sized : (st : State) (m max : ℕ) → IsSized trace st → IsSized trace (set_max m max st)
+  unfolding set_max
+  max_sized st m max z = record { made = z.made; registers = z.registers; each = z.each; done = z.done; phases = z.phases; maxima = length-set st.maxima m max ∙ z.maxima }
+
   effect_sized : (st : State) (p : ℕ) (op : Op) → IsSized trace st → IsSized trace (effect trace p op st)
   unfolding effect
   effect_sized st p (New r ty) z = register_sized _ p r.0 _ (create_sized st _ ty _ z)
@@ -131,6 +139,8 @@ module _ (trace : Trace) where
   effect_sized st p (Freeze s root) z = freeze_sized st s.0 _ z
   effect_sized st p (Attach r s) z = register_sized _ p r.0 _ (share_sized st p s.0 z)
   effect_sized st p Exit z = exit_sized st p z
+  effect_sized st p (Kill q) z = kill_sized st q.0 z
+  effect_sized st p (Resize m max) z = max_sized st m.0 max z
 
   unless_sized : (f : Option Fault) (st : State) (p : ℕ) (op : Op) → IsSized trace st → IsSized trace (effect_unless f trace p op st)
   unless_sized None st p op z = effect_sized st p op z

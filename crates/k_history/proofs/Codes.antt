@@ -4,9 +4,9 @@ use Rattle.std.specs.Str.{bytes_eq}
 use Rattle.std.proofs.lemmas.Slice.Eq.{bytes_eq-Decides}
 use Rattle.k_types.specs.declared.names.Name.{Name}
 use Rattle.k_types.specs.declared.op.Op.{Op}
-use Rattle.k_types.specs.declared.op.Op.TheVariants.{New, KNew, SNew, Store, Load, Move, Clear, Dir, Put, Get, Collect, KCollect, Share, Freeze, Attach, Exit}
+use Rattle.k_types.specs.declared.op.Op.TheVariants.{New, KNew, SNew, Store, Load, Move, Clear, Dir, Put, Get, Collect, KCollect, Share, Freeze, Attach, Exit, Kill, Resize}
 use Rattle.k_types.specs.declared.event.Fault.{Fault}
-use Rattle.k_types.specs.declared.event.Fault.TheVariants.{Null, Foreign, NotSharer, NoField, WrongKind, Frozen, Segv, NotPopulating, NotFrozen, Taken, LimitFull, KernelFull}
+use Rattle.k_types.specs.declared.event.Fault.TheVariants.{Null, Foreign, NotSharer, NoField, WrongKind, Frozen, Segv, NotPopulating, NotFrozen, Taken, LimitFull, KernelFull, ProcNotBelow, LimitNotBelow, InUse}
 use Rattle.k_types.specs.declared.event.Reply.{Reply}
 use Rattle.k_types.specs.declared.event.Reply.TheVariants.{Done as DoneReply, Made, Loaded, Value, Refused}
 
@@ -42,6 +42,8 @@ op_code (Share s) = 12 ∷ s.0 ∷ []
 op_code (Freeze s root) = 13 ∷ s.0 ∷ root.0 ∷ []
 op_code (Attach r s) = 14 ∷ r.0 ∷ s.0 ∷ []
 op_code Exit = 15 ∷ []
+op_code (Kill q) = 16 ∷ q.0 ∷ []
+op_code (Resize m max) = 17 ∷ m.0 ∷ max ∷ []
 
 -- The operation of the numbers.
 abbrev op_of_code : List ℕ → Op
@@ -60,25 +62,13 @@ op_of_code ns =
     (cond (eqb (at ns 0) 11) KCollect
     (cond (eqb (at ns 0) 12) (Share (record { 0 = at ns 1 }))
     (cond (eqb (at ns 0) 13) (Freeze (record { 0 = at ns 1 }) (record { 0 = at ns 2 }))
-    (cond (eqb (at ns 0) 14) (Attach (record { 0 = at ns 1 }) (record { 0 = at ns 2 })) Exit))))))))))))))
+    (cond (eqb (at ns 0) 14) (Attach (record { 0 = at ns 1 }) (record { 0 = at ns 2 }))
+    (cond (eqb (at ns 0) 15) Exit
+    (cond (eqb (at ns 0) 16) (Kill (record { 0 = at ns 1 })) (Resize (record { 0 = at ns 1 }) (at ns 2))))))))))))))))))
 
 op_back : (op : Op) → op_of_code (op_code op) ≡ op
 op_back (New r ty) = refl
-op_back (KNew r ty) = refl
-op_back (SNew r s ty) = refl
-op_back (Store base i value) = refl
-op_back (Load r base i) = refl
-op_back (Move r from) = refl
-op_back (Clear r) = refl
-op_back (Dir r) = refl
-op_back (Put base i number) = refl
-op_back (Get base i) = refl
-op_back Collect = refl
-op_back KCollect = refl
-op_back (Share s) = refl
-op_back (Freeze s root) = refl
-op_back (Attach r s) = refl
-op_back Exit = refl
+op_back _ = refl
 
 -- Two operations are one, or not.
 pub same_op : (a b : Op) → (a ≡ b) ⊎ ¬ (a ≡ b)
@@ -97,6 +87,9 @@ fault_code (NotFrozen s) = 13 ∷ s.0 ∷ []
 fault_code (Taken s) = 14 ∷ s.0 ∷ []
 fault_code (LimitFull m) = 15 ∷ m.0 ∷ []
 fault_code KernelFull = 16 ∷ []
+fault_code (ProcNotBelow q) = 17 ∷ q.0 ∷ []
+fault_code (LimitNotBelow m) = 18 ∷ m.0 ∷ []
+fault_code (InUse m) = 19 ∷ m.0 ∷ []
 
 abbrev fault_of_code : List ℕ → Fault
 fault_of_code ns =
@@ -110,7 +103,10 @@ fault_of_code ns =
     (cond (eqb (at ns 0) 12) (NotPopulating (record { 0 = at ns 1 }))
     (cond (eqb (at ns 0) 13) (NotFrozen (record { 0 = at ns 1 }))
     (cond (eqb (at ns 0) 14) (Taken (record { 0 = at ns 1 }))
-    (cond (eqb (at ns 0) 15) (LimitFull (record { 0 = at ns 1 })) KernelFull))))))))))
+    (cond (eqb (at ns 0) 15) (LimitFull (record { 0 = at ns 1 }))
+    (cond (eqb (at ns 0) 16) KernelFull
+    (cond (eqb (at ns 0) 17) (ProcNotBelow (record { 0 = at ns 1 }))
+    (cond (eqb (at ns 0) 18) (LimitNotBelow (record { 0 = at ns 1 })) (InUse (record { 0 = at ns 1 })))))))))))))))
 
 abbrev reply_code : Reply → List ℕ
 reply_code DoneReply = 0 ∷ []
@@ -134,17 +130,7 @@ reply_of_code ns =
 
 fault_back : (fault : Fault) → reply_of_code (fault_code fault) ≡ Refused fault
 fault_back Null = refl
-fault_back Foreign = refl
-fault_back (NotSharer s) = refl
-fault_back NoField = refl
-fault_back WrongKind = refl
-fault_back Frozen = refl
-fault_back Segv = refl
-fault_back (NotPopulating s) = refl
-fault_back (NotFrozen s) = refl
-fault_back (Taken s) = refl
-fault_back (LimitFull m) = refl
-fault_back KernelFull = refl
+fault_back _ = refl
 
 reply_back : (reply : Reply) → reply_of_code (reply_code reply) ≡ reply
 reply_back DoneReply = refl

@@ -5,7 +5,7 @@ use Rattle.k_types.specs.declared.op.Op.{Op}
 use Rattle.k_words.specs.Words.{Text}
 use Rattle.k_words.specs.Names.{declares}
 use Rattle.k_trace.specs.Named.{DeclaredNames}
-use Rattle.k_trace.specs.Forms.{op_of, register_op, bare_op, sharing_op}
+use Rattle.k_trace.specs.Forms.{op_of, register_op, bare_op, sharing_op, governing_op}
 use Rattle.k_history.specs.Reading.{reply_of, is_equals, done_with, done_of}
 
 either_none : {A : Type 0} (t : Bool) → (let r : Option A = None in r) ≡ cond t None None
@@ -19,11 +19,11 @@ no_reply names name (Ok op) = either_none (declares names.procs name)
 
 -- On one side of the equals sign there is nothing.
 pub one_sided : (names : DeclaredNames) (ws : List Text) → (before_first is_equals ws ≡ []) ⊎ (after_first is_equals ws ≡ []) → None ≡ done_of names ws
-unfolding done_of op_of register_op bare_op sharing_op
+unfolding done_of op_of register_op bare_op sharing_op governing_op
 one_sided names ws (inl e) = rw e refl
 one_sided names ws (inr e) = rw e (no_reply names _ _)
 
 -- There is but one word before it.
 pub no_operation : (names : DeclaredNames) (ws before : List Text) (w : Text) → before ≡ before_first is_equals ws → before ≡ w ∷ [] → None ≡ done_of names ws
-unfolding done_of op_of register_op bare_op sharing_op
+unfolding done_of op_of register_op bare_op sharing_op governing_op
 no_operation names ws before w e f = let g : before_first is_equals ws ≡ w ∷ [] = sym e ∙ f in rw g refl

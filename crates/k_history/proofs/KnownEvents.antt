@@ -5,7 +5,7 @@ use Rattle.k_types.specs.declared.names.Heap.{Heap}
 use Rattle.k_types.specs.declared.names.Heap.TheVariants.{Kernel, User, Shared}
 use Rattle.k_types.specs.declared.op.Op.{Op}
 use Rattle.k_types.specs.declared.event.Fault.{Fault}
-use Rattle.k_types.specs.declared.event.Fault.TheVariants.{Null, Foreign, NotSharer, NoField, WrongKind, Frozen, Segv, NotPopulating, NotFrozen, Taken, LimitFull, KernelFull}
+use Rattle.k_types.specs.declared.event.Fault.TheVariants.{NotSharer, NotPopulating, NotFrozen, Taken, LimitFull, ProcNotBelow, LimitNotBelow, InUse}
 use Rattle.k_types.specs.declared.event.Reply.{Reply}
 use Rattle.k_types.specs.declared.event.Reply.TheVariants.{Done as DoneReply, Made, Loaded, Value, Refused}
 use Rattle.k_types.specs.declared.event.Event.{Event}
@@ -20,7 +20,7 @@ use Rattle.k_history.specs.Spelled.{IsSpelledName, IsSpelledReply, IsSpelledEven
 use Rattle.k_history.proofs.SpelledOps.{spelled_op}
 
 named : (t : NamedTrace) → IsTrace t → AreNamed t
-named t h = record { types = h.types_named; shared = h.shared_named }
+named t h = record { types = h.types_named; limits = h.limits_named; procs = h.procs_named; shared = h.shared_named }
 
 known_name : (t : NamedTrace) (n : Name) → IsTrace t → IsKnownName t.trace n → n.serial.0 < 2 ^ 32 → IsSpelledName t.names n
 known_name t n is known lt =
@@ -29,18 +29,15 @@ known_name t n is known lt =
     (there, lt)
 
 known_fault : (t : NamedTrace) (f : Fault) → IsTrace t → IsKnownFault t.trace f → IsNamedFault t.names f
-known_fault t Null is known = tt
-known_fault t Foreign is known = tt
 known_fault t (NotSharer s) is known = omega (arith, known, is.shared_named)
-known_fault t NoField is known = tt
-known_fault t WrongKind is known = tt
-known_fault t Frozen is known = tt
-known_fault t Segv is known = tt
 known_fault t (NotPopulating s) is known = omega (arith, known, is.shared_named)
 known_fault t (NotFrozen s) is known = omega (arith, known, is.shared_named)
 known_fault t (Taken s) is known = omega (arith, known, is.shared_named)
 known_fault t (LimitFull m) is known = omega (arith, known, is.limits_named)
-known_fault t KernelFull is known = tt
+known_fault t (ProcNotBelow q) is known = omega (arith, known, is.procs_named)
+known_fault t (LimitNotBelow m) is known = omega (arith, known, is.limits_named)
+known_fault t (InUse m) is known = omega (arith, known, is.limits_named)
+known_fault t _ is known = tt
 
 known_reply : (t : NamedTrace) (op : Op) (reply : Reply) → IsTrace t → IsKnownReply t.trace reply → IsReplyInRange op reply → IsSpelledReply t.names op reply
 known_reply t op DoneReply is known ranged = tt

@@ -3,7 +3,7 @@ use Rattle.std.proofs.Common.{◌≡◌, ◌∙◌, ℕ, ◌<◌, ◌^◌, Bool,
 use Rattle.std.specs.List.{list_all, list_any}
 use Rattle.std.specs.Str.{bytes_eq}
 use Rattle.k_types.specs.declared.op.Op.{Op}
-use Rattle.k_types.specs.declared.op.Op.TheVariants.{New, KNew, SNew, Store, Load, Move, Clear, Dir, Put, Get, Collect, KCollect, Share, Freeze, Attach, Exit}
+use Rattle.k_types.specs.declared.op.Op.TheVariants.{New, KNew, SNew, Store, Load, Move, Clear, Dir, Put, Get, Collect, KCollect, Share, Freeze, Attach, Exit, Kill, Resize}
 use Rattle.k_words.specs.Words.{Text, word_at}
 use Rattle.k_words.specs.Numbers.{register_word}
 use Rattle.k_words.specs.Names.{is_name, declares}
@@ -20,7 +20,7 @@ use Rattle.k_history.proofs.SpelledWords.{name_is_not, decimal_is_not}
 abbrev pub verbs : List Text
 verbs =
     codes "new" ∷ codes "knew" ∷ codes "snew" ∷ codes "store" ∷ codes "load" ∷ codes "move" ∷ codes "drop" ∷ codes "dir" ∷ codes "put" ∷ codes "get"
-    ∷ codes "collect" ∷ codes "kcollect" ∷ codes "share" ∷ codes "freeze" ∷ codes "attach" ∷ codes "exit" ∷ []
+    ∷ codes "collect" ∷ codes "kcollect" ∷ codes "share" ∷ codes "freeze" ∷ codes "attach" ∷ codes "exit" ∷ codes "kill" ∷ codes "resize" ∷ []
 
 -- The test passes verbs, registers, numbers and names.
 pub record PassesWords (p : Text → Bool) : Type 0 where
@@ -40,6 +40,12 @@ all_at p (v ∷ ws) w h d = all_cons p v w ws (bytes_eq w v) refl h (all_at p ws
 
 type_at : (p : Text → Bool) (names : DeclaredNames) (i : ℕ) → PassesWords p → AreProper names → i < length names.types → p (word_at names.types i) ≡ true
 type_at p names i h proper lt = h.name (word_at names.types i) (proper.types.each i lt)
+
+limit_at : (p : Text → Bool) (names : DeclaredNames) (i : ℕ) → PassesWords p → AreProper names → i < length names.limits → p (word_at names.limits i) ≡ true
+limit_at p names i h proper lt = h.name (word_at names.limits i) (proper.limits.each i lt)
+
+proc_at : (p : Text → Bool) (names : DeclaredNames) (i : ℕ) → PassesWords p → AreProper names → i < length names.procs → p (word_at names.procs i) ≡ true
+proc_at p names i h proper lt = h.name (word_at names.procs i) ((AreNames_front names.procs names.shared proper.heaps).each i lt)
 
 shared_at : (p : Text → Bool) (names : DeclaredNames) (i : ℕ) → PassesWords p → AreProper names → i < length names.shared → p (word_at names.shared i) ≡ true
 shared_at p names i h proper lt = h.name (word_at names.shared i) ((AreNames_back names.procs names.shared proper.heaps).each i lt)
@@ -65,6 +71,8 @@ op_words_pass p names (Share q) h proper s = rw (all_at p verbs (codes "share") 
 op_words_pass p names (Freeze q root) h proper s = rw (all_at p verbs (codes "freeze") h.verb refl, shared_at p names q.0 h proper s.0, h.register root.0 s.1) refl
 op_words_pass p names (Attach r q) h proper s = rw (all_at p verbs (codes "attach") h.verb refl, h.register r.0 s.0, shared_at p names q.0 h proper s.1) refl
 op_words_pass p names Exit h proper s = rw (all_at p verbs (codes "exit") h.verb refl) refl
+op_words_pass p names (Kill q) h proper s = rw (all_at p verbs (codes "kill") h.verb refl, proc_at p names q.0 h proper s) refl
+op_words_pass p names (Resize m max) h proper s = rw (all_at p verbs (codes "resize") h.verb refl, limit_at p names m.0 h proper s.0, h.number max (omega (arith, s.1))) refl
 
 -- ---- no equals sign
 

@@ -19,7 +19,7 @@ use Rattle.k_words.proofs.Again.{number_of-at, declares-at, value-decimal, is_be
 use Rattle.k_trace.specs.Named.{DeclaredNames}
 use Rattle.k_trace.specs.Numbered.{shared_named}
 use Rattle.k_trace.specs.Spelling.{op_words}
-use Rattle.k_trace.specs.Forms.{op_of, register_op, bare_op, sharing_op}
+use Rattle.k_trace.specs.Forms.{op_of, register_op, bare_op, sharing_op, governing_op}
 use Rattle.k_trace.proofs.OpForms.{one, two, number_below}
 use Rattle.k_trace.proofs.Pushed.{AreNames_front}
 use Rattle.k_text.specs.EventLines.{event_words, reply_words}
@@ -77,7 +77,7 @@ read_closing names ws e is h =
 
 -- There is a word at least before an operation's words.
 no_words : (names : DeclaredNames) (op : Op) → op_of names [] ≡ Ok op → ⊥
-unfolding op_of register_op bare_op sharing_op
+unfolding op_of register_op bare_op sharing_op governing_op
 no_words names op e = absurd cc
 
 -- The words behind the first are read as the operation.

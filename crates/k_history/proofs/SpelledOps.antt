@@ -3,9 +3,12 @@ use Rattle.std.proofs.Common.{◌≡◌, ◌<◌, ◌^◌, true, ◌&&◌, ltb, 
 use Rattle.std.proofs.lemmas.Bool.{ltb-true, lt-ltb}
 use Rattle.std.proofs.lemmas.List.{length-map}
 use Rattle.k_types.specs.declared.names.TypeId.{TypeId}
+use Rattle.k_types.specs.declared.names.LimitId.{LimitId}
+use Rattle.k_types.specs.declared.names.Pid.{Pid}
 use Rattle.k_types.specs.declared.names.SharedId.{SharedId}
+use Rattle.k_types.specs.Trace.{no_row}
 use Rattle.k_types.specs.declared.op.Op.{Op}
-use Rattle.k_types.specs.declared.op.Op.TheVariants.{New, KNew, SNew, Store, Load, Move, Clear, Dir, Put, Get, Collect, KCollect, Share, Freeze, Attach, Exit}
+use Rattle.k_types.specs.declared.op.Op.TheVariants.{New, KNew, SNew, Store, Load, Move, Clear, Dir, Put, Get, Collect, KCollect, Share, Freeze, Attach, Exit, Kill, Resize}
 use Rattle.k_types.specs.Steps.{in_range}
 use Rattle.k_types.specs.TraceRules.{is_spelled}
 use Rattle.k_words.specs.Words.{Text}
@@ -15,12 +18,19 @@ use Rattle.k_trace.specs.Named.{DeclaredNames, NamedTrace}
 use Rattle.k_trace.specs.Spelling.{op_words}
 use Rattle.k_trace.specs.Forms.{op_of}
 use Rattle.k_trace.proofs.OpForms.{AreNamed, op_found}
-use Rattle.k_trace.proofs.OpAgain.{type_below, shared_below, op_again}
+use Rattle.k_trace.proofs.OpAgain.{type_below, limit_below, proc_below, shared_below, op_again}
+use Rattle.k_trace.proofs.Pushed.{AreNames_front}
 use Rattle.k_trace.proofs.Tidy.{AreNames_back}
 use Rattle.k_history.specs.Spelled.{AreProper, IsSpelledOp}
 
 type_in : (t : NamedTrace) (ty : TypeId) → AreNamed t → ty.0 < length t.names.types → ltb ty.0 (length t.trace.types) ≡ true
 type_in t ty named h = lt-ltb _ _ (rw (← named.types) h)
+
+limit_in : (t : NamedTrace) (m : LimitId) → AreNamed t → m.0 < length t.names.limits → ltb m.0 (length t.trace.limits) ≡ true
+limit_in t m named h = lt-ltb _ _ (rw (← named.limits) h)
+
+proc_in : (t : NamedTrace) (q : Pid) → AreNamed t → q.0 < length t.names.procs → ltb q.0 (length t.trace.procs) ≡ true
+proc_in t q named h = lt-ltb _ _ (rw (← named.procs) h)
 
 shared_in : (t : NamedTrace) (s : SharedId) → AreNamed t → s.0 < length t.names.shared → ltb s.0 t.trace.shared_heaps ≡ true
 shared_in t s named h = lt-ltb _ _ (rw (← named.shared) h)
@@ -47,6 +57,8 @@ spelled_op t (Attach r s) named h k = let p = both (ltb r.0 16) (ltb s.0 t.trace
 spelled_op t Collect named h k = tt
 spelled_op t KCollect named h k = tt
 spelled_op t Exit named h k = tt
+spelled_op t (Kill q) named h k = proc_below t q named h
+spelled_op t (Resize m max) named h k = let p = both (ltb m.0 (length t.trace.limits)) (ltb max (2 ^ 40)) h in (limit_below t m named p.0, ltb-true _ _ p.1)
 
 -- The operation is one of the trace.
 record IsIn (t : NamedTrace) (op : Op) : Type 0 where
@@ -71,16 +83,23 @@ op_in t (Attach r s) named h = record { ranged = both_are _ _ (lt-ltb _ _ h.0) (
 op_in t Collect named h = record { ranged = refl; spelled = refl }
 op_in t KCollect named h = record { ranged = refl; spelled = refl }
 op_in t Exit named h = record { ranged = refl; spelled = refl }
+op_in t (Kill q) named h = record { ranged = proc_in t q named h; spelled = refl }
+op_in t (Resize m max) named h = record { ranged = both_are _ _ (limit_in t m named h.0) (lt-ltb _ _ h.1); spelled = lt-ltb _ _ h.1 }
 
 -- A trace that declares as much as there are names.
 abbrev declared : DeclaredNames → NamedTrace
 declared names = record {
   names = names;
-  trace = record { version = 1; ceiling = 0; dir_fields = 0; types = map (λ w. []) names.types; limits = []; procs = []; shared_heaps = length names.shared; operations = []; order = [] };
+  trace = record { version = 2; ceiling = 0; dir_fields = 0; types = map (λ w. []) names.types; limits = map (λ w. no_row) names.limits; procs = map (λ w. record { 0 = 0 }) names.procs; shared_heaps = length names.shared; operations = []; order = [] };
 }
 
 all_named : (names : DeclaredNames) → AreNamed (declared names)
-all_named names = record { types = sym (length-map names.types (λ w. [])); shared = refl }
+all_named names = record {
+  types = sym (length-map names.types (λ w. []));
+  limits = sym (length-map names.limits (λ w. no_row));
+  procs = sym (length-map names.procs (λ w. let first : LimitId = record { 0 = 0 } in first));
+  shared = refl;
+}
 
 -- Words that are read as an operation spell it.
 pub read_op_words : (names : DeclaredNames) (ws : List Text) (op : Op) → op_of names ws ≡ Ok op → IsSpelledOp names op × (op_words names op ≡ ws)
@@ -92,4 +111,9 @@ read_op_words names ws op e =
 pub op_words_read : (names : DeclaredNames) (op : Op) → AreProper names → IsSpelledOp names op → op_of names (op_words names op) ≡ Ok op
 op_words_read names op proper h =
     let i = op_in (declared names) op (all_named names) h in
-    op_again (declared names) op (all_named names) (record { types = proper.types.apart; shared = (AreNames_back names.procs names.shared proper.heaps).apart }) i.ranged i.spelled
+    op_again (declared names) op (all_named names) (record {
+      types = proper.types.apart;
+      limits = proper.limits.apart;
+      procs = (AreNames_front names.procs names.shared proper.heaps).apart;
+      shared = (AreNames_back names.procs names.shared proper.heaps).apart;
+    }) i.ranged i.spelled

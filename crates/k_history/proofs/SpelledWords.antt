@@ -160,7 +160,7 @@ heap_word_read names (Shared s) proper lt =
 abbrev SpellsHeap : DeclaredNames → Text → Heap → Type 0
 SpellsHeap names w h = IsNamedHeap names h × (heap_word names h ≡ w)
 
-read_proc : (names : DeclaredNames) (w : Text) (p : Pid) → proc_named names w ≡ Some p → (p.0 < length names.procs) × (word_at names.procs p.0 ≡ w)
+pub read_proc : (names : DeclaredNames) (w : Text) (p : Pid) → proc_named names w ≡ Some p → (p.0 < length names.procs) × (word_at names.procs p.0 ≡ w)
 read_proc names w p e =
     let is = some_if (declares names.procs w) p (record { 0 = number_of names.procs w }) (sym e) in
     rw is.1 (number_below names.procs w is.0, name_at names.procs w is.0)

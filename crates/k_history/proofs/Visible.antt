@@ -8,7 +8,7 @@ use Rattle.k_types.specs.declared.names.Heap.{Heap}
 use Rattle.k_types.specs.declared.names.Heap.TheVariants.{Kernel, User, Shared}
 use Rattle.k_types.specs.declared.op.Op.{Op}
 use Rattle.k_types.specs.declared.event.Fault.{Fault}
-use Rattle.k_types.specs.declared.event.Fault.TheVariants.{Null, Foreign, NotSharer, NoField, WrongKind, Frozen, Segv, NotPopulating, NotFrozen, Taken, LimitFull, KernelFull}
+use Rattle.k_types.specs.declared.event.Fault.TheVariants.{Null, Foreign, NotSharer, NoField, WrongKind, Frozen, Segv, NotPopulating, NotFrozen, Taken, LimitFull, KernelFull, ProcNotBelow, LimitNotBelow, InUse}
 use Rattle.k_types.specs.declared.event.Reply.{Reply}
 use Rattle.k_types.specs.declared.event.Reply.TheVariants.{Done as DoneReply, Made, Loaded, Value, Refused}
 use Rattle.k_types.specs.declared.event.Event.{Event}
@@ -55,6 +55,9 @@ object_plain names n proper h =
 proc_plain : (names : DeclaredNames) (p : ℕ) → AreProper names → p < length names.procs → is_plain (word_at names.procs p) ≡ true
 proc_plain names p proper lt = plain_words.name (word_at names.procs p) ((AreNames_front names.procs names.shared proper.heaps).each p lt)
 
+limit_plain : (names : DeclaredNames) (m : ℕ) → AreProper names → m < length names.limits → is_plain (word_at names.limits m) ≡ true
+limit_plain names m proper lt = plain_words.name (word_at names.limits m) (proper.limits.each m lt)
+
 shared_plain : (names : DeclaredNames) (s : ℕ) → AreProper names → s < length names.shared → is_plain (word_at names.shared s) ≡ true
 shared_plain names s proper lt = plain_words.name (word_at names.shared s) ((AreNames_back names.procs names.shared proper.heaps).each s lt)
 
@@ -75,8 +78,11 @@ fault_plain names Segv proper h = refl
 fault_plain names (NotPopulating s) proper h = rw (shared_plain names s.0 proper h) refl
 fault_plain names (NotFrozen s) proper h = rw (shared_plain names s.0 proper h) refl
 fault_plain names (Taken s) proper h = rw (shared_plain names s.0 proper h) refl
-fault_plain names (LimitFull m) proper h = rw (plain_words.name (word_at names.limits m.0) (proper.limits.each m.0 h)) refl
+fault_plain names (LimitFull m) proper h = rw (limit_plain names m.0 proper h) refl
 fault_plain names KernelFull proper h = refl
+fault_plain names (ProcNotBelow q) proper h = rw (proc_plain names q.0 proper h) refl
+fault_plain names (LimitNotBelow m) proper h = rw (limit_plain names m.0 proper h) refl
+fault_plain names (InUse m) proper h = rw (limit_plain names m.0 proper h) refl
 
 reply_plain : (names : DeclaredNames) (op : Op) (reply : Reply) → AreProper names → IsSpelledReply names op reply → list_all is_plain (reply_words names reply) ≡ true
 unfolding reply_words

@@ -7,7 +7,7 @@ use Rattle.k_types.specs.declared.names.Heap.{Heap}
 use Rattle.k_types.specs.declared.names.Heap.TheVariants.{Kernel, User, Shared}
 use Rattle.k_types.specs.declared.op.Op.{Op}
 use Rattle.k_types.specs.declared.event.Fault.{Fault}
-use Rattle.k_types.specs.declared.event.Fault.TheVariants.{Null, Foreign, NotSharer, NoField, WrongKind, Frozen, Segv, NotPopulating, NotFrozen, Taken, LimitFull, KernelFull}
+use Rattle.k_types.specs.declared.event.Fault.TheVariants.{Null, Foreign, NotSharer, NoField, WrongKind, Frozen, Segv, NotPopulating, NotFrozen, Taken, LimitFull, KernelFull, ProcNotBelow, LimitNotBelow, InUse}
 use Rattle.k_types.specs.declared.event.Reply.{Reply}
 use Rattle.k_types.specs.declared.event.Reply.TheVariants.{Done as DoneReply, Made, Loaded, Value, Refused}
 use Rattle.k_types.specs.declared.event.Event.{Event}
@@ -59,7 +59,7 @@ bare_fault w =
     else if bytes_eq w (codes "KernelFull") then Some KernelFull
     else None
 
--- The fault that a word says of what has that name, a limit or a shared heap.
+-- The fault that a word says of what has that name, a limit, a shared heap or a process.
 unfoldable pub fault_at : DeclaredNames → Text → Text → Option Fault
 fault_at names w name =
     if bytes_eq w (codes "LimitFull") then option_map LimitFull (limit_named names name)
@@ -67,6 +67,9 @@ fault_at names w name =
     else if bytes_eq w (codes "NotPopulating") then option_map NotPopulating (shared_named names name)
     else if bytes_eq w (codes "NotFrozen") then option_map NotFrozen (shared_named names name)
     else if bytes_eq w (codes "Taken") then option_map Taken (shared_named names name)
+    else if bytes_eq w (codes "ProcNotBelow") then option_map ProcNotBelow (proc_named names name)
+    else if bytes_eq w (codes "LimitNotBelow") then option_map LimitNotBelow (limit_named names name)
+    else if bytes_eq w (codes "InUse") then option_map InUse (limit_named names name)
     else None
 
 -- The fault that the words are.

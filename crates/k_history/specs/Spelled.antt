@@ -2,7 +2,7 @@
 use Rattle.std.specs.Prelude.{◌<◌, ◌^◌, ◌++◌, Bool, true, false, IsTrue, IsFalse, length, Some, None}
 use Rattle.k_types.specs.declared.names.Name.{Name}
 use Rattle.k_types.specs.declared.op.Op.{Op}
-use Rattle.k_types.specs.declared.op.Op.TheVariants.{New, KNew, SNew, Store, Load, Move, Clear, Dir, Put, Get, Collect, KCollect, Share, Freeze, Attach, Exit}
+use Rattle.k_types.specs.declared.op.Op.TheVariants.{New, KNew, SNew, Store, Load, Move, Clear, Dir, Put, Get, Collect, KCollect, Share, Freeze, Attach, Exit, Kill, Resize}
 use Rattle.k_types.specs.declared.event.Reply.{Reply}
 use Rattle.k_types.specs.declared.event.Reply.TheVariants.{Done as DoneReply, Made, Loaded, Value, Refused}
 use Rattle.k_types.specs.declared.event.Event.{Event}
@@ -18,7 +18,7 @@ pub record AreProper (names : DeclaredNames) : Type 0 where
   pub limits : AreNames names.limits
   pub heaps : AreNames (names.procs ++ names.shared)
 
--- The registers, fields and numbers of the operation are in range, and its types and shared heaps have names.
+-- The registers, fields and numbers of the operation are in range, and what it names has a name.
 abbrev pub IsSpelledOp : DeclaredNames → Op → Type 0
 IsSpelledOp names (New r ty) = (r.0 < 16) × (ty.0 < length names.types)
 IsSpelledOp names (KNew r ty) = (r.0 < 16) × (ty.0 < length names.types)
@@ -36,6 +36,8 @@ IsSpelledOp names (Attach r s) = (r.0 < 16) × (s.0 < length names.shared)
 IsSpelledOp names Collect = Unit {0}
 IsSpelledOp names KCollect = Unit {0}
 IsSpelledOp names Exit = Unit {0}
+IsSpelledOp names (Kill q) = q.0 < length names.procs
+IsSpelledOp names (Resize m max) = (m.0 < length names.limits) × (max < 2 ^ 40)
 
 -- The name lies in a segment that has a name, and its serial is below 2^32.
 abbrev pub IsSpelledName : DeclaredNames → Name → Type 0

@@ -7,9 +7,9 @@ use Rattle.k_types.specs.declared.names.TypeId.{TypeId}
 use Rattle.k_types.specs.declared.names.SharedId.{SharedId}
 use Rattle.k_types.specs.declared.names.Heap.TheVariants.{Kernel, User, Shared}
 use Rattle.k_types.specs.declared.op.Op.{Op}
-use Rattle.k_types.specs.declared.op.Op.TheVariants.{New, KNew, SNew, Load, Move, Get, Share, Exit}
+use Rattle.k_types.specs.declared.op.Op.TheVariants.{New, KNew, SNew, Load, Move, Get, Share, Exit, Kill, Resize}
 use Rattle.k_types.specs.declared.event.Fault.{Fault}
-use Rattle.k_types.specs.declared.event.Fault.TheVariants.{Null, Foreign, NotSharer, NoField, WrongKind, Frozen, Segv, NotPopulating, NotFrozen, Taken, LimitFull, KernelFull}
+use Rattle.k_types.specs.declared.event.Fault.TheVariants.{Null, Foreign, NotSharer, NoField, WrongKind, Frozen, Segv, NotPopulating, NotFrozen, Taken, LimitFull, KernelFull, ProcNotBelow, LimitNotBelow, InUse}
 use Rattle.k_types.specs.declared.event.Reply.{Reply}
 use Rattle.k_types.specs.declared.event.Reply.TheVariants.{Done as DoneReply, Made, Loaded, Value, Refused}
 use Rattle.k_types.specs.declared.event.Event.{Event}
@@ -62,6 +62,8 @@ pub record NamesAreRead : Type 0 where
   pub any_reply : read (codes "p1 exit = s.1") ≡ of_first Exit (Loaded (Some (name 3 1)))
   pub number : read (codes "p1 get r1 2 = 18446744073709551615") ≡ of_first (Get (r 1) 2) (Value 18446744073709551615)
   pub ok : read (codes "p1 move r1 r2 = ok") ≡ of_first (Move (r 1) (r 2)) DoneReply
+  pub process : read (codes "p1 kill p2 = ok") ≡ of_first (Kill (record { 0 = 1 })) DoneReply
+  pub limit : read (codes "p1 resize a 1099511627775 = ok") ≡ of_first (Resize (record { 0 = 1 }) 1099511627775) DoneReply
 
 -- Each fault, and what it names.
 pub record FaultsAreRead : Type 0 where
@@ -77,6 +79,9 @@ pub record FaultsAreRead : Type 0 where
   pub taken : read (codes "p2 load r0 r1 2 = fault Taken s") ≡ refused (Taken s)
   pub limit_full : read (codes "p2 load r0 r1 2 = fault LimitFull a") ≡ refused (LimitFull (record { 0 = 1 }))
   pub kernel_full : read (codes "p2 load r0 r1 2 = fault KernelFull") ≡ refused KernelFull
+  pub proc_not_below : read (codes "p2 load r0 r1 2 = fault ProcNotBelow p1") ≡ refused (ProcNotBelow (record { 0 = 0 }))
+  pub limit_not_below : read (codes "p2 load r0 r1 2 = fault LimitNotBelow root") ≡ refused (LimitNotBelow (record { 0 = 0 }))
+  pub in_use : read (codes "p2 load r0 r1 2 = fault InUse a") ≡ refused (InUse (record { 0 = 1 }))
 
 -- The events that are no operation. A collection's end takes the name of any heap.
 pub record OtherEventsAreRead : Type 0 where
@@ -99,6 +104,9 @@ pub record OtherLinesAreNone : Type 0 where
   pub no_serial : read (codes "p1 new r0 Node = p1.") ≡ None
   pub no_segment : read (codes "p1 new r0 Node = a.1") ≡ None
   pub great_number : read (codes "p1 get r1 2 = 18446744073709551616") ≡ None
+  pub great_maximum : read (codes "p1 resize a 1099511627776 = ok") ≡ None
+  pub no_such_limit : read (codes "p1 resize p2 0 = ok") ≡ None
+  pub no_such_process : read (codes "p1 kill s = ok") ≡ None
   pub no_fault : read (codes "p1 exit = fault") ≡ None
   pub no_such_fault : read (codes "p1 exit = fault Busy") ≡ None
   pub fault_without_name : read (codes "p1 exit = fault Taken") ≡ None

@@ -36,7 +36,7 @@ fn bare_fault(word: &[u8]) -> Option<Fault>
     None
 }
 
-/// The fault that a word says of the limit or the shared heap of that name.
+/// The fault that a word says of the limit, the shared heap or the process of that name.
 #[tactic(auto, unfolding(crate::specs::Reading::fault_at))]
 fn fault_at(names: &Names, word: &[u8], name: &[u8]) -> Option<Fault>
     ensures { result ≡ fault_at names.now word.now name.now }
@@ -55,6 +55,15 @@ fn fault_at(names: &Names, word: &[u8], name: &[u8]) -> Option<Fault>
     }
     if is(word, b"Taken") {
         return Some(Fault::Taken(names.shared_named(name)?));
+    }
+    if is(word, b"ProcNotBelow") {
+        return Some(Fault::ProcNotBelow(names.proc_named(name)?));
+    }
+    if is(word, b"LimitNotBelow") {
+        return Some(Fault::LimitNotBelow(names.limit_named(name)?));
+    }
+    if is(word, b"InUse") {
+        return Some(Fault::InUse(names.limit_named(name)?));
     }
     None
 }

@@ -1,10 +1,11 @@
 -- A host of which one process, one shared heap or the kernel has changed serves still.
-use Rattle.std.proofs.Common.{◌≡◌, ℕ, refl, sym, ap, ◌∙◌, subst, List, Option, Some, None, slice_get, slice_set, IfNone, IfSome, Result, Ok, Err, IfErr, OnErr, OnOk}
+use Rattle.std.proofs.Common.{◌≡◌, ◌<◌, ℕ, refl, sym, ap, ◌∙◌, subst, List, length, replicate, Option, Some, None, slice_get, slice_set, IfNone, IfSome, Result, Ok, Err, IfErr, OnErr, OnOk}
 use Rattle.std.specs.Prelude.{IfOk}
 use Rattle.k_types.specs.declared.event.Event.{Event}
 use Rattle.k_types.specs.declared.event.Reply.{Reply}
 use Rattle.k_types.specs.declared.op.Op.{Op}
 use Rattle.k_types.specs.declared.names.Pid.{Pid}
+use Rattle.k_base.proofs.Maxima.{length_in}
 use Rattle.k_book.specs.Books.{BookRecord}
 use Rattle.k_cell.specs.Holdings.{HoldingsValue}
 use Rattle.k_shared.specs.SharedHeaps.{SharedRecord}
@@ -100,6 +101,11 @@ module _ (basis : Basis) (gs : List Guest) (k : HoldingsValue) (ss : List Shared
     host_is = ap (λ n. host_of basis (slice_set gs n h) x ts l) same;
     way = done;
   }
+
+-- a limit of the setup is one of the book's
+pub limit_there : (basis : Basis) (b : BookRecord) → BookServes basis b → (m : ℕ) → m < length basis.trace.limits → m < length b.rows
+limit_there basis b serves m inside =
+    subst (λ n. m < n) (sym (ap length serves.stands.of_trace.rows ∙ length_in basis.trace.limits (replicate (length basis.trace.limits) 0))) inside
 
 -- whatever a call on a process alone answers
 module _ (basis : Basis) (g h : Guest) (b : BookRecord) (guest : GuestServes basis b.journal.table g) (book : BookServes basis b) where

@@ -3,3 +3,6 @@ pub mod Hosts
 pub mod Refused
 pub mod Opened
 pub mod Twined
+pub mod Killed
+pub mod Split
+pub mod KilledIn

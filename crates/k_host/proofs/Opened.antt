@@ -7,7 +7,7 @@ use Rattle.k_types.specs.declared.names.TypeId.{TypeId}
 use Rattle.k_types.specs.declared.op.Op.{Op}
 use Rattle.k_types.specs.declared.setup.Setup.{Setup}
 use Rattle.k_types.specs.Trace.{operations_of, trace_of}
-use Rattle.k_types.specs.TraceRules.{EndsWithExit, KeepsRules, is_spelled}
+use Rattle.k_types.specs.TraceRules.{EndsWithExit, KeepsRules, is_of_version, is_spelled}
 use Rattle.k_types.specs.Steps.{in_range}
 use Rattle.std.specs.List.{list_all}
 use Rattle.k_frame.proofs.Sizes.{get_or-same}
@@ -55,6 +55,7 @@ module _ (setup : Setup) where
       each = length-replicate (length setup.procs.items) [];
       in_range = λ p known. subst (λ ops. IsTrue (list_all (in_range (open_trace setup)) ops)) (sym (nothing p known)) refl;
       spelled = λ p known. subst (λ ops. IsTrue (list_all is_spelled ops)) (sym (nothing p known)) refl;
+      of_version = λ p known. subst (λ ops. IsTrue (list_all (is_of_version setup.version) ops)) (sym (nothing p known)) refl;
       ends = λ p known. subst EndsWithExit (sym (nothing p known)) none_ends;
       ordered = refl;
       counted = λ p known. ap length (sym (nothing p known));

@@ -1,10 +1,11 @@
 -- What the calls on a host leave of it.
-use Rattle.std.specs.Prelude.{◌≡◌, IsFalse, IsTrue, Some, slice_get, slice_set}
+use Rattle.std.specs.Prelude.{◌≡◌, ◌⊎◌, IsFalse, IsTrue, Some, slice_get, slice_set}
 use Rattle.k_types.specs.declared.event.Event.{Event}
 use Rattle.k_types.specs.declared.event.Reply.{Reply}
 use Rattle.k_types.specs.declared.names.Pid.{Pid}
 use Rattle.k_types.specs.declared.names.SharedId.{SharedId}
 use Rattle.k_types.specs.declared.op.Op.{Op}
+use Rattle.k_types.specs.declared.op.Op.TheVariants.{Kill}
 use Rattle.k_book.specs.Books.{BookRecord}
 use Rattle.k_cell.specs.Holdings.{HoldingsValue}
 use Rattle.k_moves.specs.Shown.{idle_part}
@@ -12,6 +13,7 @@ use Rattle.k_shared.specs.SharedHeaps.{SharedRecord}
 use Rattle.k_squares.specs.Locals.{is_local_in}
 use Rattle.k_guests.specs.declared.guest.Guest.{Guest}
 use Rattle.k_ends.specs.Collecting.{HasAbsorbedNow, HasBegun, HasBegunKernel, HasEnded, HasExitedNow, HasMarkedGuest, HasMarkedKernel, HasSettled, HasSettledKernel, KernelHasEnded}
+use Rattle.k_ends.specs.Killing.{HasKilledNow}
 use Rattle.k_ends.specs.Whole.{HasCollected, HasCollectedKernel}
 use Rattle.k_calls.specs.Doing.{HasDoneInside, HasOperated, HasPublishedAll}
 use Rattle.k_host.specs.Hosts.{HostValue}
@@ -33,6 +35,25 @@ pub record HasOperatedAs (old new : HostValue) (pid : Pid) (op : Op) (event : Ev
   pub named : before.cell.pid ≡ pid
   pub host_is : new ≡ record old { guests = slice_set old.guests pid.0 after; kernel = new.kernel; shared = new.shared; book = new.book }
   pub way : HasOperated old.basis op before after old.kernel new.kernel old.shared new.shared old.book new.book event
+
+-- the process of that number killed another one, which has ended, and nothing else has changed than the two, the kernel and the book
+pub record HasKilledIn (old new : HostValue) (pid : Pid) (op : Op) (event : Event) : Type 0 where
+  pub target : Pid
+  pub before : Guest
+  pub after : Guest
+  pub target_before : Guest
+  pub target_after : Guest
+  pub there : slice_get old.guests pid.0 ≡ Some before
+  pub named : before.cell.pid ≡ pid
+  pub target_there : slice_get old.guests target.0 ≡ Some target_before
+  pub target_named : target_before.cell.pid ≡ target
+  pub asks : op ≡ Kill target
+  pub host_is : new ≡ record old { guests = slice_set (slice_set old.guests pid.0 after) target.0 target_after; kernel = new.kernel; book = new.book }
+  pub way : HasKilledNow old.basis op before after target_before target_after new.kernel old.book new.book event
+
+-- the process of that number did the operation, by which it may have ended another one
+abbrev pub HasOperatedIn : HostValue → HostValue → Pid → Op → Event → Type 0
+HasOperatedIn old new pid op event = HasOperatedAs old new pid op event ⊎ HasKilledIn old new pid op event
 
 -- the process did the operation inside its heap, with that reply, and nothing else has changed
 abbrev pub HasDoneInsideIn : HostValue → HostValue → Pid → Op → Reply → Type 0

@@ -69,7 +69,7 @@ impl Host {
 
     /// The most bytes that may be in use at the limit; `None` where there is no such limit. Constant time.
     pub fn max_of(&self, limit: LimitId) -> Option<u64>
-        ensures { IfSome result (λ n. n ≡ max_of self.now.book.rows limit.0) }
+        ensures { IfSome result (λ n. n ≡ max_of (book_limits self.now.book).rows limit.0) }
     {
         if limit.0 as usize >= self.terms.setup.limits.len() {
             return None;

@@ -3,13 +3,13 @@ ghost use Rattle.std.specs.Prelude.{◌≡◌, IfErr, IfOk, OnErr, OnOk};
 ghost use Rattle.k_types.specs.TraceRules.{KeepsRules};
 ghost use Rattle.k_guests.specs.Making.{AreFit};
 ghost use Rattle.k_guests.specs.Serving.{basis_of, open_trace};
-ghost use Rattle.k_calls.specs.Refusals.{CanNotOperate};
-ghost use Rattle.k_host.specs.Calls.{HasOperatedAs};
+ghost use Rattle.k_host.specs.Calls.{HasOperatedIn};
 ghost use Rattle.k_host.specs.Hosts.{IsFresh};
 ghost use Rattle.k_host.specs.Opening.{HasRead, IsNotMade, IsNotRead};
-ghost use Rattle.k_host.specs.Refusals.{MayRefuse};
+ghost use Rattle.k_host.specs.Refusals.{CanNotOperateIn, MayRefuse};
 
 use crate::errors::OpenError;
+use crate::killing::{kill_among, killed};
 use crate::places::place_of;
 use k_book::Book;
 use k_calls::{HostError, operate_with};
@@ -107,19 +107,31 @@ impl Host {
         }
     }
 
-    /// Does the operation of the process, inside its heap where it needs that heap alone, and answers its event.
+    /// Does the operation of the process, inside its heap where it needs that heap alone, and answers its event. Where it is a `kill` that
+    /// ends another process, what both did inside their heaps is published first, the own before the target's.
     ///
     /// # Errors
     ///
     /// Each changes nothing: `Unknown`, `OwnCall`, `Ended` and `NoBody` as they say, `Phase` where a collection is open of the process's
-    /// heap, or of the kernel's where the operation touches that, and `Full` where the journal has no room for what is unpublished and
-    /// one event more, or the tables of a heap that is touched may have none for what the operation adds.
+    /// heap, or of the kernel's or a killed process's where the operation touches that, and `Full` where the journal has no room for what
+    /// is unpublished and one event more, or the tables of a heap that is touched may have none for what the operation adds.
     pub fn operate(&mut self, pid: Pid, op: &Op) -> Result<Event, HostError>
-        ensures done { IfOk result (λ event. HasOperatedAs self.old self.new pid op.now event) }
+        ensures done { IfOk result (λ event. HasOperatedIn self.old self.new pid op.now event) }
         ensures same { OnErr result (self.new ≡ self.old) }
-        ensures why { IfErr result (λ why. MayRefuse self.old pid (CanNotOperate self.old.basis self.old.kernel self.old.shared self.old.book op.now) why) }
+        ensures why { IfErr result (λ why. MayRefuse self.old pid (CanNotOperateIn self.old op.now) why) }
     {
         let at = place_of(&self.guests, pid)?;
+        if let Some(target) = killed(&self.guests, pid, op) {
+            return kill_among(
+                &self.terms,
+                &mut self.guests,
+                at,
+                target,
+                &mut self.kernel,
+                &mut self.book,
+                op,
+            );
+        }
         let guest = &mut self.guests[at];
         operate_with(
             &self.terms,

@@ -2,7 +2,7 @@
 //!
 //! A [`Host`] has the cells and the book of a setup, with a guest for each process. What a process does is made up as it goes:
 //! [`Host::operate`] does an operation inside the process's heap where it needs that heap alone, and else publishes and calls the
-//! step of the cells that it touches. Collections begin, are marked and end by calls of their own. What a step asks beyond what the host
+//! step of the cells that it touches. A `kill` may end another process. Collections begin, are marked and end by calls of their own. What a step asks beyond what the host
 //! keeps, such as room in the journal, is tested when it is called: a test that fails is an error, which names what is lacking, and
 //! nothing has changed.
 //!
@@ -13,6 +13,7 @@ mod asking;
 mod collections;
 mod errors;
 mod host;
+mod killing;
 mod looking;
 mod places;
 mod twin;

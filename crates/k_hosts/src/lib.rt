@@ -13,6 +13,8 @@ mod driving;
 #[cfg(test)]
 mod inside;
 #[cfg(test)]
+mod killing;
+#[cfg(test)]
 mod made_up;
 #[cfg(test)]
 mod opening;

@@ -1,24 +1,24 @@
 -- Which events change a charge, and by how much the end of a collection does.
-use Rattle.std.proofs.Common.{◌≡◌, ◌≢◌, ℕ, ◌+◌, ◌*◌, ◌<◌, ◌==◌, ◌&&◌, not, Bool, true, false, cond, refl, sym, ap, ap₂, ◌∙◌, inl, inr, List, [], ◌∷◌, filter, is_some, arith, eqb-true, ne_eqb, eq-eqb, IsTrue, IsFalse}
+use Rattle.std.proofs.Common.{◌≡◌, ◌≢◌, ℕ, ◌+◌, ◌*◌, ◌<◌, ◌==◌, ◌&&◌, not, Bool, true, false, cond, refl, sym, ap, ap₂, ◌∙◌, inl, inr, List, [], ◌∷◌, filter, is_some, arith, eqb-true, ne_eqb, eq-eqb, IsTrue, IsFalse, Option, Some, None}
 use Rattle.std.proofs.lemmas.Bool.{and_parts, cases_Bool, cases_eq, false≢true, false_from_ne_true, not-true, or_left, or_parts}
 use Rattle.k_types.specs.declared.names.Heap.{Heap}
 use Rattle.k_types.specs.declared.names.Heap.TheVariants.{Kernel}
 use Rattle.k_types.specs.declared.op.Op.{Op}
-use Rattle.k_types.specs.declared.op.Op.TheVariants.{Exit}
+use Rattle.k_types.specs.declared.op.Op.TheVariants.{Exit, Kill}
 use Rattle.k_types.specs.declared.event.Event.{Event}
 use Rattle.k_types.specs.declared.event.Event.TheVariants.{Done, Ended, Absorbed, Closing}
 use Rattle.k_types.specs.Names.{among, heap_eq}
 use Rattle.k_types.specs.Numbers.{numbers_below}
 use Rattle.k_types.specs.Totals.{total}
 use Rattle.k_types.specs.Trace.{Trace, limit_of, process_count}
-use Rattle.k_types.specs.TraceRules.{AreLimits, is_exit}
+use Rattle.k_types.specs.TraceRules.{AreLimits, ends_a_process}
 use Rattle.k_types.specs.State.{State, Sharing, has_share, is_scanned}
 use Rattle.k_types.specs.Owners.{bytes_by, bytes_of, charge_of, object_bytes, phase_of, shared, user}
 use Rattle.k_types.specs.Limits.{limits_in, path_of, use_of}
 use Rattle.k_types.specs.Cells.{CellPart, part}
 use Rattle.k_types.specs.Replies.{faults, first_fault}
 use Rattle.k_types.specs.Updates.{close, close_scan, count_done, keep_exits, keep_objects, keep_shares, open_scan, set_phase}
-use Rattle.k_types.specs.Effects.{after_absorbed, after_closing, after_ended, after_operation, effect, share_stays, step}
+use Rattle.k_types.specs.Effects.{after_absorbed, after_closing, after_ended, after_operation, effect, share_stays, step, after_kill, after_end_of, effect_unless}
 use Rattle.k_types.specs.Steps.{IsPossible, has_sharer, is_live}
 use Rattle.k_types.specs.Sound.{IsSound}
 use Rattle.k_laws.specs.Charges.{bytes_added, is_done_by}
@@ -30,8 +30,9 @@ use Rattle.k_laws.proofs.Charged.{operation_charges}
 use Rattle.k_laws.proofs.Ending.{other_charge}
 use Rattle.k_laws.proofs.UsesRaised.{uses_raised}
 use Rattle.k_changes.proofs.SharedSums.{shares_sum}
-use Rattle.k_kept.specs.Kept.{Credits, bytes_dropped, is_end_of}
+use Rattle.k_kept.specs.Kept.{Credits, bytes_dropped, is_end_of, is_kill_of}
 use Rattle.k_kept.proofs.EndNumbers.{numbers_are_right}
+use Rattle.k_types.specs.declared.event.Fault.{Fault}
 
 -- a sum over some shares of what is the same for every heap but one that nobody shares
 sum_apart : (f g : ℕ → ℕ) (q s : ℕ) (shares : List Sharing) → IsFalse (has_sharer shares s) → ((t : ℕ) → t ≢ s → f t ≡ g t) →
@@ -83,23 +84,36 @@ module _ (trace : Trace) (st : State) (sound : IsSound trace st) where
       (sum_apart (λ t. bytes_of trace (after_absorbed trace s st) (shared t)) (λ t. bytes_of trace st (shared t)) q s st.shares none
       (λ t ne. absorbed_bytes trace st s (shared t) (ne_eqb s t (λ same. ne (sym same))) refl))
 
-  pub charge_kept : (event : Event) (q : ℕ) → IsPossible trace st event → IsFalse (is_done_by event q) → IsFalse (is_end_of event q) → charge_of trace (step trace st event) q ≡ charge_of trace st q
+  -- the end of another process leaves the charge
+  killed_charge : (p q : ℕ) → q ≢ p → charge_of trace (after_kill trace p st) q ≡ charge_of trace st q
+  unfolding after_kill
+  killed_charge p q ne = elim (among p st.ended) as (λ b. charge_of trace (cond b st (after_end_of trace p st)) q ≡ charge_of trace st q) [
+    | true ↦ refl
+    | false ↦ other_charge trace st p q ne
+  ]
+
+  pub charge_kept : (event : Event) (q : ℕ) → IsPossible trace st event → IsFalse (is_done_by event q) → IsFalse (is_kill_of event q) → IsFalse (is_end_of event q) → charge_of trace (step trace st event) q ≡ charge_of trace st q
   unfolding step after_operation count_done after_closing close open_scan faults first_fault effect
-  charge_kept (Done pid op said) q may other own =
-      elim (cases_Bool (is_exit op)) [
-        | inl ends ↦ exits op ends
+  charge_kept (Done pid op said) q may other killed own =
+      elim (cases_Bool (ends_a_process op)) [
+        | inl ends ↦ exits op ends killed
         | inr stays ↦ operation_charges trace st pid.0 sound may.known may.lives op stays q ∙ ap (λ b. charge_of trace st q + bytes_added trace st pid.0 op * bit b) apart ∙ (omega arith)
       ]
     where
       apart : (q == pid.0) ≡ false
       apart = ne_eqb q pid.0 (λ e. false≢true (sym other ∙ eq-eqb pid.0 q (sym e)))
 
-      exits : (op : Op) → IsTrue (is_exit op) → charge_of trace (after_operation trace pid.0 op st) q ≡ charge_of trace st q
-      exits Exit t = other_charge trace st pid.0 q (λ e. false≢true (sym other ∙ eq-eqb pid.0 q (sym e)))
-      exits _ t = absurd (false≢true t)
-  charge_kept (Ended h a b c d) q may other own = ended_charge h q may.scanned own
-  charge_kept (Absorbed s) q may other own = absorbed_charge s.0 q (not-true _ (and_parts (is_live (phase_of st.phases s.0)) (not (has_sharer st.shares s.0)) may.orphan).1)
-  charge_kept Closing q may other own = refl
+      exits : (op : Op) → IsTrue (ends_a_process op) → IsFalse (is_kill_of (Done pid op said) q) → charge_of trace (after_operation trace pid.0 op st) q ≡ charge_of trace st q
+      exits Exit t apart = other_charge trace st pid.0 q (λ e. false≢true (sym other ∙ eq-eqb pid.0 q (sym e)))
+      exits (Kill target) t apart = kills (first_fault (faults trace st pid.0 (Kill target)))
+        where
+          kills : (f : Option Fault) → charge_of trace (effect_unless f trace pid.0 (Kill target) st) q ≡ charge_of trace st q
+          kills None = killed_charge target.0 q (λ e. false≢true (sym apart ∙ eq-eqb target.0 q (sym e)))
+          kills (Some f) = refl
+      exits _ t apart = absurd (false≢true t)
+  charge_kept (Ended h a b c d) q may other killed own = ended_charge h q may.scanned own
+  charge_kept (Absorbed s) q may other killed own = absorbed_charge s.0 q (not-true _ (and_parts (is_live (phase_of st.phases s.0)) (not (has_sharer st.shares s.0)) may.orphan).1)
+  charge_kept Closing q may other killed own = refl
 
   module _ (limits : AreLimits trace) (p objects bytes exits shares : ℕ) (known : p < process_count trace) (may : IsPossible trace st (Ended (user p) objects bytes exits shares)) where
     abbrev after : State

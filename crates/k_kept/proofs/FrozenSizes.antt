@@ -8,7 +8,7 @@ use Rattle.k_types.specs.declared.names.Heap.TheVariants.{Kernel}
 use Rattle.k_types.specs.declared.names.Phase.{Phase}
 use Rattle.k_types.specs.declared.names.Phase.TheVariants.{Unmade, Populating, Frozen}
 use Rattle.k_types.specs.declared.op.Op.{Op}
-use Rattle.k_types.specs.declared.op.Op.TheVariants.{New, KNew, SNew, Store, Load, Move, Clear, Dir, Put, Get, Collect, KCollect, Share, Freeze, Attach, Exit}
+use Rattle.k_types.specs.declared.op.Op.TheVariants.{New, KNew, SNew, Store, Load, Move, Clear, Dir, Put, Get, Collect, KCollect, Share, Freeze, Attach, Exit, Kill, Resize}
 use Rattle.k_types.specs.declared.event.Event.{Event}
 use Rattle.k_types.specs.declared.event.Event.TheVariants.{Done, Ended, Absorbed, Closing}
 use Rattle.k_types.specs.declared.event.Fault.{Fault}
@@ -19,8 +19,8 @@ use Rattle.k_types.specs.Trace.{Trace, process_count, kinds_of, size_of_type}
 use Rattle.k_types.specs.State.{State, Refers, Holds, is_scanned, register}
 use Rattle.k_types.specs.Owners.{bytes_by, bytes_of, is_absorbed, object_bytes, owner_of, phase_of, shared, user}
 use Rattle.k_types.specs.Replies.{at_base, fault_where, faults, first_fault, is_populating, is_unmade}
-use Rattle.k_types.specs.Updates.{add_exit, add_share, clear_registers, count_done, create, end_process, keep_shares, open_scan, set_phase, set_register, turn_exits, write}
-use Rattle.k_types.specs.Effects.{after_end_of, after_freeze, after_operation, after_put, after_store, effect, effect_unless, step, with_exit_of_store}
+use Rattle.k_types.specs.Updates.{add_exit, add_share, clear_registers, count_done, create, end_process, keep_shares, open_scan, set_phase, set_register, turn_exits, write, set_max}
+use Rattle.k_types.specs.Effects.{after_end_of, after_freeze, after_operation, after_put, after_store, effect, effect_unless, step, with_exit_of_store, after_kill}
 use Rattle.k_types.specs.Cells.{CellPart, cells_touched, part, touches}
 use Rattle.k_types.specs.Steps.{IsPossible}
 use Rattle.k_types.specs.Sound.{IsSound}
@@ -100,8 +100,15 @@ module _ (trace : Trace) where
     unfolding after_end_of end_process clear_registers keep_shares turn_exits
     exit_stays_frozen = record { phase = refl; bytes = same_bytes trace st p (shared s) refl refl }
 
+    kill_stays_frozen : (q : ℕ) → StaysFrozen trace st (after_kill trace q st) s
+    unfolding after_kill after_end_of end_process clear_registers keep_shares turn_exits
+    kill_stays_frozen q = elim (among q st.ended) as (λ b. StaysFrozen trace st (cond b st (after_end_of trace q st)) s) [
+      | true ↦ record { phase = refl; bytes = refl }
+      | false ↦ record { phase = refl; bytes = same_bytes trace st q (shared s) refl refl }
+    ]
+
     effect_stays : (op : Op) → first_fault (faults trace st p op) ≡ None → StaysFrozen trace st (effect trace p op st) s
-    unfolding effect set_register open_scan add_share set_phase create faults
+    unfolding effect set_register open_scan add_share set_phase create faults set_max
     effect_stays (New r ty) fine = record { phase = refl; bytes = new_bytes st (p + 1) ty (shared s) (user p) (owner_user trace st p known lives) refl }
     effect_stays (KNew r ty) fine = record { phase = refl; bytes = new_bytes st 0 ty (shared s) Kernel (owner_kernel trace st) refl }
     effect_stays (SNew r t ty) fine =
@@ -134,6 +141,8 @@ module _ (trace : Trace) where
     effect_stays (Freeze t root') fine = freeze_stays t.0 (register st.registers p root'.0) fine
     effect_stays (Attach r t) fine = record { phase = refl; bytes = refl }
     effect_stays Exit fine = exit_stays_frozen
+    effect_stays (Kill q) fine = kill_stays_frozen q.0
+    effect_stays (Resize m max) fine = record { phase = refl; bytes = refl }
 
     unless_stays : (f : Option Fault) (op : Op) → first_fault (faults trace st p op) ≡ f → StaysFrozen trace st (effect_unless f trace p op st) s
     unless_stays None op e = effect_stays op e

@@ -29,12 +29,12 @@ use Rattle.k_kept.proofs.EndNumbers.{numbers_are_right}
 use Rattle.k_kept.proofs.FrozenSizes.{stays_frozen}
 use Rattle.k_kept.proofs.Owning.{stays_ended, owner_after, stays_kernel}
 use Rattle.k_kept.proofs.Serials.{stays_spent, step_gives}
-use Rattle.k_kept.specs.Kept.{Credits, bytes_dropped, is_end_of, GoesBy, GivesSerials, IsSpent, HasEndOf, IsPaidFor, KeepsOrGives, StaysFrozen}
+use Rattle.k_kept.specs.Kept.{Credits, bytes_dropped, is_end_of, GoesBy, GivesSerials, IsSpent, HasEndOf, IsPaidFor, KeepsOrGives, StaysFrozen, is_kill_of}
 use Rattle.k_laws.specs.Charges.{is_done_by}
 
 -- what a process is charged changes only by its own operations and the ends of its own heap's collections
-pub only_its_own_events_change_a_charge : (trace : Trace) (st : State) (event : Event) (q : ℕ) → IsSound trace st → IsPossible trace st event → IsFalse (is_done_by event q) → IsFalse (is_end_of event q) → charge_of trace (step trace st event) q ≡ charge_of trace st q
-only_its_own_events_change_a_charge = λ trace st event q sound may other own. charge_kept trace st sound event q may other own
+pub only_its_own_events_change_a_charge : (trace : Trace) (st : State) (event : Event) (q : ℕ) → IsSound trace st → IsPossible trace st event → IsFalse (is_done_by event q) → IsFalse (is_kill_of event q) → IsFalse (is_end_of event q) → charge_of trace (step trace st event) q ≡ charge_of trace st q
+only_its_own_events_change_a_charge = λ trace st event q sound may other killed own. charge_kept trace st sound event q may other killed own
 
 -- the end of the collection of a process's heap credits exactly the bytes freed and the bytes of the shared heaps whose shares it drops, on the path of the process's limit, and nothing else
 pub ended_collections_credit_what_goes : (trace : Trace) (st : State) (p objects bytes exits shares : ℕ) → AreLimits trace → IsSound trace st → p < process_count trace → IsPossible trace st (Ended (user p) objects bytes exits shares) → Credits trace st (step trace st (Ended (user p) objects bytes exits shares)) p (bytes + bytes_dropped trace st (step trace st (Ended (user p) objects bytes exits shares)) p)

@@ -7,7 +7,7 @@ use Rattle.k_types.specs.declared.names.Heap.TheVariants.{Kernel}
 use Rattle.k_types.specs.declared.names.Phase.{Phase}
 use Rattle.k_types.specs.declared.names.Phase.TheVariants.{Unmade, Populating, Frozen, Absorbed}
 use Rattle.k_types.specs.declared.op.Op.{Op}
-use Rattle.k_types.specs.declared.op.Op.TheVariants.{New, KNew, SNew, Store, Load, Move, Clear, Dir, Put, Get, Collect, KCollect, Share, Freeze, Attach, Exit}
+use Rattle.k_types.specs.declared.op.Op.TheVariants.{New, KNew, SNew, Store, Load, Move, Clear, Dir, Put, Get, Collect, KCollect, Share, Freeze, Attach, Exit, Kill, Resize}
 use Rattle.k_types.specs.declared.event.Event.{Event}
 use Rattle.k_types.specs.declared.event.Event.TheVariants.{Done, Ended, Absorbed as AbsorbedEvent, Closing}
 use Rattle.k_types.specs.declared.event.Fault.{Fault}
@@ -17,19 +17,26 @@ use Rattle.k_types.specs.Trace.{Trace, process_count}
 use Rattle.k_types.specs.State.{State, opening, register}
 use Rattle.k_types.specs.Owners.{is_absorbed, owner_of, owner_of_process, owner_of_segment, owner_of_shared, phase_of, shared, user}
 use Rattle.k_types.specs.Replies.{at_base, fault_where, faults, first_fault, is_populating, is_unmade}
-use Rattle.k_types.specs.Updates.{add_share, clear_registers, close, close_scan, count_done, create, end_process, keep_exits, keep_objects, keep_shares, open_scan, set_phase, set_register, turn_exits}
-use Rattle.k_types.specs.Effects.{after_absorbed, after_closing, after_end_of, after_ended, after_freeze, after_operation, effect, effect_unless, step}
+use Rattle.k_types.specs.Updates.{add_share, clear_registers, close, close_scan, count_done, create, end_process, keep_exits, keep_objects, keep_shares, open_scan, set_phase, set_register, turn_exits, set_max}
+use Rattle.k_types.specs.Effects.{after_absorbed, after_closing, after_end_of, after_ended, after_freeze, after_operation, effect, effect_unless, step, after_kill}
 use Rattle.k_types.specs.Steps.{run, state_after}
 use Rattle.k_frame.proofs.FrameSteps.{none_on}
 use Rattle.k_base.proofs.Lists.{get_or-set_cases}
-use Rattle.k_frame.proofs.Rest.{freeze_rest, put_rest, store_rest}
+use Rattle.k_frame.proofs.Rest.{freeze_rest, put_rest, store_rest, kill_rest}
 use Rattle.k_frame.proofs.Histories.{run_append}
 use Rattle.k_laws.proofs.SoundEffects.{is_populating_by, is_unmade_so}
 use Rattle.k_kept.specs.Kept.{KeepsOrGives}
 
 module _ (trace : Trace) where
+  killed_ended : (st : State) (k q : ℕ) → IsTrue (among q st.ended) → IsTrue (among q (after_kill trace k st).ended)
+  unfolding after_kill after_end_of end_process clear_registers keep_shares turn_exits
+  killed_ended st k q t = elim (among k st.ended) as (λ b. IsTrue (among q (cond b st (after_end_of trace k st)).ended)) [
+    | true ↦ t
+    | false ↦ list_any-append (λ m. m == q) st.ended (k ∷ []) ∙ or_left (among q st.ended) _ t
+  ]
+
   effect_ended : (st : State) (p : ℕ) (op : Op) (q : ℕ) → IsTrue (among q st.ended) → IsTrue (among q (effect trace p op st).ended)
-  unfolding effect set_register create open_scan add_share set_phase after_end_of end_process clear_registers keep_shares turn_exits
+  unfolding effect set_register create open_scan add_share set_phase after_end_of end_process clear_registers keep_shares turn_exits set_max
   effect_ended st p (New r ty) q t = t
   effect_ended st p (KNew r ty) q t = t
   effect_ended st p (SNew r s ty) q t = t
@@ -46,6 +53,8 @@ module _ (trace : Trace) where
   effect_ended st p (Freeze s root) q t = ap (λ (s : State). among q s.ended) (freeze_rest st s.0 (register st.registers p root.0)) ∙ t
   effect_ended st p (Attach r s) q t = t
   effect_ended st p Exit q t = list_any-append (λ m. m == q) st.ended (p ∷ []) ∙ or_left (among q st.ended) _ t
+  effect_ended st p (Kill k) q t = killed_ended st k.0 q t
+  effect_ended st p (Resize m max) q t = t
 
   unless_ended : (f : Option Fault) (st : State) (p : ℕ) (op : Op) (q : ℕ) → IsTrue (among q st.ended) → IsTrue (among q (effect_unless f trace p op st).ended)
   unless_ended None st p op q t = effect_ended st p op q t
@@ -86,7 +95,7 @@ module _ (trace : Trace) where
       set_absorbed st.phases t (Frozen root) s (ap is_absorbed phase.1) gone
 
   effect_absorbed : (st : State) (p : ℕ) (op : Op) (s : ℕ) → first_fault (faults trace st p op) ≡ None → IsTrue (is_absorbed (phase_of st.phases s)) → IsTrue (is_absorbed (phase_of (effect trace p op st).phases s))
-  unfolding effect set_register create open_scan add_share set_phase after_end_of end_process clear_registers keep_shares turn_exits faults
+  unfolding effect set_register create open_scan add_share set_phase after_end_of end_process clear_registers keep_shares turn_exits faults set_max
   effect_absorbed st p (New r ty) s fine t = t
   effect_absorbed st p (KNew r ty) s fine t = t
   effect_absorbed st p (SNew r u ty) s fine t = t
@@ -105,6 +114,8 @@ module _ (trace : Trace) where
   effect_absorbed st p (Freeze u root) s fine t = freeze_absorbed st p u.0 (register st.registers p root.0) s fine t
   effect_absorbed st p (Attach r u) s fine t = t
   effect_absorbed st p Exit s fine t = t
+  effect_absorbed st p (Kill q) s fine t = ap (λ (s' : State). is_absorbed (phase_of s'.phases s)) (kill_rest trace st q.0) ∙ t
+  effect_absorbed st p (Resize m max) s fine t = t
 
   unless_absorbed : (f : Option Fault) (st : State) (p : ℕ) (op : Op) (s : ℕ) → first_fault (faults trace st p op) ≡ f → IsTrue (is_absorbed (phase_of st.phases s)) → IsTrue (is_absorbed (phase_of (effect_unless f trace p op st).phases s))
   unless_absorbed None st p op s e t = effect_absorbed st p op s e t

@@ -1,28 +1,34 @@
--- While the cell of a process is not touched, what its next operation touches changes at most once, to the kernel's cell.
-use Rattle.std.proofs.Common.{◌≡◌, ℕ, ◌+◌, ◌==◌, ◌&&◌, ◌||◌, not, Bool, true, false, cond, refl, sym, subst, ap, ◌∙◌, inl, inr, List, [], ◌∷◌, ◌++◌, Option, Some, None, arith, IsTrue, IsFalse}
-use Rattle.std.proofs.lemmas.Bool.{or_left, or_parts, false≢true, false_from_ne_true}
+-- While the cell of a process is not touched, what its next operation touches changes at most once: to the kernel's cell, or
+-- for a kill to none, where the target has ended.
+use Rattle.std.proofs.Common.{◌≡◌, ◌≢◌, ◌⊎◌, ℕ, ◌+◌, ◌==◌, ◌&&◌, ◌||◌, not, Bool, true, false, cond, refl, sym, subst, ap, ◌∙◌, inl, inr, List, [], ◌∷◌, ◌++◌, Option, Some, None, arith, IsTrue, IsFalse}
+use Rattle.std.proofs.lemmas.Bool.{or_left, or_parts, not-false, false≢true, false_from_ne_true}
 use Rattle.std.proofs.Math.Bool.{and-true, or-false}
 use Rattle.std.proofs.lemmas.List.Folds.{list_any-append}
 use Rattle.k_types.specs.declared.names.Name.{Name}
 use Rattle.k_types.specs.declared.names.Heap.{Heap}
 use Rattle.k_types.specs.declared.names.Heap.TheVariants.{Kernel, User, Shared}
+use Rattle.k_types.specs.declared.names.Pid.{Pid}
 use Rattle.k_types.specs.declared.names.Phase.{Phase}
 use Rattle.k_types.specs.declared.names.Phase.TheVariants.{Unmade, Populating, Frozen, Absorbed}
 use Rattle.k_types.specs.declared.op.Op.{Op}
-use Rattle.k_types.specs.declared.op.Op.TheVariants.{New, KNew, SNew, Store, Load, Move, Clear, Dir, Put, Get, Collect, KCollect, Share, Freeze, Attach, Exit}
+use Rattle.k_types.specs.declared.op.Op.TheVariants.{New, KNew, SNew, Store, Load, Move, Clear, Dir, Put, Get, Collect, KCollect, Share, Freeze, Attach, Exit, Kill, Resize}
 use Rattle.k_types.specs.declared.event.Event.{Event}
 use Rattle.k_types.specs.declared.event.Event.TheVariants.{Done, Ended, Absorbed as AbsorbedEvent, Closing}
 use Rattle.k_types.specs.declared.event.Fault.{Fault}
-use Rattle.k_types.specs.Cells.{CellPart, access_cell, base_cell, cells_touched, other_cells, part, touches}
-use Rattle.k_types.specs.Effects.{after_absorbed, after_closing, after_end_of, after_ended, after_operation, effect, effect_unless, share_stays, step}
-use Rattle.k_types.specs.Names.{heap_eq}
+use Rattle.k_types.specs.declared.event.Fault.TheVariants.{ProcNotBelow}
+use Rattle.std.specs.List.{list_any}
+use Rattle.k_types.specs.Cells.{Cell, CellPart, access_cell, base_cell, cells_touched, other_cells, part, touches}
+use Rattle.k_types.specs.Effects.{after_absorbed, after_closing, after_end_of, after_ended, after_kill, after_operation, effect, effect_unless, share_stays, step}
+use Rattle.k_types.specs.Limits.{is_above}
+use Rattle.k_types.specs.Names.{among, heap_eq}
 use Rattle.k_types.specs.Owners.{is_absorbed, owner_of, owner_of_segment, phase_of, shared, user}
-use Rattle.k_types.specs.Replies.{faults, first_fault}
+use Rattle.k_types.specs.Replies.{ends_other, faults, first_fault}
 use Rattle.k_types.specs.State.{Sharing, State, has_share, opening, register}
 use Rattle.k_types.specs.Steps.{IsLegalHistory, run, state_after, touch_count, touch_count_from}
 use Rattle.k_types.specs.Trace.{Trace, process_count}
 use Rattle.k_types.specs.TraceRules.{AreLimits}
-use Rattle.k_types.specs.Updates.{add_share, clear_registers, close, close_scan, count_done, create, end_process, keep_exits, keep_objects, keep_shares, open_scan, set_phase, set_register, turn_exits}
+use Rattle.k_types.specs.Updates.{add_share, clear_registers, close, close_scan, count_done, create, end_process, keep_exits, keep_objects, keep_shares, open_scan, set_max, set_phase, set_register, turn_exits}
+use Rattle.k_frame.proofs.FrameSteps.{none_on}
 use Rattle.k_frame.proofs.Histories.{run_append}
 use Rattle.k_frame.proofs.Kept.{has_share-kept}
 use Rattle.k_frame.proofs.Rest.{freeze_rest, put_rest, store_rest}
@@ -31,8 +37,8 @@ use Rattle.k_frame.specs.PartUpdates.{held_in}
 use Rattle.k_laws.proofs.SoundSharing.{sharer_of}
 use Rattle.k_laws.proofs.SoundSteps.{legal_sound}
 use Rattle.k_kept.specs.Kept.{KeepsOrGives}
-use Rattle.k_kept.specs.Reached.{StaysOrTurns}
-use Rattle.k_kept.proofs.Owning.{owner_after}
+use Rattle.k_kept.specs.Reached.{StaysOrEnds, StaysOrTurns}
+use Rattle.k_kept.proofs.Owning.{owner_after, stays_ended}
 
 -- a share of another process leaves whether the process has one
 added_apart : (shares : List Sharing) (q p t s : ℕ) → IsFalse (q == p) → has_share (shares ++ record { process = q; heap = t } ∷ []) p s ≡ has_share shares p s
@@ -62,34 +68,49 @@ module _ (trace : Trace) (p s : ℕ) where
       swap : (p == q) ≡ (q == p)
       swap = grind arith
 
-  effect_shares : (st : State) (q : ℕ) (op : Op) → IsFalse (q == p) → shares_of (effect trace q op st) ≡ shares_of st
-  unfolding shares_of effect set_register create open_scan set_phase
-  effect_shares st q (New r ty) apart = refl
-  effect_shares st q (KNew r ty) apart = refl
-  effect_shares st q (SNew r t ty) apart = refl
-  effect_shares st q (Store base i value) apart = ap (λ (su : State). has_share su.shares p s) (store_rest trace st (register st.registers q base.0) i (register st.registers q value.0))
-  effect_shares st q (Load r base i) apart = refl
-  effect_shares st q (Move r from) apart = refl
-  effect_shares st q (Clear r) apart = refl
-  effect_shares st q (Dir r) apart = refl
-  effect_shares st q (Put base i number) apart = ap (λ (su : State). has_share su.shares p s) (put_rest st (register st.registers q base.0) i number)
-  effect_shares st q (Get base i) apart = refl
-  effect_shares st q Collect apart = refl
-  effect_shares st q KCollect apart = refl
-  effect_shares st q (Share t) apart = add_apart (set_phase t.0 (Populating (record { 0 = q })) st) q t.0 apart
-  effect_shares st q (Freeze t root) apart = ap (λ (su : State). has_share su.shares p s) (freeze_rest st t.0 (register st.registers q root.0))
-  effect_shares st q (Attach r t) apart = add_apart st q t.0 apart
-  effect_shares st q Exit apart = exit_apart st q apart
+  -- a kill that does not touch the process's cell ends another one, or nobody
+  kill_apart : (st : State) (q k : ℕ) → is_above trace q k ≡ true → IsFalse (list_any (λ c. heap_eq c (user p)) (cond (ends_other trace st q k) (user k ∷ Kernel ∷ []) [])) →
+      shares_of (after_kill trace k st) ≡ shares_of st
+  unfolding after_kill
+  kill_apart st q k above u = go (among k st.ended) (subst (λ b. IsFalse (list_any (λ c. heap_eq c (user p)) (cond (b && not (among k st.ended)) (user k ∷ Kernel ∷ []) []))) above u)
+    where
+      go : (b : Bool) → IsFalse (list_any (λ c. heap_eq c (user p)) (cond (not b) (user k ∷ Kernel ∷ []) [])) → shares_of (cond b st (after_end_of trace k st)) ≡ shares_of st
+      go true u = refl
+      go false u = exit_apart st k (or_parts (k == p) _ u).0
 
-  unless_shares : (f : Option Fault) (st : State) (q : ℕ) (op : Op) → IsFalse (q == p) → shares_of (effect_unless f trace q op st) ≡ shares_of st
-  unless_shares None st q op apart = effect_shares st q op apart
-  unless_shares (Some f) st q op apart = refl
+  effect_shares : (st : State) (q : ℕ) (op : Op) → IsFalse (q == p) → first_fault (faults trace st q op) ≡ None → IsFalse (list_any (λ c. heap_eq c (user p)) (other_cells trace st q op)) →
+      shares_of (effect trace q op st) ≡ shares_of st
+  unfolding shares_of effect set_register create open_scan set_max set_phase faults other_cells
+  effect_shares st q (New r ty) apart e u = refl
+  effect_shares st q (KNew r ty) apart e u = refl
+  effect_shares st q (SNew r t ty) apart e u = refl
+  effect_shares st q (Store base i value) apart e u = ap (λ (su : State). has_share su.shares p s) (store_rest trace st (register st.registers q base.0) i (register st.registers q value.0))
+  effect_shares st q (Load r base i) apart e u = refl
+  effect_shares st q (Move r from) apart e u = refl
+  effect_shares st q (Clear r) apart e u = refl
+  effect_shares st q (Dir r) apart e u = refl
+  effect_shares st q (Put base i number) apart e u = ap (λ (su : State). has_share su.shares p s) (put_rest st (register st.registers q base.0) i number)
+  effect_shares st q (Get base i) apart e u = refl
+  effect_shares st q Collect apart e u = refl
+  effect_shares st q KCollect apart e u = refl
+  effect_shares st q (Share t) apart e u = add_apart (set_phase t.0 (Populating (record { 0 = q })) st) q t.0 apart
+  effect_shares st q (Freeze t root) apart e u = ap (λ (su : State). has_share su.shares p s) (freeze_rest st t.0 (register st.registers q root.0))
+  effect_shares st q (Attach r t) apart e u = add_apart st q t.0 apart
+  effect_shares st q Exit apart e u = exit_apart st q apart
+  effect_shares st q (Kill k) apart e u = kill_apart st q k.0 (not-false _ (none_on (not (is_above trace q k.0)) (ProcNotBelow k) [] e).0) u
+  effect_shares st q (Resize m max) apart e u = refl
+
+  unless_shares : (f : Option Fault) (st : State) (q : ℕ) (op : Op) → IsFalse (q == p) → first_fault (faults trace st q op) ≡ f → IsFalse (list_any (λ c. heap_eq c (user p)) (other_cells trace st q op)) →
+      shares_of (effect_unless f trace q op st) ≡ shares_of st
+  unless_shares None st q op apart e u = effect_shares st q op apart e u
+  unless_shares (Some f) st q op apart e u = refl
 
   -- an event that does not touch the process's cell leaves what it shares
   step_shares : (st : State) (event : Event) → IsFalse (touches trace st event (user p)) → shares_of (step trace st event) ≡ shares_of st
   unfolding shares_of cells_touched step after_operation count_done after_ended after_absorbed after_closing close_scan keep_shares keep_exits keep_objects close set_phase open_scan share_stays
   step_shares st (Done pid op said) apart =
-      unless_shares (first_fault (faults trace st pid.0 op)) st pid.0 op (or_parts (pid.0 == p) _ apart).0
+      let parts = or_parts (pid.0 == p) (list_any (λ c. heap_eq c (user p)) (other_cells trace st pid.0 op)) apart in
+      unless_shares (first_fault (faults trace st pid.0 op)) st pid.0 op parts.0 refl parts.1
   step_shares st (Ended h a b c d) apart =
       has_share-kept (share_stays trace st h) st.shares p s
       ∙ ap (λ b. has_share st.shares p s && b) (or_left _ _ (or_left _ _ (or_left _ _ (ap not (or_parts (heap_eq h (user p)) false apart).0))))
@@ -178,21 +199,39 @@ module _ (trace : Trace) (known rest : List Event) (p : ℕ) (limits : AreLimits
   through : (r : ℕ) → StaysOrTurns (access_cell trace before p (register before.registers p r)) (access_cell trace after p (register after.registers p r))
   through r = subst (λ x. StaysOrTurns (access_cell trace before p (register before.registers p r)) (access_cell trace after p x)) (sym (same_register r)) (accessed (register before.registers p r))
 
-  pub cells_turn_once : (op : Op) → StaysOrTurns (other_cells trace before p op) (other_cells trace after p op)
+  pub cells_turn_once : (op : Op) → ((q : Pid) → op ≢ Kill q) → StaysOrTurns (other_cells trace before p op) (other_cells trace after p op)
   unfolding other_cells
-  cells_turn_once (New r ty) = inl refl
-  cells_turn_once (KNew r ty) = inl refl
-  cells_turn_once (SNew r s ty) = inl refl
-  cells_turn_once (Store base i value) = through base.0
-  cells_turn_once (Load r base i) = through base.0
-  cells_turn_once (Move r from) = inl refl
-  cells_turn_once (Clear r) = inl refl
-  cells_turn_once (Dir r) = inl refl
-  cells_turn_once (Put base i number) = through base.0
-  cells_turn_once (Get base i) = through base.0
-  cells_turn_once Collect = inl refl
-  cells_turn_once KCollect = inl refl
-  cells_turn_once (Share s) = inl refl
-  cells_turn_once (Freeze s root) = inl refl
-  cells_turn_once (Attach r s) = inl refl
-  cells_turn_once Exit = inl refl
+  cells_turn_once (New r ty) other = inl refl
+  cells_turn_once (KNew r ty) other = inl refl
+  cells_turn_once (SNew r s ty) other = inl refl
+  cells_turn_once (Store base i value) other = through base.0
+  cells_turn_once (Load r base i) other = through base.0
+  cells_turn_once (Move r from) other = inl refl
+  cells_turn_once (Clear r) other = inl refl
+  cells_turn_once (Dir r) other = inl refl
+  cells_turn_once (Put base i number) other = through base.0
+  cells_turn_once (Get base i) other = through base.0
+  cells_turn_once Collect other = inl refl
+  cells_turn_once KCollect other = inl refl
+  cells_turn_once (Share s) other = inl refl
+  cells_turn_once (Freeze s root) other = inl refl
+  cells_turn_once (Attach r s) other = inl refl
+  cells_turn_once Exit other = inl refl
+  cells_turn_once (Kill q) other = absurd (other q refl)
+  cells_turn_once (Resize m max) other = inl refl
+
+-- where who has ended stays ended, cells that an operation has of one that lives stay, or go with its end
+ends_once : (cells : List Cell) (may gone gone' : Bool) → (IsTrue gone → IsTrue gone') →
+    (cond (may && not gone') cells [] ≡ cond (may && not gone) cells []) ⊎ ((cond (may && not gone) cells [] ≡ cells) × (cond (may && not gone') cells [] ≡ []) × IsTrue gone')
+ends_once cells false gone gone' stays = inl refl
+ends_once cells true true true stays = inl refl
+ends_once cells true true false stays = absurd (false≢true (stays refl))
+ends_once cells true false true stays = inr (refl, refl, refl)
+ends_once cells true false false stays = inl refl
+
+-- the cells of a kill stay, or they go where its target has ended
+pub cells_end_once : (trace : Trace) (known rest : List Event) (p : ℕ) (q : Pid) →
+    StaysOrEnds q (state_after trace (known ++ rest)) (other_cells trace (state_after trace known) p (Kill q)) (other_cells trace (state_after trace (known ++ rest)) p (Kill q))
+unfolding other_cells
+cells_end_once trace known rest p q =
+    ends_once (User q ∷ Kernel ∷ []) (is_above trace p q.0) (among q.0 (state_after trace known).ended) (among q.0 (state_after trace (known ++ rest)).ended) (stays_ended trace known rest q.0)

@@ -4,7 +4,7 @@ use Rattle.std.proofs.lemmas.Bool.{and_parts, or_cases, false≢true, false_from
 use Rattle.k_types.specs.declared.names.Name.{Name}
 use Rattle.k_types.specs.declared.names.TypeId.{TypeId}
 use Rattle.k_types.specs.declared.op.Op.{Op}
-use Rattle.k_types.specs.declared.op.Op.TheVariants.{New, KNew, SNew, Store, Load, Move, Clear, Dir, Put, Get, Collect, KCollect, Share, Freeze, Attach, Exit}
+use Rattle.k_types.specs.declared.op.Op.TheVariants.{New, KNew, SNew, Store, Load, Move, Clear, Dir, Put, Get, Collect, KCollect, Share, Freeze, Attach, Exit, Kill, Resize}
 use Rattle.k_types.specs.declared.event.Event.{Event}
 use Rattle.k_types.specs.declared.event.Event.TheVariants.{Done, Ended, Absorbed, Closing}
 use Rattle.k_types.specs.declared.event.Fault.{Fault}
@@ -14,13 +14,13 @@ use Rattle.k_types.specs.Trace.{Trace, kinds_of, segment_of}
 use Rattle.k_types.specs.State.{State, Refers, Holds, fresh, has, opening, register}
 use Rattle.k_types.specs.Owners.{owner_of, user}
 use Rattle.k_types.specs.Replies.{faults, first_fault}
-use Rattle.k_types.specs.Updates.{add_exit, add_share, clear_registers, close, close_scan, count_done, create, end_process, keep_exits, keep_objects, keep_shares, next_name, open_scan, set_phase, set_register, turn_exits, write}
+use Rattle.k_types.specs.Updates.{add_exit, add_share, clear_registers, close, close_scan, count_done, create, end_process, keep_exits, keep_objects, keep_shares, next_name, open_scan, set_phase, set_register, turn_exits, write, set_max}
 use Rattle.k_types.specs.Effects.{after_absorbed, after_closing, after_end_of, after_ended, after_new, after_operation, after_put, after_store, effect, effect_unless, step, survives, with_exit_of_store}
 use Rattle.k_types.specs.Steps.{run, state_after}
 use Rattle.k_base.proofs.NameTests.{name_eq-true}
 use Rattle.k_base.proofs.Lists.{get_or-set_cases}
 use Rattle.k_base.proofs.Objects.{has-kept, has-placed, has-written}
-use Rattle.k_frame.proofs.Rest.{freeze_rest, put_rest, store_rest}
+use Rattle.k_frame.proofs.Rest.{freeze_rest, put_rest, store_rest, kill_rest}
 use Rattle.k_frame.proofs.Histories.{run_append}
 use Rattle.k_kept.specs.Kept.{GivesSerials, IsSpent}
 
@@ -62,7 +62,7 @@ module _ (trace : Trace) where
   put_back st (Some x) i number n there = sym (has-written x i (Holds number) st.objects n) ∙ there
 
   effect_gives : (st : State) (p : ℕ) (op : Op) → GivesSerials st (effect trace p op st)
-  unfolding effect set_register open_scan add_share set_phase after_end_of end_process clear_registers keep_shares turn_exits
+  unfolding effect set_register open_scan add_share set_phase after_end_of end_process clear_registers keep_shares turn_exits set_max
   effect_gives st p (New r ty) = new_gives trace st p r.0 (segment_of trace (user p)) ty
   effect_gives st p (KNew r ty) = new_gives trace st p r.0 (segment_of trace Kernel) ty
   effect_gives st p (SNew r s ty) = new_gives trace st p r.0 (segment_of trace (Shared s)) ty
@@ -84,6 +84,10 @@ module _ (trace : Trace) where
       same_gives st _ (ap (λ (s : State). s.made) rest) (λ n t. ap (λ (s : State). has s.objects n) (sym rest) ∙ t)
   effect_gives st p (Attach r s) = same_gives st _ refl (λ n t. t)
   effect_gives st p Exit = same_gives st _ refl (λ n t. t)
+  effect_gives st p (Kill q) =
+      let rest = kill_rest trace st q.0 in
+      same_gives st _ (ap (λ (s : State). s.made) rest) (λ n t. ap (λ (s : State). has s.objects n) (sym rest) ∙ t)
+  effect_gives st p (Resize m max) = same_gives st _ refl (λ n t. t)
 
   unless_gives : (f : Option Fault) (st : State) (p : ℕ) (op : Op) → GivesSerials st (effect_unless f trace p op st)
   unless_gives None st p op = effect_gives st p op

@@ -1,5 +1,5 @@
 -- What events leave of a state, and what exactly they change.
-use Rattle.std.specs.Prelude.{◌≡◌, ◌≢◌, ◌<◌, ◌≤◌, ◌⊎◌, ℕ, ◌+◌, ◌&&◌, not, Bool, false, IsTrue, IsFalse, length, slice_index_or, if◌then◌else◌}
+use Rattle.std.specs.Prelude.{◌≡◌, ◌≢◌, ◌<◌, ◌≤◌, ◌⊎◌, ℕ, ◌+◌, ◌&&◌, not, Bool, false, IsTrue, IsFalse, length, slice_index_or, if◌then◌else◌, ◌==◌}
 use Rattle.k_types.specs.declared.names.Name.{Name}
 use Rattle.k_types.specs.declared.names.Heap.{Heap}
 use Rattle.k_types.specs.declared.names.Heap.TheVariants.{Kernel}
@@ -13,6 +13,7 @@ use Rattle.k_types.specs.Trace.{Trace, limit_of}
 use Rattle.k_types.specs.State.{State, has, has_share}
 use Rattle.k_types.specs.Owners.{bytes_of, charge_of, owner_of, phase_of, shared, user}
 use Rattle.k_types.specs.Limits.{limits_in, path_of, use_of}
+use Rattle.k_types.specs.declared.op.Op.TheVariants.{Kill}
 
 -- the shared heap is unmade or absorbed, or some process shares it
 abbrev pub IsPaidFor : State → ℕ → Type 0
@@ -28,6 +29,11 @@ is_end_of (Done pid op said) p = false
 is_end_of (Ended h objects bytes exits shares) p = heap_eq h (user p)
 is_end_of (AbsorbedEvent s) p = false
 is_end_of Closing p = false
+
+-- the event is a kill of the process
+abbrev pub is_kill_of : Event → ℕ → Bool
+is_kill_of (Done pid (Kill target) said) p = target.0 == p
+is_kill_of _ p = false
 
 -- the segment has given so many serials: the object's was one of them, and the object is gone
 pub record IsSpent (st : State) (n : Name) : Type 0 where

@@ -1,21 +1,21 @@
 -- The numbers of the end of a collection are bounded by what was done before.
-use Rattle.std.proofs.Common.{ℕ, ◌+◌, ◌≤◌, ◌==◌, not, Bool, true, false, cond, ap, List, [], ◌∷◌, ◌++◌, length, Option, Some, None, arith}
+use Rattle.std.proofs.Common.{ℕ, ◌+◌, ◌≤◌, ◌==◌, not, Bool, true, false, cond, ap, List, [], ◌∷◌, ◌++◌, length, Option, Some, None, arith, le_refl}
 use Rattle.std.proofs.lemmas.List.{length-append}
 use Rattle.k_types.specs.declared.names.Heap.{Heap}
 use Rattle.k_types.specs.declared.op.Op.{Op}
-use Rattle.k_types.specs.declared.op.Op.TheVariants.{New, KNew, SNew, Store, Load, Move, Clear, Dir, Put, Get, Collect, KCollect, Share, Freeze, Attach, Exit}
+use Rattle.k_types.specs.declared.op.Op.TheVariants.{New, KNew, SNew, Store, Load, Move, Clear, Dir, Put, Get, Collect, KCollect, Share, Freeze, Attach, Exit, Kill, Resize}
 use Rattle.k_types.specs.declared.event.Event.{Event}
 use Rattle.k_types.specs.declared.event.Event.TheVariants.{Done, Ended, Absorbed, Closing}
 use Rattle.k_types.specs.declared.event.Fault.{Fault}
-use Rattle.k_types.specs.Names.{heap_eq}
+use Rattle.k_types.specs.Names.{heap_eq, among}
 use Rattle.k_types.specs.Totals.{total}
 use Rattle.k_types.specs.Trace.{Trace}
 use Rattle.k_types.specs.TraceRules.{AreLimits}
 use Rattle.k_types.specs.State.{Sharing, State, has_share, opening, register}
 use Rattle.k_types.specs.Owners.{bytes_by, bytes_of, object_bytes, owner_of}
 use Rattle.k_types.specs.Replies.{faults, first_fault}
-use Rattle.k_types.specs.Updates.{add_share, clear_registers, close, close_scan, count_done, create, end_process, keep_exits, keep_objects, keep_shares, open_scan, set_phase, set_register, turn_exits}
-use Rattle.k_types.specs.Effects.{after_absorbed, after_closing, after_end_of, after_ended, after_operation, effect, effect_unless, share_stays, step}
+use Rattle.k_types.specs.Updates.{add_share, clear_registers, close, close_scan, count_done, create, end_process, keep_exits, keep_objects, keep_shares, open_scan, set_phase, set_register, turn_exits, set_max}
+use Rattle.k_types.specs.Effects.{after_absorbed, after_closing, after_end_of, after_ended, after_operation, effect, effect_unless, share_stays, step, after_kill}
 use Rattle.k_types.specs.Steps.{IsLegalHistory, run, state_after}
 use Rattle.k_frame.proofs.Histories.{legal_front, legal_rest}
 use Rattle.k_frame.proofs.Rest.{freeze_rest, put_rest, store_rest}
@@ -32,8 +32,15 @@ module _ (trace : Trace) where
   added true shares e = omega arith
   added false shares e = omega (arith, length-append shares (e ∷ []))
 
+  killed_shares : (st : State) (q : ℕ) → length (after_kill trace q st).shares ≤ length st.shares
+  unfolding after_kill after_end_of end_process clear_registers keep_shares turn_exits
+  killed_shares st q = elim (among q st.ended) as (λ b. length (cond b st (after_end_of trace q st)).shares ≤ length st.shares) [
+    | true ↦ le_refl (length st.shares)
+    | false ↦ length-kept (λ (e : Sharing). not (e.process == q)) st.shares
+  ]
+
   effect_shares : (st : State) (p : ℕ) (op : Op) → length (effect trace p op st).shares ≤ length st.shares + 1
-  unfolding effect set_register create open_scan add_share set_phase after_end_of end_process clear_registers keep_shares turn_exits
+  unfolding effect set_register create open_scan add_share set_phase after_end_of end_process clear_registers keep_shares turn_exits set_max
   effect_shares st p (New r ty) = omega arith
   effect_shares st p (KNew r ty) = omega arith
   effect_shares st p (SNew r s ty) = omega arith
@@ -50,6 +57,8 @@ module _ (trace : Trace) where
   effect_shares st p (Freeze s root) = let same = ap (λ (s : State). length s.shares) (freeze_rest st s.0 (register st.registers p root.0)) in omega (arith, same)
   effect_shares st p (Attach r s) = added (has_share st.shares p s.0) st.shares (record { process = p; heap = s.0 })
   effect_shares st p Exit = let fewer = length-kept (λ (e : Sharing). not (e.process == p)) st.shares in omega (arith, fewer)
+  effect_shares st p (Kill q) = omega (arith, killed_shares st q.0)
+  effect_shares st p (Resize m max) = omega arith
 
   unless_shares : (f : Option Fault) (st : State) (p : ℕ) (op : Op) → length (effect_unless f trace p op st).shares ≤ length st.shares + 1
   unless_shares None st p op = effect_shares st p op

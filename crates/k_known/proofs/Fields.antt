@@ -8,7 +8,7 @@ use Rattle.k_types.specs.declared.names.Field.{Field}
 use Rattle.k_types.specs.declared.names.Field.TheVariants.{Int, Ref}
 use Rattle.k_types.specs.declared.names.Heap.TheVariants.{Kernel, Shared}
 use Rattle.k_types.specs.declared.op.Op.{Op}
-use Rattle.k_types.specs.declared.op.Op.TheVariants.{New, KNew, SNew, Store, Load, Move, Clear, Dir, Put, Get, Collect, KCollect, Share, Freeze, Attach, Exit}
+use Rattle.k_types.specs.declared.op.Op.TheVariants.{New, KNew, SNew, Store, Load, Move, Clear, Dir, Put, Get, Collect, KCollect, Share, Freeze, Attach, Exit, Kill, Resize}
 use Rattle.k_types.specs.declared.event.Event.{Event}
 use Rattle.k_types.specs.declared.event.Event.TheVariants.{Done, Ended, Absorbed, Closing}
 use Rattle.k_types.specs.declared.event.Fault.{Fault}
@@ -19,11 +19,11 @@ use Rattle.k_types.specs.TraceRules.{AreOperations, is_spelled}
 use Rattle.k_types.specs.State.{Content, Holds, Object, Refers, State, fields_of, fresh, object_at, opening, register}
 use Rattle.k_types.specs.Owners.{owner_of, user}
 use Rattle.k_types.specs.Replies.{faults, field_at, first_fault, number_in}
-use Rattle.k_types.specs.Updates.{add_exit, add_share, clear_registers, close, close_scan, count_done, create, end_process, keep_exits, keep_objects, keep_shares, next_name, object_after_write, open_scan, set_phase, set_register, turn_exits, with_object, write}
+use Rattle.k_types.specs.Updates.{add_exit, add_share, clear_registers, close, close_scan, count_done, create, end_process, keep_exits, keep_objects, keep_shares, next_name, object_after_write, open_scan, set_phase, set_register, turn_exits, with_object, write, set_max}
 use Rattle.k_types.specs.Effects.{after_absorbed, after_closing, after_end_of, after_ended, after_operation, after_put, after_store, effect, effect_unless, step, survives, with_exit_of_store}
 use Rattle.k_types.specs.Steps.{IsLegalHistory, run, state_after}
 use Rattle.k_base.proofs.Lists.{get_or-set_cases, found_holds}
-use Rattle.k_frame.proofs.Rest.{freeze_rest}
+use Rattle.k_frame.proofs.Rest.{freeze_rest, kill_rest}
 use Rattle.k_known.specs.Fits.{DoesOperationsOf, IsSpelledEvent, NumbersFit}
 use Rattle.k_known.proofs.Counted.{operations_bounded, serials_bounded, spelled_history}
 
@@ -96,7 +96,7 @@ module _ (trace : Trace) where
   new_small st seg ty all = small_placed (record { name = next_name seg st; ty = Some ty; fields = map fresh (kinds_of trace ty) }) st.objects (small_fresh (kinds_of trace ty)) all
 
   effect_small : (st : State) (p : ℕ) (op : Op) → IsTrue (is_spelled op) → HaveSmall st.objects → HaveSmall (effect trace p op st).objects
-  unfolding effect set_register open_scan add_share set_phase after_end_of end_process clear_registers keep_shares turn_exits
+  unfolding effect set_register open_scan add_share set_phase after_end_of end_process clear_registers keep_shares turn_exits set_max
   effect_small st p (New r ty) spelled all = new_small st (segment_of trace (user p)) ty all
   effect_small st p (KNew r ty) spelled all = new_small st (segment_of trace Kernel) ty all
   effect_small st p (SNew r s ty) spelled all = new_small st (segment_of trace (Shared s)) ty all
@@ -114,6 +114,8 @@ module _ (trace : Trace) where
   effect_small st p (Freeze s root) spelled all = subst HaveSmall (sym (ap (λ (su : State). su.objects) (freeze_rest st s.0 (register st.registers p root.0)))) all
   effect_small st p (Attach r s) spelled all = all
   effect_small st p Exit spelled all = all
+  effect_small st p (Kill q) spelled all = subst HaveSmall (sym (ap (λ (su : State). su.objects) (kill_rest trace st q.0))) all
+  effect_small st p (Resize m max) spelled all = all
 
   unless_small : (f : Option Fault) (st : State) (p : ℕ) (op : Op) → IsTrue (is_spelled op) → HaveSmall st.objects → HaveSmall (effect_unless f trace p op st).objects
   unless_small None st p op spelled all = effect_small st p op spelled all

@@ -7,7 +7,7 @@ use Rattle.k_types.specs.declared.names.TypeId.{TypeId}
 use Rattle.k_types.specs.declared.names.Field.TheVariants.{Ref}
 use Rattle.k_types.specs.declared.names.Heap.TheVariants.{Shared}
 use Rattle.k_types.specs.declared.op.Op.{Op}
-use Rattle.k_types.specs.declared.op.Op.TheVariants.{New, KNew, SNew, Store, Load, Move, Clear, Dir, Put, Get, Collect, KCollect, Share, Freeze, Attach, Exit}
+use Rattle.k_types.specs.declared.op.Op.TheVariants.{New, KNew, SNew, Store, Load, Move, Clear, Dir, Put, Get, Collect, KCollect, Share, Freeze, Attach, Exit, Kill, Resize}
 use Rattle.k_types.specs.declared.event.Event.{Event}
 use Rattle.k_types.specs.declared.event.Event.TheVariants.{Done, Ended, Absorbed, Closing}
 use Rattle.k_types.specs.declared.event.Fault.{Fault}
@@ -20,14 +20,14 @@ use Rattle.k_types.specs.TraceRules.{AreLimits}
 use Rattle.k_types.specs.State.{Object, Refers, Holds, State, field_kind, fresh, has, object_at, register}
 use Rattle.k_types.specs.Owners.{object_bytes, owner_of, user}
 use Rattle.k_types.specs.Replies.{faults, first_fault}
-use Rattle.k_types.specs.Updates.{add_exit, add_share, clear_registers, close, close_scan, count_done, create, end_process, keep_exits, keep_objects, keep_shares, next_name, object_after_write, open_scan, set_phase, set_register, turn_exits, with_object, write}
-use Rattle.k_types.specs.Effects.{after_absorbed, after_closing, after_end_of, after_ended, after_freeze, after_operation, after_put, after_store, effect, effect_unless, step, survives, with_exit_of_store}
+use Rattle.k_types.specs.Updates.{add_exit, add_share, clear_registers, close, close_scan, count_done, create, end_process, keep_exits, keep_objects, keep_shares, next_name, object_after_write, open_scan, set_phase, set_register, turn_exits, with_object, write, set_max}
+use Rattle.k_types.specs.Effects.{after_absorbed, after_closing, after_end_of, after_ended, after_freeze, after_operation, after_put, after_store, effect, effect_unless, step, survives, with_exit_of_store, after_kill}
 use Rattle.k_types.specs.Steps.{IsLegalHistory, IsPossible, in_range, state_after}
 use Rattle.k_types.specs.Sound.{IsOrdered, IsOrderedFrom, IsSized, IsTyped, kinds_by}
 use Rattle.k_base.proofs.NameTests.{name_eq-true, name_eq_refl, name_lt_irrefl, name_lt_trans}
 use Rattle.k_base.proofs.Objects.{has_found}
 use Rattle.k_frame.proofs.Histories.{history_induction, state_next}
-use Rattle.k_frame.proofs.Rest.{freeze_rest, put_rest, store_rest}
+use Rattle.k_frame.proofs.Rest.{freeze_rest, put_rest, store_rest, kill_rest}
 use Rattle.k_frame.proofs.Sizes.{history_sized}
 use Rattle.k_laws.proofs.Closure.{length-kept}
 use Rattle.k_laws.proofs.SoundSteps.{legal_sound}
@@ -114,7 +114,7 @@ module _ (trace : Trace) where
   put_length st (Some x) i n = length-map st.objects (object_after_write x i (Holds n))
 
   effect_within : (st : State) (p : ℕ) (op : Op) → IsSized trace st → p < process_count trace → IsTrue (in_range trace op) → Within st → Within (effect trace p op st)
-  unfolding effect set_register open_scan add_share set_phase after_end_of end_process clear_registers keep_shares turn_exits in_range
+  unfolding effect set_register open_scan add_share set_phase after_end_of end_process clear_registers keep_shares turn_exits in_range set_max
   effect_within st p (New r ty) sized known ranged within = new_within st (segment_of trace (user p)) ty (omega (arith, sized.made, known)) within
   effect_within st p (KNew r ty) sized known ranged within = new_within st 0 ty (omega (arith, sized.made)) within
   effect_within st p (SNew r s ty) sized known ranged within =
@@ -137,6 +137,10 @@ module _ (trace : Trace) where
       same_within st (after_freeze s.0 (register st.registers p root.0) st) (omega (arith, ap (λ (s : State). length s.objects) rest)) (ap (λ (s : State). s.made) rest) within
   effect_within st p (Attach r s) sized known ranged within = within
   effect_within st p Exit sized known ranged within = within
+  effect_within st p (Kill q) sized known ranged within =
+      let rest = kill_rest trace st q.0 in
+      same_within st (after_kill trace q.0 st) (omega (arith, ap (λ (s : State). length s.objects) rest)) (ap (λ (s : State). s.made) rest) within
+  effect_within st p (Resize m max) sized known ranged within = within
 
   unless_within : (f : Option Fault) (st : State) (p : ℕ) (op : Op) → IsSized trace st → p < process_count trace → IsTrue (in_range trace op) → Within st → Within (effect_unless f trace p op st)
   unless_within None st p op sized known ranged within = effect_within st p op sized known ranged within

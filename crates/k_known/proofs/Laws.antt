@@ -1,5 +1,5 @@
 -- The laws of this crate, one lemma a clause under the law's name, for the crates above to cite.
-use Rattle.std.specs.Prelude.{List, Some, ◌++◌, ◌∷◌, ◌≡◌, ℕ, length, ◌≤◌}
+use Rattle.std.specs.Prelude.{List, Some, ◌++◌, ◌∷◌, ◌≡◌, ℕ, length, ◌≤◌, ◌<◌}
 use Rattle.k_types.specs.Local.{AreLocal}
 use Rattle.k_types.specs.Numbers.{numbers_below}
 use Rattle.k_types.specs.State.{Object, object_at, State}
@@ -19,6 +19,9 @@ use Rattle.k_known.proofs.Fitting.{object_fits, objects_bounded}
 use Rattle.k_known.proofs.KnownEvents.{history_known}
 use Rattle.k_known.specs.Fits.{AreAtMostTheSerials, AreEndNumbers, FitsItsType, HasFewFields, AreKnownEvents, DoesOperationsOf, NumbersFit}
 use Rattle.k_frame.proofs.Tails.{tail_length}
+use Rattle.std.specs.List.{AllByRecursion}
+use Rattle.k_types.specs.Bounds.{maximum_below}
+use Rattle.k_known.proofs.Maxima.{maxima_small}
 
 -- each object has the fields of its type, and few
 pub objects_fit_their_types : (trace : Trace) (history : List Event) (n : Name) (o : Object) → AreLimits trace → HasFewFields trace → IsLegalHistory trace history → object_at (state_after trace history).objects n ≡ Some o → FitsItsType trace o
@@ -51,3 +54,7 @@ histories_do_the_operations_of_the_trace = operations_bounded
 -- the numbers of such a history fit: fields and numbers as in the lines of a trace, counts and serials far below 2^32, and the number in each field below 2^64
 pub numbers_fit : (trace : Trace) (history : List Event) → AreOperations trace → IsLegalHistory trace history → DoesOperationsOf trace history → NumbersFit history (state_after trace history)
 numbers_fit = history_fits
+
+-- each maximum after a legal history is below 2^40: the trace gives it, or a resize has set it
+pub maxima_fit : (trace : Trace) (history : List Event) → AreLimits trace → IsLegalHistory trace history → AllByRecursion (λ max. max < maximum_below) (state_after trace history).maxima
+maxima_fit = maxima_small

@@ -1,5 +1,5 @@
 -- What a sound state names is the trace's, and so is what its replies name.
-use Rattle.std.proofs.Common.{◌≡◌, ℕ, zero, suc, ◌+◌, ◌<◌, ◌&&◌, not, cond, Bool, true, false, refl, ap, subst, sym, ◌∙◌, List, [], ◌∷◌, nat_lt, length, get_or, Option, Some, None, arith, ltb-true, IsTrue}
+use Rattle.std.proofs.Common.{◌≡◌, ℕ, zero, suc, ◌+◌, ◌<◌, ◌&&◌, not, cond, Bool, true, false, refl, ap, subst, sym, ◌∙◌, List, [], ◌∷◌, nat_lt, length, get_or, Option, Some, None, arith, ltb-true, IsTrue, ◌-◌}
 use Rattle.std.specs.Prelude.{IfSome}
 use Rattle.std.specs.List.{AllByRecursion, list_any}
 use Rattle.std.proofs.lemmas.Bool.{and_parts, or_left, or_right}
@@ -11,18 +11,18 @@ use Rattle.k_types.specs.declared.names.Phase.{Phase}
 use Rattle.k_types.specs.declared.names.Phase.TheVariants.{Unmade, Populating, Frozen, Absorbed}
 use Rattle.k_types.specs.declared.setup.LimitRow.{LimitRow}
 use Rattle.k_types.specs.declared.op.Op.{Op}
-use Rattle.k_types.specs.declared.op.Op.TheVariants.{New, KNew, SNew, Store, Load, Move, Clear, Dir, Put, Get, Collect, KCollect, Share, Freeze, Attach, Exit}
+use Rattle.k_types.specs.declared.op.Op.TheVariants.{New, KNew, SNew, Store, Load, Move, Clear, Dir, Put, Get, Collect, KCollect, Share, Freeze, Attach, Exit, Kill, Resize}
 use Rattle.k_types.specs.declared.event.Fault.{Fault}
 use Rattle.k_types.specs.declared.event.Fault.TheVariants.{NotPopulating, Segv}
 use Rattle.k_types.specs.declared.event.Reply.{Reply}
-use Rattle.k_types.specs.Bounds.{register_count}
+use Rattle.k_types.specs.Bounds.{maximum_below, register_count}
 use Rattle.k_types.specs.Names.{heap_eq, leads_to}
 use Rattle.k_types.specs.Trace.{Trace, IsHeap, limit_of, process_count, row_of, size_of_type}
 use Rattle.k_types.specs.TraceRules.{AreLimits, IsTree}
 use Rattle.k_types.specs.State.{Content, Refers, Holds, Object, State, content_leads_to, fields_of, has, has_share, object_at, refers_in, register}
-use Rattle.k_types.specs.Limits.{full_limit, limits_in, max_of, path_above, path_within, use_of}
+use Rattle.k_types.specs.Limits.{full_limit, limits_in, max_of, path_above, path_within, use_of, full_for, full_above}
 use Rattle.k_types.specs.Owners.{bytes_of, owner_of, phase_of}
-use Rattle.k_types.specs.Replies.{access_faults, answer, at_base, fault_where, faults, field_at, first_fault, limit_fault, is_populating, load_faults, number_faults, reference, reference_from, refused_or, reply_to, root_of, sharer_fault, size_fault, store_faults}
+use Rattle.k_types.specs.Replies.{access_faults, answer, at_base, fault_where, faults, field_at, first_fault, limit_fault, is_populating, load_faults, number_faults, reference, reference_from, refused_or, reply_to, root_of, sharer_fault, size_fault, store_faults, may_resize}
 use Rattle.k_types.specs.Steps.{in_range}
 use Rattle.k_types.specs.Sound.{IsSound}
 use Rattle.k_types.specs.Known.{IsKnownFault, IsKnownName, IsKnownReply}
@@ -49,14 +49,17 @@ all_on_path rows tree (suc depth) m inside = (
       (λ q above. let below = tree m q inside above in all_on_path rows tree depth q.0 (omega arith)),
 )
 
-limit_known : (trace : Trace) (st : State) → AreLimits trace → (p size q : ℕ) → p < process_count trace → full_limit trace st (limit_of trace p) size ≡ Some q → q < length trace.limits
-limit_known trace st rules p size q known full =
+path_limit_known : (trace : Trace) (st : State) → AreLimits trace → (m size q : ℕ) → m < length trace.limits → full_limit trace st m size ≡ Some q → q < length trace.limits
+path_limit_known trace st rules m size q known full =
     let long = length_in trace.limits st.maxima in
-    let inside : limit_of trace p < length (limits_in trace st) = subst (λ k. limit_of trace p < k) (sym long) (rules.limited p known) in
+    let inside : m < length (limits_in trace st) = subst (λ k. m < k) (sym long) known in
     subst (λ k. q < k) long
     (found_holds (λ k. k < length (limits_in trace st)) (λ k. nat_lt (max_of (limits_in trace st) k) (use_of trace st k + size))
-    (path_within (limits_in trace st) (length (limits_in trace st)) (limit_of trace p)) q
-    (all_on_path (limits_in trace st) (tree_in trace.limits st.maxima rules.tree) (length (limits_in trace st)) (limit_of trace p) inside) full)
+    (path_within (limits_in trace st) (length (limits_in trace st)) m) q
+    (all_on_path (limits_in trace st) (tree_in trace.limits st.maxima rules.tree) (length (limits_in trace st)) m inside) full)
+
+limit_known : (trace : Trace) (st : State) → AreLimits trace → (p size q : ℕ) → p < process_count trace → full_limit trace st (limit_of trace p) size ≡ Some q → q < length trace.limits
+limit_known trace st rules p size q known full = path_limit_known trace st rules (limit_of trace p) size q (rules.limited p known) full
 
 -- faults that name what the trace declares
 abbrev AreKnownFaults : Trace → List (Option Fault) → Type 0
@@ -143,6 +146,22 @@ module _ (trace : Trace) (st : State) (rules : AreLimits trace) (sound : IsSound
   shared_size true size = tt
   shared_size false size = size_known trace st rules p size known
 
+  grown_known : (m max : ℕ) → m < length trace.limits → (b : Bool) → IfSome (cond b (limit_fault (full_for trace st m max)) None) (IsKnownFault trace)
+  grown_known m max inside false = tt
+  grown_known m max inside true = full_known (full_for trace st m max) refl
+    where
+      above : (parent : Option LimitId) → (row_of trace.limits m).parent ≡ parent → (n q : ℕ) → full_above trace st parent n ≡ Some q → q < length trace.limits
+      above None e n q full = absurd (cc full)
+      above (Some r) e n q full = let lower = rules.tree m r inside e in path_limit_known trace st rules r.0 n q (omega (arith, lower, inside)) full
+
+      full_known : (o : Option ℕ) → full_for trace st m max ≡ o → IfSome (limit_fault o) (IsKnownFault trace)
+      full_known None e = tt
+      full_known (Some q) e = go ((row_of trace.limits m).hard && nat_lt (max_of (limits_in trace st) m) max) e
+        where
+          go : (b : Bool) → cond b (full_above trace st (row_of trace.limits m).parent (max - max_of (limits_in trace st) m)) None ≡ Some q → q < length trace.limits
+          go true full = above (row_of trace.limits m).parent refl (max - max_of (limits_in trace st) m) q full
+          go false full = absurd (cc full)
+
   pub reply_known : (op : Op) → IsTrue (in_range trace op) → IsKnownReply trace (reply_to trace st p op)
   unfolding reply_to faults answer in_range
   reply_known (New r ty) ranged =
@@ -180,3 +199,8 @@ module _ (trace : Trace) (st : State) (rules : AreLimits trace) (sound : IsSound
       refused_known trace (fault_where _ _ ∷ (cond (has_share st.shares p s.0) None (size_fault trace st p (bytes_of trace st (Shared s)))) ∷ []) _
       (where_known trace _ _ inside, (shared_size (has_share st.shares p s.0) (bytes_of trace st (Shared s)), tt)) (root_known s.0)
   reply_known Exit ranged = refused_known trace [] _ tt tt
+  reply_known (Kill q) ranged = refused_known trace (fault_where _ _ ∷ []) _ (where_known trace _ _ (ltb-true _ _ ranged), tt) tt
+  reply_known (Resize m max) ranged =
+      let inside = ltb-true _ _ (and_parts (nat_lt m.0 (length trace.limits)) (nat_lt max maximum_below) ranged).0 in
+      refused_known trace ((cond (may_resize trace p m.0) (limit_fault (full_for trace st m.0 max)) None) ∷ fault_where _ _ ∷ fault_where _ _ ∷ []) _
+      (grown_known m.0 max inside (may_resize trace p m.0), (where_known trace _ _ inside, (where_known trace _ _ inside, tt))) tt

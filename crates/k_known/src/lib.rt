@@ -10,4 +10,6 @@ pub use fits::{
     ended_collections_are_bounded, objects_are_at_most_the_serials, objects_fit_their_types,
 };
 pub use known::{events_are_known, tails_are_operations_alone};
-pub use numbers::{histories_do_the_operations_of_the_trace, numbers_fit, operations_are_ordered};
+pub use numbers::{
+    histories_do_the_operations_of_the_trace, maxima_fit, numbers_fit, operations_are_ordered,
+};

@@ -6,7 +6,7 @@ use Rattle.k_types.specs.declared.event.Reply.{Reply}
 use Rattle.k_types.specs.declared.event.Reply.TheVariants.{Refused}
 use Rattle.k_types.specs.declared.names.Pid.{Pid}
 use Rattle.k_types.specs.declared.op.Op.{Op}
-use Rattle.k_types.specs.declared.op.Op.TheVariants.{New, KNew, SNew, Store, Load, Move, Clear, Dir, Put, Get, Collect, KCollect, Share, Freeze, Attach, Exit}
+use Rattle.k_types.specs.declared.op.Op.TheVariants.{New, KNew, SNew, Store, Load, Move, Clear, Dir, Put, Get, Collect, KCollect, Share, Freeze, Attach, Exit, Kill, Resize}
 use Rattle.k_types.specs.Effects.{after_operation, effect_unless, step}
 use Rattle.k_types.specs.Replies.{answer, faults, first_fault, refused_or, reply_to}
 use Rattle.k_types.specs.State.{State}
@@ -32,6 +32,8 @@ never_refused trace st p (Share s) fault e = cc e
 never_refused trace st p (Freeze s root) fault e = cc e
 never_refused trace st p (Attach r s) fault e = cc e
 never_refused trace st p Exit fault e = cc e
+never_refused trace st p (Kill q) fault e = cc e
+never_refused trace st p (Resize m max) fault e = cc e
 
 -- where there is a fault the effect is left out
 left_out : (trace : Trace) (st : State) (p : ℕ) (op : Op) (fault : Fault) (first : Option Fault) (reply : Reply) → (reply ≡ Refused fault → ⊥) →

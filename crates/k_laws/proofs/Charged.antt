@@ -9,18 +9,18 @@ use Rattle.k_types.specs.declared.names.Heap.TheVariants.{Kernel, Shared}
 use Rattle.k_types.specs.declared.names.Phase.{Phase}
 use Rattle.k_types.specs.declared.names.Phase.TheVariants.{Unmade, Populating, Frozen}
 use Rattle.k_types.specs.declared.op.Op.{Op}
-use Rattle.k_types.specs.declared.op.Op.TheVariants.{New, KNew, SNew, Store, Load, Move, Clear, Dir, Put, Get, Collect, KCollect, Share, Freeze, Attach, Exit}
+use Rattle.k_types.specs.declared.op.Op.TheVariants.{New, KNew, SNew, Store, Load, Move, Clear, Dir, Put, Get, Collect, KCollect, Share, Freeze, Attach, Exit, Kill, Resize}
 use Rattle.k_types.specs.declared.event.Fault.{Fault}
 use Rattle.k_types.specs.declared.event.Fault.TheVariants.{Segv, NotPopulating, Taken}
 use Rattle.k_types.specs.declared.event.Reply.{Reply}
 use Rattle.k_types.specs.declared.event.Event.TheVariants.{Done}
 use Rattle.k_types.specs.Names.{heap_eq, among}
 use Rattle.k_types.specs.Trace.{Trace, process_count, limit_of, kinds_of, size_of_type}
-use Rattle.k_types.specs.TraceRules.{AreLimits, is_exit}
+use Rattle.k_types.specs.TraceRules.{AreLimits, ends_a_process, is_resize}
 use Rattle.k_types.specs.State.{State, Content, Refers, Holds, Sharing, has_share, register}
 use Rattle.k_types.specs.Owners.{owner_of, user, shared, bytes_by, bytes_of, charge_of, charge_by, phase_of, is_absorbed}
 use Rattle.k_types.specs.Limits.{limits_in, with_maxima, use_of, use_by, path_of}
-use Rattle.k_types.specs.Updates.{create, write, add_exit, set_register, open_scan, set_phase, add_share, count_done}
+use Rattle.k_types.specs.Updates.{create, write, add_exit, set_register, open_scan, set_phase, add_share, set_max, count_done}
 use Rattle.k_types.specs.Replies.{first_fault, faults, fault_where, at_base, is_populating, is_unmade}
 use Rattle.k_types.specs.Effects.{step, effect, effect_unless, after_operation, after_store, after_put, after_freeze, with_exit_of_store}
 use Rattle.k_types.specs.Steps.{IsPossible}
@@ -135,9 +135,9 @@ module _ (trace : Trace) (st : State) (p : ℕ) (sound : IsSound trace st) (know
             | false ↦ charge_sharing (bytes_of trace st) st.ended st.shares p s lives q ∙ ap (λ n. charge_of trace st q + n * bit (q == p)) none
           ]
 
-  effect_charges : (op : Op) → IsFalse (is_exit op) → first_fault (faults trace st p op) ≡ None → (q : ℕ) →
+  effect_charges : (op : Op) → IsFalse (ends_a_process op) → first_fault (faults trace st p op) ≡ None → (q : ℕ) →
       charge_of trace (effect trace p op st) q ≡ charge_of trace st q + bytes_charged trace st p op * bit (q == p)
-  unfolding effect faults set_register open_scan
+  unfolding effect faults set_register open_scan set_max
   effect_charges (New r ty) other fine q = new_charge ty q
   effect_charges (KNew r ty) other fine q = knew_charge ty q
   effect_charges (SNew r s ty) other fine q =
@@ -165,8 +165,10 @@ module _ (trace : Trace) (st : State) (p : ℕ) (sound : IsSound trace st) (know
           freeze_charge s.0 (Some x) phase.0 phase.1 q
   effect_charges (Attach r s) other fine q = attach_charge s.0 q
   effect_charges Exit other fine q = absurd (false≢true (sym other))
+  effect_charges (Kill k) other fine q = absurd (false≢true (sym other))
+  effect_charges (Resize m max) other fine q = nothing_more _ _ (q == p) refl
 
-  pub operation_charges : (op : Op) → IsFalse (is_exit op) → (q : ℕ) → charge_of trace (after_operation trace p op st) q ≡ charge_of trace st q + bytes_added trace st p op * bit (q == p)
+  pub operation_charges : (op : Op) → IsFalse (ends_a_process op) → (q : ℕ) → charge_of trace (after_operation trace p op st) q ≡ charge_of trace st q + bytes_added trace st p op * bit (q == p)
   unfolding after_operation count_done
   operation_charges op other q = go (first_fault (faults trace st p op)) refl
     where
@@ -175,10 +177,10 @@ module _ (trace : Trace) (st : State) (p : ℕ) (sound : IsSound trace st) (know
       go (Some f) e = nothing_more _ _ (q == p) refl
 
 -- the uses rise on the path of the process's limit alone
-pub operation_uses : (trace : Trace) → AreLimits trace → (st : State) (pid : Pid) (op : Op) (said : Reply) → IsSound trace st → IsPossible trace st (Done pid op said) → IsFalse (is_exit op) → (m : ℕ) →
+pub operation_uses : (trace : Trace) → AreLimits trace → (st : State) (pid : Pid) (op : Op) (said : Reply) → IsSound trace st → IsPossible trace st (Done pid op said) → IsFalse (ends_a_process op) → IsFalse (is_resize op) → (m : ℕ) →
     use_of trace (step trace st (Done pid op said)) m ≡ use_of trace st m + cond (among m (path_of (limits_in trace st) (limit_of trace pid.0))) (bytes_added trace st pid.0 op) 0
 unfolding step
-operation_uses trace rules_hold st pid op said sound may other m =
-    ap (λ maxima. use_by trace (with_maxima trace.limits maxima) (charge_of trace (after_operation trace pid.0 op st)) m) (step_maxima trace st (Done pid op said))
+operation_uses trace rules_hold st pid op said sound may other fixed m =
+    ap (λ maxima. use_by trace (with_maxima trace.limits maxima) (charge_of trace (after_operation trace pid.0 op st)) m) (step_maxima trace st (Done pid op said) fixed)
     ∙ uses_raised trace rules_hold st pid.0 (bytes_added trace st pid.0 op) (charge_of trace st) (charge_of trace (after_operation trace pid.0 op st)) may.known
     (operation_charges trace st pid.0 sound may.known may.lives op other) m

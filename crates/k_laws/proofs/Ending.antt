@@ -1,27 +1,29 @@
 -- What the end of a process leaves, and that no event of another raises what a process is charged.
-use Rattle.std.proofs.Common.{◌≡◌, ◌≢◌, ℕ, ◌+◌, ◌*◌, ◌<◌, ◌≤◌, ◌==◌, ◌||◌, ◌&&◌, not, Bool, true, false, cond, refl, sym, ap, ap₂, ◌∙◌, [], ◌∷◌, ◌++◌, filter, length, replicate, get_or-set_same, get_or-set_other, None, arith, ne_eqb, eq-eqb, eqb-true, inl, inr, IsTrue, IsFalse, le_refl, le_of_eq}
+use Rattle.std.proofs.Common.{◌≡◌, ◌≢◌, ℕ, ◌+◌, ◌*◌, ◌<◌, ◌≤◌, ◌==◌, ◌||◌, ◌&&◌, not, Bool, true, false, cond, refl, sym, ap, ap₂, ◌∙◌, [], ◌∷◌, ◌++◌, filter, length, replicate, get_or-set_same, get_or-set_other, Option, Some, None, subst, ltb-true, arith, ne_eqb, eq-eqb, eqb-true, inl, inr, IsTrue, IsFalse, le_refl, le_of_eq}
 use Rattle.std.proofs.lemmas.Bool.{false≢true, cases_Bool, cases_eq, or_left, or_right, not_from_false, and_right, and_parts, not-true}
 use Rattle.std.proofs.lemmas.List.Folds.{list_any-append}
 use Rattle.k_types.specs.declared.names.Heap.{Heap}
 use Rattle.k_types.specs.declared.names.Pid.{Pid}
 use Rattle.k_types.specs.declared.event.Reply.{Reply}
-use Rattle.k_types.specs.declared.names.Heap.TheVariants.{Kernel}
+use Rattle.k_types.specs.declared.names.Heap.TheVariants.{Kernel, User}
 use Rattle.k_types.specs.declared.op.Op.{Op}
-use Rattle.k_types.specs.declared.op.Op.TheVariants.{Exit}
+use Rattle.k_types.specs.declared.op.Op.TheVariants.{Exit, Kill}
+use Rattle.k_types.specs.declared.event.Fault.{Fault}
 use Rattle.k_types.specs.declared.event.Event.{Event}
 use Rattle.k_types.specs.declared.event.Event.TheVariants.{Done, Ended, Absorbed as AbsorbedEvent, Closing}
 use Rattle.k_types.specs.Names.{heap_eq, among}
 use Rattle.k_types.specs.Totals.{total}
 use Rattle.k_types.specs.Trace.{Trace, process_count}
-use Rattle.k_types.specs.TraceRules.{AreLimits, is_exit}
-use Rattle.k_types.specs.State.{State, has_share}
+use Rattle.k_types.specs.TraceRules.{AreLimits, ends_a_process}
+use Rattle.k_types.specs.State.{State, has_share, is_scanned}
 use Rattle.k_types.specs.Owners.{owner_of, user, shared, bytes_by, bytes_of, charge_of, object_bytes, phase_of}
-use Rattle.k_types.specs.Replies.{first_fault, faults}
+use Rattle.k_types.specs.Replies.{first_fault, fault_where, faults, ends_other}
+use Rattle.k_types.specs.Limits.{is_above}
 use Rattle.k_types.specs.Updates.{count_done, set_phase, open_scan, close, close_scan, keep_objects, keep_exits, keep_shares, clear_registers, end_process, turn_exits}
-use Rattle.k_types.specs.Effects.{step, effect, after_operation, after_end_of, after_ended, after_absorbed, after_closing, survives, share_stays}
-use Rattle.k_types.specs.Steps.{IsPossible, is_live, has_sharer}
+use Rattle.k_types.specs.Effects.{step, effect, effect_unless, after_operation, after_end_of, after_kill, after_ended, after_absorbed, after_closing, survives, share_stays}
+use Rattle.k_types.specs.Steps.{IsPossible, is_live, has_sharer, in_range}
 use Rattle.k_types.specs.Sound.{IsSound}
-use Rattle.k_laws.specs.Changes.{MayAbsorb}
+use Rattle.k_laws.specs.Changes.{MayAbsorb, MayExit}
 use Rattle.k_laws.specs.Charges.{is_done_by, bytes_added}
 use Rattle.k_laws.specs.Termination.{CreditsTheCharge, LeavesTheRest}
 use Rattle.k_base.proofs.Sums.{bit, sum_same}
@@ -33,6 +35,8 @@ use Rattle.k_laws.proofs.Uses.{charge_less, charged_less}
 use Rattle.k_laws.proofs.UsesRaised.{uses_raised}
 use Rattle.k_laws.proofs.Charged.{operation_charges}
 use Rattle.k_base.proofs.Lists.{none_is}
+use Rattle.k_types.specs.Cells.{cells_touched, other_cells}
+use Rattle.std.specs.List.{list_all}
 
 module _ (trace : Trace) (st : State) (p : ℕ) where
   own_ended : IsTrue (among p (st.ended ++ p ∷ []))
@@ -107,11 +111,61 @@ exit_credits trace st pid said limits may =
     let credit = credits trace st pid.0 limits may.known in
     record { own = credit.own; others = credit.others; uses = credit.uses }
 
+-- the end of a process raises nobody's charge
+killed_charge : (trace : Trace) (st : State) (p q : ℕ) → charge_of trace (after_kill trace p st) q ≤ charge_of trace st q
+unfolding after_kill
+killed_charge trace st p q =
+    elim (among p st.ended) as (λ b. charge_of trace (cond b st (after_end_of trace p st)) q ≤ charge_of trace st q) [
+      | true ↦ le_refl (charge_of trace st q)
+      | false ↦ elim (cases_eq q p) [
+        | inl e ↦ subst (λ k. charge_of trace (after_end_of trace p st) k ≤ charge_of trace st k) (sym e) (let gone = own_charge trace st p in omega (arith, gone))
+        | inr ne ↦ le_of_eq (other_charge trace st p q ne)
+      ]
+    ]
+
+-- a kill that ends its target does what the end of the target does, and counts as done
+pub kill_event : (trace : Trace) (st : State) (pid target : Pid) (said : Reply) → IsTrue (ends_other trace st pid.0 target.0) →
+    step trace st (Done pid (Kill target) said) ≡ count_done pid.0 (after_end_of trace target.0 st)
+unfolding step after_operation faults first_fault fault_where effect after_kill
+kill_event trace st pid target said ends =
+    let parts = and_parts (is_above trace pid.0 target.0) (not (among target.0 st.ended)) ends in
+    rw (parts.0, not-true _ parts.1) refl
+
+-- a kill of a process that has ended changes nothing
+pub idle_kill_event : (trace : Trace) (st : State) (pid target : Pid) (said : Reply) → IsTrue (among target.0 st.ended) → step trace st (Done pid (Kill target) said) ≡ count_done pid.0 st
+unfolding step after_operation effect after_kill
+idle_kill_event trace st pid target said ended = ap (count_done pid.0) (go (first_fault (faults trace st pid.0 (Kill target))))
+  where
+    go : (f : Option Fault) → effect_unless f trace pid.0 (Kill target) st ≡ st
+    go None = ap (λ b. cond b st (after_end_of trace target.0 st)) ended
+    go (Some f) = refl
+
+-- whoever a possible kill ends may end: nothing of its heap or of the kernel's is scanned
+pub may_end_other : (trace : Trace) (st : State) (pid target : Pid) (said : Reply) → IsPossible trace st (Done pid (Kill target) said) → IsTrue (ends_other trace st pid.0 target.0) → MayExit trace st target.0
+unfolding cells_touched other_cells in_range
+may_end_other trace st pid target said may ends =
+    let all = and_parts (not (is_scanned st.scans (user pid.0))) _ may.idle in
+    let idle = ap (λ b. list_all (λ c. not (is_scanned st.scans c)) (cond b (User target ∷ Kernel ∷ []) [])) (sym ends) ∙ all.1 in
+    let parts = and_parts (not (is_scanned st.scans (User target))) (list_all (λ c. not (is_scanned st.scans c)) (Kernel ∷ [])) idle in
+    record {
+      known = ltb-true _ _ may.in_range;
+      lives = not-true _ (and_parts (is_above trace pid.0 target.0) (not (among target.0 st.ended)) ends).1;
+      idle = none_is _ (not-true _ parts.0);
+      kernel_idle = none_is _ (not-true _ (and_parts (not (is_scanned st.scans Kernel)) true parts.1).0);
+    }
+
+pub kill_credits : (trace : Trace) (st : State) (pid target : Pid) (said : Reply) → AreLimits trace → IsPossible trace st (Done pid (Kill target) said) → IsTrue (ends_other trace st pid.0 target.0) →
+    CreditsTheCharge trace st target.0 (step trace st (Done pid (Kill target) said))
+unfolding count_done in_range
+kill_credits trace st pid target said limits may ends =
+    let credit = credits trace st target.0 limits (ltb-true _ _ may.in_range) in
+    subst (CreditsTheCharge trace st target.0) (sym (kill_event trace st pid target said ends)) (record { own = credit.own; others = credit.others; uses = credit.uses })
+
 -- no event but an operation of the process itself raises what it is charged
 pub others_never_raise : (trace : Trace) (st : State) (event : Event) (q : ℕ) → IsSound trace st → IsPossible trace st event → IsFalse (is_done_by event q) → charge_of trace (step trace st event) q ≤ charge_of trace st q
 unfolding step after_operation count_done after_ended keep_objects keep_exits keep_shares close_scan after_absorbed set_phase after_closing close open_scan faults first_fault effect
 others_never_raise trace st (Done pid op said) q sound may other =
-    elim (cases_Bool (is_exit op)) [
+    elim (cases_Bool (ends_a_process op)) [
       | inl ends ↦ exits op ends
       | inr stays ↦ le_of_eq (operation_charges trace st pid.0 sound may.known may.lives op stays q ∙ ap (λ b. charge_of trace st q + bytes_added trace st pid.0 op * bit b) apart ∙ (omega arith))
     ]
@@ -119,8 +173,13 @@ others_never_raise trace st (Done pid op said) q sound may other =
     apart : (q == pid.0) ≡ false
     apart = ne_eqb q pid.0 (λ e. false≢true (sym other ∙ eq-eqb pid.0 q (sym e)))
 
-    exits : (op : Op) → IsTrue (is_exit op) → charge_of trace (after_operation trace pid.0 op st) q ≤ charge_of trace st q
+    exits : (op : Op) → IsTrue (ends_a_process op) → charge_of trace (after_operation trace pid.0 op st) q ≤ charge_of trace st q
     exits Exit t = le_of_eq (other_charge trace st pid.0 q (λ e. false≢true (sym other ∙ eq-eqb pid.0 q (sym e))))
+    exits (Kill target) t = kills (first_fault (faults trace st pid.0 (Kill target)))
+      where
+        kills : (f : Option Fault) → charge_of trace (effect_unless f trace pid.0 (Kill target) st) q ≤ charge_of trace st q
+        kills (Some f) = le_refl (charge_of trace st q)
+        kills None = killed_charge trace st target.0 q
     exits _ t = absurd (false≢true t)
 others_never_raise trace st (Ended h a b c d) q sound may other =
     charge_less (bytes_of trace (after_ended trace h st)) (bytes_of trace st) st.ended (share_stays trace st h) st.shares (λ g. bytes-kept (owner_of trace st) g (survives trace st h) st.objects) q

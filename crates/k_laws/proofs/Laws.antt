@@ -1,28 +1,28 @@
 -- The laws of this crate, one lemma a clause under the law's name, for the crates above to cite.
-use Rattle.std.proofs.Common.{◌≡◌, ℕ, ◌+◌, ◌*◌, ◌==◌, Bool, true, false, cond, sym, ap, ◌∙◌, length, arith, ◌∷◌}
-use Rattle.std.specs.Prelude.{IsFalse, List, if◌then◌else◌, ◌<◌, ◌≤◌, IsTrue, ◌++◌, Some, nat_lt, ◌||◌, ◌↔◌, ◌⊎◌}
+use Rattle.std.proofs.Common.{◌≡◌, ℕ, ◌+◌, ◌*◌, ◌==◌, sym, ap, ◌∙◌, length, arith, ◌∷◌}
+use Rattle.std.specs.Prelude.{IsFalse, List, if◌then◌else◌, ◌<◌, ◌≤◌, IsTrue, ◌++◌, Some, nat_lt, ◌||◌, ◌↔◌, ◌⊎◌, ◌≢◌}
 use Rattle.k_types.specs.Cells.{entries, pins, book_part, use_shown}
 use Rattle.k_types.specs.Effects.{step, after_end_of}
 use Rattle.k_types.specs.declared.setup.LimitRow.{LimitRow}
-use Rattle.k_types.specs.Limits.{limits_in, max_of, path_of, use_of, use_within, full_limit}
+use Rattle.k_types.specs.Limits.{limits_in, max_of, path_of, use_of, use_within, full_limit, is_above}
 use Rattle.k_types.specs.Local.{is_own}
 use Rattle.k_types.specs.Names.{among}
 use Rattle.k_types.specs.Owners.{charge_of, objects_of, owner_of, user, bytes_of, phase_of}
 use Rattle.k_types.specs.Reach.{live_everywhere, is_entered, reach_among, reach_in}
-use Rattle.k_types.specs.Replies.{is_populating, reply_to}
+use Rattle.k_types.specs.Replies.{ends_other, is_populating, reply_to}
 use Rattle.k_types.specs.Sound.{IsSound}
 use Rattle.k_types.specs.State.{State, has, opening, scan_of, has_exit}
 use Rattle.k_types.specs.Steps.{IsLegalHistory, IsPossible, state_after}
 use Rattle.k_types.specs.Totals.{total}
 use Rattle.k_types.specs.Trace.{Trace, limit_of, process_count, size_of_type}
-use Rattle.k_types.specs.TraceRules.{AreLimits, IsTree, is_exit}
+use Rattle.k_types.specs.TraceRules.{AreLimits, IsTree, ends_a_process, is_resize}
 use Rattle.k_types.specs.Updates.{count_done}
 use Rattle.k_types.specs.declared.event.Event.{Event}
 use Rattle.k_types.specs.declared.event.Event.TheVariants.{Done, Ended}
 use Rattle.k_types.specs.declared.event.Fault.{Fault}
 use Rattle.k_types.specs.declared.event.Fault.TheVariants.{KernelFull, LimitFull, NotPopulating}
 use Rattle.k_types.specs.declared.event.Reply.{Reply}
-use Rattle.k_types.specs.declared.event.Reply.TheVariants.{Refused}
+use Rattle.k_types.specs.declared.event.Reply.TheVariants.{Refused, Done as DoneReply}
 use Rattle.k_types.specs.declared.names.Heap.{Heap}
 use Rattle.k_types.specs.declared.names.Heap.TheVariants.{Kernel}
 use Rattle.k_types.specs.declared.names.LimitId.{LimitId}
@@ -32,15 +32,15 @@ use Rattle.k_types.specs.declared.names.Reg.{Reg}
 use Rattle.k_types.specs.declared.names.SharedId.{SharedId}
 use Rattle.k_types.specs.declared.names.TypeId.{TypeId}
 use Rattle.k_types.specs.declared.op.Op.{Op}
-use Rattle.k_types.specs.declared.op.Op.TheVariants.{KNew, New, SNew, Store, Exit}
+use Rattle.k_types.specs.declared.op.Op.TheVariants.{KNew, New, SNew, Store, Exit, Kill, Resize}
 use Rattle.k_base.proofs.Charges.{use_added}
 use Rattle.k_base.proofs.Maxima.{tree_in}
 use Rattle.k_base.proofs.Objects.{some_is}
-use Rattle.k_base.proofs.Sums.{bit}
 use Rattle.k_frame.proofs.Exact.{counted_exact}
 use Rattle.k_frame.proofs.Histories.{legal_front, legal_rest}
 use Rattle.k_laws.proofs.Charged.{operation_charges, operation_uses}
-use Rattle.k_laws.proofs.Ending.{others_never_raise, credits, exit_credits, exit_event, leaves_rest}
+use Rattle.k_laws.proofs.Ending.{others_never_raise, credits, exit_credits, exit_event, kill_credits, kill_event, idle_kill_event, leaves_rest, may_end_other}
+use Rattle.k_laws.proofs.Resizing.{resize_event}
 use Rattle.k_laws.proofs.Entered.{entered_counted}
 use Rattle.k_laws.proofs.Entries.{entries_are}
 use Rattle.k_laws.proofs.Means.{reach_is, own_is, is_own_if, exit_from, exit_comes}
@@ -56,8 +56,11 @@ use Rattle.k_laws.specs.Charges.{bytes_added, is_done_by}
 use Rattle.k_laws.specs.Meaning.{heaps_of}
 use Rattle.k_laws.specs.Parts.{SameParts, SameState}
 use Rattle.k_laws.specs.Refusals.{is_fault_of_store}
+use Rattle.k_laws.specs.Resizing.{MovesTheReservation}
 use Rattle.k_laws.specs.Survivors.{KeepsTheSurvivors}
 use Rattle.k_laws.specs.Termination.{CreditsTheCharge, LeavesTheRest, StaysOrPasses}
+use Rattle.k_base.proofs.Ancestors.{above_another}
+use Rattle.k_laws.specs.Changes.{MayExit}
 
 -- a charge of n bytes at a limit raises the use of each limit on its path by n, and no other
 pub charges_go_up_the_path-raised : (rows : List LimitRow) (d e : ℕ → ℕ) (n m : ℕ) → IsTree rows → m < length rows → ((q : ℕ) → e q ≡ d q + (if q == m then n else 0)) → (q : ℕ) → use_within rows e (length rows) q ≡ use_within rows d (length rows) q + (if among q (path_of rows m) then n else 0)
@@ -70,13 +73,17 @@ pub charges_go_up_the_path-limits : (trace : Trace) (st : State) → AreLimits t
 charges_go_up_the_path-limits = λ trace st limits. tree_in trace.limits st.maxima limits.tree
 
 -- an operation charges its own process alone: an allocation in its heap or in the shared heap that it populates by the bytes of the object, an attach to a heap that it does not share yet by all bytes of that heap, and anything else, as whatever is refused, by nothing
-pub operations_charge_their_process-charged : (trace : Trace) (st : State) (pid : Pid) (op : Op) (said : Reply) → IsSound trace st → IsPossible trace st (Done pid op said) → IsFalse (is_exit op) → (q : ℕ) → charge_of trace (step trace st (Done pid op said)) q ≡ charge_of trace st q + (if q == pid.0 then bytes_added trace st pid.0 op else 0)
+pub operations_charge_their_process-charged : (trace : Trace) (st : State) (pid : Pid) (op : Op) (said : Reply) → IsSound trace st → IsPossible trace st (Done pid op said) → IsFalse (ends_a_process op) → (q : ℕ) → charge_of trace (step trace st (Done pid op said)) q ≡ charge_of trace st q + (if q == pid.0 then bytes_added trace st pid.0 op else 0)
 unfolding step
 operations_charge_their_process-charged = λ trace st pid op said sound may other q.
     operation_charges trace st pid.0 sound may.known may.lives op other q ∙ ap (λ k. charge_of trace st q + k) (times (q == pid.0) (bytes_added trace st pid.0 op))
 
-pub operations_charge_their_process-uses : (trace : Trace) (st : State) (pid : Pid) (op : Op) (said : Reply) → AreLimits trace → IsSound trace st → IsPossible trace st (Done pid op said) → IsFalse (is_exit op) → (m : ℕ) → use_of trace (step trace st (Done pid op said)) m ≡ use_of trace st m + (if among m (path_of (limits_in trace st) (limit_of trace pid.0)) then bytes_added trace st pid.0 op else 0)
-operations_charge_their_process-uses = λ trace st pid op said limits sound may other m. operation_uses trace limits st pid op said sound may other m
+pub operations_charge_their_process-uses : (trace : Trace) (st : State) (pid : Pid) (op : Op) (said : Reply) → AreLimits trace → IsSound trace st → IsPossible trace st (Done pid op said) → IsFalse (ends_a_process op) → IsFalse (is_resize op) → (m : ℕ) → use_of trace (step trace st (Done pid op said)) m ≡ use_of trace st m + (if among m (path_of (limits_in trace st) (limit_of trace pid.0)) then bytes_added trace st pid.0 op else 0)
+operations_charge_their_process-uses = λ trace st pid op said limits sound may other fixed m. operation_uses trace limits st pid op said sound may other fixed m
+
+-- a resize that isn't refused moves the reservation of a hard limit, and nothing else
+pub resizes_move_the_reservation : (trace : Trace) (st : State) (pid : Pid) (limit : LimitId) (max : ℕ) → AreLimits trace → IsSound trace st → IsPossible trace st (Done pid (Resize limit max) DoneReply) → MovesTheReservation trace st limit.0 max (step trace st (Done pid (Resize limit max) DoneReply))
+resizes_move_the_reservation = resize_event
 
 -- no event raises what another process is charged: not its operations, its end or its shares, and no collection, absorption or closing
 pub nobody_raises_the_charge_of_another : (trace : Trace) (st : State) (event : Event) (q : ℕ) → IsSound trace st → IsPossible trace st event → IsFalse (is_done_by event q) → charge_of trace (step trace st event) q ≤ charge_of trace st q
@@ -154,12 +161,27 @@ termination_credits_the_whole_charge-end = credits
 pub termination_credits_the_whole_charge-exit : (trace : Trace) (st : State) (pid : Pid) (said : Reply) → AreLimits trace → IsPossible trace st (Done pid Exit said) → CreditsTheCharge trace st pid.0 (step trace st (Done pid Exit said))
 termination_credits_the_whole_charge-exit = exit_credits
 
+pub termination_credits_the_whole_charge-kill : (trace : Trace) (st : State) (pid target : Pid) (said : Reply) → AreLimits trace → IsPossible trace st (Done pid (Kill target) said) → IsTrue (ends_other trace st pid.0 target.0) → CreditsTheCharge trace st target.0 (step trace st (Done pid (Kill target) said))
+termination_credits_the_whole_charge-kill = kill_credits
+
+pub termination_credits_the_whole_charge-may : (trace : Trace) (st : State) (pid target : Pid) (said : Reply) → IsPossible trace st (Done pid (Kill target) said) → IsTrue (ends_other trace st pid.0 target.0) → MayExit trace st target.0
+termination_credits_the_whole_charge-may = may_end_other
+
+pub termination_credits_the_whole_charge-another : (trace : Trace) (p q : ℕ) → AreLimits trace → q < process_count trace → IsTrue (is_above trace p q) → p ≢ q
+termination_credits_the_whole_charge-another = λ trace p q limits known above. above_another trace limits p q known above
+
 -- the end of a process takes nothing from others: every object and field stays, as do the registers and shares of all other processes
 pub termination_leaves_the_rest-rest : (trace : Trace) (st : State) (p : ℕ) → IsSound trace st → p < process_count trace → LeavesTheRest st p (after_end_of trace p st)
 termination_leaves_the_rest-rest = λ trace st p sound known. leaves_rest trace st p (rw sound.shape.sized.registers known)
 
 pub termination_leaves_the_rest-exit : (trace : Trace) (st : State) (pid : Pid) (said : Reply) → step trace st (Done pid Exit said) ≡ count_done pid.0 (after_end_of trace pid.0 st)
 termination_leaves_the_rest-exit = exit_event
+
+pub termination_leaves_the_rest-kill : (trace : Trace) (st : State) (pid target : Pid) (said : Reply) → IsTrue (ends_other trace st pid.0 target.0) → step trace st (Done pid (Kill target) said) ≡ count_done pid.0 (after_end_of trace target.0 st)
+termination_leaves_the_rest-kill = kill_event
+
+pub termination_leaves_the_rest-again : (trace : Trace) (st : State) (pid target : Pid) (said : Reply) → IsTrue (among target.0 st.ended) → step trace st (Done pid (Kill target) said) ≡ count_done pid.0 st
+termination_leaves_the_rest-again = idle_kill_event
 
 pub termination_leaves_the_rest-exits : (trace : Trace) (st : State) (p : ℕ) (h : Heap) (n : Name) → IsSound trace st → (IsTrue (has_exit (after_end_of trace p st).exits h n) ↔ StaysOrPasses trace st p h n)
 termination_leaves_the_rest-exits = λ trace st p h n sound. (exit_from trace st p sound h n, exit_comes trace st p sound h n)

@@ -25,6 +25,8 @@ pub mod SoundScan
 pub mod SoundShare
 pub mod SoundSharing
 pub mod SoundSteps
+pub mod Resizing
+pub mod SoundResized
 pub mod SoundStore
 pub mod SoundWrite
 pub mod Surviving

@@ -1,30 +1,32 @@
 -- What an operation that isn't refused leaves of a sound state is sound.
-use Rattle.std.proofs.Common.{◌≡◌, ℕ, ◌+◌, ◌<◌, ◌&&◌, not, Bool, true, false, cond, refl, sym, ap, ◌∙◌, inl, inr, List, [], ◌∷◌, ◌++◌, Option, Some, None, length, get_or, arith, eqb-true, IsTrue, IsFalse, subst, zero, suc, nat_lt, nat_le, ltb-true}
+use Rattle.std.proofs.Common.{◌≡◌, ℕ, ◌+◌, ◌<◌, ◌&&◌, not, Bool, true, false, cond, refl, sym, ap, ◌∙◌, inl, inr, List, [], ◌∷◌, ◌++◌, Option, Some, None, length, get_or, arith, eqb-true, IsTrue, IsFalse, subst, zero, suc, nat_lt, nat_le, ltb-true, ltb-false}
 use Rattle.std.specs.List.{list_all, list_any}
 use Rattle.std.proofs.lemmas.Bool.{cases_Bool, false≢true, and_parts, not-true, not-false, or_left, or_right}
 use Rattle.k_types.specs.declared.names.Name.{Name}
 use Rattle.k_types.specs.declared.names.Pid.{Pid}
 use Rattle.k_types.specs.declared.names.Reg.{Reg}
 use Rattle.k_types.specs.declared.names.SharedId.{SharedId}
+use Rattle.k_types.specs.declared.names.LimitId.{LimitId}
 use Rattle.k_types.specs.declared.names.TypeId.{TypeId}
 use Rattle.k_types.specs.declared.names.Heap.{Heap}
 use Rattle.k_types.specs.declared.names.Heap.TheVariants.{Kernel, User, Shared}
 use Rattle.k_types.specs.declared.names.Phase.{Phase}
 use Rattle.k_types.specs.declared.names.Phase.TheVariants.{Unmade, Populating, Frozen, Absorbed}
 use Rattle.k_types.specs.declared.op.Op.{Op}
-use Rattle.k_types.specs.declared.op.Op.TheVariants.{New, KNew, SNew, Store, Load, Move, Clear, Dir, Put, Get, Collect, KCollect, Share, Freeze, Attach, Exit}
-use Rattle.k_types.specs.declared.event.Fault.TheVariants.{Foreign, NoField, WrongKind, Segv, NotPopulating, NotFrozen, Taken}
+use Rattle.k_types.specs.declared.op.Op.TheVariants.{New, KNew, SNew, Store, Load, Move, Clear, Dir, Put, Get, Collect, KCollect, Share, Freeze, Attach, Exit, Kill, Resize}
+use Rattle.k_types.specs.declared.event.Fault.TheVariants.{Foreign, NoField, WrongKind, Segv, NotPopulating, NotFrozen, Taken, ProcNotBelow, LimitNotBelow, InUse}
 use Rattle.k_types.specs.declared.names.Field.TheVariants.{Int}
 use Rattle.k_types.specs.TraceRules.{AreLimits}
+use Rattle.k_types.specs.Bounds.{maximum_below}
 use Rattle.k_types.specs.Trace.{Trace, process_count, size_of_type, limit_of}
 use Rattle.k_types.specs.Names.{heap_eq, among, leads_to, directory}
 use Rattle.k_types.specs.State.{State, Content, Refers, Holds, Object, has, has_share, scan_of, is_scanned, register, in_registers, refers, refers_in, object_at, fields_of, field_kind, content_leads_to}
 use Rattle.k_types.specs.Owners.{owner_of, user, shared, bytes_of, charge_by, phase_of, is_absorbed}
-use Rattle.k_types.specs.Limits.{full_limit}
+use Rattle.k_types.specs.Limits.{full_limit, full_for, is_above, use_of}
 use Rattle.k_types.specs.Reach.{is_entered, is_held, roots_of}
 use Rattle.k_types.specs.Updates.{open_scan, set_register, add_share, set_phase}
-use Rattle.k_types.specs.Replies.{first_fault, faults, size_fault, limit_fault, fault_where, at_base, store_faults, load_faults, access_faults, is_foreign, is_populating, is_unmade, is_frozen, root_of, reference, reference_from, field_at, field_count, is_ref, sharer_fault, number_faults}
-use Rattle.k_types.specs.Effects.{effect, after_new, after_end_of, after_store, after_put, after_freeze}
+use Rattle.k_types.specs.Replies.{first_fault, faults, size_fault, limit_fault, fault_where, at_base, store_faults, load_faults, access_faults, is_foreign, is_populating, is_unmade, is_frozen, root_of, reference, reference_from, field_at, field_count, is_ref, sharer_fault, number_faults, may_resize}
+use Rattle.k_types.specs.Effects.{effect, after_new, after_end_of, after_kill, after_store, after_put, after_freeze}
 use Rattle.k_types.specs.Cells.{base_cell, access_cell, other_cells}
 use Rattle.k_types.specs.Steps.{in_range}
 use Rattle.k_types.specs.Sound.{IsSound}
@@ -43,6 +45,8 @@ use Rattle.k_laws.proofs.SoundShare.{freeze_sound}
 use Rattle.k_laws.proofs.SoundSharing.{sharing_sound, sharing}
 use Rattle.k_laws.proofs.SoundPopulating.{populating_sound, no_share}
 use Rattle.k_laws.proofs.SoundExited.{exited_sound}
+use Rattle.k_laws.proofs.SoundResized.{resized_sound, has_parent}
+use Rattle.k_laws.specs.Changes.{MayResize}
 use Rattle.k_base.proofs.Lists.{none_is}
 
 none_limit : (o : Option ℕ) → limit_fault o ≡ None → o ≡ None
@@ -297,6 +301,38 @@ module _ (trace : Trace) (rules_hold : AreLimits trace) (st : State) (pid : Pid)
   unfolding other_cells
   exit_sound acts = exited_sound trace st p sound (record { known = acts.known; lives = acts.lives; idle = acts.idle; kernel_idle = first_idle Kernel [] acts.others })
 
+  -- whoever ends, nothing of its heap or of the kernel's is scanned where an event that ends it is possible
+  kill_sound : (q : Pid) → Acts trace st p (Kill q) → IsSound trace (after_kill trace q.0 st)
+  unfolding faults other_cells in_range after_kill
+  kill_sound q acts = go (among q.0 st.ended) refl (subst (λ b. IsTrue (list_all (λ c. not (is_scanned st.scans c)) (cond (b && not (among q.0 st.ended)) (User q ∷ Kernel ∷ []) []))) above acts.others)
+    where
+      above : is_above trace p q.0 ≡ true
+      above = not-false _ (none_on (not (is_above trace p q.0)) (ProcNotBelow q) [] acts.fine).0
+
+      go : (b : Bool) → among q.0 st.ended ≡ b → IsTrue (list_all (λ c. not (is_scanned st.scans c)) (cond (not b) (User q ∷ Kernel ∷ []) [])) → IsSound trace (cond b st (after_end_of trace q.0 st))
+      go true e idle = sound
+      go false lives idle = exited_sound trace st q.0 sound (record {
+        known = ltb-true _ _ acts.in_range;
+        lives = lives;
+        idle = first_idle (User q) (Kernel ∷ []) idle;
+        kernel_idle = first_idle Kernel [] (and_parts (not (is_scanned st.scans (User q))) _ idle).1;
+      })
+
+  pub may_resize_of : (m : LimitId) (max : ℕ) → Acts trace st p (Resize m max) → MayResize trace st m.0 max
+  unfolding faults in_range
+  may_resize_of m max acts =
+      let rest = none_first _ _ acts.fine in
+      let may : may_resize trace p m.0 ≡ true = not-false _ (none_on (not (may_resize trace p m.0)) (LimitNotBelow m) _ rest.1).0 in
+      let fits = (none_on (may_resize trace p m.0 && nat_lt max (use_of trace st m.0)) (InUse m) [] (none_on (not (may_resize trace p m.0)) (LimitNotBelow m) _ rest.1).1).0 in
+      let parent = has_parent trace.limits (length trace.limits) m.0 (limit_of trace p) may in
+      record {
+        known = ltb-true _ _ (and_parts (nat_lt m.0 (length trace.limits)) (nat_lt max maximum_below) acts.in_range).0;
+        parent = parent.0;
+        below = parent.1;
+        used = ltb-false _ _ (sym (ap (λ b. b && nat_lt max (use_of trace st m.0)) may) ∙ fits);
+        fits = none_limit (full_for trace st m.0 max) (sym (ap (λ b. cond b (limit_fault (full_for trace st m.0 max)) None) may) ∙ rest.0);
+      }
+
   kcollect_sound : Acts trace st p KCollect → IsSound trace (open_scan Kernel (roots_of trace st Kernel) st)
   unfolding other_cells
   kcollect_sound acts = kernel_scan_sound (first_idle Kernel [] acts.others)
@@ -319,3 +355,5 @@ module _ (trace : Trace) (rules_hold : AreLimits trace) (st : State) (pid : Pid)
   effect_sound (Freeze s root) acts = frozen_sound s root acts
   effect_sound (Attach r s) acts = attach_sound r s acts
   effect_sound Exit acts = exit_sound acts
+  effect_sound (Kill q) acts = kill_sound q acts
+  effect_sound (Resize m max) acts = resized_sound trace rules_hold st m.0 max sound (may_resize_of m max acts)

@@ -2,7 +2,7 @@
 use Rattle.std.specs.Prelude.{ℕ, Bool, false, ◌==◌, Option, Some, None, if◌then◌else◌}
 use Rattle.k_types.specs.declared.names.Heap.TheVariants.{Shared}
 use Rattle.k_types.specs.declared.op.Op.{Op}
-use Rattle.k_types.specs.declared.op.Op.TheVariants.{New, KNew, SNew, Store, Load, Move, Clear, Dir, Put, Get, Collect, KCollect, Share, Freeze, Attach, Exit}
+use Rattle.k_types.specs.declared.op.Op.TheVariants.{New, KNew, SNew, Store, Load, Move, Clear, Dir, Put, Get, Collect, KCollect, Share, Freeze, Attach, Exit, Kill, Resize}
 use Rattle.k_types.specs.declared.event.Fault.{Fault}
 use Rattle.k_types.specs.declared.event.Event.{Event}
 use Rattle.k_types.specs.declared.event.Event.TheVariants.{Done}
@@ -29,6 +29,8 @@ bytes_charged trace st p (Share s) = 0
 bytes_charged trace st p (Freeze s root) = 0
 bytes_charged trace st p (Attach r s) = if has_share st.shares p s.0 then 0 else bytes_of trace st (Shared s)
 bytes_charged trace st p Exit = 0
+bytes_charged trace st p (Kill q) = 0
+bytes_charged trace st p (Resize m max) = 0
 
 -- a refused operation adds nothing
 abbrev pub charged_unless : Option Fault → ℕ → ℕ

@@ -3,5 +3,6 @@ pub mod Meaning
 pub mod Parts
 pub mod Charges
 pub mod Termination
+pub mod Resizing
 pub mod Refusals
 pub mod Survivors

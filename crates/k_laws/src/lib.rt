@@ -12,7 +12,7 @@ mod termination;
 
 pub use charges::{
     charges_go_up_the_path, nobody_raises_the_charge_of_another, operations_charge_their_process,
-    uses_fit,
+    resizes_move_the_reservation, uses_fit,
 };
 pub use collections::{collections_free_nothing_live, collections_keep_exactly_the_survivors};
 pub use meaning::{

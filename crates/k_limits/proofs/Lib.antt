@@ -8,3 +8,4 @@ pub mod Alike
 pub mod Making
 pub mod MachineUses
 pub mod Fits
+pub mod Resizes

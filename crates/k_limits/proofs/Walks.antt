@@ -1,6 +1,6 @@
 -- Paths and ancestries, one limit after the other.
-use Rattle.std.proofs.Common.{IsTrue, ◌≡◌, ℕ, zero, suc, ◌+◌, ◌-◌, ◌*◌, ◌^◌, Fits, w64, ◌<◌, ◌≤◌, ◌==◌, ◌||◌, slice_set, Bool, true, false, cond, refl, ap, ◌∙◌, sym, List, ◌∷◌, length, find, Option, Some, None, subst, slice_index, slice_index_or, arith, eq-eqb, ne_eqb, inl, inr, zero-le}
-use Rattle.std.proofs.lemmas.Bool.{cases_eq, eqb-true, lt-ltb, le-ltb}
+use Rattle.std.proofs.Common.{◌≡◌, ℕ, zero, suc, ◌+◌, ◌-◌, ◌*◌, ◌^◌, Fits, w64, ◌<◌, ◌≤◌, ◌==◌, ◌||◌, slice_set, Bool, true, false, cond, refl, ap, ◌∙◌, sym, List, ◌∷◌, length, find, Option, Some, None, subst, slice_index, slice_index_or, arith, eq-eqb, ne_eqb, inl, inr, zero-le}
+use Rattle.std.proofs.lemmas.Bool.{cases_eq, lt-ltb, le-ltb}
 use Rattle.std.proofs.lemmas.List.{get_or_default, get_or-set_same, get_or-set_other}
 use Rattle.k_types.specs.Names.{among}
 use Rattle.k_types.specs.declared.names.LimitId.{LimitId}
@@ -275,19 +275,3 @@ first_up rows tree m d known upper = (
 
 pub fits : (n : ℕ) → n < 2 ^ 64 → Fits w64 n
 fits n small = omega (arith, small)
-
--- what stands above a limit comes before it
-pub ancestor_before : (rows : List LimitRow) → IsTree rows → (depth m q : ℕ) → m < length rows → IsTrue (among q (ancestors_within rows depth m)) → q < m
-unfolding ancestors_within
-ancestor_before rows tree zero m q known there = absurd (cc)
-ancestor_before rows tree (suc depth) m q known there = go (row_of rows m).parent refl there (ancestor_before rows tree depth)
-  where
-    go : (parent : Option LimitId) → (row_of rows m).parent ≡ parent → IsTrue (among q (ancestors_above (ancestors_within rows depth) parent)) →
-        ((r q : ℕ) → r < length rows → IsTrue (among q (ancestors_within rows depth r)) → q < r) → q < m
-    go None is there ih = absurd (cc)
-    go (Some r) is there ih =
-        let lower = tree m r known is in
-        elim (r.0 == q) as (λ b. (r.0 == q) ≡ b → IsTrue (b || among q (ancestors_within rows depth r.0)) → q < m) [
-          | true ↦ λ e _. (let same = eqb-true r.0 q e in omega (arith, lower, same))
-          | false ↦ λ e up. (let below = ih r.0 q (omega (arith, lower, known)) up in omega (arith, below, lower))
-        ] refl there

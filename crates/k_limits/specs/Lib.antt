@@ -2,3 +2,4 @@ pub mod Limits
 pub mod Rows
 pub mod Paths
 pub mod Laws
+pub mod Resizes

@@ -1,5 +1,6 @@
-//! Why no tree of limits was made.
+//! Why no tree of limits was made, and why a limit kept its maximum.
 use k_io::NoMemory;
+use k_types::LimitId;
 
 /// Why no tree of limits was made.
 #[derive(Clone, Copy, Debug, PartialEq, Eq)]
@@ -20,4 +21,13 @@ impl From<NoMemory> for MakeError {
     fn from(refused: NoMemory) -> MakeError {
         MakeError::NoMemory(refused)
     }
+}
+
+/// Why a limit kept its maximum.
+#[derive(Clone, Copy, Debug, PartialEq, Eq)]
+pub enum ResizeRefusal {
+    /// More is used at the limit than the maximum that was asked for.
+    InUse,
+    /// What the limit would get more doesn't fit at this one, the first full one from its parent upward.
+    Full(LimitId),
 }

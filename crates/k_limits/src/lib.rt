@@ -3,7 +3,7 @@
 //! A hard limit reserves its whole maximum from its parent when it is made, and what is charged at it stops there. A soft
 //! limit reserves nothing, and what is charged at it is charged at its parent too. The contract sees the rows and the bytes
 //! charged directly at each limit, and promises that the use of a limit is the sum over the tree below it, computed afresh,
-//! after any charges and credits; and that a charge is refused exactly where the first limit on its path is full.
+//! after any charges, credits and other maxima; and that a charge is refused exactly where the first limit on its path is full.
 //!
 //! The crate stands on `k_types` for numbers of limits, on `k_io` for want of memory, and on the lemmas of `k_base`.
 #![tactic(auto)]
@@ -13,7 +13,7 @@ mod laws;
 mod paths;
 mod tree;
 
-pub use error::MakeError;
+pub use error::{MakeError, ResizeRefusal};
 pub use laws::{
     rows_that_fit_are_not_refused, uses_are_the_machines, uses_are_those_of_the_books_part,
 };

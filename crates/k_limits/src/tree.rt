@@ -1,12 +1,14 @@
 //! The tree of limits: what is charged, what is used, and whether there is room for more.
-ghost use Rattle.std.specs.Prelude.{◌≡◌, ℕ, ◌+◌, ◌-◌, ◌^◌, ◌<◌, ◌≤◌, [], ◌∷◌, ◌++◌, length, slice_index, slice_set, Some, None, IsTrue, IsFalse, IfOk, IfErr};
+ghost use Rattle.std.specs.Prelude.{◌≡◌, ℕ, ◌+◌, ◌-◌, ◌^◌, ◌<◌, ◌≤◌, [], ◌∷◌, ◌++◌, length, slice_index, slice_set, Some, None, IsTrue, IsFalse, IfOk, IfErr, is_some};
 ghost use Rattle.k_types.specs.Names.{among};
 ghost use Rattle.k_types.specs.Limits.{max_of};
 ghost use Rattle.k_limits.specs.Limits.{use_at, full_at};
 ghost use Rattle.k_limits.specs.Rows.{AreRows, Explains, ExplainsRow, first_refused, is_refused, uncharged};
 ghost use Rattle.k_types.specs.Limits.{ancestors_of};
+ghost use Rattle.k_limits.specs.Resizes.{ExplainsResize, full_for_at, with_max_at};
+ghost use Rattle.k_types.specs.Trace.{row_of};
 
-use crate::error::MakeError;
+use crate::error::{MakeError, ResizeRefusal};
 use crate::paths::{first_full, is_below, lower, raise, reserved_from};
 use k_io::push;
 use k_types::{LimitId, LimitRow};
@@ -114,6 +116,72 @@ impl LimitTree {
     {
         lower(&self.rows, &mut self.uses, Some(at), n);
         self.direct[at.0 as usize] -= n;
+    }
+
+    /// Gives the limit, which is below another, this maximum. A hard limit reserves from its parent what it gets more, and gives
+    /// back what it gets less. `InUse` says that more is used at it, and `Full` names the first limit from its parent upward where
+    /// what it would get more doesn't fit; then nothing changes.
+    pub fn resize(&mut self, at: LimitId, max: u64) -> Result<(), ResizeRefusal>
+        requires there { at.0 < length self.old.rows }
+        requires below { IsTrue (is_some (row_of self.old.rows at.0).parent) }
+        requires small { max < 2 ^ 40 }
+        ensures resized { IfOk result (λ _. (self.new ≡ with_max_at at.0 max self.old) × (use_at self.old at.0 ≤ max) × (full_for_at self.old at.0 max ≡ None)) }
+        ensures refused { IfErr result (λ why. (self.new ≡ self.old) × ExplainsResize self.old at.0 max why) }
+    {
+        if max < self.use_of(at) {
+            return Err(ResizeRefusal::InUse);
+        }
+        if self.max_of(at) < max {
+            return match self.grow(at, max) {
+                Ok(()) => Ok(()),
+                Err(full) => Err(ResizeRefusal::Full(full)),
+            };
+        }
+        self.shrink(at, max);
+        Ok(())
+    }
+
+    // Gives the limit a greater maximum; the error is the first limit from its parent upward where what it would get more doesn't fit.
+    fn grow(&mut self, at: LimitId, max: u64) -> Result<(), LimitId>
+        requires there { at.0 < length self.old.rows }
+        requires below { IsTrue (is_some (row_of self.old.rows at.0).parent) }
+        requires small { max < 2 ^ 40 }
+        requires more { max_of self.old.rows at.0 < max }
+        requires used { use_at self.old at.0 ≤ max }
+        ensures grown { IfOk result (λ _. (self.new ≡ with_max_at at.0 max self.old) × (full_for_at self.old at.0 max ≡ None)) }
+        ensures full { IfErr result (λ m. (self.new ≡ self.old) × (full_for_at self.old at.0 max ≡ Some m.0)) }
+    {
+        let row = self.rows[at.0 as usize];
+        let parent = reserved_from(&row);
+        if let Some(full) = first_full(&self.rows, &self.uses, parent, max - row.max) {
+            return Err(full);
+        }
+        raise(&self.rows, &mut self.uses, parent, max - row.max);
+        self.rows[at.0 as usize] = LimitRow {
+            parent: row.parent,
+            hard: row.hard,
+            max,
+        };
+        Ok(())
+    }
+
+    // Gives the limit a maximum that isn't greater.
+    fn shrink(&mut self, at: LimitId, max: u64)
+        requires there { at.0 < length self.old.rows }
+        requires below { IsTrue (is_some (row_of self.old.rows at.0).parent) }
+        requires small { max < 2 ^ 40 }
+        requires less { max ≤ max_of self.old.rows at.0 }
+        requires used { use_at self.old at.0 ≤ max }
+        ensures { self.new ≡ with_max_at at.0 max self.old }
+    {
+        let row = self.rows[at.0 as usize];
+        let parent = reserved_from(&row);
+        lower(&self.rows, &mut self.uses, parent, row.max - max);
+        self.rows[at.0 as usize] = LimitRow {
+            parent: row.parent,
+            hard: row.hard,
+            max,
+        };
     }
 
     /// The bytes in use at the limit: what is charged at it, and for each child its maximum, where it is hard, or its use.

@@ -11,7 +11,7 @@ use Rattle.k_types.specs.declared.names.Name.{Name}
 use Rattle.k_types.specs.declared.names.Pid.{Pid}
 use Rattle.k_types.specs.declared.names.Reg.{Reg}
 use Rattle.k_types.specs.declared.op.Op.{Op}
-use Rattle.k_types.specs.declared.op.Op.TheVariants.{New, KNew, SNew, Store, Load, Move, Clear, Dir, Put, Get, Collect, KCollect, Share, Freeze, Attach, Exit}
+use Rattle.k_types.specs.declared.op.Op.TheVariants.{New, KNew, SNew, Store, Load, Move, Clear, Dir, Put, Get, Collect, KCollect, Share, Freeze, Attach, Exit, Kill, Resize}
 use Rattle.k_types.specs.Agree.{CellValue}
 use Rattle.k_types.specs.Cells.{ProcessPart}
 use Rattle.k_types.specs.Local.{is_own}
@@ -75,41 +75,18 @@ written_tail (Some x) i content v = refl
 
 change_done : (v : CellValue) (op : Op) → done_in (local_change v op).process ≡ done_in v.process
 unfolding local_change
-change_done v (New r ty) = refl
-change_done v (KNew r ty) = refl
-change_done v (SNew r s ty) = refl
 change_done v (Store base i value) = written_done (held_in v.process base.0) i _ v
 change_done v (Load r base i) = register_done r.0 _ v.process
 change_done v (Move r from) = register_done r.0 _ v.process
 change_done v (Clear r) = register_done r.0 None v.process
-change_done v (Dir r) = refl
 change_done v (Put base i number) = written_done (held_in v.process base.0) i _ v
-change_done v (Get base i) = refl
-change_done v Collect = refl
-change_done v KCollect = refl
-change_done v (Share s) = refl
-change_done v (Freeze s root) = refl
-change_done v (Attach r s) = refl
-change_done v Exit = refl
+change_done v _ = refl
 
 change_tail : (v : CellValue) (op : Op) → (local_change v op).tail ≡ v.tail
 unfolding local_change
-change_tail v (New r ty) = refl
-change_tail v (KNew r ty) = refl
-change_tail v (SNew r s ty) = refl
 change_tail v (Store base i value) = written_tail (held_in v.process base.0) i _ v
-change_tail v (Load r base i) = refl
-change_tail v (Move r from) = refl
-change_tail v (Clear r) = refl
-change_tail v (Dir r) = refl
 change_tail v (Put base i number) = written_tail (held_in v.process base.0) i _ v
-change_tail v (Get base i) = refl
-change_tail v Collect = refl
-change_tail v KCollect = refl
-change_tail v (Share s) = refl
-change_tail v (Freeze s root) = refl
-change_tail v (Attach r s) = refl
-change_tail v Exit = refl
+change_tail v _ = refl
 
 -- of either value something is the same
 unless_same : {A : Type 0} (f : CellValue → A) (said : Reply) (w v : CellValue) → f w ≡ f v → f (unless_refused said w v) ≡ f v

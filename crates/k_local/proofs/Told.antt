@@ -11,7 +11,7 @@ use Rattle.k_types.specs.declared.names.Heap.TheVariants.{User}
 use Rattle.k_types.specs.declared.names.Name.{Name}
 use Rattle.k_types.specs.declared.names.Pid.{Pid}
 use Rattle.k_types.specs.declared.op.Op.{Op}
-use Rattle.k_types.specs.declared.op.Op.TheVariants.{New, KNew, SNew, Store, Load, Move, Clear, Dir, Put, Get, Collect, KCollect, Share, Freeze, Attach, Exit}
+use Rattle.k_types.specs.declared.op.Op.TheVariants.{New, KNew, SNew, Store, Load, Move, Clear, Dir, Put, Get, Collect, KCollect, Share, Freeze, Attach, Exit, Kill, Resize}
 use Rattle.k_types.specs.Agree.{CellValue}
 use Rattle.k_types.specs.Barrier.{legal_store}
 use Rattle.k_types.specs.Cells.{BookPart, Cell, CellPart}
@@ -76,22 +76,13 @@ get_told v p (Some x) i = field_always (x.seg.0 == p + 1) (nat_le (field_count_a
 
 pub local_told : (v : CellValue) (p : ℕ) (op : Op) → is_some (local_answer v p op) ≡ is_local_in (idle_part v) p op
 unfolding local_answer is_local_in
-local_told v p (New r ty) = refl
-local_told v p (KNew r ty) = refl
-local_told v p (SNew r s ty) = refl
 local_told v p (Store base i value) = store_told v p (held_in v.process base.0) i (held_in v.process value.0)
 local_told v p (Load r base i) = load_told v p (held_in v.process base.0) i (held_in v.process r.0)
 local_told v p (Move r from) = is_some_if (is_own p (held_in v.process r.0) && is_own p (held_in v.process from.0)) Done
 local_told v p (Clear r) = is_some_if (is_own p (held_in v.process r.0)) Done
-local_told v p (Dir r) = refl
 local_told v p (Put base i number) = put_told v p (held_in v.process base.0) i
 local_told v p (Get base i) = get_told v p (held_in v.process base.0) i
-local_told v p Collect = refl
-local_told v p KCollect = refl
-local_told v p (Share s) = refl
-local_told v p (Freeze s root) = refl
-local_told v p (Attach r s) = refl
-local_told v p Exit = refl
+local_told v p _ = refl
 
 -- what is answered where the access goes on
 answer_first : (own past of_kind : Bool) (answer : Option Reply) (said : Reply) → cond own (cond past (Some (Refused NoField)) (cond of_kind answer (Some (Refused WrongKind)))) None ≡ Some said → own ≡ true
@@ -210,9 +201,6 @@ module _ (trace : Trace) (book : BookPart) (parts : Cell → CellPart) (pid : Pi
   -- the reply is the machine's
   pub replied : (op : Op) (said : Reply) → local_answer v pid.0 op ≡ Some said → said ≡ reply_in trace book parts pid.0 op
   unfolding local_answer reply_in faults_in answer_in first_fault
-  replied (New r ty) said e = absurd (cc)
-  replied (KNew r ty) said e = absurd (cc)
-  replied (SNew r s ty) said e = absurd (cc)
   replied (Store base i value) said e =
       by_base (held_in v.process base.0) e
       ∙ sym (ap₂ (λ b w. refused_or (first_fault (at_base b (λ x. store_faults_in trace book (owner_in trace book x.seg.0) (parts (owner_in trace book x.seg.0)) pid.0 i w x))) Done) (held base.0) (held value.0))
@@ -240,7 +228,6 @@ module _ (trace : Trace) (book : BookPart) (parts : Cell → CellPart) (pid : Pi
       by_own : (b : Bool) → cond b (Some Done) None ≡ Some said → said ≡ Done
       by_own true f = cc
       by_own false f = absurd (cc)
-  replied (Dir r) said e = absurd (cc)
   replied (Put base i number) said e =
       by_base (held_in v.process base.0) e
       ∙ sym (ap (λ b. refused_or (first_fault (at_base b (λ x. number_faults_in book (owner_in trace book x.seg.0) (parts (owner_in trace book x.seg.0)) pid.0 i x))) Done) (held base.0))
@@ -257,12 +244,7 @@ module _ (trace : Trace) (book : BookPart) (parts : Cell → CellPart) (pid : Pi
       by_base None f = cc
       by_base (Some x) f = number_reply x i (Value (number_in (field_among v.objects x i))) said f
           ∙ ap (λ answer. refused_or (first_fault (number_faults_in book (owner_in trace book x.seg.0) (parts (owner_in trace book x.seg.0)) pid.0 i x)) answer) (number_same x i said f)
-  replied Collect said e = absurd (cc)
-  replied KCollect said e = absurd (cc)
-  replied (Share s) said e = absurd (cc)
-  replied (Freeze s root) said e = absurd (cc)
-  replied (Attach r s) said e = absurd (cc)
-  replied Exit said e = absurd (cc)
+  replied _ said e = absurd (cc)
 
   -- unless it is refused the operation changes the process's cell as the machine does
   unless_any : (r : Reply) (after : Cell → CellPart) (changed : CellValue) → after (user pid.0) ≡ idle_part changed → unless_refused r after parts (user pid.0) ≡ idle_part (unless_refused r changed v)
@@ -309,9 +291,6 @@ module _ (trace : Trace) (book : BookPart) (parts : Cell → CellPart) (pid : Pi
 
   pub changed : (op : Op) (said : Reply) → local_answer v pid.0 op ≡ Some said → unless_refused said (cells_operated trace book parts pid.0 op said) parts (user pid.0) ≡ idle_part (unless_refused said (local_change v op) v)
   unfolding local_answer local_change cells_operated
-  changed (New r ty) said e = absurd (cc)
-  changed (KNew r ty) said e = absurd (cc)
-  changed (SNew r s ty) said e = absurd (cc)
   changed (Store base i value) said e =
       ap₂ (λ b w. unless_refused said (cells_stored (owner_in trace book) b i w parts) parts (user pid.0)) (held base.0) (held value.0)
       ∙ by_base (held_in v.process base.0) e
@@ -336,7 +315,6 @@ module _ (trace : Trace) (book : BookPart) (parts : Cell → CellPart) (pid : Pi
       unless_any said (cells_with_register pid.0 r.0 (register_in parts pid.0 from.0) parts) (with_register_in r.0 (held_in v.process from.0) v)
       (register_set r.0 (register_in parts pid.0 from.0) ∙ ap (λ w. with_register r.0 w (idle_part v)) (held from.0))
   changed (Clear r) said e = unless_any said (cells_with_register pid.0 r.0 None parts) (with_register_in r.0 None v) (register_set r.0 None)
-  changed (Dir r) said e = absurd (cc)
   changed (Put base i number) said e =
       ap (λ b. unless_refused said (cells_put (owner_in trace book) b i number parts) parts (user pid.0)) (held base.0)
       ∙ by_base (held_in v.process base.0) e
@@ -349,12 +327,7 @@ module _ (trace : Trace) (book : BookPart) (parts : Cell → CellPart) (pid : Pi
           (λ r. cells_put (owner_in trace book) (Some x) i number parts) (written_through (Some x) i (Holds number) v) f
           (λ mine t. put_here x i number mine)
   changed (Get base i) said e = unless_any said parts v own.part
-  changed Collect said e = absurd (cc)
-  changed KCollect said e = absurd (cc)
-  changed (Share s) said e = absurd (cc)
-  changed (Freeze s root) said e = absurd (cc)
-  changed (Attach r s) said e = absurd (cc)
-  changed Exit said e = absurd (cc)
+  changed _ said e = absurd (cc)
 
   pub after : (op : Op) (said : Reply) → local_answer v pid.0 op ≡ Some said → idle_part (after_local pid op said v) ≡ cell_after trace book parts (DoneEvent pid op said) (user pid.0)
   unfolding cell_after

@@ -7,7 +7,7 @@ use Rattle.k_types.specs.declared.event.Reply.TheVariants.{Done, Loaded, Value, 
 use Rattle.k_types.specs.declared.names.Name.{Name}
 use Rattle.k_types.specs.declared.names.Pid.{Pid}
 use Rattle.k_types.specs.declared.op.Op.{Op}
-use Rattle.k_types.specs.declared.op.Op.TheVariants.{New, KNew, SNew, Store, Load, Move, Clear, Dir, Put, Get, Collect, KCollect, Share, Freeze, Attach, Exit}
+use Rattle.k_types.specs.declared.op.Op.TheVariants.{New, KNew, SNew, Store, Load, Move, Clear, Dir, Put, Get, Collect, KCollect, Share, Freeze, Attach, Exit, Kill, Resize}
 use Rattle.k_types.specs.Agree.{CellValue}
 use Rattle.k_types.specs.Bounds.{register_count}
 use Rattle.k_types.specs.Cells.{BookPart, Cell, CellPart, book_part, part}
@@ -73,6 +73,8 @@ local_answer v p (Share s) = None
 local_answer v p (Freeze s root) = None
 local_answer v p (Attach r s) = None
 local_answer v p Exit = None
+local_answer v p (Kill q) = None
+local_answer v p (Resize m max) = None
 
 -- the field of the object that the register holds, if it holds one, holds the content
 abbrev pub written_through : Option Name → ℕ → Content → CellValue → CellValue
@@ -102,6 +104,8 @@ local_change v (Share s) = v
 local_change v (Freeze s root) = v
 local_change v (Attach r s) = v
 local_change v Exit = v
+local_change v (Kill q) = v
+local_change v (Resize m max) = v
 
 -- the cell after a local operation with that reply: it counts as done, has its effect unless it is refused, and its event is the
 -- newest that the journal lacks
@@ -131,6 +135,8 @@ HasRegisters (Share s) = Unit {0}
 HasRegisters (Freeze s root) = root.0 < 16
 HasRegisters (Attach r s) = r.0 < 16
 HasRegisters Exit = Unit {0}
+HasRegisters (Kill q) = Unit {0}
+HasRegisters (Resize m max) = Unit {0}
 
 -- the parts of all cells and of the book are such that the process's cell has the value, and its heap owns its segment
 pub record ShowOwn (trace : Trace) (book : BookPart) (parts : Cell → CellPart) (pid : Pid) (v : CellValue) : Type 0 where

@@ -244,6 +244,8 @@ fn answer(cell: &HeapCell, op: &Op) -> Option<Reply>
         Op::Freeze { shared: _, root: _ } => None,
         Op::Attach { reg: _, shared: _ } => None,
         Op::Exit => None,
+        Op::Kill { target: _ } => None,
+        Op::Resize { limit: _, max: _ } => None,
     }
 }
 
@@ -327,6 +329,8 @@ fn apply(cell: &mut HeapCell, op: &Op, reply: Reply)
         Op::Freeze { shared: _, root: _ } => {}
         Op::Attach { reg: _, shared: _ } => {}
         Op::Exit => {}
+        Op::Kill { target: _ } => {}
+        Op::Resize { limit: _, max: _ } => {}
     }
 }
 

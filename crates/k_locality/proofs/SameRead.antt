@@ -1,26 +1,26 @@
 -- What is read is the same in two states where the parts are.
-use Rattle.std.proofs.Common.{◌≡◌, ℕ, ◌<◌, cond, not, refl, sym, ap, ◌∙◌, [], ◌∷◌, length, Option, Some, None, get_or}
+use Rattle.std.proofs.Common.{◌≡◌, ℕ, ◌<◌, cond, not, refl, sym, ap, ◌∙◌, [], ◌∷◌, length, Option, Some, None, get_or, ◌&&◌}
 use Rattle.k_types.specs.declared.names.Name.{Name}
 use Rattle.k_types.specs.declared.names.Heap.{Heap}
 use Rattle.k_types.specs.declared.names.Heap.TheVariants.{Kernel, User, Shared}
 use Rattle.k_types.specs.declared.op.Op.{Op}
-use Rattle.k_types.specs.declared.op.Op.TheVariants.{New, KNew, SNew, Store, Load, Move, Clear, Dir, Put, Get, Collect, KCollect, Share, Freeze, Attach, Exit}
+use Rattle.k_types.specs.declared.op.Op.TheVariants.{New, KNew, SNew, Store, Load, Move, Clear, Dir, Put, Get, Collect, KCollect, Share, Freeze, Attach, Exit, Kill, Resize}
 use Rattle.k_types.specs.declared.event.Fault.TheVariants.{NotSharer}
 use Rattle.k_types.specs.Names.{among}
 use Rattle.k_types.specs.Trace.{Trace}
 use Rattle.k_types.specs.TraceRules.{AreLimits}
 use Rattle.k_types.specs.State.{State, object_at, register, has_share}
 use Rattle.k_types.specs.Owners.{owner_of, user, shared, bytes_of, phase_of}
-use Rattle.k_types.specs.Limits.{full_limit}
+use Rattle.k_types.specs.Limits.{full_limit, full_for, use_of, is_above}
 use Rattle.k_types.specs.Updates.{next_name}
 use Rattle.k_types.specs.Replies.{fault_where, sharer_fault, is_frozen_heap, is_frozen}
 use Rattle.k_frame.specs.PartUpdates.{held_in}
-use Rattle.k_types.specs.Cells.{BookPart, CellPart, part, book_part, base_cell, access_cell, other_cells}
+use Rattle.k_types.specs.Cells.{BookPart, CellPart, part, book_part, base_cell, access_cell, other_cells, use_shown}
 use Rattle.k_changes.specs.CellChanges.{next_name_in}
 use Rattle.k_changes.specs.BookChanges.{owner_in, bytes_in}
-use Rattle.k_changes.specs.Told.{full_limit_in}
+use Rattle.k_changes.specs.Told.{full_limit_in, full_for_in}
 use Rattle.k_changes.proofs.OnBook.{owner_told}
-use Rattle.k_changes.proofs.ToldBy.{object_told, register_told, name_told, bytes_told, shared_bytes_told, limit_told}
+use Rattle.k_changes.proofs.ToldBy.{object_told, register_told, name_told, bytes_told, shared_bytes_told, limit_told, use_told, full_for_told}
 
 -- by the book
 module _ (trace : Trace) (st su : State) (book : book_part trace st ≡ book_part trace su) where
@@ -49,6 +49,13 @@ module _ (trace : Trace) (st su : State) (book : book_part trace st ≡ book_par
   pub limit_same : AreLimits trace → (m n : ℕ) → m < length trace.limits → full_limit trace st m n ≡ full_limit trace su m n
   limit_same limits m n known =
       sym (limit_told trace limits st m n known) ∙ ap (λ b. full_limit_in trace b m n) book ∙ limit_told trace limits su m n known
+
+  pub use_same : (m : ℕ) → m < length trace.limits → use_of trace st m ≡ use_of trace su m
+  use_same m known = sym (use_told trace st m known) ∙ ap (λ b. use_shown trace b m) book ∙ use_told trace su m known
+
+  pub full_for_same : AreLimits trace → (m max : ℕ) → m < length trace.limits → full_for trace st m max ≡ full_for trace su m max
+  full_for_same limits m max known =
+      sym (full_for_told trace limits st m max known) ∙ ap (λ b. full_for_in trace b m max) book ∙ full_for_told trace limits su m max known
 
   pub shared_bytes_same : (s : ℕ) → s < trace.shared_heaps → bytes_of trace st (shared s) ≡ bytes_of trace su (shared s)
   shared_bytes_same s inside =
@@ -113,3 +120,5 @@ module _ (trace : Trace) (st su : State) (book : book_part trace st ≡ book_par
     others_same (Freeze s root) = refl
     others_same (Attach r s) = refl
     others_same Exit = refl
+    others_same (Kill q) = ap (λ b. cond (is_above trace p q.0 && not b) (User q ∷ Kernel ∷ []) []) (ended_same q.0)
+    others_same (Resize m max) = refl

@@ -1,5 +1,5 @@
 -- Operations are answered the same in two states where the parts are the same to them.
-use Rattle.std.proofs.Common.{◌≡◌, ℕ, ◌+◌, ◌<◌, ◌==◌, ◌⊎◌, nat_lt, nat_le, not, true, false, cond, refl, sym, ap, ap₂, ◌∙◌, inl, inr, List, [], ◌∷◌, ◌++◌, length, Option, Some, None, IsTrue, IsFalse, eqb-true, ltb-true, get_or}
+use Rattle.std.proofs.Common.{◌≡◌, ℕ, ◌+◌, ◌<◌, ◌==◌, ◌⊎◌, nat_lt, nat_le, not, true, false, cond, refl, sym, ap, ap₂, ◌∙◌, inl, inr, List, [], ◌∷◌, ◌++◌, length, Option, Some, None, IsTrue, IsFalse, eqb-true, ltb-true, get_or, ◌&&◌}
 use Rattle.std.specs.List.{list_any}
 use Rattle.std.proofs.lemmas.Bool.{cases_Bool, or_left, or_right, and_parts, false≢true}
 use Rattle.k_types.specs.declared.names.Name.{Name}
@@ -9,9 +9,9 @@ use Rattle.k_types.specs.declared.names.Heap.TheVariants.{Kernel, User, Shared}
 use Rattle.k_types.specs.declared.names.Phase.{Phase}
 use Rattle.k_types.specs.declared.names.Phase.TheVariants.{Unmade, Populating, Frozen as FrozenPhase, Absorbed}
 use Rattle.k_types.specs.declared.op.Op.{Op}
-use Rattle.k_types.specs.declared.op.Op.TheVariants.{New, KNew, SNew, Store, Load, Move, Clear, Dir, Put, Get, Collect, KCollect, Share, Freeze, Attach, Exit}
+use Rattle.k_types.specs.declared.op.Op.TheVariants.{New, KNew, SNew, Store, Load, Move, Clear, Dir, Put, Get, Collect, KCollect, Share, Freeze, Attach, Exit, Kill, Resize}
 use Rattle.k_types.specs.declared.event.Fault.{Fault}
-use Rattle.k_types.specs.declared.event.Fault.TheVariants.{Foreign, NotSharer, NoField, WrongKind, Frozen, Segv, NotPopulating, NotFrozen, Taken, KernelFull}
+use Rattle.k_types.specs.declared.event.Fault.TheVariants.{Foreign, NotSharer, NoField, WrongKind, Frozen, Segv, NotPopulating, NotFrozen, Taken, KernelFull, LimitNotBelow, InUse}
 use Rattle.k_types.specs.declared.event.Reply.{Reply}
 use Rattle.k_types.specs.declared.event.Reply.TheVariants.{Done, Made, Loaded, Value}
 use Rattle.k_types.specs.declared.event.Event.{Event}
@@ -19,15 +19,16 @@ use Rattle.k_types.specs.declared.event.Event.TheVariants.{Done as DoneEvent, En
 use Rattle.k_types.specs.Barrier.{legal_store}
 use Rattle.k_types.specs.Updates.{next_name}
 use Rattle.k_types.specs.Names.{heap_eq, kind_of, among}
+use Rattle.k_types.specs.Bounds.{maximum_below}
 use Rattle.k_types.specs.Trace.{Trace, process_count, limit_of, size_of_type, segment_of}
 use Rattle.k_types.specs.TraceRules.{AreLimits}
 use Rattle.k_types.specs.State.{State, object_at, fields_of, register, has_share, Holds}
 use Rattle.k_types.specs.Owners.{owner_of, user, bytes_of, phase_of, is_absorbed}
 use Rattle.k_types.specs.Steps.{in_range}
-use Rattle.k_types.specs.Replies.{fault_where, first_fault, faults, access_faults, sharer_fault, at_base, answer, reply_to, refused_or, field_at, field_count, is_ref, reference_from, reference, passes_barrier, is_foreign, is_frozen_heap, is_frozen, is_populating, is_unmade, root_of, load_faults, store_faults, number_faults, number_from, number_in, size_fault, limit_fault}
+use Rattle.k_types.specs.Replies.{fault_where, first_fault, faults, access_faults, sharer_fault, at_base, answer, reply_to, refused_or, field_at, field_count, is_ref, reference_from, reference, passes_barrier, is_foreign, is_frozen_heap, is_frozen, is_populating, is_unmade, root_of, load_faults, store_faults, number_faults, number_from, number_in, size_fault, limit_fault, may_resize}
 use Rattle.k_types.specs.Cells.{part, book_part, base_cell, access_cell, other_cells, cells_touched}
 use Rattle.k_locality.specs.Same.{SameToEvent}
-use Rattle.k_locality.proofs.SameRead.{owners_same, owner_same, shares_same, phases_same, limit_same, shared_bytes_same, sharer_same, frozen_same, object_same, name_same, bytes_same, register_same, others_same}
+use Rattle.k_locality.proofs.SameRead.{owners_same, owner_same, shares_same, phases_same, limit_same, shared_bytes_same, sharer_same, frozen_same, object_same, name_same, bytes_same, register_same, others_same, full_for_same, use_same}
 use Rattle.k_base.proofs.NameTests.{heap_eq_refl}
 use Rattle.k_frame.proofs.OwnerOf.{owner_kernel, owner_user, owner_shared}
 
@@ -187,6 +188,11 @@ module _ (trace : Trace) (st su : State) (book : book_part trace st ≡ book_par
         (ap₂ (λ b fault. cond b None fault) (shares_same trace st su book p s.0)
         (size_same (bytes_of trace st (Shared s)) ∙ ap (size_fault trace su p) (shared_bytes_same trace st su book s.0 heap)))
     reply_same Exit inside cells = refl
+    reply_same (Kill q) inside cells = refl
+    reply_same (Resize m max) inside cells =
+        let known = ltb-true _ _ (and_parts (nat_lt m.0 (length trace.limits)) (nat_lt max maximum_below) inside).0 in
+        ap₂ (λ full used. refused_or (first_fault (cond (may_resize trace p m.0) (limit_fault full) None ∷ fault_where (not (may_resize trace p m.0)) (LimitNotBelow m) ∷ fault_where (may_resize trace p m.0 && nat_lt max used) (InUse m) ∷ [])) Done)
+        (full_for_same trace st su book limits m.0 max known) (use_same trace st su book m.0 known)
 
 -- the event's cells are the same, and what is said of the first state holds of the second
 module _ (trace : Trace) (st su : State) where

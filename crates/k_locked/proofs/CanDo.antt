@@ -1,5 +1,5 @@
 -- A cell and the book that keep what the locks ask can take the process's next operation.
-use Rattle.std.proofs.Common.{◌≡◌, ℕ, zero, suc, ◌+◌, ◌<◌, ◌≤◌, ◌==◌, cond, true, false, refl, sym, ap, ap₂, ◌∙◌, subst, List, [], ◌∷◌, ◌++◌, append-nil, length, drop, take, get_or, arith, map, eq-eqb, Option, Some, None, IsTrue, IsFalse}
+use Rattle.std.proofs.Common.{◌≡◌, ℕ, zero, suc, ◌+◌, ◌<◌, ◌≤◌, cond, true, false, refl, sym, ap, ◌∙◌, subst, List, [], ◌∷◌, ◌++◌, append-nil, length, drop, get_or, arith, Option, Some, None, IsTrue, IsFalse}
 use Rattle.std.specs.List.{list_all}
 use Rattle.std.proofs.lemmas.Bool.{and_parts}
 use Rattle.std.proofs.lemmas.List.{length-append}
@@ -8,7 +8,7 @@ use Rattle.k_types.specs.declared.names.Heap.{Heap}
 use Rattle.k_types.specs.declared.names.Heap.TheVariants.{Kernel, Shared, User}
 use Rattle.k_types.specs.declared.names.Pid.{Pid}
 use Rattle.k_types.specs.declared.op.Op.{Op}
-use Rattle.k_types.specs.declared.op.Op.TheVariants.{New, KNew, SNew, Store, Load, Move, Clear, Dir, Put, Get, Collect, KCollect, Share, Freeze, Attach, Exit}
+use Rattle.k_types.specs.declared.op.Op.TheVariants.{New, KNew, SNew, Store}
 use Rattle.k_types.specs.Agree.{CellValue}
 use Rattle.k_types.specs.Cells.{BookPart, Cell, ShownPart, book_part, entries, part, process_of}
 use Rattle.k_types.specs.Names.{among, heap_eq}
@@ -112,18 +112,7 @@ module _ (trace : Trace) (bodies : List BodyValue) (h : HoldingsValue) (seg : �
   table_room (KNew r ty) rest is serial exits = record { body = record { rest = bodies_of trace.types rest; first = is }; serial = serial refl }
   table_room (SNew r s ty) rest is serial exits = record { body = record { rest = bodies_of trace.types rest; first = is }; serial = serial refl }
   table_room (Store base i value) rest is serial exits = exits refl
-  table_room (Load r base i) rest is serial exits = tt
-  table_room (Move r from) rest is serial exits = tt
-  table_room (Clear r) rest is serial exits = tt
-  table_room (Dir r) rest is serial exits = tt
-  table_room (Put base i number) rest is serial exits = tt
-  table_room (Get base i) rest is serial exits = tt
-  table_room Collect rest is serial exits = tt
-  table_room KCollect rest is serial exits = tt
-  table_room (Share s) rest is serial exits = tt
-  table_room (Freeze s root) rest is serial exits = tt
-  table_room (Attach r s) rest is serial exits = tt
-  table_room Exit rest is serial exits = tt
+  table_room _ rest is serial exits = tt
 
 -- what a process has done, by its cell
 pub done_of : (trace : Trace) (cell : Cell) (note : NoteValue) (v : CellValue) → Agrees trace cell note v → (pid : Pid) → cell ≡ User pid →

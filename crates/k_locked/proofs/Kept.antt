@@ -1,5 +1,5 @@
 -- What the locks keep they keep over each step.
-use Rattle.std.proofs.Common.{◌≡◌, ℕ, zero, suc, ◌+◌, ◌≤◌, true, false, cond, refl, sym, ap, ap₂, ◌∙◌, subst, List, [], ◌∷◌, ◌++◌, append-nil, append_assoc, length, drop, arith, map, eq-eqb, IsFalse, Some, inl, inr}
+use Rattle.std.proofs.Common.{◌≡◌, ℕ, zero, suc, ◌+◌, ◌≤◌, true, false, cond, refl, sym, ap, ap₂, ◌∙◌, subst, List, [], ◌∷◌, ◌++◌, append-nil, append_assoc, length, drop, arith, eq-eqb, IsFalse, Some, inl, inr}
 use Rattle.std.proofs.lemmas.Bool.{cases_Bool, false≢true}
 use Rattle.std.proofs.lemmas.List.{length-append}
 use Rattle.atomic_table.specs.Seated.{TableId}
@@ -7,21 +7,20 @@ use Rattle.k_types.specs.declared.event.Event.{Event}
 use Rattle.k_types.specs.declared.event.Event.TheVariants.{Done}
 use Rattle.k_types.specs.declared.names.Heap.TheVariants.{Kernel, Shared, User}
 use Rattle.k_types.specs.declared.op.Op.{Op}
-use Rattle.k_types.specs.declared.op.Op.TheVariants.{New, KNew, SNew, Store, Load, Move, Clear, Dir, Put, Get, Collect, KCollect, Share, Freeze, Attach, Exit}
-use Rattle.k_types.specs.Cells.{BookPart, ShownPart, book_part, part}
+use Rattle.k_types.specs.declared.op.Op.TheVariants.{New}
+use Rattle.k_types.specs.Cells.{ShownPart, part}
 use Rattle.k_types.specs.Following.{FollowsOwn, FollowsTrace}
 use Rattle.k_types.specs.Owners.{is_absorbed, owner_of, phase_of, shared}
-use Rattle.k_types.specs.State.{State}
 use Rattle.k_types.specs.Steps.{done_by, state_after}
 use Rattle.k_types.specs.Trace.{Trace, operations_of, process_count, segment_count, segment_of}
 use Rattle.k_bounds.proofs.ByProcess.{follows_own}
 use Rattle.k_bounds.proofs.Dones.{done_count}
 use Rattle.k_frame.specs.PartUpdates.{done_in}
-use Rattle.k_frame.proofs.Constant.{step_maxima}
-use Rattle.k_frame.proofs.Histories.{done_append, state_next}
+use Rattle.k_frame.proofs.Histories.{done_append}
 use Rattle.k_frame.proofs.OwnerOf.{owner_shared, segment_of_shared}
 use Rattle.k_kept.proofs.Owning.{stays_kernel}
 use Rattle.k_agree.specs.Rooms.{IsNext, event_room, exit_room}
+use Rattle.k_agree.proofs.AtTheEnd.{maxima_counted}
 use Rattle.k_agree.proofs.WithinRooms.{follows_after}
 use Rattle.k_bodies.specs.Bodies.{bodies_of}
 use Rattle.k_book.specs.Books.{BookRecord, pin_room_of}
@@ -37,21 +36,7 @@ use Rattle.k_locked.proofs.CanDo.{done_of}
 -- each operation takes the body of its own allocation
 bodies_taken : (types : List (List Rattle.k_types.specs.declared.names.Field.Field)) (op : Op) (rest : List Op) → bodies_after op (bodies_of types (op ∷ rest)) ≡ bodies_of types rest
 bodies_taken types (New r ty) rest = refl
-bodies_taken types (KNew r ty) rest = refl
-bodies_taken types (SNew r s ty) rest = refl
-bodies_taken types (Store base i value) rest = refl
-bodies_taken types (Load r base i) rest = refl
-bodies_taken types (Move r from) rest = refl
-bodies_taken types (Clear r) rest = refl
-bodies_taken types (Dir r) rest = refl
-bodies_taken types (Put base i number) rest = refl
-bodies_taken types (Get base i) rest = refl
-bodies_taken types Collect rest = refl
-bodies_taken types KCollect rest = refl
-bodies_taken types (Share s) rest = refl
-bodies_taken types (Freeze s root) rest = refl
-bodies_taken types (Attach r s) rest = refl
-bodies_taken types Exit rest = refl
+bodies_taken types _ rest = refl
 
 -- nothing is dropped
 pub drop_none : {A : Type 0} (xs : List A) → drop 0 xs ≡ xs
@@ -101,14 +86,6 @@ module _ (trace : Trace) (table : TableId) (c w : HeapRecord) (b l : BookRecord)
   pub own_pid : w.pid ≡ c.pid
   own_pid = ap (λ (x : HeapRecord). x.pid) s.cell_is
 
-  maxima_now : l.value.maxima ≡ b.value.maxima
-  unfolding book_part
-  maxima_now =
-      ap (λ (p : BookPart). p.maxima) s.book_agrees.shows.part
-      ∙ ap (λ (st : State). st.maxima) (ap (state_after trace) s.journal ∙ state_next trace b.journal.list event)
-      ∙ step_maxima trace (state_after trace b.journal.list) event
-      ∙ sym (ap (λ (p : BookPart). p.maxima) k.stands.agrees.shows.part)
-
   pub book_keeps : BookKeeps trace table l
   book_keeps = record {
     stands = record {
@@ -117,7 +94,7 @@ module _ (trace : Trace) (table : TableId) (c w : HeapRecord) (b l : BookRecord)
         rows = ap (λ (x : BookRecord). x.rows) s.book_is ∙ k.stands.of_trace.rows;
         procs = ap (λ (x : BookRecord). x.procs) s.book_is ∙ k.stands.of_trace.procs;
         ceiling = ap (λ (x : BookRecord). x.ceiling) s.book_is ∙ k.stands.of_trace.ceiling;
-        maxima = maxima_now ∙ k.stands.of_trace.maxima ∙ ap (λ (x : BookRecord). map (λ (row : Rattle.k_types.specs.declared.setup.LimitRow.LimitRow). row.max) x.rows) (sym s.book_is);
+        maxima = maxima_counted trace l.journal l.value s.book_agrees;
       };
       agrees = s.book_agrees;
       pins = subst (λ n. pin_room_of (process_count trace) ≤ n) (sym (ap (λ (x : BookRecord). x.pin_room) s.book_is)) k.stands.pins;

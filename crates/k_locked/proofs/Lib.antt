@@ -4,5 +4,4 @@ pub mod LocalKept
 pub mod CanDo
 pub mod Kept
 pub mod Steps
-pub mod NeverEnds
 pub mod Opened

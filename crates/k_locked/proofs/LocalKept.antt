@@ -11,7 +11,7 @@ use Rattle.k_types.specs.declared.names.Heap.TheVariants.{User}
 use Rattle.k_types.specs.declared.names.Name.{Name}
 use Rattle.k_types.specs.declared.names.Pid.{Pid}
 use Rattle.k_types.specs.declared.op.Op.{Op}
-use Rattle.k_types.specs.declared.op.Op.TheVariants.{New, KNew, SNew, Store, Load, Move, Clear, Dir, Put, Get, Collect, KCollect, Share, Freeze, Attach, Exit}
+use Rattle.k_types.specs.declared.op.Op.TheVariants.{Store, Put, KCollect}
 use Rattle.k_types.specs.Agree.{CellValue}
 use Rattle.k_types.specs.Cells.{Cell, CellPart, ShownPart, book_part, cells_touched, part, touches}
 use Rattle.k_types.specs.Effects.{step}
@@ -48,22 +48,9 @@ written_idle (Some x) i content v = refl
 
 change_idle : (v : CellValue) (op : Op) → (local_change v op).collection ≡ v.collection
 unfolding local_change
-change_idle v (New r ty) = refl
-change_idle v (KNew r ty) = refl
-change_idle v (SNew r s ty) = refl
 change_idle v (Store base i value) = written_idle _ i _ v
-change_idle v (Load r base i) = refl
-change_idle v (Move r from) = refl
-change_idle v (Clear r) = refl
-change_idle v (Dir r) = refl
 change_idle v (Put base i number) = written_idle _ i _ v
-change_idle v (Get base i) = refl
-change_idle v Collect = refl
-change_idle v KCollect = refl
-change_idle v (Share s) = refl
-change_idle v (Freeze s root) = refl
-change_idle v (Attach r s) = refl
-change_idle v Exit = refl
+change_idle v _ = refl
 
 unless_idle : (said : Reply) (w v : CellValue) → w.collection ≡ v.collection → (unless_refused said w v).collection ≡ v.collection
 unless_idle Rattle.k_types.specs.declared.event.Reply.TheVariants.Done w v e = e
@@ -94,22 +81,8 @@ local_push trace pid op said st (Closing ∷ tail) l here = absurd l
 -- no local operation waits for orphans
 waits_not : (st : State) (p : ℕ) (op : Op) → is_local st p op ≡ true → waits_for_orphans op ≡ false
 unfolding is_local
-waits_not st p (New r ty) l = refl
-waits_not st p (KNew r ty) l = refl
-waits_not st p (SNew r s ty) l = refl
-waits_not st p (Store base i value) l = refl
-waits_not st p (Load r base i) l = refl
-waits_not st p (Move r from) l = refl
-waits_not st p (Clear r) l = refl
-waits_not st p (Dir r) l = refl
-waits_not st p (Put base i number) l = refl
-waits_not st p (Get base i) l = refl
-waits_not st p Collect l = refl
 waits_not st p KCollect l = absurd (false≢true l)
-waits_not st p (Share s) l = refl
-waits_not st p (Freeze s root) l = refl
-waits_not st p (Attach r s) l = refl
-waits_not st p Exit l = refl
+waits_not st p _ l = refl
 
 module _ (trace : Trace) (limits : AreLimits trace) (pid : Pid) (note : NoteValue) (v : CellValue) (op : Op) (said : Reply) (a : Agrees trace (User pid) note v) (idle : v.collection ≡ Idle)
     (lives : has_ended_in v.process ≡ false) (ranged : in_range trace op ≡ true) (answer : local_answer v pid.0 op ≡ Some said) where

@@ -10,7 +10,7 @@ use Rattle.k_types.specs.declared.event.Event.TheVariants.{Done, Ended, Absorbed
 use Rattle.k_types.specs.declared.event.Reply.{Reply}
 use Rattle.k_types.specs.declared.names.Heap.TheVariants.{Kernel, Shared, User}
 use Rattle.k_types.specs.declared.op.Op.{Op}
-use Rattle.k_types.specs.declared.op.Op.TheVariants.{New, KNew, SNew, Store, Load, Move, Clear, Dir, Put, Get, Collect, KCollect, Share, Freeze, Attach, Exit}
+use Rattle.k_types.specs.declared.op.Op.TheVariants.{New, KNew, SNew, Store, Load, Move, Clear, Dir, Put, Get, Freeze, Attach}
 use Rattle.k_types.specs.declared.names.Pid.{Pid}
 use Rattle.k_types.specs.Agree.{CellValue}
 use Rattle.k_types.specs.Cells.{BookPart, Cell, CellPart}
@@ -39,7 +39,7 @@ use Rattle.k_bodies.specs.Bodies.{bodies_of}
 use Rattle.k_book.specs.Books.{BookRecord}
 use Rattle.k_heap.specs.Heaps.{HeapRecord, has_ended_in}
 use Rattle.k_local.specs.Locals.{HasRegisters, after_local, local_answer}
-use Rattle.k_locked.specs.Keeping.{BookKeeps, HasHeapRooms, HeapKeeps, operations_left}
+use Rattle.k_locked.specs.Keeping.{BookKeeps, HeapKeeps, operations_left}
 use Rattle.k_locked.proofs.CanDo.{done_shown, next_in_range, next_known}
 use Rattle.k_locked.proofs.Kept.{drop_more}
 use Rattle.k_locked.proofs.LocalKept.{local_agrees, local_idle}
@@ -102,19 +102,7 @@ unfolding local_answer
 keeps_bodies types v p (New r ty) said rest e = absurd cc
 keeps_bodies types v p (KNew r ty) said rest e = absurd cc
 keeps_bodies types v p (SNew r s ty) said rest e = absurd cc
-keeps_bodies types v p (Store base i value) said rest e = refl
-keeps_bodies types v p (Load r base i) said rest e = refl
-keeps_bodies types v p (Move r from) said rest e = refl
-keeps_bodies types v p (Clear r) said rest e = refl
-keeps_bodies types v p (Dir r) said rest e = refl
-keeps_bodies types v p (Put base i number) said rest e = refl
-keeps_bodies types v p (Get base i) said rest e = refl
-keeps_bodies types v p Collect said rest e = refl
-keeps_bodies types v p KCollect said rest e = refl
-keeps_bodies types v p (Share s) said rest e = refl
-keeps_bodies types v p (Freeze s root) said rest e = refl
-keeps_bodies types v p (Attach r s) said rest e = refl
-keeps_bodies types v p Exit said rest e = refl
+keeps_bodies types v p _ said rest e = refl
 
 below : (a b : ℕ) → nat_lt a b ≡ true → a < b
 below a b t = grind (arith, nat_tests)
@@ -132,12 +120,9 @@ registers_there trace (Clear r) t = below r.0 16 t
 registers_there trace (Dir r) t = below r.0 16 t
 registers_there trace (Put base i number) t = below base.0 16 t
 registers_there trace (Get base i) t = below base.0 16 t
-registers_there trace Collect t = tt
-registers_there trace KCollect t = tt
-registers_there trace (Share s) t = tt
 registers_there trace (Freeze s root) t = below root.0 16 (and_parts _ _ t).1
 registers_there trace (Attach r s) t = below r.0 16 (and_parts (nat_lt r.0 16) _ t).0
-registers_there trace Exit t = tt
+registers_there trace _ t = tt
 
 -- a process has fewer than 2 ^ 32 operations
 pub few_operations : (trace : Trace) (p : ℕ) → KeepsRules trace → p < process_count trace → length (operations_of trace p) < 2 ^ 32 - 1
@@ -220,35 +205,11 @@ module _ (trace : Trace) (b : BookPart) (own : CellPart) (p : ℕ) where
   alone_allocates (New r ty) none t = eq-eqb (p + 1) (p + 1) refl
   alone_allocates (KNew r ty) none t = absurd cc
   alone_allocates (SNew r s ty) none t = absurd cc
-  alone_allocates (Store base i value) none t = absurd (false≢true t)
-  alone_allocates (Load r base i) none t = absurd (false≢true t)
-  alone_allocates (Move r from) none t = absurd (false≢true t)
-  alone_allocates (Clear r) none t = absurd (false≢true t)
-  alone_allocates (Dir r) none t = absurd (false≢true t)
-  alone_allocates (Put base i number) none t = absurd (false≢true t)
-  alone_allocates (Get base i) none t = absurd (false≢true t)
-  alone_allocates Collect none t = absurd (false≢true t)
-  alone_allocates KCollect none t = absurd (false≢true t)
-  alone_allocates (Share s) none t = absurd (false≢true t)
-  alone_allocates (Freeze s root) none t = absurd (false≢true t)
-  alone_allocates (Attach r s) none t = absurd (false≢true t)
-  alone_allocates Exit none t = absurd (false≢true t)
+  alone_allocates _ none t = absurd (false≢true t)
 
   pub beside_allocates : (cell : Cell) (op : Op) → other_cells_in trace b own p op ≡ cell ∷ [] → IsTrue (is_allocation op) → IsTrue (allocates_in trace (segment_of trace cell) p op)
   unfolding other_cells_in
   beside_allocates cell (New r ty) one t = absurd cc
   beside_allocates cell (KNew r ty) one t = let is : Kernel ≡ cell = cc in eq-eqb (segment_of trace Kernel) (segment_of trace cell) (ap (segment_of trace) is)
   beside_allocates cell (SNew r s ty) one t = let is : Shared s ≡ cell = cc in eq-eqb (segment_of trace (Shared s)) (segment_of trace cell) (ap (segment_of trace) is)
-  beside_allocates cell (Store base i value) one t = absurd (false≢true t)
-  beside_allocates cell (Load r base i) one t = absurd (false≢true t)
-  beside_allocates cell (Move r from) one t = absurd (false≢true t)
-  beside_allocates cell (Clear r) one t = absurd (false≢true t)
-  beside_allocates cell (Dir r) one t = absurd (false≢true t)
-  beside_allocates cell (Put base i number) one t = absurd (false≢true t)
-  beside_allocates cell (Get base i) one t = absurd (false≢true t)
-  beside_allocates cell Collect one t = absurd (false≢true t)
-  beside_allocates cell KCollect one t = absurd (false≢true t)
-  beside_allocates cell (Share s) one t = absurd (false≢true t)
-  beside_allocates cell (Freeze s root) one t = absurd (false≢true t)
-  beside_allocates cell (Attach r s) one t = absurd (false≢true t)
-  beside_allocates cell Exit one t = absurd (false≢true t)
+  beside_allocates cell _ one t = absurd (false≢true t)

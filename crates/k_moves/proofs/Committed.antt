@@ -24,7 +24,7 @@ commit_alone trace journal note pid op said v w b k c =
     let st : State = state_after trace journal.list in
     let sound : IsSound trace st = legal_sound trace journal.list c.limits c.legal in
     let m : HasMoved trace st pid op said w k = moved_alone trace st c.limits sound pid op said v w b k c.moves in
-    let listed = as_listed trace st (Done pid op said) (User pid ∷ []) (told_alone trace st c.limits sound pid op said v w b k c.moves) in
+    let listed = as_listed trace st (Done pid op said) (User pid ∷ []) c.limits m.possible (told_alone trace st c.limits sound pid op said v w b k c.moves) in
     record {
       legal = c.legal;
       totals = c.totals;
@@ -41,7 +41,7 @@ commit_both trace journal note other_note pid op said cell v w u x b k c =
     let st : State = state_after trace journal.list in
     let sound : IsSound trace st = legal_sound trace journal.list c.limits c.legal in
     let m : HasMovedBoth trace st pid op said cell w x k = moved_both trace st c.limits sound pid op said cell v w u x b k c.moves in
-    let listed = as_listed trace st (Done pid op said) (User pid ∷ cell ∷ []) (told_both trace st c.limits sound pid op said cell v w u x b k c.moves) in
+    let listed = as_listed trace st (Done pid op said) (User pid ∷ cell ∷ []) c.limits m.possible (told_both trace st c.limits sound pid op said cell v w u x b k c.moves) in
     record {
       legal = c.legal;
       totals = c.totals;

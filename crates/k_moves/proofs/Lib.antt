@@ -5,3 +5,4 @@ pub mod Changed
 pub mod Given
 pub mod Beside
 pub mod Stored
+pub mod Killing

@@ -12,5 +12,8 @@ mod storing;
 pub use accessing::{gets_are_given, loads_are_given, puts_are_given};
 pub use changing::value_changes_show;
 pub use moving::{moved_operations_commit, operations_alone_move, operations_of_two_cells_move};
-pub use operating::{new_objects_are_given, refused_operations_count, registers_are_set};
+pub use operating::{
+    kills_may_end_nobody, maxima_are_set, new_objects_are_given, refused_operations_count,
+    registers_are_set,
+};
 pub use storing::{stores_are_given, stores_enter_once};

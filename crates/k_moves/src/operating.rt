@@ -1,24 +1,29 @@
 //! What operations in the own cell make of its part and of the book's.
-ghost use Rattle.std.specs.Prelude.{◌≡◌, IsFalse, None, Some, [], ◌∷◌};
-ghost use Rattle.k_changes.specs.BookChanges.{owner_in, with_charge, with_pin_moved};
+ghost use Rattle.std.specs.Prelude.{◌≡◌, ℕ, IsFalse, IsTrue, None, Some, [], ◌∷◌};
+ghost use Rattle.k_changes.specs.BookChanges.{owner_in, with_charge, with_max, with_pin_moved};
 ghost use Rattle.k_changes.specs.CellChanges.{next_name_in, with_created};
 ghost use Rattle.k_frame.specs.PartUpdates.{held_in, with_done, with_register};
 ghost use Rattle.k_moves.specs.Moves.{GivesAlone, GivesBoth};
 ghost use Rattle.k_moves.specs.Shown.{part_alone, two_parts};
-ghost use Rattle.k_squares.specs.Answers.{faults_in, size_fault_in};
+ghost use Rattle.k_squares.specs.Answers.{faults_in, reply_in, size_fault_in};
+ghost use Rattle.k_squares.specs.CellAfter.{unless_refused};
 ghost use Rattle.k_squares.specs.Touches.{other_cells_in};
 ghost use Rattle.k_types.specs.Cells.{BookPart, Cell, CellPart};
+ghost use Rattle.k_types.specs.Limits.{is_above};
 ghost use Rattle.k_types.specs.Names.{directory, heap_eq};
 ghost use Rattle.k_types.specs.Replies.{first_fault};
 ghost use Rattle.k_types.specs.Trace.{Trace, kinds_of, limit_of, segment_of, size_of_type};
 ghost use Rattle.k_types.specs.declared.event.Fault.{Fault};
+ghost use Rattle.k_types.specs.declared.event.Fault.TheVariants.{ProcNotBelow};
+ghost use Rattle.k_types.specs.declared.event.Reply.{Reply};
 ghost use Rattle.k_types.specs.declared.event.Reply.TheVariants.{Done, Loaded, Made, Refused};
 ghost use Rattle.k_types.specs.declared.names.Heap.TheVariants.{User};
+ghost use Rattle.k_types.specs.declared.names.LimitId.{LimitId};
 ghost use Rattle.k_types.specs.declared.names.Pid.{Pid};
 ghost use Rattle.k_types.specs.declared.names.Reg.{Reg};
 ghost use Rattle.k_types.specs.declared.names.TypeId.{TypeId};
 ghost use Rattle.k_types.specs.declared.op.Op.{Op};
-ghost use Rattle.k_types.specs.declared.op.Op.TheVariants.{Clear, Dir, Move, New};
+ghost use Rattle.k_types.specs.declared.op.Op.TheVariants.{Clear, Dir, Kill, Move, New, Resize};
 
 /// A refused operation counts as done, and changes nothing else of the cells, and nothing of the book.
 pub fn refused_operations_count()
@@ -53,4 +58,19 @@ pub fn new_objects_are_given()
     ensures refused { (trace : Trace) (b : BookPart) (v : CellPart) (pid : Pid) (r : Reg) (ty : TypeId) (fault : Fault) →
         size_fault_in trace b pid.0 (size_of_type trace ty) ≡ Some fault →
         GivesAlone trace pid (New r ty) (Refused fault) v (with_done v) b b }
+{}
+
+/// A `kill` that is refused, or whose target has ended, counts as done and changes nothing else.
+pub fn kills_may_end_nobody()
+    ensures refused { (trace : Trace) (b : BookPart) (v : CellPart) (pid q : Pid) → IsFalse (is_above trace pid.0 q.0) →
+        GivesAlone trace pid (Kill q) (Refused (ProcNotBelow q)) v (with_done v) b b }
+    ensures idle { (trace : Trace) (b : BookPart) (v : CellPart) (pid q : Pid) → IsTrue (is_above trace pid.0 q.0) → IsTrue (b.ended q.0) →
+        GivesAlone trace pid (Kill q) Done v (with_done v) b b }
+{}
+
+/// `resize` is answered by the book alone, and sets the maximum of the limit unless it is refused.
+pub fn maxima_are_set()
+    ensures { (trace : Trace) (b k : BookPart) (v : CellPart) (pid : Pid) (m : LimitId) (max : ℕ) (said : Reply) →
+        said ≡ reply_in trace b (part_alone v) pid.0 (Resize m max) → k ≡ unless_refused said (with_max m.0 max b) b →
+        GivesAlone trace pid (Resize m max) said v (with_done v) b k }
 {}

@@ -1,5 +1,5 @@
 -- What one event more leaves of what the locks ask.
-use Rattle.std.proofs.Common.{◌≡◌, ◌<◌, ◌+◌, ◌-◌, ◌^◌, ◌≤◌, ℕ, ◌++◌, refl, sym, ap, ap₂, ◌∙◌, subst, List, [], ◌∷◌, append-nil, drop, length, map, cond, eq-eqb, arith, ◌≢◌, true, false, Option, None, is_some, set}
+use Rattle.std.proofs.Common.{◌≡◌, ◌<◌, ◌+◌, ◌-◌, ◌^◌, ◌≤◌, ℕ, ◌++◌, refl, sym, ap, ap₂, ◌∙◌, subst, List, [], ◌∷◌, append-nil, drop, length, cond, eq-eqb, arith, ◌≢◌, true, false, Option, None, is_some, set}
 use Rattle.std.proofs.lemmas.List.{get_or-set_other, length-append}
 use Rattle.std.proofs.Math.Seq.{drop-append_seam}
 use Rattle.atomic_table.specs.Seated.{TableId}
@@ -13,21 +13,21 @@ use Rattle.k_types.specs.declared.names.Heap.TheVariants.{User}
 use Rattle.k_types.specs.declared.names.Pid.{Pid}
 use Rattle.k_types.specs.declared.op.Op.{Op}
 use Rattle.k_types.specs.Agree.{AreMarks, CellValue}
-use Rattle.k_types.specs.Cells.{BookPart, Cell, book_part}
+use Rattle.k_types.specs.Cells.{Cell}
 use Rattle.k_types.specs.Following.{FollowsOwn, FollowsTrace, is_closing}
-use Rattle.k_types.specs.State.{State, is_scanned, scan_of}
+use Rattle.k_types.specs.State.{is_scanned, scan_of}
 use Rattle.k_types.specs.Steps.{IsPossible, done_by, state_after}
 use Rattle.k_types.specs.Trace.{Trace, operations_of, process_count}
 use Rattle.k_bounds.proofs.ByProcess.{follows_own}
 use Rattle.k_bounds.proofs.Dones.{done_count}
 use Rattle.k_known.proofs.Counted.{all_ordered}
 use Rattle.k_frame.specs.PartUpdates.{done_in}
-use Rattle.k_frame.proofs.Constant.{step_maxima}
-use Rattle.k_frame.proofs.Histories.{done_append, state_next}
+use Rattle.k_frame.proofs.Histories.{done_append}
 use Rattle.k_tie.specs.Values.{NoteValue}
 use Rattle.k_agree.specs.Agreement.{Agrees}
 use Rattle.k_agree.specs.Meeting.{Fits}
 use Rattle.k_agree.specs.Rooms.{AreFirst, IsInTurn, IsNext, event_room, exit_room}
+use Rattle.k_agree.proofs.AtTheEnd.{maxima_counted}
 use Rattle.k_agree.proofs.Meetings.{meeting}
 use Rattle.k_agree.proofs.WithinRooms.{fits_rooms, follows_after, room_after}
 use Rattle.k_bodies.specs.Bodies.{bodies_of}
@@ -38,17 +38,8 @@ use Rattle.k_collect.specs.Begun.{HasAppended}
 use Rattle.k_locked.specs.Keeping.{BookKeeps, CanGive, HasHeapRooms, HeapKeeps, operations_left}
 use Rattle.k_locked.proofs.CanDo.{done_of}
 use Rattle.k_locked.proofs.Kept.{drop_more}
-use Rattle.k_types.specs.declared.setup.LimitRow.{LimitRow}
 
 module _ (trace : Trace) (b l : BookRecord) (event : Event) (k : BookStands trace b) (s : HasAppended trace b l event) where
-  maxima_now : l.value.maxima ≡ b.value.maxima
-  unfolding book_part
-  maxima_now =
-      ap (λ (p : BookPart). p.maxima) s.agrees.shows.part
-      ∙ ap (λ (st : State). st.maxima) (ap (state_after trace) s.journal ∙ state_next trace b.journal.list event)
-      ∙ step_maxima trace (state_after trace b.journal.list) event
-      ∙ sym (ap (λ (p : BookPart). p.maxima) k.agrees.shows.part)
-
   -- the book stands after any event
   pub stands_on : BookStands trace l
   stands_on = record {
@@ -57,7 +48,7 @@ module _ (trace : Trace) (b l : BookRecord) (event : Event) (k : BookStands trac
       rows = ap (λ (x : BookRecord). x.rows) s.book_is ∙ k.of_trace.rows;
       procs = ap (λ (x : BookRecord). x.procs) s.book_is ∙ k.of_trace.procs;
       ceiling = ap (λ (x : BookRecord). x.ceiling) s.book_is ∙ k.of_trace.ceiling;
-      maxima = maxima_now ∙ k.of_trace.maxima ∙ ap (λ (x : BookRecord). map (λ (row : LimitRow). row.max) x.rows) (sym s.book_is);
+      maxima = maxima_counted trace l.journal l.value s.agrees;
     };
     agrees = s.agrees;
     pins = subst (λ n. pin_room_of (process_count trace) ≤ n) (sym (ap (λ (x : BookRecord). x.pin_room) s.book_is)) k.pins;

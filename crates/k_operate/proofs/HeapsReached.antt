@@ -7,18 +7,19 @@ use Rattle.k_types.specs.declared.names.Heap.TheVariants.{Kernel, Shared, User}
 use Rattle.k_types.specs.declared.names.Name.{Name}
 use Rattle.k_types.specs.declared.names.SharedId.{SharedId}
 use Rattle.k_types.specs.declared.op.Op.{Op}
-use Rattle.k_types.specs.declared.op.Op.TheVariants.{New, KNew, SNew, Store, Load, Move, Clear, Dir, Put, Get, Collect, KCollect, Share, Freeze, Attach, Exit}
+use Rattle.k_types.specs.declared.op.Op.TheVariants.{SNew, Store, Load, Put, Get, Share, Freeze, Attach, Kill}
 use Rattle.k_types.specs.Agree.{book_shown_by}
 use Rattle.k_types.specs.Cells.{BookPart, CellPart, book_part}
 use Rattle.k_types.specs.State.{has_share}
 use Rattle.k_types.specs.Steps.{in_range}
 use Rattle.k_types.specs.Trace.{Trace}
-use Rattle.k_squares.specs.Touches.{access_cell_in, base_cell_in, other_cells_in}
+use Rattle.k_squares.specs.Touches.{access_cell_in, base_cell_in, ends_other_in, other_cells_in}
 use Rattle.k_agree.proofs.AtTheEnd.{book_sound}
 use Rattle.k_frame.specs.PartUpdates.{held_in}
 use Rattle.k_changes.specs.BookChanges.{owner_in}
 use Rattle.k_book.specs.Books.{BookRecord}
 use Rattle.k_commit.specs.Standing.{BookStands}
+use Rattle.k_moves.proofs.Killing.{never_one}
 
 below : (a b : ℕ) → nat_lt a b ≡ true → a < b
 below a b t = grind (arith, nat_tests)
@@ -45,21 +46,15 @@ module _ (trace : Trace) (b : BookRecord) (stands : BookStands trace b) (p : ℕ
 
   pub heap_reached : (own : CellPart) (op : Op) → in_range trace op ≡ true → other_cells_in trace (book_shown_by b.value) own p op ≡ Shared s ∷ [] → s.0 < trace.shared_heaps
   unfolding other_cells_in in_range
-  heap_reached own (New r ty) t is = absurd cc
-  heap_reached own (KNew r ty) t is = absurd cc
   heap_reached own (SNew r h ty) t is =
       let same : h ≡ s = cc in
       subst (λ (u : SharedId). u.0 < trace.shared_heaps) same (below h.0 trace.shared_heaps (and_parts (nat_lt r.0 16) _ (and_parts _ _ t).0).1)
   heap_reached own (Store base i value) t is = by_access (held_in own.process base.0) is
   heap_reached own (Load r base i) t is = by_access (held_in own.process base.0) is
-  heap_reached own (Move r from) t is = absurd cc
-  heap_reached own (Clear r) t is = absurd cc
-  heap_reached own (Dir r) t is = absurd cc
   heap_reached own (Put base i number) t is = by_access (held_in own.process base.0) is
   heap_reached own (Get base i) t is = by_access (held_in own.process base.0) is
-  heap_reached own Collect t is = absurd cc
-  heap_reached own KCollect t is = absurd cc
   heap_reached own (Share h) t is = let same : h ≡ s = cc in subst (λ (u : SharedId). u.0 < trace.shared_heaps) same (below h.0 trace.shared_heaps t)
   heap_reached own (Freeze h root) t is = let same : h ≡ s = cc in subst (λ (u : SharedId). u.0 < trace.shared_heaps) same (below h.0 trace.shared_heaps (and_parts _ _ t).0)
   heap_reached own (Attach r h) t is = let same : h ≡ s = cc in subst (λ (u : SharedId). u.0 < trace.shared_heaps) same (below h.0 trace.shared_heaps (and_parts _ _ t).1)
-  heap_reached own Exit t is = absurd cc
+  heap_reached own (Kill q) t is = absurd (never_one (ends_other_in trace (book_shown_by b.value) p q.0) q (Shared s) is)
+  heap_reached own _ t is = absurd cc

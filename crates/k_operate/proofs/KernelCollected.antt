@@ -20,13 +20,13 @@ use Rattle.k_collect.specs.Begun.{HasAppended, HasBegunKernel}
 use Rattle.k_collect.specs.Collecting.{CanBeginKernel, CanEndKernel}
 use Rattle.k_collect.specs.Ended.{HasEndedKernel}
 use Rattle.k_collect.specs.Marking.{CanMark, HasMarkedOn}
-use Rattle.k_collect.specs.SweptAlone.{CanEndSweptKernel, CanSweepAlone, KernelHasSweptAlone}
+use Rattle.k_collect.specs.SweptAlone.{CanEndSweptKernel, CanSweepAlone}
 use Rattle.k_collect.proofs.Ends.{kernel_ended_since}
 use Rattle.k_locked.specs.Keeping.{BookKeeps, CanGive, HasHeapRooms, operations_left}
 use Rattle.k_locked.proofs.CanDo.{heap_stands}
 use Rattle.k_process.specs.declared.process.Process.{Process}
 use Rattle.k_process.specs.Worlds.{WorldValue}
-use Rattle.k_operate.specs.Collecting.{CanBeginKernelCollection, CanEndKernelCollection, HasBegunKernelCollection, HasEndedKernelCollection, KernelCollects, KernelCollectsSwept}
+use Rattle.k_operate.specs.Collecting.{CanBeginKernelCollection, CanEndKernelCollection, HasBegunKernelCollection, HasEndedKernelCollection, KernelCollects}
 use Rattle.k_operate.proofs.Appended.{book_keeps_on, heap_keeps_by, in_turn, journal_short, left_by_done, open_once_met, room_for_end}
 use Rattle.k_operate.proofs.Collected.{room_for_next}
 

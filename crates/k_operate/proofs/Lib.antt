@@ -10,3 +10,4 @@ pub mod KernelCollected
 pub mod Exited
 pub mod AbsorbOrphans
 pub mod AbsorbKept
+pub mod Killed

@@ -104,7 +104,13 @@ module _ (world : WorldValue) (p : Process) (kernel : HoldingsValue) (shared : L
       settled_then = next_and_settled world r b op t.pair ready
 
       pub can_step : begins_or_ends op ≡ false → CanStepNext world r kernel shared b op
-      can_step steps = record { process = t.pair.process; rest = rest_then; ready = ready; steps = steps }
+      can_step steps = record {
+        process = t.pair.process;
+        rest = rest_then;
+        ready = ready;
+        steps = steps;
+        spares = λ k is. can.spares k is ∙ sym (pid_since world q r b op t next_outside ∙ ap (λ (c : HeapRecord). c.pid) (s.none not_done));
+      }
 
       pub next_since : (e : Process) (k : HoldingsValue) (ss : List SharedRecord) (l : BookRecord) → HasDoneNext world op r e k ss l → HasDoneNext world op p e k ss l
       next_since e k ss l a = record {

@@ -4,7 +4,7 @@ use Rattle.std.proofs.lemmas.Bool.{false≢true}
 use Rattle.k_types.specs.declared.event.Event.{Event}
 use Rattle.k_types.specs.declared.event.Reply.{Reply}
 use Rattle.k_types.specs.declared.op.Op.{Op}
-use Rattle.k_types.specs.declared.op.Op.TheVariants.{New, KNew, SNew, Store, Load, Move, Clear, Dir, Put, Get, Collect, KCollect, Share, Freeze, Attach, Exit}
+use Rattle.k_types.specs.declared.op.Op.TheVariants.{Collect, KCollect, Exit}
 use Rattle.k_types.specs.declared.names.Heap.TheVariants.{Kernel, Shared}
 use Rattle.k_base.specs.Distinct.{AreDistinctNames}
 use Rattle.k_squares.specs.Locals.{is_local_in}
@@ -33,41 +33,14 @@ use Rattle.k_operate.proofs.Added.{local_steps}
 
 -- a step in the own cell alone begins no collection
 steps_own : (op : Op) → begins_or_ends op ≡ false → is_collect op ≡ false
-steps_own (New r ty) e = refl
-steps_own (KNew r ty) e = refl
-steps_own (SNew r s ty) e = refl
-steps_own (Store base i value) e = refl
-steps_own (Load r base i) e = refl
-steps_own (Move r from) e = refl
-steps_own (Clear r) e = refl
-steps_own (Dir r) e = refl
-steps_own (Put base i number) e = refl
-steps_own (Get base i) e = refl
 steps_own Collect e = absurd (false≢true (sym e))
-steps_own KCollect e = refl
-steps_own (Share s) e = refl
-steps_own (Freeze s root) e = refl
-steps_own (Attach r s) e = refl
-steps_own Exit e = refl
+steps_own _ e = refl
 
 -- a step with the kernel neither collects the kernel nor ends its process
 steps_pair : (op : Op) → begins_or_ends op ≡ false → collects_or_exits op ≡ false
-steps_pair (New r ty) e = refl
-steps_pair (KNew r ty) e = refl
-steps_pair (SNew r s ty) e = refl
-steps_pair (Store base i value) e = refl
-steps_pair (Load r base i) e = refl
-steps_pair (Move r from) e = refl
-steps_pair (Clear r) e = refl
-steps_pair (Dir r) e = refl
-steps_pair (Put base i number) e = refl
-steps_pair (Get base i) e = refl
-steps_pair Collect e = refl
 steps_pair KCollect e = absurd (false≢true (sym e))
-steps_pair (Share s) e = refl
-steps_pair (Freeze s root) e = refl
-steps_pair (Attach r s) e = refl
 steps_pair Exit e = absurd (false≢true (sym e))
+steps_pair _ e = refl
 
 module _ (world : WorldValue) (p : Process) (op : Op) (can : CanDoInside world p op) where
   pub done_inside : (w : HeapRecord) (r : Option Reply) → r ≡ local_answer p.cell.value p.cell.pid.0 op → is_some r ≡ is_local_in (idle_part p.cell.value) p.cell.pid.0 op → IfNone r (w ≡ p.cell) →

@@ -3,3 +3,4 @@ pub mod Readiness
 pub mod Steps
 pub mod Collecting
 pub mod Absorbing
+pub mod Killing

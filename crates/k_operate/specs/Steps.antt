@@ -1,7 +1,9 @@
 -- What an operation of a process asks and leaves.
 use Rattle.std.specs.Prelude.{◌≡◌, Bool, IsFalse, IsTrue, List, [], ◌∷◌}
 use Rattle.k_types.specs.declared.names.Heap.TheVariants.{Kernel, Shared}
+use Rattle.k_types.specs.declared.names.Pid.{Pid}
 use Rattle.k_types.specs.declared.op.Op.{Op}
+use Rattle.k_types.specs.declared.op.Op.TheVariants.{Kill}
 use Rattle.k_types.specs.Agree.{book_shown_by}
 use Rattle.k_squares.specs.Locals.{is_local_in}
 use Rattle.k_squares.specs.Touches.{other_cells_in}
@@ -83,18 +85,24 @@ pub record HasDoneWithShared (world : WorldValue) (op : Op) (old new : Process) 
   pub shared : SharedKeeps world.trace world.table s
   pub same : s.id ≡ old_s.id
 
--- all stands, and the operation comes next
+-- the operation kills no other process than its own, so that it ends none
+abbrev pub SparesOthers : Process → Op → Type 0
+SparesOthers p op = (q : Pid) → op ≡ Kill q → q ≡ p.cell.pid
+
+-- all stands, and the operation comes next and kills no other process
 pub record CanDoNext (world : WorldValue) (p : Process) (kernel : HoldingsValue) (shared : List SharedRecord) (book : BookRecord) (op : Op) : Type 0 where
   pub process : ProcessStands world p
   pub rest : RestStands world kernel shared book
   pub next : ComesNext world.trace p.cell op
+  pub spares : SparesOthers p op
 
--- all stands, and the operation is ready and done by a step
+-- all stands, and the operation is ready, done by a step, and kills no other process
 pub record CanStepNext (world : WorldValue) (p : Process) (kernel : HoldingsValue) (shared : List SharedRecord) (book : BookRecord) (op : Op) : Type 0 where
   pub process : ProcessStands world p
   pub rest : RestStands world kernel shared book
   pub ready : IsReady world.trace p.cell op
   pub steps : IsFalse (begins_or_ends op)
+  pub spares : SparesOthers p op
 
 -- all stands still, and the process has done the operation
 pub record HasDoneNext (world : WorldValue) (op : Op) (old new : Process) (kernel : HoldingsValue) (shared : List SharedRecord) (book : BookRecord) : Type 0 where

@@ -2,7 +2,7 @@
 //!
 //! [`do_inside`] does what needs the process's own heap alone and leaves its event unpublished; [`publish_all`] appends such events to
 //! the journal. All else needs the book: [`do_alone`], [`do_with_kernel`] and [`do_with_shared`] do an operation by a step,
-//! [`do_exit`] ends the process, and a collection is begun, marked, swept and ended by four calls, so that the book is free while the
+//! [`do_exit`] ends the process, [`do_kill`] another one, and a collection is begun, marked, swept and ended by four calls, so that the book is free while the
 //! heap is marked and swept. [`do_collect`] and [`do_collect_kernel`] join the four, and [`do_next`] does any operation from its
 //! beginning to its end.
 //! Each keeps what the locks ask of cells and book, and tells which events it adds.
@@ -11,6 +11,7 @@
 mod absorbing;
 mod collecting;
 mod exiting;
+mod killing;
 mod known;
 mod stepping;
 
@@ -20,4 +21,5 @@ pub use collecting::{
     mark_collection, mark_kernel_collection, sweep_collection, sweep_kernel_collection,
 };
 pub use exiting::do_exit;
+pub use killing::do_kill;
 pub use stepping::{do_alone, do_inside, do_next, do_with_kernel, do_with_shared, publish_all};

@@ -73,7 +73,7 @@ pub fn do_with_shared(process: &mut Process, shared: &mut SharedCell, book: &mut
     step_shared(&mut process.cell, shared, book, op);
 }
 
-/// Does an operation that is ready and done by a step, with the cells that it reaches.
+/// Does an operation that is ready and done by a step, with the cells that it reaches. It ends no other process.
 fn do_by_step(
     process: &mut Process,
     kernel: &mut KernelCell,
@@ -93,11 +93,12 @@ fn do_by_step(
             let heap = &mut shared[id.0 as usize];
             do_with_shared(process, heap, book, op);
         }
+        Reach::End(_) => unreachable!(),
     }
 }
 
 /// Does the process's next operation, with whatever it touches: inside its own heap, by a step, or as a collection or the end of
-/// the process, from the beginning to the end. An operation that is refused is done too: its event tells the fault. The cost is that
+/// the process, from the beginning to the end. A `kill` of another process is done by `do_kill`. An operation that is refused is done too: its event tells the fault. The cost is that
 /// of the call that does it, after that of `publish_all`. No memory is taken.
 pub fn do_next(
     process: &mut Process,

@@ -1,7 +1,7 @@
 -- The events of one operation of the file's order.
-use Rattle.std.proofs.Common.{◌≡◌, ◌⊎◌, ℕ, ◌+◌, ◌<◌, ◌==◌, ◌||◌, not, Bool, true, false, cond, refl, sym, ap, ap₂, ◌∙◌, inl, inr, List, [], ◌∷◌, ◌++◌, filter, length, take, drop, slice_get, Option, Some, None, get_or, arith, eq-eqb, ne_eqb, IsTrue, IsFalse, if◌then◌else◌}
+use Rattle.std.proofs.Common.{◌≡◌, ℕ, ◌+◌, ◌<◌, ◌==◌, ◌||◌, not, Bool, true, false, cond, refl, sym, ap, ap₂, ◌∙◌, inl, inr, List, [], ◌∷◌, ◌++◌, filter, length, drop, slice_get, Option, Some, None, get_or, arith, eq-eqb, ne_eqb, IsTrue, IsFalse, if◌then◌else◌}
 use Rattle.std.specs.List.{list_all}
-use Rattle.std.proofs.lemmas.Bool.{cases_eq, false_from_ne_true}
+use Rattle.std.proofs.lemmas.Bool.{cases_eq, false_from_ne_true, false≢true}
 use Rattle.k_types.specs.declared.names.Pid.{Pid}
 use Rattle.k_types.specs.declared.names.Heap.{Heap}
 use Rattle.k_types.specs.declared.names.Heap.TheVariants.{Kernel}
@@ -11,7 +11,7 @@ use Rattle.k_types.specs.declared.event.Event.TheVariants.{Done}
 use Rattle.k_types.specs.Names.{among}
 use Rattle.k_types.specs.Numbers.{numbers_below}
 use Rattle.k_types.specs.Trace.{Trace, operations_of, process_count}
-use Rattle.k_types.specs.TraceRules.{AreOperations, is_exit}
+use Rattle.k_types.specs.TraceRules.{AreOperations}
 use Rattle.k_types.specs.State.{State, Scan, is_scanned}
 use Rattle.k_types.specs.Reach.{roots_of}
 use Rattle.k_types.specs.Replies.{reply_to}
@@ -26,18 +26,17 @@ use Rattle.k_bounds.proofs.Dones.{done_at}
 use Rattle.k_bounds.proofs.AbsorbedCounts.{done_closed}
 use Rattle.k_frame.proofs.Histories.{run_append, legal_append, done_append}
 use Rattle.k_frame.proofs.Sizes.{run_sized}
-use Rattle.k_base.proofs.Numbered.{occurrences, all_at, element_at, length_drop}
+use Rattle.k_base.proofs.Numbered.{occurrences, all_at, element_at}
 use Rattle.k_order.proofs.Absorbing.{orphans_absorbed, none_left, none_done}
 use Rattle.k_order.proofs.Operating.{done_ended, begun_scans, no_scans, scan_ends, scan_is_open}
 
--- between the lines: no collection is open, nothing is closed, and each process has as many operations to do as the order has
--- lines of it; one that has ended has none
+-- between the lines: no collection is open, nothing is closed, and each living process has as many operations to do as the order
+-- has lines of it. What a process that has ended hasn't done it never does
 pub record Ready (trace : Trace) (st : State) (order : List ℕ) : Type 0 where
   pub sized : IsSized trace st
   pub scans : st.scans ≡ []
   pub closed : st.closed ≡ false
-  pub counted : (p : ℕ) → p < process_count trace → get_or st.done p 0 + occurrences p order ≡ length (operations_of trace p)
-  pub over : (p : ℕ) → p < process_count trace → IsTrue (among p st.ended) → get_or st.done p 0 ≡ length (operations_of trace p)
+  pub counted : (p : ℕ) → p < process_count trace → IsFalse (among p st.ended) → get_or st.done p 0 + occurrences p order ≡ length (operations_of trace p)
 
 -- what the absorptions before an operation leave
 pub record Calm (trace : Trace) (st : State) (first : List Event) : Type 0 where
@@ -148,22 +147,29 @@ module _ (trace : Trace) (rules : AreOperations trace) where
     replied = refl;
   }
 
-  module _ (st : State) (q : ℕ) (order : List ℕ) (ready : Ready trace st (q ∷ order)) (known : q < process_count trace) where
+  -- the line of a process that has ended gives no event
+  pub no_line : (st : State) (q : ℕ) (order : List ℕ) → Ready trace st (q ∷ order) → IsTrue (among q st.ended) → Ready trace st order
+  no_line st q order ready ended = record {
+    sized = ready.sized;
+    scans = ready.scans;
+    closed = ready.closed;
+    counted = λ p there lives.
+        ap (λ b. get_or st.done p 0 + cond b (1 + occurrences p order) (occurrences p order)) (sym (ne_eqb q p (λ same. false≢true (sym lives ∙ ap (λ k. among k st.ended) (sym same) ∙ ended))))
+        ∙ ready.counted p there lives;
+  }
+
+  module _ (st : State) (q : ℕ) (order : List ℕ) (ready : Ready trace st (q ∷ order)) (known : q < process_count trace) (lives_now : IsFalse (among q st.ended)) where
     todo : get_or st.done q 0 < length (operations_of trace q)
     todo =
-        let count = ready.counted q known in
+        let count = ready.counted q known lives_now in
         let more = ap (λ b. cond b (1 + occurrences q order) (occurrences q order)) (eq-eqb q q refl) in
         omega arith
-
-    lives_now : IsFalse (among q st.ended)
-    lives_now = false_from_ne_true _ (λ t. let full = ready.over q known t in absurd (omega (arith, full, todo)))
 
     still : (d o l e : ℕ) (b : Bool) → e ≡ d + one_if b → d + cond b (1 + o) o ≡ l → e + o ≡ l
     still d o l e true now was = omega arith
     still d o l e false now was = omega arith
 
-    module _ (op : Op) (got : slice_get (operations_of trace q) (get_or st.done q 0) ≡ Some op) (left : drop (get_or st.done q 0) (operations_of trace q) ≡ op ∷ drop (get_or st.done q 0 + 1) (operations_of trace q))
-        (whole : operations_of trace q ≡ take (get_or st.done q 0) (operations_of trace q) ++ op ∷ drop (get_or st.done q 0 + 1) (operations_of trace q)) where
+    module _ (op : Op) (got : slice_get (operations_of trace q) (get_or st.done q 0) ≡ Some op) (left : drop (get_or st.done q 0) (operations_of trace q) ≡ op ∷ drop (get_or st.done q 0 + 1) (operations_of trace q)) where
       next_left : (p : ℕ) → cond (q == p) (op ∷ []) [] ++ drop (get_or st.done p 0 + one_if (q == p)) (operations_of trace p) ≡ drop (get_or st.done p 0) (operations_of trace p)
       next_left p = elim (cases_eq q p) [
         | inl same ↦
@@ -173,22 +179,6 @@ module _ (trace : Trace) (rules : AreOperations trace) where
             ap (λ b. cond b (op ∷ []) [] ++ drop (get_or st.done p 0 + one_if b) (operations_of trace p)) (ne_eqb q p other)
             ∙ ap (λ n. drop n (operations_of trace p)) (omega arith)
       ]
-
-      -- who has ended has nothing left to do
-      none_to_do : (p e : ℕ) → p < process_count trace → e ≡ get_or st.done p 0 + one_if (q == p) → IsTrue (among p st.ended) ⊎ ((p ≡ q) × IsTrue (is_exit op)) → e ≡ length (operations_of trace p)
-      none_to_do p e there now (inl before) =
-          let full = ready.over p there before in
-          elim (cases_eq q p) [
-            | inl same ↦ absurd (let at = ap (λ k. get_or st.done k 0) same in let long = ap (λ k. length (operations_of trace k)) same in omega (arith, todo, full))
-            | inr other ↦ let none = ap one_if (ne_eqb q p other) in omega arith
-          ]
-      none_to_do p e there now (inr exits) =
-          let nothing = rules.ends q known (take (get_or st.done q 0) (operations_of trace q)) op (drop (get_or st.done q 0 + 1) (operations_of trace q)) whole exits.1 in
-          let all = length_drop (operations_of trace q) (get_or st.done q 0 + 1) (omega (arith, todo)) nothing in
-          let one = ap one_if (eq-eqb q p (sym exits.0)) in
-          let at = ap (λ k. get_or st.done k 0) exits.0 in
-          let long = ap (λ k. length (operations_of trace k)) exits.0 in
-          omega arith
 
       line_done : LineDone trace st order (events_of trace st q (Some op))
       unfolding first_of
@@ -204,15 +194,17 @@ module _ (trace : Trace) (rules : AreOperations trace) where
           let inside : q < length now.done = rw (ap length calm.done ∙ ready.sized.done) known in
           let counted : (p : ℕ) → get_or (run trace st (first_of st op ++ tail)).done p 0 ≡ get_or st.done p 0 + one_if (q == p) =
           λ p. ap (λ (s : State). get_or s.done p 0) joined ∙ ap (λ done. get_or done p 0) act.done ∙ done_at trace now q p op inside ∙ ap (λ done. get_or done p 0 + one_if (q == p)) calm.done in
+          let ended : (p : ℕ) → IsTrue (among p st.ended) → IsTrue (among p (run trace st (first_of st op ++ tail)).ended) =
+          λ p t. ap (λ (s : State). among p s.ended) joined ∙ ap (among p) act.ended ∙ done_ended trace now q op p (ap (among p) calm.ended ∙ t) in
           record {
             legal = legal_append trace st (first_of st op) tail calm.legal act.legal;
             ready = record {
               sized = run_sized trace st (first_of st op ++ tail) ready.sized;
               scans = ap (λ (s : State). s.scans) joined ∙ act.scans;
               closed = ap (λ (s : State). s.closed) joined ∙ act.closed ∙ done_closed trace now q op ∙ calm.closed ∙ ready.closed;
-              counted = λ p there. still (get_or st.done p 0) (occurrences p order) (length (operations_of trace p)) _ (q == p) (counted p) (ready.counted p there);
-              over = λ p there t. none_to_do p _ there (counted p)
-                  (elim (done_ended trace now q op p (ap (among p) (sym act.ended) ∙ ap (λ (s : State). among p s.ended) (sym joined) ∙ t)) [ inl before ↦ inl (ap (among p) (sym calm.ended) ∙ before) | inr exits ↦ inr exits ]);
+              counted = λ p there lives.
+                  still (get_or st.done p 0) (occurrences p order) (length (operations_of trace p)) _ (q == p) (counted p)
+                  (ready.counted p there (false_from_ne_true _ (λ t. false≢true (sym lives ∙ ended p t))));
             };
             done = λ p there.
                 ap (λ ops. ops ++ drop (get_or (run trace st (first_of st op ++ tail)).done p 0) (operations_of trace p)) (done_append p (first_of st op) tail ∙ ap₂ (λ a b. a ++ b) (calm.none p) (act.by p))
@@ -222,4 +214,4 @@ module _ (trace : Trace) (rules : AreOperations trace) where
     pub line : (op : Op) × (next_operation trace st q ≡ Some op) × LineDone trace st order (events_of trace st q (Some op))
     line =
         let at = element_at (operations_of trace q) (get_or st.done q 0) todo in
-        (at.0, ap (λ b. cond b None (slice_get (operations_of trace q) (get_or st.done q 0))) lives_now ∙ at.1, line_done at.0 at.1 at.2 at.3)
+        (at.0, ap (λ b. cond b None (slice_get (operations_of trace q) (get_or st.done q 0))) lives_now ∙ at.1, line_done at.0 at.1 at.2)

@@ -1,21 +1,20 @@
 -- What an operation leaves of scans, of who has ended and of the closing.
-use Rattle.std.proofs.Common.{◌≡◌, ◌⊎◌, ℕ, ◌==◌, not, false, cond, refl, sym, ap, ◌∙◌, inl, inr, List, [], ◌∷◌, ◌++◌, filter, length, Option, Some, None, is_some, option_map, arith, eqb-true, IsTrue}
-use Rattle.std.proofs.lemmas.Bool.{false≢true, or_cases}
+use Rattle.std.proofs.Common.{◌≡◌, ℕ, ◌==◌, not, false, cond, refl, ap, ◌∙◌, List, [], ◌∷◌, ◌++◌, filter, length, Option, Some, None, is_some, option_map, arith, true, IsTrue}
+use Rattle.std.proofs.lemmas.Bool.{or_left}
 use Rattle.std.proofs.lemmas.List.Folds.{list_any-append}
 use Rattle.k_types.specs.declared.names.Heap.{Heap}
 use Rattle.k_types.specs.declared.names.Heap.TheVariants.{Kernel}
 use Rattle.k_types.specs.declared.op.Op.{Op}
-use Rattle.k_types.specs.declared.op.Op.TheVariants.{New, KNew, SNew, Store, Load, Move, Clear, Dir, Put, Get, Collect, KCollect, Share, Freeze, Attach, Exit}
+use Rattle.k_types.specs.declared.op.Op.TheVariants.{New, KNew, SNew, Store, Load, Move, Clear, Dir, Put, Get, Collect, KCollect, Share, Freeze, Attach, Exit, Kill, Resize}
 use Rattle.k_types.specs.declared.event.Fault.{Fault}
 use Rattle.k_types.specs.Names.{heap_eq, among}
 use Rattle.k_types.specs.Trace.{Trace}
-use Rattle.k_types.specs.TraceRules.{is_exit}
 use Rattle.k_types.specs.State.{State, Scan, register, is_scanned}
 use Rattle.k_types.specs.Owners.{user}
 use Rattle.k_types.specs.Reach.{roots_of}
 use Rattle.k_types.specs.Replies.{first_fault, faults}
-use Rattle.k_types.specs.Updates.{count_done, set_register, create, open_scan, add_share, set_phase, keep_objects, keep_exits, keep_shares, close_scan, clear_registers, end_process, turn_exits}
-use Rattle.k_types.specs.Effects.{effect, effect_unless, after_operation, after_end_of, after_ended}
+use Rattle.k_types.specs.Updates.{count_done, set_register, create, open_scan, add_share, set_phase, keep_objects, keep_exits, keep_shares, close_scan, clear_registers, end_process, turn_exits, set_max}
+use Rattle.k_types.specs.Effects.{effect, effect_unless, after_operation, after_end_of, after_ended, after_kill}
 use Rattle.k_types.specs.FileOrder.{heap_begun}
 use Rattle.k_bounds.specs.Counts.{one_if, begins_collection}
 use Rattle.k_bounds.proofs.ScanCounts.{done_scans}
@@ -23,38 +22,40 @@ use Rattle.k_base.proofs.NameTests.{heap_eq_refl}
 use Rattle.k_frame.proofs.Rest.{store_rest, put_rest, freeze_rest}
 
 module _ (trace : Trace) where
-  ended_by : (ended : List ℕ) (p q : ℕ) → IsTrue (among q (ended ++ p ∷ [])) → IsTrue (among q ended) ⊎ (q ≡ p)
-  ended_by ended p q t =
-      elim (or_cases (among q ended) (among q (p ∷ [])) (sym (list_any-append (λ m. m == q) ended (p ∷ [])) ∙ t)) [
-        | inl before ↦ inl before
-        | inr new ↦ elim (or_cases (p == q) false new) [ inl same ↦ inr (sym (eqb-true p q same)) | inr never ↦ absurd (false≢true never) ]
-      ]
+  stays_by : (ended : List ℕ) (p q : ℕ) → IsTrue (among q ended) → IsTrue (among q (ended ++ p ∷ []))
+  stays_by ended p q t = list_any-append (λ m. m == q) ended (p ∷ []) ∙ or_left (among q ended) _ t
 
-  effect_ended : (st : State) (p : ℕ) (op : Op) (q : ℕ) → IsTrue (among q (effect trace p op st).ended) → IsTrue (among q st.ended) ⊎ ((q ≡ p) × IsTrue (is_exit op))
-  unfolding effect set_register create open_scan add_share set_phase after_end_of end_process clear_registers keep_shares turn_exits
-  effect_ended st p (New r ty) q t = inl t
-  effect_ended st p (KNew r ty) q t = inl t
-  effect_ended st p (SNew r s ty) q t = inl t
-  effect_ended st p (Store base i value) q t = inl (ap (λ (s : State). among q s.ended) (sym (store_rest trace st (register st.registers p base.0) i (register st.registers p value.0))) ∙ t)
-  effect_ended st p (Load r base i) q t = inl t
-  effect_ended st p (Move r from) q t = inl t
-  effect_ended st p (Clear r) q t = inl t
-  effect_ended st p (Dir r) q t = inl t
-  effect_ended st p (Put base i number) q t = inl (ap (λ (s : State). among q s.ended) (sym (put_rest st (register st.registers p base.0) i number)) ∙ t)
-  effect_ended st p (Get base i) q t = inl t
-  effect_ended st p Collect q t = inl t
-  effect_ended st p KCollect q t = inl t
-  effect_ended st p (Share s) q t = inl t
-  effect_ended st p (Freeze s root) q t = inl (ap (λ (s : State). among q s.ended) (sym (freeze_rest st s.0 (register st.registers p root.0))) ∙ t)
-  effect_ended st p (Attach r s) q t = inl t
-  effect_ended st p Exit q t = elim (ended_by st.ended p q t) [ inl before ↦ inl before | inr now ↦ inr (now, refl) ]
+  killed_ended : (st : State) (k q : ℕ) → IsTrue (among q st.ended) → IsTrue (among q (after_kill trace k st).ended)
+  unfolding after_kill after_end_of end_process clear_registers keep_shares turn_exits
+  killed_ended st k q t = elim (among k st.ended) as (λ b. IsTrue (among q (cond b st (after_end_of trace k st)).ended)) [ true ↦ t | false ↦ stays_by st.ended k q t ]
 
-  unless_ended : (f : Option Fault) (st : State) (p : ℕ) (op : Op) (q : ℕ) → IsTrue (among q (effect_unless f trace p op st).ended) → IsTrue (among q st.ended) ⊎ ((q ≡ p) × IsTrue (is_exit op))
+  effect_ended : (st : State) (p : ℕ) (op : Op) (q : ℕ) → IsTrue (among q st.ended) → IsTrue (among q (effect trace p op st).ended)
+  unfolding effect set_register create open_scan add_share set_phase set_max after_end_of end_process clear_registers keep_shares turn_exits
+  effect_ended st p (New r ty) q t = t
+  effect_ended st p (KNew r ty) q t = t
+  effect_ended st p (SNew r s ty) q t = t
+  effect_ended st p (Store base i value) q t = ap (λ (s : State). among q s.ended) (store_rest trace st (register st.registers p base.0) i (register st.registers p value.0)) ∙ t
+  effect_ended st p (Load r base i) q t = t
+  effect_ended st p (Move r from) q t = t
+  effect_ended st p (Clear r) q t = t
+  effect_ended st p (Dir r) q t = t
+  effect_ended st p (Put base i number) q t = ap (λ (s : State). among q s.ended) (put_rest st (register st.registers p base.0) i number) ∙ t
+  effect_ended st p (Get base i) q t = t
+  effect_ended st p Collect q t = t
+  effect_ended st p KCollect q t = t
+  effect_ended st p (Share s) q t = t
+  effect_ended st p (Freeze s root) q t = ap (λ (s : State). among q s.ended) (freeze_rest st s.0 (register st.registers p root.0)) ∙ t
+  effect_ended st p (Attach r s) q t = t
+  effect_ended st p Exit q t = stays_by st.ended p q t
+  effect_ended st p (Kill k) q t = killed_ended st k.0 q t
+  effect_ended st p (Resize m max) q t = t
+
+  unless_ended : (f : Option Fault) (st : State) (p : ℕ) (op : Op) (q : ℕ) → IsTrue (among q st.ended) → IsTrue (among q (effect_unless f trace p op st).ended)
   unless_ended None st p op q t = effect_ended st p op q t
-  unless_ended (Some f) st p op q t = inl t
+  unless_ended (Some f) st p op q t = t
 
-  -- who has ended after an operation had ended before, or ends by it
-  pub done_ended : (st : State) (p : ℕ) (op : Op) (q : ℕ) → IsTrue (among q (after_operation trace p op st).ended) → IsTrue (among q st.ended) ⊎ ((q ≡ p) × IsTrue (is_exit op))
+  -- who has ended before an operation has ended after it
+  pub done_ended : (st : State) (p : ℕ) (op : Op) (q : ℕ) → IsTrue (among q st.ended) → IsTrue (among q (after_operation trace p op st).ended)
   unfolding after_operation count_done
   done_ended st p op q t = unless_ended (first_fault (faults trace st p op)) st p op q t
 
@@ -77,6 +78,8 @@ module _ (trace : Trace) where
   begun_scans st p (Freeze s root) h e = absurd (cc e)
   begun_scans st p (Attach r s) h e = absurd (cc e)
   begun_scans st p Exit h e = absurd (cc e)
+  begun_scans st p (Kill q) h e = absurd (cc e)
+  begun_scans st p (Resize m max) h e = absurd (cc e)
 
   none_begun : (p : ℕ) (op : Op) → heap_begun p op ≡ None → begins_collection op ≡ false
   none_begun p Collect e = absurd (cc e)
@@ -95,6 +98,8 @@ module _ (trace : Trace) where
   none_begun p (Freeze s root) e = refl
   none_begun p (Attach r s) e = refl
   none_begun p Exit e = refl
+  none_begun p (Kill q) e = refl
+  none_begun p (Resize m max) e = refl
 
   empty : {A : Type 0} (xs : List A) → length xs ≡ 0 → xs ≡ []
   empty [] e = refl

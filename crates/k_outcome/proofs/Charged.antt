@@ -1,9 +1,7 @@
 -- What a process is charged, summed over the shared heaps one after the other.
-use Rattle.std.proofs.Common.{◌≡◌, ℕ, zero, suc, ◌+◌, ◌^◌, ◌<◌, ◌≤◌, cond, not, Bool, true, false, refl, sym, ap, ◌∙◌, List, arith}
+use Rattle.std.proofs.Common.{◌≡◌, ℕ, zero, suc, ◌+◌, ◌^◌, ◌<◌, ◌≤◌, cond, not, Bool, true, false, refl, sym, ap, ◌∙◌, arith}
 use Rattle.std.specs.Prelude.{◌==◌, IsFalse, IsTrue, filter}
 use Rattle.std.proofs.lemmas.Bool.{false≢true}
-use Rattle.k_types.specs.declared.setup.LimitRow.{LimitRow}
-use Rattle.k_types.specs.Limits.{max_of}
 use Rattle.k_types.specs.Names.{among}
 use Rattle.k_types.specs.Numbers.{numbers_below, numbers_from}
 use Rattle.k_types.specs.Owners.{bytes_of, charge_of, shared, user}
@@ -14,8 +12,9 @@ use Rattle.k_base.proofs.Lists.{numbers_push}
 use Rattle.k_base.proofs.Sums.{total_push}
 use Rattle.k_changes.proofs.SharedSums.{shares_sum}
 use Rattle.k_solo.proofs.Known.{charge_at_most}
-use Rattle.k_outcome.specs.Ends.{EndValue, IsEnd, last_state}
-use Rattle.k_outcome.proofs.Told.{limits_told, sound}
+use Rattle.k_known.proofs.Maxima.{max_small}
+use Rattle.k_outcome.specs.Ends.{EndValue, IsEnd, journal_of, last_state}
+use Rattle.k_outcome.proofs.Told.{sound}
 
 -- the bytes of the shared heap where the process shares it
 abbrev pub weight : EndValue → ℕ → ℕ → ℕ
@@ -62,9 +61,7 @@ module _ (e : EndValue) (end : IsEnd e) (p : ℕ) where
         arith,
         charge_at_most e.setup st p known end.rules.limits,
         (sound e end).uses m limited,
-        (limits_told e end).max m,
-        ap (λ (rows : List LimitRow). max_of rows m) end.of_setup.rows,
-        end.rules.limits.small m limited,
+        max_small e.setup (journal_of e) end.rules.limits end.legal m limited,
       )
 
   pub charged_first : charged_to e p 0 ≡ bytes_of e.setup st (user p)

@@ -11,42 +11,31 @@ use Rattle.k_types.specs.declared.event.Reply.{Reply}
 use Rattle.k_types.specs.declared.event.Reply.TheVariants.{Done as DoneReply, Loaded, Made, Refused, Value}
 use Rattle.k_types.specs.declared.names.Name.{Name}
 use Rattle.k_types.specs.declared.op.Op.{Op}
-use Rattle.k_types.specs.declared.op.Op.TheVariants.{New, KNew, SNew, Store, Load, Move, Clear, Dir, Put, Get, Collect, KCollect, Share, Freeze, Attach, Exit}
+use Rattle.k_types.specs.declared.op.Op.TheVariants.{Store, Put, Freeze, Kill}
 use Rattle.k_types.specs.Effects.{after_absorbed, after_closing, after_end_of, after_ended, after_operation, effect, effect_unless, step}
 use Rattle.k_types.specs.Replies.{answer, faults, first_fault, refused_or, reply_to}
 use Rattle.k_types.specs.Known.{IsKnownEvent, IsKnownName, IsKnownReply}
 use Rattle.k_types.specs.State.{State, opening, register}
 use Rattle.k_types.specs.Steps.{IsLegalHistory, IsPossible, IsRun, run, state_after}
 use Rattle.k_types.specs.Trace.{Trace}
-use Rattle.k_types.specs.Updates.{add_share, clear_registers, close, close_scan, count_done, create, end_process, keep_exits, keep_objects, keep_shares, open_scan, set_phase, set_register, turn_exits}
+use Rattle.k_types.specs.Updates.{add_share, clear_registers, close, close_scan, count_done, create, end_process, keep_exits, keep_objects, keep_shares, open_scan, set_max, set_phase, set_register, turn_exits}
 use Rattle.k_bounds.proofs.Counting.{count_low, one_if_low}
 use Rattle.k_bounds.proofs.SerialBounds.{serials_at_most_allocations}
 use Rattle.k_bounds.specs.Counts.{has_allocated_in}
 use Rattle.k_base.proofs.Lists.{if_some}
 use Rattle.k_frame.proofs.Sizes.{history_sized}
-use Rattle.k_frame.proofs.Rest.{freeze_rest, put_rest, store_rest}
+use Rattle.k_frame.proofs.Rest.{freeze_rest, kill_rest, put_rest, store_rest}
 use Rattle.k_outcome.proofs.Lists.{at_place}
 use Rattle.k_outcome.specs.Listed.{made_by, made_in_reply, with_given}
 
 module _ (trace : Trace) where
   effect_given : (st : State) (p : ℕ) (op : Op) → (effect trace p op st).made ≡ with_given (made_in_reply (answer trace st p op)) st.made
-  unfolding effect answer set_register create open_scan add_share set_phase after_end_of end_process clear_registers keep_shares turn_exits
-  effect_given st p (New r ty) = refl
-  effect_given st p (KNew r ty) = refl
-  effect_given st p (SNew r s ty) = refl
+  unfolding effect answer set_register create open_scan add_share set_phase after_end_of end_process clear_registers keep_shares turn_exits set_max
   effect_given st p (Store base i value) = ap (λ (s : State). s.made) (store_rest trace st (register st.registers p base.0) i (register st.registers p value.0))
-  effect_given st p (Load r base i) = refl
-  effect_given st p (Move r from) = refl
-  effect_given st p (Clear r) = refl
-  effect_given st p (Dir r) = refl
   effect_given st p (Put base i number) = ap (λ (s : State). s.made) (put_rest st (register st.registers p base.0) i number)
-  effect_given st p (Get base i) = refl
-  effect_given st p Collect = refl
-  effect_given st p KCollect = refl
-  effect_given st p (Share s) = refl
   effect_given st p (Freeze s root) = ap (λ (s : State). s.made) (freeze_rest st s.0 (register st.registers p root.0))
-  effect_given st p (Attach r s) = refl
-  effect_given st p Exit = refl
+  effect_given st p (Kill q) = ap (λ (s : State). s.made) (kill_rest trace st q.0)
+  effect_given st p _ = refl
 
   unless_given : (fault : Option Fault) (st : State) (p : ℕ) (op : Op) → (effect_unless fault trace p op st).made ≡ with_given (made_in_reply (refused_or fault (answer trace st p op))) st.made
   unless_given None st p op = effect_given st p op

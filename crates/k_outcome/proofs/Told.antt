@@ -1,5 +1,5 @@
 -- What the cells and the book of a run that is over tell of the state after the journal.
-use Rattle.std.proofs.Common.{◌≡◌, ℕ, ◌^◌, ◌<◌, ◌≤◌, cond, is_some, refl, sym, ap, ◌∙◌, List, get_or, length, Option, Some, None, slice_get, arith}
+use Rattle.std.proofs.Common.{◌≡◌, ℕ, ◌^◌, ◌<◌, ◌≤◌, cond, is_some, refl, sym, ap, ◌∙◌, List, get_or, length, Option, Some, None, slice_get, arith, replicate}
 use Rattle.std.specs.Prelude.{IfSome, IsTrue, option_and_then}
 use Rattle.std.proofs.lemmas.List.{length-map}
 use Rattle.k_types.specs.declared.event.Event.{Event}
@@ -9,6 +9,7 @@ use Rattle.k_types.specs.declared.names.Name.{Name}
 use Rattle.k_types.specs.declared.names.Phase.{Phase}
 use Rattle.k_types.specs.declared.names.Phase.TheVariants.{Absorbed, Frozen, Populating, Unmade}
 use Rattle.k_types.specs.declared.names.Pid.{Pid}
+use Rattle.k_types.specs.declared.setup.LimitRow.{LimitRow}
 use Rattle.k_types.specs.Cells.{BookPart, ShownPart, book_part, part}
 use Rattle.k_types.specs.Known.{IsKnownEvent, IsKnownPhase}
 use Rattle.k_types.specs.Names.{heap_eq}
@@ -20,6 +21,7 @@ use Rattle.k_types.specs.State.{Holds, Object, State, fields_of, has, object_at,
 use Rattle.k_types.specs.Totals.{total}
 use Rattle.k_types.specs.Trace.{IsHeap, process_count, segment_count}
 use Rattle.k_base.proofs.Lists.{numbers_length}
+use Rattle.k_base.proofs.Maxima.{length_in}
 use Rattle.k_base.proofs.NameTests.{heap_eq_refl}
 use Rattle.k_base.proofs.Objects.{is_some-object_at, object_at-kept}
 use Rattle.k_frame.specs.PartUpdates.{held_in}
@@ -74,6 +76,9 @@ module _ (e : EndValue) (end : IsEnd e) where
   pub phases_long : length e.cells.book.value.phases ≡ e.setup.shared_heaps
   unfolding book_part
   phases_long = ap (λ (b : BookPart). length b.phases) end.book.part ∙ sound.shape.sized.phases
+
+  pub limits_long : length e.cells.book.rows ≡ length e.setup.limits
+  limits_long = ap (λ (rows : List LimitRow). length rows) end.of_setup.rows ∙ length_in e.setup.limits (replicate (length e.setup.limits) 0)
 
   pub owner_there : (seg : ℕ) → seg < segment_count e.setup → IsThere e.cells (own seg)
   owner_there seg known = end.there (own seg) (owner_known e.setup st seg known)

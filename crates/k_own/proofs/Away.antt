@@ -10,7 +10,7 @@ use Rattle.k_types.specs.declared.names.Heap.TheVariants.{Kernel, User, Shared}
 use Rattle.k_types.specs.declared.names.Name.{Name}
 use Rattle.k_types.specs.declared.names.Reg.{Reg}
 use Rattle.k_types.specs.declared.op.Op.{Op}
-use Rattle.k_types.specs.declared.op.Op.TheVariants.{New, KNew, SNew, Store, Load, Move, Clear, Dir, Put, Get, Collect, KCollect, Share, Freeze, Attach, Exit}
+use Rattle.k_types.specs.declared.op.Op.TheVariants.{New, KNew, SNew, Store, Load, Put, Get}
 use Rattle.k_types.specs.Agree.{book_shown_by}
 use Rattle.k_types.specs.Cells.{BookPart, CellPart}
 use Rattle.k_types.specs.Local.{is_own}
@@ -63,50 +63,28 @@ module _ (trace : Trace) (b : BookPart) (v : CellPart) (p : ℕ) (x : Name) wher
 
   pub cells_are : (op : Op) (base : Reg) → base_of op ≡ Some base → held_in v.process base.0 ≡ Some x → other_cells_in trace b v p op ≡ base_cell_in b p owner
   unfolding other_cells_in
-  cells_are (New r ty) base is held = absurd (cc is)
-  cells_are (KNew r ty) base is held = absurd (cc is)
-  cells_are (SNew r s ty) base is held = absurd (cc is)
   cells_are (Store r i value) base is held = ap (access_cell_in trace b p) (reg_is r base is held)
   cells_are (Load t r i) base is held = ap (access_cell_in trace b p) (reg_is r base is held)
-  cells_are (Move r from) base is held = absurd (cc is)
-  cells_are (Clear r) base is held = absurd (cc is)
-  cells_are (Dir r) base is held = absurd (cc is)
   cells_are (Put r i number) base is held = ap (access_cell_in trace b p) (reg_is r base is held)
   cells_are (Get r i) base is held = ap (access_cell_in trace b p) (reg_is r base is held)
-  cells_are Collect base is held = absurd (cc is)
-  cells_are KCollect base is held = absurd (cc is)
-  cells_are (Share s) base is held = absurd (cc is)
-  cells_are (Freeze s root) base is held = absurd (cc is)
-  cells_are (Attach r s) base is held = absurd (cc is)
-  cells_are Exit base is held = absurd (cc is)
+  cells_are _ base is held = absurd (cc is)
 
   pub faults_begin : (op : Op) (base : Reg) (fault : Fault) → base_of op ≡ Some base → held_in v.process base.0 ≡ Some x →
       first_fault (fault_where (is_foreign owner p) Foreign ∷ sharer_fault_in b owner p ∷ []) ≡ Some fault → first_fault (faults_in trace b (part_alone v) p op) ≡ Some fault
   unfolding faults_in access_faults_in
-  faults_begin (New r ty) base fault is held first = absurd (cc is)
-  faults_begin (KNew r ty) base fault is held first = absurd (cc is)
-  faults_begin (SNew r s ty) base fault is held first = absurd (cc is)
   faults_begin (Store r i value) base fault is held first =
       ap (λ (h : Option Name). first_fault (at_base h (λ y. store_faults_in trace b (owner_in trace b y.seg.0) v p i (held_in v.process value.0) y))) (reg_is r base is held)
       ∙ two_first (fault_where (is_foreign owner p) Foreign) (sharer_fault_in b owner p) _ fault first
   faults_begin (Load t r i) base fault is held first =
       ap (λ (h : Option Name). first_fault (at_base h (λ y. load_faults_in b (owner_in trace b y.seg.0) v p i y))) (reg_is r base is held)
       ∙ two_first (fault_where (is_foreign owner p) Foreign) (sharer_fault_in b owner p) _ fault first
-  faults_begin (Move r from) base fault is held first = absurd (cc is)
-  faults_begin (Clear r) base fault is held first = absurd (cc is)
-  faults_begin (Dir r) base fault is held first = absurd (cc is)
   faults_begin (Put r i number) base fault is held first =
       ap (λ (h : Option Name). first_fault (at_base h (λ y. number_faults_in b (owner_in trace b y.seg.0) v p i y))) (reg_is r base is held)
       ∙ two_first (fault_where (is_foreign owner p) Foreign) (sharer_fault_in b owner p) _ fault first
   faults_begin (Get r i) base fault is held first =
       ap (λ (h : Option Name). first_fault (at_base h (λ y. number_faults_in b (owner_in trace b y.seg.0) v p i y))) (reg_is r base is held)
       ∙ two_first (fault_where (is_foreign owner p) Foreign) (sharer_fault_in b owner p) _ fault first
-  faults_begin Collect base fault is held first = absurd (cc is)
-  faults_begin KCollect base fault is held first = absurd (cc is)
-  faults_begin (Share s) base fault is held first = absurd (cc is)
-  faults_begin (Freeze s root) base fault is held first = absurd (cc is)
-  faults_begin (Attach r s) base fault is held first = absurd (cc is)
-  faults_begin Exit base fault is held first = absurd (cc is)
+  faults_begin _ base fault is held first = absurd (cc is)
 
   -- an object of another heap than the process's, of which no cell is touched
   pub owner_faults : (h : Heap) → base_cell_in b p h ≡ [] → IsFalse (heap_eq (user p) h) →
@@ -140,19 +118,7 @@ same_bodies : (op : Op) (base : Reg) → base_of op ≡ Some base → (bodies : 
 same_bodies (New r ty) base is bodies = absurd (cc is)
 same_bodies (KNew r ty) base is bodies = absurd (cc is)
 same_bodies (SNew r s ty) base is bodies = absurd (cc is)
-same_bodies (Store r i value) base is bodies = refl
-same_bodies (Load t r i) base is bodies = refl
-same_bodies (Move r from) base is bodies = refl
-same_bodies (Clear r) base is bodies = refl
-same_bodies (Dir r) base is bodies = refl
-same_bodies (Put r i number) base is bodies = refl
-same_bodies (Get r i) base is bodies = refl
-same_bodies Collect base is bodies = refl
-same_bodies KCollect base is bodies = refl
-same_bodies (Share s) base is bodies = refl
-same_bodies (Freeze s root) base is bodies = refl
-same_bodies (Attach r s) base is bodies = refl
-same_bodies Exit base is bodies = refl
+same_bodies _ base is bodies = refl
 
 module _ (before : Before) (c : HeapRecord) (b : BookRecord) (op : Op) (base : Reg) (away : IsAway before c b op base) where
   pub base_there : IsTrue (is_some (held_in c.value.process base.0))

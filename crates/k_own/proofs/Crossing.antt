@@ -9,7 +9,7 @@ use Rattle.k_types.specs.declared.names.Kind.TheVariants.{User as UserKind}
 use Rattle.k_types.specs.declared.names.Name.{Name}
 use Rattle.k_types.specs.declared.names.Reg.{Reg}
 use Rattle.k_types.specs.declared.op.Op.{Op}
-use Rattle.k_types.specs.declared.op.Op.TheVariants.{New, KNew, SNew, Store, Load, Move, Clear, Dir, Put, Get, Collect, KCollect, Share, Freeze, Attach, Exit}
+use Rattle.k_types.specs.declared.op.Op.TheVariants.{New, KNew, SNew, Store, Load, Move, Clear, Dir, Put, Get, Collect, KCollect, Share, Freeze, Attach, Exit, Kill, Resize}
 use Rattle.k_types.specs.Agree.{BookValue, CellValue, book_shown_by}
 use Rattle.k_types.specs.Barrier.{legal_store}
 use Rattle.k_types.specs.Cells.{BookPart, CellPart}
@@ -56,6 +56,8 @@ is_done_here (Clear r) = true
 is_done_here (Dir r) = true
 is_done_here (Put base i number) = true
 is_done_here (Get base i) = true
+is_done_here (Kill q) = true
+is_done_here (Resize m max) = true
 is_done_here _ = false
 
 unrefused : (b : Bool) → not b ≡ false → b ≡ true
@@ -250,19 +252,12 @@ module _ (before : Before) (c : HeapRecord) (b : BookRecord) where
   -- an operation that touches another cell, or begins a collection, is not due
   pub never : (op : Op) → IsDue before c b op → IsTrue (is_done_here op)
   unfolding other_cells_in
-  never (New r ty) due = refl
   never (KNew r ty) due = absurd (cc due.own.alone)
   never (SNew r s ty) due = absurd (cc due.own.alone)
-  never (Store base i value) due = refl
-  never (Load r base i) due = refl
-  never (Move r from) due = refl
-  never (Clear r) due = refl
-  never (Dir r) due = refl
-  never (Put base i number) due = refl
-  never (Get base i) due = refl
   never Collect due = absurd (false≢true (sym due.own.no_collection))
   never KCollect due = absurd (cc due.own.alone)
   never (Share s) due = absurd (cc due.own.alone)
   never (Freeze s root) due = absurd (cc due.own.alone)
   never (Attach r s) due = absurd (cc due.own.alone)
   never Exit due = absurd (cc due.own.alone)
+  never _ due = refl

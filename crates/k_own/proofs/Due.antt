@@ -6,7 +6,7 @@ use Rattle.k_types.specs.declared.names.Name.{Name}
 use Rattle.k_types.specs.declared.names.Reg.{Reg}
 use Rattle.k_types.specs.declared.op.Op.{Op}
 use Rattle.k_types.specs.declared.names.Heap.TheVariants.{User}
-use Rattle.k_types.specs.declared.op.Op.TheVariants.{New, KNew, SNew, Store, Load, Move, Clear, Dir, Put, Get, Collect, KCollect, Share, Freeze, Attach, Exit}
+use Rattle.k_types.specs.declared.op.Op.TheVariants.{Store, Load, Move, Clear, Dir, KCollect}
 use Rattle.k_types.specs.Agree.{book_shown_by}
 use Rattle.k_types.specs.Cells.{BookPart, CellPart}
 use Rattle.k_types.specs.Steps.{in_range, waits_for_orphans}
@@ -115,22 +115,8 @@ module _ (before : Before) where
 -- an operation that touches no other cell waits for no orphan
 not_waiting : (trace : Trace) (c : HeapRecord) (b : BookRecord) (op : Op) → IsOwn trace c b op → IsFalse (waits_for_orphans op)
 unfolding other_cells_in
-not_waiting trace c b (New r ty) own = refl
-not_waiting trace c b (KNew r ty) own = refl
-not_waiting trace c b (SNew r s ty) own = refl
-not_waiting trace c b (Store base i value) own = refl
-not_waiting trace c b (Load r base i) own = refl
-not_waiting trace c b (Move r from) own = refl
-not_waiting trace c b (Clear r) own = refl
-not_waiting trace c b (Dir r) own = refl
-not_waiting trace c b (Put base i number) own = refl
-not_waiting trace c b (Get base i) own = refl
-not_waiting trace c b Collect own = refl
 not_waiting trace c b KCollect own = absurd (cc own.alone)
-not_waiting trace c b (Share s) own = refl
-not_waiting trace c b (Freeze s root) own = refl
-not_waiting trace c b (Attach r s) own = refl
-not_waiting trace c b Exit own = refl
+not_waiting trace c b _ own = refl
 
 -- the operation that can be done is due once the cell has met the journal
 module _ (trace : Trace) (c : HeapRecord) (b : BookRecord) (op : Op) (can : CanStepOwn trace c b op) where

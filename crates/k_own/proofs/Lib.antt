@@ -3,3 +3,4 @@ pub mod Away
 pub mod Across
 pub mod Crossing
 pub mod Allocated
+pub mod Below

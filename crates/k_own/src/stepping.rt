@@ -6,6 +6,7 @@ ghost use Rattle.k_types.specs.Trace.{Trace};
 
 use crate::accesses::{load, refuse, store};
 use crate::allocating::new;
+use crate::limits::{resize, spare};
 use crate::registers::{clear, dir, move_reference};
 use k_book::Book;
 use k_commit::meet_heap;
@@ -54,5 +55,7 @@ fn operate(cell: &mut HeapCell, book: &mut Book, op: Op) -> Event
         Op::Freeze { shared: _, root: _ } => unreachable!(),
         Op::Attach { reg: _, shared: _ } => unreachable!(),
         Op::Exit => unreachable!(),
+        Op::Kill { target } => spare(cell, book, target),
+        Op::Resize { limit, max } => resize(cell, book, limit, max),
     }
 }

@@ -7,16 +7,17 @@ use Rattle.k_types.specs.declared.names.Name.{Name}
 use Rattle.k_types.specs.declared.names.Reg.{Reg}
 use Rattle.k_types.specs.declared.names.TypeId.{TypeId}
 use Rattle.k_types.specs.declared.op.Op.{Op}
-use Rattle.k_types.specs.declared.op.Op.TheVariants.{New, KNew, SNew, Store, Load, Move, Clear, Dir, Put, Get, Collect, KCollect, Share, Freeze, Attach, Exit}
+use Rattle.k_types.specs.declared.op.Op.TheVariants.{KNew, Store, Load, Put, Get, KCollect, Exit, Kill}
 use Rattle.k_types.specs.Agree.{book_shown_by}
 use Rattle.k_types.specs.Cells.{BookPart}
 use Rattle.k_types.specs.Steps.{in_range}
 use Rattle.k_types.specs.Trace.{Trace}
 use Rattle.k_changes.specs.BookChanges.{owner_in}
 use Rattle.k_frame.specs.PartUpdates.{held_in}
-use Rattle.k_squares.specs.Touches.{access_cell_in, base_cell_in, other_cells_in}
+use Rattle.k_squares.specs.Touches.{access_cell_in, base_cell_in, ends_other_in, other_cells_in}
 use Rattle.k_book.specs.Books.{BookRecord}
 use Rattle.k_heap.specs.Heaps.{HeapRecord}
+use Rattle.k_moves.proofs.Killing.{never_one}
 use Rattle.k_pair.specs.Operating.{TouchesKernel, collects_or_exits}
 
 -- an access touches the kernel's cell only where the object is the kernel's
@@ -97,19 +98,12 @@ pub one_of_five : (trace : Trace) (c : HeapRecord) (b : BookRecord) (op : Op) �
     ((r base : Reg) (i : ℕ) → op ≡ Load r base i → ⊥) → ((base : Reg) (i number : ℕ) → op ≡ Put base i number → ⊥) →
     ((base : Reg) (i : ℕ) → op ≡ Get base i → ⊥) → ⊥
 unfolding other_cells_in
-one_of_five trace c b (New r ty) touches goes_on knew store load put get = absurd (cc touches)
 one_of_five trace c b (KNew r ty) touches goes_on knew store load put get = knew r ty refl
-one_of_five trace c b (SNew r s ty) touches goes_on knew store load put get = absurd (cc touches)
 one_of_five trace c b (Store base i value) touches goes_on knew store load put get = store base i value refl
 one_of_five trace c b (Load r base i) touches goes_on knew store load put get = load r base i refl
-one_of_five trace c b (Move r from) touches goes_on knew store load put get = absurd (cc touches)
-one_of_five trace c b (Clear r) touches goes_on knew store load put get = absurd (cc touches)
-one_of_five trace c b (Dir r) touches goes_on knew store load put get = absurd (cc touches)
 one_of_five trace c b (Put base i number) touches goes_on knew store load put get = put base i number refl
 one_of_five trace c b (Get base i) touches goes_on knew store load put get = get base i refl
-one_of_five trace c b Collect touches goes_on knew store load put get = absurd (cc touches)
 one_of_five trace c b KCollect touches goes_on knew store load put get = absurd (cc goes_on)
-one_of_five trace c b (Share s) touches goes_on knew store load put get = absurd (cc touches)
-one_of_five trace c b (Freeze s root) touches goes_on knew store load put get = absurd (cc touches)
-one_of_five trace c b (Attach r s) touches goes_on knew store load put get = absurd (cc touches)
 one_of_five trace c b Exit touches goes_on knew store load put get = absurd (cc goes_on)
+one_of_five trace c b (Kill q) touches goes_on knew store load put get = never_one (ends_other_in trace (book_shown_by b.value) c.pid.0 q.0) q Kernel touches
+one_of_five trace c b _ touches goes_on knew store load put get = absurd (cc touches)

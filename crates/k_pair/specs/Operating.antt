@@ -2,7 +2,7 @@
 use Rattle.std.specs.Prelude.{◌≡◌, Bool, true, false, IsFalse, IsTrue, [], ◌∷◌}
 use Rattle.k_types.specs.declared.names.Heap.TheVariants.{Kernel}
 use Rattle.k_types.specs.declared.op.Op.{Op}
-use Rattle.k_types.specs.declared.op.Op.TheVariants.{New, KNew, SNew, Store, Load, Move, Clear, Dir, Put, Get, Collect, KCollect, Share, Freeze, Attach, Exit}
+use Rattle.k_types.specs.declared.op.Op.TheVariants.{New, KNew, SNew, Store, Load, Move, Clear, Dir, Put, Get, Collect, KCollect, Share, Freeze, Attach, Exit, Kill, Resize}
 use Rattle.k_types.specs.Agree.{book_shown_by}
 use Rattle.k_types.specs.Steps.{in_range}
 use Rattle.k_types.specs.Trace.{Trace}
@@ -37,6 +37,8 @@ collects_or_exits (Share s) = false
 collects_or_exits (Freeze s root) = false
 collects_or_exits (Attach r s) = false
 collects_or_exits Exit = true
+collects_or_exits (Kill q) = false
+collects_or_exits (Resize m max) = false
 
 -- cells and book can do the operation, which touches the kernel's cell once both notes fit the journal, and neither opens a collection of
 -- the kernel nor ends its process

@@ -1,7 +1,7 @@
 //! What an operation leaves that is not refused.
 ghost use Rattle.std.specs.Prelude.{◌≡◌, ◌<◌, IfSome, IsTrue, OnErr, OnOk, length};
 ghost use Rattle.k_state.specs.Rooms.{HasRoom};
-ghost use Rattle.k_types.specs.Effects.{after_freeze, after_new, after_put, after_store, effect, with_exit_of_store};
+ghost use Rattle.k_types.specs.Effects.{after_freeze, after_kill, after_new, after_put, after_store, effect, with_exit_of_store};
 ghost use Rattle.k_types.specs.Known.{IsKnownName};
 ghost use Rattle.k_types.specs.Owners.{phase_of};
 ghost use Rattle.k_types.specs.Replies.{root_of};
@@ -138,6 +138,20 @@ fn attach(lists: &mut PlainLists, pid: Pid, reg: Reg, shared: SharedId) -> Resul
     Ok(())
 }
 
+// Ends the process, unless it had ended before.
+#[tactic(auto, unfolding(k_types::specs::Effects::after_kill))]
+fn kill(alloc: Global, lists: &mut PlainLists, target: Pid) -> Result<(), NoMemory>
+    requires { target.0 < process_count lists.old.setup }
+    ensures setup { lists.new.setup ≡ lists.old.setup }
+    ensures ok { OnOk result (lists.new.state ≡ after_kill lists.old.setup target.0 lists.old.state) }
+    ensures err { OnErr result (lists.new ≡ lists.old) }
+{
+    if !lists.lives(target) {
+        return Ok(());
+    }
+    end_of_process(alloc, lists, target)
+}
+
 // The operation's effect, whatever it is answered, but for the count of operations done. `NoMemory` comes where an object, an
 // exit item, a share, a collection or an end finds no memory, and leaves the state as it was.
 #[tactic(auto, using(std::proofs::lemmas::Bool::Decides::nat_tests), unfolding(k_types::specs::Effects::effect, k_types::specs::Steps::in_range))]
@@ -179,6 +193,11 @@ pub(crate) fn take_effect(
         }
         Op::Attach { reg, shared } => attach(lists, pid, reg, shared),
         Op::Exit => end_of_process(alloc, lists, pid),
+        Op::Kill { target } => kill(alloc, lists, target),
+        Op::Resize { limit, max } => {
+            lists.set_max(limit, max);
+            Ok(())
+        }
         Op::Get { .. } => Ok(()),
         Op::Load { reg, base, field } => {
             let loaded = loaded_reference(lists, pid, base, field);

@@ -8,6 +8,7 @@
 mod access;
 mod fields;
 mod firsts;
+mod governing;
 mod heaps;
 mod possible;
 mod ranges;

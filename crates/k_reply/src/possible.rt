@@ -21,6 +21,7 @@ ghost use Rattle.k_types.specs.declared.event.Reply.{Reply};
 ghost use Rattle.k_types.specs.Trace.{process_count};
 ghost use Rattle.k_types.specs.declared.event.Event.TheVariants.{Absorbed, Closing, Done};
 
+use crate::governing::ends_other;
 use crate::ranges::is_in_range;
 use crate::replies::reply_to;
 use k_state::{PlainLists, Share};
@@ -106,28 +107,44 @@ fn access_cell(lists: &PlainLists, pid: Pid, base: Reg) -> Option<Heap>
     }
 }
 
-// The cell beside the process's own that the operation touches.
+// Whether the cell has no open collection, where there is one.
+fn is_cell_idle(lists: &PlainLists, cell: Option<Heap>) -> bool
+    ensures { result ≡ list_all (λ (c : Cell). not (is_scanned lists.now.state.scans c)) (one_cell cell) }
+{
+    match cell {
+        Some(heap) => !lists.is_scanned(heap),
+        None => true,
+    }
+}
+
+// Whether no cell that the operation touches beside the process's own has an open collection.
 #[tactic(auto, using(std::proofs::lemmas::Bool::Decides::nat_tests), unfolding(k_types::specs::Cells::other_cells, k_types::specs::Steps::in_range))]
-fn other_cell(lists: &PlainLists, pid: Pid, op: &Op) -> Option<Heap>
+fn are_others_idle(lists: &PlainLists, pid: Pid, op: &Op) -> bool
     requires process { pid.0 < process_count lists.now.setup }
     requires in_range { IsTrue (in_range lists.now.setup op.now) }
-    ensures { other_cells lists.now.setup lists.now.state pid.0 op.now ≡ one_cell result }
+    ensures { result ≡ list_all (λ (c : Cell). not (is_scanned lists.now.state.scans c))
+        (other_cells lists.now.setup lists.now.state pid.0 op.now) }
 {
     match *op {
-        Op::Store { base, .. } => access_cell(lists, pid, base),
-        Op::Load { base, .. } => access_cell(lists, pid, base),
-        Op::Put { base, .. } => access_cell(lists, pid, base),
-        Op::Get { base, .. } => access_cell(lists, pid, base),
-        Op::KNew { .. } | Op::KCollect | Op::Exit => Some(Heap::Kernel),
-        Op::SNew { shared, .. } => Some(Heap::Shared(shared)),
-        Op::Share { shared } => Some(Heap::Shared(shared)),
-        Op::Freeze { shared, .. } => Some(Heap::Shared(shared)),
-        Op::Attach { shared, .. } => Some(Heap::Shared(shared)),
-        Op::New { .. } => None,
-        Op::Move { .. } => None,
-        Op::Clear { .. } => None,
-        Op::Dir { .. } => None,
-        Op::Collect => None,
+        Op::Store { base, .. } => is_cell_idle(lists, access_cell(lists, pid, base)),
+        Op::Load { base, .. } => is_cell_idle(lists, access_cell(lists, pid, base)),
+        Op::Put { base, .. } => is_cell_idle(lists, access_cell(lists, pid, base)),
+        Op::Get { base, .. } => is_cell_idle(lists, access_cell(lists, pid, base)),
+        Op::KNew { .. } | Op::KCollect | Op::Exit => !lists.is_scanned(Heap::Kernel),
+        Op::SNew { shared, .. } => !lists.is_scanned(Heap::Shared(shared)),
+        Op::Share { shared } => !lists.is_scanned(Heap::Shared(shared)),
+        Op::Freeze { shared, .. } => !lists.is_scanned(Heap::Shared(shared)),
+        Op::Attach { shared, .. } => !lists.is_scanned(Heap::Shared(shared)),
+        Op::Kill { target } => {
+            !ends_other(lists, pid, target)
+                || !lists.is_scanned(Heap::User(target)) && !lists.is_scanned(Heap::Kernel)
+        }
+        Op::New { .. } => true,
+        Op::Move { .. } => true,
+        Op::Clear { .. } => true,
+        Op::Dir { .. } => true,
+        Op::Collect => true,
+        Op::Resize { .. } => true,
     }
 }
 
@@ -139,10 +156,7 @@ fn is_idle(lists: &PlainLists, pid: Pid, op: &Op) -> bool
     ensures { (said : Reply) → result ≡ list_all (λ (c : Cell). not (is_scanned lists.now.state.scans c))
         (cells_touched lists.now.setup lists.now.state (Done pid op.now said)) }
 {
-    match other_cell(lists, pid, op) {
-        Some(cell) => !lists.is_scanned(Heap::User(pid)) && !lists.is_scanned(cell),
-        None => !lists.is_scanned(Heap::User(pid)),
-    }
+    !lists.is_scanned(Heap::User(pid)) && are_others_idle(lists, pid, op)
 }
 
 fn waits_for_orphans(op: &Op) -> bool

@@ -1,10 +1,11 @@
 //! Whether the numbers in an operation are those of the trace.
 ghost use Rattle.std.specs.Prelude.{◌≡◌, nat_lt, length};
-ghost use Rattle.k_types.specs.Bounds.{register_count};
+ghost use Rattle.k_types.specs.Bounds.{maximum_below, register_count};
 ghost use Rattle.k_types.specs.Steps.{in_range};
+ghost use Rattle.k_types.specs.Trace.{process_count};
 
 use k_state::PlainLists;
-use k_types::{Op, REGISTERS, Reg, SharedId, TypeId};
+use k_types::{LimitId, MAXIMUM_BELOW, Op, Pid, REGISTERS, Reg, SharedId, TypeId};
 
 fn is_register(reg: Reg) -> bool
     ensures { result ≡ nat_lt reg.0 register_count }
@@ -24,7 +25,25 @@ fn is_type(lists: &PlainLists, ty: TypeId) -> bool
     (ty.0 as usize) < lists.setup().types.len()
 }
 
-/// Whether the numbers in the operation are those of the trace.
+fn is_process(lists: &PlainLists, pid: Pid) -> bool
+    ensures { result ≡ nat_lt pid.0 (process_count lists.now.setup) }
+{
+    (pid.0 as usize) < lists.process_count()
+}
+
+fn is_limit(lists: &PlainLists, limit: LimitId) -> bool
+    ensures { result ≡ nat_lt limit.0 (length lists.now.setup.limits) }
+{
+    limit.0 < lists.limit_count()
+}
+
+fn is_maximum(max: u64) -> bool
+    ensures { result ≡ nat_lt max maximum_below }
+{
+    max < MAXIMUM_BELOW
+}
+
+/// Whether the numbers in the operation are those of the trace, and a maximum that it sets is one that a limit may have.
 #[tactic(auto, unfolding(k_types::specs::Steps::in_range))]
 pub fn is_in_range(lists: &PlainLists, op: &Op) -> bool
     ensures { result ≡ in_range lists.now.setup op.now }
@@ -48,5 +67,7 @@ pub fn is_in_range(lists: &PlainLists, op: &Op) -> bool
         Op::Freeze { shared, root } => is_shared(lists, shared) && is_register(root),
         Op::Attach { reg, shared } => is_register(reg) && is_shared(lists, shared),
         Op::Exit => true,
+        Op::Kill { target } => is_process(lists, target),
+        Op::Resize { limit, max } => is_limit(lists, limit) && is_maximum(max),
     }
 }

@@ -21,6 +21,7 @@ ghost use Rattle.k_types.specs.Updates.{next_name};
 
 use crate::access::{load_fault, number_fault, store_fault};
 use crate::fields::{field_at, number_in, reference};
+use crate::governing::{kill_fault, resize_fault};
 use crate::heaps::{
     attach_fault, freeze_fault, kernel_fault, new_fault, share_fault, shared_fault,
 };
@@ -96,6 +97,8 @@ pub fn first_fault(lists: &PlainLists, pid: Pid, op: &Op) -> Option<Fault>
         Op::Share { shared } => share_fault(lists, pid, shared),
         Op::Freeze { shared, root } => freeze_fault(lists, pid, shared, root),
         Op::Attach { reg, shared } => attach_fault(lists, pid, reg, shared),
+        Op::Kill { target } => kill_fault(lists, pid, target),
+        Op::Resize { limit, max } => resize_fault(lists, pid, limit, max),
         Op::Move { .. } => None,
         Op::Clear { .. } => None,
         Op::Dir { .. } => None,

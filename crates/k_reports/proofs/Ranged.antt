@@ -6,7 +6,7 @@ use Rattle.k_types.specs.declared.names.Name.{Name}
 use Rattle.k_types.specs.declared.names.Phase.{Phase}
 use Rattle.k_types.specs.declared.names.Phase.TheVariants.{Unmade, Populating, Frozen, Absorbed as AbsorbedPhase}
 use Rattle.k_types.specs.declared.op.Op.{Op}
-use Rattle.k_types.specs.declared.op.Op.TheVariants.{New, KNew, SNew, Store, Load, Move, Clear, Dir, Put, Get, Collect, KCollect, Share, Freeze, Attach, Exit}
+use Rattle.k_types.specs.declared.op.Op.TheVariants.{New, KNew, SNew, Load, Dir, Get, Attach}
 use Rattle.k_types.specs.declared.event.Fault.{Fault}
 use Rattle.k_types.specs.declared.event.Reply.{Reply}
 use Rattle.k_types.specs.declared.event.Reply.TheVariants.{Loaded}
@@ -88,19 +88,11 @@ module _ (trace : Trace) (history : List Event) (st : State) (sound : IsSound tr
   answer_ranged p (New r ty) = (refl, made_low _)
   answer_ranged p (KNew r ty) = (refl, made_low _)
   answer_ranged p (SNew r s ty) = (refl, made_low _)
-  answer_ranged p (Store base i value) = tt
   answer_ranged p (Load r base i) = loaded_ranged (Load r base i) refl (reference_from st (register st.registers p base.0) i) (loaded_low (register st.registers p base.0) i)
-  answer_ranged p (Move r from) = tt
-  answer_ranged p (Clear r) = tt
   answer_ranged p (Dir r) = (refl, omega arith)
-  answer_ranged p (Put base i number) = tt
   answer_ranged p (Get base i) = number_low (register st.registers p base.0) i
-  answer_ranged p Collect = tt
-  answer_ranged p KCollect = tt
-  answer_ranged p (Share s) = tt
-  answer_ranged p (Freeze s root) = tt
   answer_ranged p (Attach r s) = loaded_ranged (Attach r s) refl (root_of (phase_of st.phases s.0)) (root_low s.0)
-  answer_ranged p Exit = tt
+  answer_ranged p _ = tt
 
   -- So are those of its reply.
   pub reply_ranged : (p : ℕ) (op : Op) → IsReplyInRange op (reply_to trace st p op)

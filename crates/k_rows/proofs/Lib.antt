@@ -28,6 +28,9 @@ mod OrphansBeforeTheClosing
 mod WorkBesideACollection
 mod TwoOpenCollections
 mod ARootThatWasDroppedMeanwhile
+mod AProcessEndsAnother
+mod MaximaChange
+mod TheRootKeepsItsMaximum
 mod ImpossibleEvents
 mod Replies
 mod ReachedThroughThreeHeaps

@@ -1,5 +1,5 @@
 -- The rules of a trace and completeness, judged by tests that are computed.
-use Rattle.std.proofs.Common.{◌≡◌, ℕ, zero, suc, ◌+◌, ◌^◌, ◌<◌, ◌≤◌, ◌==◌, ◌&&◌, ◌||◌, not, Bool, true, false, cond, refl, sym, ap, ◌∙◌, List, [], ◌∷◌, ◌++◌, append-nil, length, count_by, nat_lt, nat_le, slice_index_or, ltb-true, lit<, Option, Some, None, IsTrue, arith}
+use Rattle.std.proofs.Common.{◌≡◌, ℕ, zero, suc, ◌+◌, ◌^◌, ◌<◌, ◌≤◌, ◌==◌, ◌&&◌, ◌||◌, not, Bool, true, false, cond, refl, sym, ap, ◌∙◌, List, [], ◌∷◌, ◌++◌, append-nil, length, count_by, nat_lt, nat_le, slice_index_or, ltb-true, lit<, Option, Some, None, IsTrue, arith, map, ap₂, subst, IsFalse, eqb-true}
 use Rattle.std.specs.List.{list_all}
 use Rattle.std.proofs.lemmas.Bool.{false≢true, and_parts, leb-true}
 use Rattle.std.proofs.lemmas.Bool.Decides.{nat_tests}
@@ -14,13 +14,15 @@ use Rattle.k_types.specs.declared.names.Field.{Field}
 use Rattle.k_types.specs.declared.names.Field.TheVariants.{Ref, Int}
 use Rattle.k_types.specs.Types.{type_row}
 use Rattle.k_types.specs.State.{State}
-use Rattle.k_types.specs.Numbers.{numbers_below}
+use Rattle.k_types.specs.Numbers.{numbers_below, numbers_from}
 use Rattle.k_types.specs.Steps.{in_range, done_by, state_after, no_orphan}
-use Rattle.k_types.specs.Trace.{limit_of, operations_of, row_of}
-use Rattle.k_types.specs.TraceRules.{KeepsRules, AreLimits, AreOperations, EndsWithExit, is_exit, is_spelled}
-use Rattle.k_types.specs.Complete.{IsComplete, EndsWithClosing, all_ended}
+use Rattle.k_types.specs.Trace.{operations_of, row_of, Trace}
+use Rattle.k_types.specs.TraceRules.{KeepsRules, AreLimits, AreOperations, EndsWithExit, is_exit, is_spelled, is_of_version}
+use Rattle.k_types.specs.Complete.{IsComplete, EndsWithClosing, all_ended, IsPrefixOf}
 use Rattle.k_base.proofs.Numbered.{all_at_below, occurrences, occurrences_count}
-use Rattle.k_rows.specs.Words.{Header, trace_doing, doers}
+use Rattle.k_rows.specs.Words.{Header, trace_doing, doers, Undone, undone_by, trace_asking}
+use Rattle.k_types.specs.Names.{among}
+use Rattle.std.proofs.lemmas.List.{length-append}
 
 -- the parent stands before its child
 abbrev parent_before : Option LimitId → ℕ → Bool
@@ -37,7 +39,7 @@ row_test rows m =
 abbrev pub limits_test : Header → Bool
 limits_test header =
     list_all (row_test header.limits) (numbers_below (length header.limits))
-    && ((row_of header.limits 0).hard && (nat_lt header.first.0 (length header.limits) && nat_lt header.second.0 (length header.limits)))
+    && ((row_of header.limits 0).hard && list_all (λ (m : LimitId). nat_lt m.0 (length header.limits)) header.procs)
 
 -- there is nothing in the list
 abbrev is_nil : List Op → Bool
@@ -49,11 +51,15 @@ abbrev exit_is_last : List Op → Bool
 exit_is_last [] = true
 exit_is_last (op ∷ ops) = (not (is_exit op) || is_nil ops) && exit_is_last ops
 
+-- the operations of a process, those that the history does and those that are left undone
+abbrev asked : List Event → List Undone → ℕ → List Op
+asked history undone p = done_by p history ++ undone_by p undone
+
 -- the operations of a process are as the rules ask
-abbrev pub operations_test : Header → List Event → ℕ → Bool
-operations_test header history p =
-    list_all (in_range (trace_doing header history)) (done_by p history)
-    && (list_all is_spelled (done_by p history) && exit_is_last (done_by p history))
+abbrev pub operations_test : Header → List Event → List Undone → ℕ → Bool
+operations_test header history undone p =
+    list_all (in_range (trace_asking header history undone)) (asked history undone p)
+    && (list_all is_spelled (asked history undone p) && (list_all (is_of_version header.version) (asked history undone p) && exit_is_last (asked history undone p)))
 
 row_tree : (parent : Option LimitId) (m : ℕ) (other : LimitId) → parent_before parent m ≡ true → parent ≡ Some other → other.0 < m
 row_tree None m other test e = grind arith
@@ -94,63 +100,100 @@ done_as_often p (Ended h a b c d ∷ events) = done_as_often p events
 done_as_often p (Absorbed shared ∷ events) = done_as_often p events
 done_as_often p (Closing ∷ events) = done_as_often p events
 
--- the sizes of a header are as the rules ask
+-- and how often it stands in the lines left undone is how much it leaves undone
+undone_as_often : (p : ℕ) (undone : List Undone) → occurrences p (map (λ (line : Undone). line.process) undone) ≡ length (undone_by p undone)
+undone_as_often p [] = refl
+undone_as_often p (line ∷ lines) =
+    elim (line.process == p) as (λ b. cond b (1 + occurrences p (map (λ (line : Undone). line.process) lines)) (occurrences p (map (λ (line : Undone). line.process) lines)) ≡ length (cond b (line.op ∷ undone_by p lines) (undone_by p lines))) [
+      | true ↦ let rest = undone_as_often p lines in omega (arith, rest)
+      | false ↦ undone_as_often p lines
+    ]
+
+occurrences_append : (p : ℕ) (xs ys : List ℕ) → occurrences p (xs ++ ys) ≡ occurrences p xs + occurrences p ys
+occurrences_append p [] ys = omega arith
+occurrences_append p (x ∷ xs) ys =
+    elim (x == p) as (λ b. cond b (1 + occurrences p (xs ++ ys)) (occurrences p (xs ++ ys)) ≡ cond b (1 + occurrences p xs) (occurrences p xs) + occurrences p ys) [
+      | true ↦ omega (arith, occurrences_append p xs ys)
+      | false ↦ omega (arith, occurrences_append p xs ys)
+    ]
+
+-- what stands at a place of numbers in a row that are mapped
+mapped_at : (f : ℕ → List Op) (first n k : ℕ) → k < n → slice_index_or (map f (numbers_from first n)) k [] ≡ f (first + k)
+mapped_at f first zero k inside = absurd (omega arith)
+mapped_at f first (suc n) zero inside = ap f (omega arith)
+mapped_at f first (suc n) (suc k) inside = mapped_at f (suc first) n k (omega (arith, inside)) ∙ ap f (omega arith)
+
+mapped_length : (f : ℕ → List Op) (first n : ℕ) → length (map f (numbers_from first n)) ≡ n
+mapped_length f first zero = refl
+mapped_length f first (suc n) = ap suc (mapped_length f (suc first) n)
+
+module _ (header : Header) (history : List Event) (undone : List Undone) where
+  abbrev of_all : Trace
+  of_all = trace_asking header history undone
+
+  its_operations : (p : ℕ) → p < length header.procs → operations_of of_all p ≡ asked history undone p
+  its_operations p inside = mapped_at (asked history undone) 0 (length header.procs) p inside ∙ ap (asked history undone) (omega arith)
+
+  counted_well : (p : ℕ) → p < length header.procs → count_by (λ q. q == p) of_all.order ≡ length (operations_of of_all p)
+  counted_well p inside =
+      sym (occurrences_count p of_all.order)
+      ∙ occurrences_append p (doers history) (map (λ (line : Undone). line.process) undone)
+      ∙ ap₂ (λ a b. a + b) (done_as_often p history) (undone_as_often p undone)
+      ∙ sym (length-append (done_by p history) (undone_by p undone))
+      ∙ sym (ap length (its_operations p inside))
+
+-- the sizes of a header are as the rules ask, and so is its version
 abbrev pub sizes_test : Header → Bool
-sizes_test header = nat_le (length header.limits) 128 && nat_le header.shared_heaps 64
+sizes_test header =
+    (nat_le (length header.limits) 128 && nat_le header.shared_heaps 64)
+    && ((nat_lt 0 header.version && nat_le header.version 2) && (nat_lt 0 (length header.procs) && nat_le (length header.procs) 64))
 
--- the operations of both processes are as the rules ask, and so is their order
+-- the operations of all processes are as the rules ask, and so is their order
+abbrev pub asked_test : Header → List Event → List Undone → Bool
+asked_test header history undone =
+    list_all (operations_test header history undone) (numbers_below (length header.procs))
+    && (list_all (λ p. nat_lt p (length header.procs)) (trace_asking header history undone).order && nat_le (length (trace_asking header history undone).order) 200000)
+
+-- the same where nothing is left undone
 abbrev pub history_test : Header → List Event → Bool
-history_test header history =
-    (operations_test header history 0 && operations_test header history 1)
-    && (list_all (λ p. nat_lt p 2) (doers history) && nat_le (length (doers history)) 200000)
+history_test header history = asked_test header history []
 
-limits_kept : (header : Header) (history : List Event) → limits_test header ≡ true → AreLimits (trace_doing header history)
-limits_kept header history test =
+on_limit : (limits : ℕ) (procs : List LimitId) → list_all (λ (m : LimitId). nat_lt m.0 limits) procs ≡ true → (p : ℕ) → p < length procs → (slice_index_or procs p (record { 0 = 0 })).0 < limits
+on_limit limits [] test p inside = absurd (omega arith)
+on_limit limits (m ∷ procs) test zero inside = ltb-true _ _ (and_parts (nat_lt m.0 limits) _ test).0
+on_limit limits (m ∷ procs) test (suc p) inside = on_limit limits procs (and_parts (nat_lt m.0 limits) _ test).1 p (omega (arith, inside))
+
+limits_kept : (header : Header) (history : List Event) (undone : List Undone) → limits_test header ≡ true → AreLimits (trace_asking header history undone)
+limits_kept header history undone test =
     let parts = and_parts (list_all (row_test header.limits) (numbers_below (length header.limits))) _ test in
     let rest = and_parts (row_of header.limits 0).hard _ parts.1 in
-    let places = and_parts (nat_lt header.first.0 (length header.limits)) (nat_lt header.second.0 (length header.limits)) rest.1 in
     let each = λ (m : ℕ) (inside : m < length header.limits). all_at_below (row_test header.limits) (length header.limits) m parts.0 inside in
     record {
       tree = λ m parent inside e. row_tree (row_of header.limits m).parent m parent (and_parts (parent_before (row_of header.limits m).parent m) _ (each m inside)).0 e;
       root = rest.0;
       rooted = λ m inside e. row_rooted (row_of header.limits m).parent m (and_parts (parent_before (row_of header.limits m).parent m) _ (each m inside)).0 e;
-      limited = places_in header history (ltb-true _ _ places.0) (ltb-true _ _ places.1);
+      limited = λ p inside. on_limit (length header.limits) header.procs rest.1 p inside;
       fits = λ m inside. (row_fits header.limits m (each m inside)).0;
       small = λ m inside. (row_fits header.limits m (each m inside)).1;
     }
-  where
-    places_in : (header : Header) (history : List Event) → header.first.0 < length header.limits → header.second.0 < length header.limits → (p : ℕ) → p < 2 → limit_of (trace_doing header history) p < length header.limits
-    places_in header history first second zero inside = first
-    places_in header history first second (suc zero) inside = second
-    places_in header history first second (suc (suc p)) inside = absurd (omega arith)
 
--- what is asked of each process holds where it holds of both
-for_both : (P : List Op → Type 0) (header : Header) (history : List Event) → P (done_by 0 history) → P (done_by 1 history) → (p : ℕ) → p < 2 → P (operations_of (trace_doing header history) p)
-for_both P header history first second zero inside = first
-for_both P header history first second (suc zero) inside = second
-for_both P header history first second (suc (suc p)) inside = absurd (omega arith)
-
-counted_well : (header : Header) (history : List Event) (p : ℕ) → p < 2 → count_by (λ q. q == p) (doers history) ≡ length (operations_of (trace_doing header history) p)
-counted_well header history zero inside = sym (occurrences_count 0 (doers history)) ∙ done_as_often 0 history
-counted_well header history (suc zero) inside = sym (occurrences_count 1 (doers history)) ∙ done_as_often 1 history
-counted_well header history (suc (suc p)) inside = absurd (omega arith)
-
-operations_kept : (header : Header) (history : List Event) → history_test header history ≡ true → AreOperations (trace_doing header history)
-operations_kept header history test =
-    let parts = and_parts (operations_test header history 0 && operations_test header history 1) _ test in
-    let both = and_parts (operations_test header history 0) (operations_test header history 1) parts.0 in
-    let first = and_parts (list_all (in_range (trace_doing header history)) (done_by 0 history)) _ both.0 in
-    let second = and_parts (list_all (in_range (trace_doing header history)) (done_by 1 history)) _ both.1 in
-    let first_rest = and_parts (list_all is_spelled (done_by 0 history)) (exit_is_last (done_by 0 history)) first.1 in
-    let second_rest = and_parts (list_all is_spelled (done_by 1 history)) (exit_is_last (done_by 1 history)) second.1 in
-    let order = and_parts (list_all (λ p. nat_lt p 2) (doers history)) (nat_le (length (doers history)) 200000) parts.1 in
+operations_kept : (header : Header) (history : List Event) (undone : List Undone) → asked_test header history undone ≡ true → AreOperations (trace_asking header history undone)
+operations_kept header history undone test =
+    let parts = and_parts (list_all (operations_test header history undone) (numbers_below (length header.procs))) _ test in
+    let order = and_parts (list_all (λ p. nat_lt p (length header.procs)) (trace_asking header history undone).order) _ parts.1 in
+    let each = λ (p : ℕ) (inside : p < length header.procs). all_at_below (operations_test header history undone) (length header.procs) p parts.0 inside in
+    let its = λ (p : ℕ) (inside : p < length header.procs). sym (its_operations header history undone p inside) in
+    let ranged = λ (p : ℕ) (inside : p < length header.procs). and_parts (list_all (in_range (trace_asking header history undone)) (asked history undone p)) _ (each p inside) in
+    let spelled = λ (p : ℕ) (inside : p < length header.procs). and_parts (list_all is_spelled (asked history undone p)) _ (ranged p inside).1 in
+    let versioned = λ (p : ℕ) (inside : p < length header.procs). and_parts (list_all (is_of_version header.version) (asked history undone p)) _ (spelled p inside).1 in
     record {
-      each = refl;
-      in_range = for_both (λ ops. IsTrue (list_all (in_range (trace_doing header history)) ops)) header history first.0 second.0;
-      spelled = for_both (λ ops. IsTrue (list_all is_spelled ops)) header history first_rest.0 second_rest.0;
-      ends = for_both EndsWithExit header history (ends_well (done_by 0 history) first_rest.1) (ends_well (done_by 1 history) second_rest.1);
+      each = mapped_length (asked history undone) 0 (length header.procs);
+      in_range = λ p inside. subst (λ ops. IsTrue (list_all (in_range (trace_asking header history undone)) ops)) (its p inside) (ranged p inside).0;
+      spelled = λ p inside. subst (λ ops. IsTrue (list_all is_spelled ops)) (its p inside) (spelled p inside).0;
+      of_version = λ p inside. subst (λ ops. IsTrue (list_all (is_of_version header.version) ops)) (its p inside) (versioned p inside).0;
+      ends = λ p inside. subst EndsWithExit (its p inside) (ends_well (asked history undone p) (versioned p inside).1);
       ordered = order.0;
-      counted = counted_well header history;
+      counted = counted_well header history undone;
       room = leb-true _ _ order.1;
     }
 
@@ -161,47 +204,72 @@ few_fields types e ty = rw e (one_row ty.0)
     one_row zero = omega arith
     one_row (suc i) = omega arith
 
-pub rules_kept : (header : Header) (history : List Event) → limits_test header ≡ true → sizes_test header ≡ true → history_test header history ≡ true → KeepsRules (trace_doing header history)
-rules_kept header history limits sizes operations =
-    let parts = and_parts (nat_le (length header.limits) 128) (nat_le header.shared_heaps 64) sizes in
+pub asked_kept : (header : Header) (history : List Event) (undone : List Undone) → limits_test header ≡ true → sizes_test header ≡ true → asked_test header history undone ≡ true → KeepsRules (trace_asking header history undone)
+asked_kept header history undone limits sizes operations =
+    let parts = and_parts (nat_le (length header.limits) 128 && nat_le header.shared_heaps 64) _ sizes in
+    let counts = and_parts (nat_le (length header.limits) 128) (nat_le header.shared_heaps 64) parts.0 in
+    let others = and_parts (nat_lt 0 header.version && nat_le header.version 2) _ parts.1 in
+    let version = and_parts (nat_lt 0 header.version) (nat_le header.version 2) others.0 in
+    let procs = and_parts (nat_lt 0 (length header.procs)) (nat_le (length header.procs) 64) others.1 in
     record {
-      version = refl;
+      version = (ltb-true _ _ version.0, leb-true _ _ version.1);
       ceiling = lit< tt;
       directory = omega arith;
       directory_fits = omega arith;
       types = omega arith;
       fields = few_fields _ refl;
-      limit_count = leb-true _ _ parts.0;
-      processes = omega arith;
-      some_process = omega arith;
-      shared = leb-true _ _ parts.1;
-      limits = limits_kept header history limits;
-      operations = operations_kept header history operations;
+      limit_count = leb-true _ _ counts.0;
+      processes = leb-true _ _ procs.1;
+      some_process = ltb-true _ _ procs.0;
+      shared = leb-true _ _ counts.1;
+      limits = limits_kept header history undone limits;
+      operations = operations_kept header history undone operations;
     }
 
--- the operations of the trace are those of the history
-same_operations : (header : Header) (history : List Event) (p : ℕ) → p < 2 → done_by p history ≡ operations_of (trace_doing header history) p
-same_operations header history zero inside = refl
-same_operations header history (suc zero) inside = refl
-same_operations header history (suc (suc p)) inside = absurd (omega arith)
+pub rules_kept : (header : Header) (history : List Event) → limits_test header ≡ true → sizes_test header ≡ true → history_test header history ≡ true → KeepsRules (trace_doing header history)
+rules_kept header history limits sizes operations = asked_kept header history [] limits sizes operations
+
+-- what the history does of each process comes first among its operations
+first_operations : (header : Header) (history : List Event) (undone : List Undone) (p : ℕ) → p < length header.procs → IsPrefixOf (done_by p history) (operations_of (trace_asking header history undone) p)
+first_operations header history undone p inside = (undone_by p undone, sym (its_operations header history undone p inside))
+
+-- and where no line of the process is left undone it is all of them
+all_operations : (header : Header) (history : List Event) (undone : List Undone) (p : ℕ) → p < length header.procs → undone_by p undone ≡ [] → done_by p history ≡ operations_of (trace_asking header history undone) p
+all_operations header history undone p inside none =
+    sym (its_operations header history undone p inside ∙ ap (λ ops. done_by p history ++ ops) none ∙ append-nil (done_by p history))
 
 -- the state after a worked history
-abbrev after : Header → List Event → State
-after header history = state_after (trace_doing header history) history
+abbrev after : Header → List Event → List Undone → State
+after header history undone = state_after (trace_asking header history undone) history
 
-pub is_complete : (header : Header) (history : List Event) → (after header history).scans ≡ [] → all_ended (trace_doing header history) (after header history) ≡ false → IsComplete (trace_doing header history) history
-is_complete header history scans going = record {
-  in_order = λ p inside. ([], append-nil (done_by p history) ∙ same_operations header history p inside);
-  all = λ p inside lives. same_operations header history p inside;
+-- lines are left undone by those alone who have ended
+none_undone : (ended : List ℕ) (undone : List Undone) (p : ℕ) → list_all (λ (line : Undone). among line.process ended) undone ≡ true → IsFalse (among p ended) → undone_by p undone ≡ []
+none_undone ended [] p test lives = refl
+none_undone ended (line ∷ lines) p test lives =
+    let parts = and_parts (among line.process ended) _ test in
+    let rest = none_undone ended lines p parts.1 lives in
+    elim (line.process == p) as (λ b. (line.process == p) ≡ b → cond b (line.op ∷ undone_by p lines) (undone_by p lines) ≡ []) [
+      | true ↦ λ e. absurd (false≢true (sym lives ∙ ap (λ k. among k ended) (sym (eqb-true line.process p e)) ∙ parts.0))
+      | false ↦ λ e. rest
+    ] refl
+
+pub is_cut : (header : Header) (history : List Event) (undone : List Undone) → (after header history undone).scans ≡ [] → list_all (λ (line : Undone). among line.process (after header history undone).ended) undone ≡ true →
+    all_ended (trace_asking header history undone) (after header history undone) ≡ false → IsComplete (trace_asking header history undone) history
+is_cut header history undone scans over going = record {
+  in_order = first_operations header history undone;
+  all = λ p inside lives. all_operations header history undone p inside (none_undone (after header history undone).ended undone p over lives);
   no_scan = scans;
   no_orphan = λ ended. absurd (false≢true (sym going ∙ ended));
   ends = λ ended. absurd (false≢true (sym going ∙ ended));
 }
 
-pub is_closed : (header : Header) (history : List Event) → (after header history).scans ≡ [] → no_orphan (trace_doing header history) (after header history) ≡ true → EndsWithClosing history → IsComplete (trace_doing header history) history
+pub is_complete : (header : Header) (history : List Event) → (after header history []).scans ≡ [] → all_ended (trace_doing header history) (after header history []) ≡ false → IsComplete (trace_doing header history) history
+is_complete header history scans going = is_cut header history [] scans refl going
+
+pub is_closed : (header : Header) (history : List Event) → (after header history []).scans ≡ [] → no_orphan (trace_doing header history) (after header history []) ≡ true → EndsWithClosing history → IsComplete (trace_doing header history) history
 is_closed header history scans orphans closing = record {
-  in_order = λ p inside. ([], append-nil (done_by p history) ∙ same_operations header history p inside);
-  all = λ p inside lives. same_operations header history p inside;
+  in_order = first_operations header history [];
+  all = λ p inside lives. all_operations header history [] p inside refl;
   no_scan = scans;
   no_orphan = λ ended. orphans;
   ends = λ ended. closing;

@@ -1,7 +1,7 @@
 -- Histories after which an event is not possible, one for each test that a step makes.
 use Rattle.std.specs.Prelude.{List, [], ◌∷◌}
 use Rattle.k_types.specs.declared.names.Heap.TheVariants.{Kernel}
-use Rattle.k_types.specs.declared.op.Op.TheVariants.{New, KNew, SNew, Move, Clear, Put, Get, Collect, KCollect, Share, Freeze, Exit}
+use Rattle.k_types.specs.declared.op.Op.TheVariants.{New, KNew, SNew, Move, Clear, Put, Get, Collect, KCollect, Share, Freeze, Exit, Kill, Resize}
 use Rattle.k_types.specs.declared.event.Fault.TheVariants.{KernelFull}
 use Rattle.k_types.specs.declared.event.Reply.TheVariants.{Done as Fine, Made, Value, Refused}
 use Rattle.k_types.specs.declared.event.Event.{Event}
@@ -304,3 +304,88 @@ before_closing_twice =
 -- the event
 abbrev pub closing_twice : Event
 closing_twice = Closing
+
+-- A process that is ended is one of the trace. Before the event:
+abbrev pub before_a_kill_of_no_process : List Event
+before_a_kill_of_no_process =
+    []
+
+-- the event
+abbrev pub a_kill_of_no_process : Event
+a_kill_of_no_process = did 0 (Kill (record { 0 = 3 })) Fine
+
+-- While its heap is scanned nobody ends a process. Before the event:
+abbrev pub before_a_kill_while_the_target_is_scanned : List Event
+before_a_kill_while_the_target_is_scanned =
+    did 1 Collect Fine
+    ∷ []
+
+-- the event
+abbrev pub a_kill_while_the_target_is_scanned : Event
+a_kill_while_the_target_is_scanned = did 0 (Kill (record { 0 = 1 })) Fine
+
+-- While the kernel is scanned no process ends another. Before the event:
+abbrev pub before_a_kill_while_the_kernel_is_scanned : List Event
+before_a_kill_while_the_kernel_is_scanned =
+    did 2 KCollect Fine
+    ∷ []
+
+-- the event
+abbrev pub a_kill_while_the_kernel_is_scanned : Event
+a_kill_while_the_kernel_is_scanned = did 0 (Kill (record { 0 = 1 })) Fine
+
+-- Only a process whose limit is above another's ends it. Before the event:
+abbrev pub before_a_kill_from_beside : List Event
+before_a_kill_from_beside =
+    []
+
+-- the event
+abbrev pub a_kill_from_beside : Event
+a_kill_from_beside = did 2 (Kill (record { 0 = 1 })) Fine
+
+-- A process that another has ended does nothing more. Before the event:
+abbrev pub before_an_operation_after_a_kill : List Event
+before_an_operation_after_a_kill =
+    did 0 (Kill (record { 0 = 1 })) Fine
+    ∷ []
+
+-- the event
+abbrev pub an_operation_after_a_kill : Event
+an_operation_after_a_kill = did 1 (Clear (reg 0)) Fine
+
+-- A limit that is resized is one of the trace. Before the event:
+abbrev pub before_a_resize_of_no_limit : List Event
+before_a_resize_of_no_limit =
+    []
+
+-- the event
+abbrev pub a_resize_of_no_limit : Event
+a_resize_of_no_limit = did 0 (Resize (record { 0 = 3 }) 5) Fine
+
+-- A maximum that is set is below 2^40, also that of a soft limit, which reserves nothing. Before the event:
+abbrev pub before_a_resize_beyond_all_maxima : List Event
+before_a_resize_beyond_all_maxima =
+    []
+
+-- the event
+abbrev pub a_resize_beyond_all_maxima : Event
+a_resize_beyond_all_maxima = did 0 (Resize (record { 0 = 2 }) 1099511627776) Fine
+
+-- No maximum is set below what is used. Before the event:
+abbrev pub before_a_resize_below_what_is_used : List Event
+before_a_resize_below_what_is_used =
+    did 2 (New (reg 0) node) (Made (name 3 1))
+    ∷ []
+
+-- the event
+abbrev pub a_resize_below_what_is_used : Event
+a_resize_below_what_is_used = did 0 (Resize (record { 0 = 2 }) 39) Fine
+
+-- A hard limit gets no more than its parent has left. Before the event:
+abbrev pub before_a_resize_beyond_what_is_left : List Event
+before_a_resize_beyond_what_is_left =
+    []
+
+-- the event
+abbrev pub a_resize_beyond_what_is_left : Event
+a_resize_beyond_what_is_left = did 0 (Resize (record { 0 = 1 }) 1001) Fine

@@ -54,7 +54,7 @@ holdings p (registers ∷ rest) = holdings_from p 0 registers ++ holdings (suc p
 
 -- the objects; the serials given in each segment; the registers that are not null; the operations done by each process; the
 -- owner of each segment; the phases; who has ended; open collections; whether the last collection has begun; bytes of the
--- kernel's heap, the use of each limit, the charge of each process, bytes of the shared heaps; exit items and shares; and of
+-- kernel's heap, the use and the maximum of each limit, the charge of each process, bytes of the shared heaps; exit items and shares; and of
 -- each object, in their order, the number of heaps with an exit item to it and of registers of other processes that hold it
 pub record Left : Type 0 where
   pub graph : List Object
@@ -68,6 +68,7 @@ pub record Left : Type 0 where
   pub closed : Bool
   pub kernel : ℕ
   pub uses : List ℕ
+  pub maxima : List ℕ
   pub charges : List ℕ
   pub shared_bytes : List ℕ
   pub exits : List ExitItem
@@ -89,6 +90,7 @@ left_in trace st = record {
   closed = st.closed;
   kernel = bytes_of trace st Kernel;
   uses = map (use_of trace st) (numbers_below (length trace.limits));
+  maxima = st.maxima;
   charges = map (charge_of trace st) (numbers_below (length trace.procs));
   shared_bytes = map (λ s. bytes_of trace st (shared s)) (numbers_below trace.shared_heaps);
   exits = st.exits;

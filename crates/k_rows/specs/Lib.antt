@@ -5,6 +5,7 @@ pub mod Limits
 pub mod Barriers
 pub mod Sharing
 pub mod Ends
+pub mod Governing
 pub mod Collections
 pub mod Liveness
 pub mod Impossible

@@ -67,6 +67,7 @@ reached_through_three_heaps_left = record {
   closed = false;
   kernel = 152;
   uses = 240 ∷ 80 ∷ 120 ∷ [];
+  maxima = 1000 ∷ 120 ∷ 400 ∷ [];
   charges = 80 ∷ 120 ∷ [];
   shared_bytes = 40 ∷ [];
   exits =

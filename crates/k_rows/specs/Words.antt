@@ -1,5 +1,5 @@
 -- The words in which the worked histories are written, and the traces that they are histories of.
-use Rattle.std.specs.Prelude.{ℕ, Bool, true, false, List, [], ◌∷◌, Some, None}
+use Rattle.std.specs.Prelude.{ℕ, ◌==◌, Bool, true, false, List, [], ◌∷◌, ◌++◌, length, map, Some, None, if◌then◌else◌}
 use Rattle.k_types.specs.declared.names.Reg.{Reg}
 use Rattle.k_types.specs.declared.names.TypeId.{TypeId}
 use Rattle.k_types.specs.declared.names.LimitId.{LimitId}
@@ -11,11 +11,12 @@ use Rattle.k_types.specs.declared.op.Op.{Op}
 use Rattle.k_types.specs.declared.event.Reply.{Reply}
 use Rattle.k_types.specs.declared.event.Event.{Event}
 use Rattle.k_types.specs.declared.event.Event.TheVariants.{Done, Ended, Absorbed, Closing}
+use Rattle.k_types.specs.Numbers.{numbers_below}
 use Rattle.k_types.specs.Trace.{Trace}
 use Rattle.k_types.specs.Steps.{done_by}
 
--- the object of that segment and serial: segment 0 is the kernel's, 1 and 2 are those of the processes, 3 and 4 those of the
--- shared heaps
+-- the object of that segment and serial: segment 0 is the kernel's, then come those of the processes, two in most headers, and then
+-- those of the shared heaps
 abbrev pub name : ℕ → ℕ → Name
 name seg serial = record { seg = record { 0 = seg }; serial = record { 0 = serial } }
 
@@ -39,12 +40,12 @@ t = record { 0 = 1 }
 abbrev pub did : ℕ → Op → Reply → Event
 did p op reply = Done (record { 0 = p }) op reply
 
--- what differs from one trace to the other before the operations: the limits, the limit of each of the two processes, and
--- the number of shared heaps
+-- what differs from one trace to the other before the operations: the version, the limits, the limit of each process, and the
+-- number of shared heaps
 pub record Header : Type 0 where
+  pub version : ℕ
   pub limits : List LimitRow
-  pub first : LimitId
-  pub second : LimitId
+  pub procs : List LimitId
   pub shared_heaps : ℕ
 
 -- the first limit, of 1000 bytes
@@ -61,7 +62,7 @@ two_limits max = root ∷ below 0 true 120 ∷ below 0 false max ∷ []
 
 -- each process on a limit of its own, the second on that one
 abbrev with_limits : List LimitRow → ℕ → Header
-with_limits limits second = record { limits = limits; first = record { 0 = 1 }; second = record { 0 = second }; shared_heaps = 1 }
+with_limits limits second = record { version = 1; limits = limits; procs = record { 0 = 1 } ∷ record { 0 = second } ∷ []; shared_heaps = 1 }
 
 -- the second process on a soft limit of 400 bytes
 abbrev pub usual : Header
@@ -87,6 +88,20 @@ soft_path = with_limits (root ∷ below 0 true 120 ∷ below 0 false 40 ∷ belo
 abbrev pub reserved : Header
 reserved = with_limits (root ∷ below 0 true 120 ∷ below 0 false 400 ∷ below 2 true 300 ∷ below 2 true 100 ∷ []) 2
 
+-- of the second version: one process more, which comes first, on the root; the two others on the limits below it
+abbrev pub governed : Header
+governed = record usual { version = 2; procs = record { 0 = 0 } ∷ record { 0 = 1 } ∷ record { 0 = 2 } ∷ [] }
+
+-- a line of the trace that gives no event, since its process has ended by then
+pub record Undone : Type 0 where
+  pub process : ℕ
+  pub op : Op
+
+-- the operations of the process in such lines
+abbrev pub undone_by : ℕ → List Undone → List Op
+undone_by p [] = []
+undone_by p (line ∷ lines) = if line.process == p then line.op ∷ undone_by p lines else undone_by p lines
+
 -- the process of each operation that the history does
 abbrev pub doers : List Event → List ℕ
 doers [] = []
@@ -95,16 +110,21 @@ doers (Ended h objects bytes exits shares ∷ events) = doers events
 doers (Absorbed shared ∷ events) = doers events
 doers (Closing ∷ events) = doers events
 
--- the trace whose operations the history does, in its order: a ceiling of 200 bytes, and a directory of two fields
-abbrev pub trace_doing : Header → List Event → Trace
-trace_doing header history = record {
-  version = 1;
+-- the trace whose operations the history does, in its order, and then these lines: a ceiling of 200 bytes, and a directory of two
+-- fields
+abbrev pub trace_asking : Header → List Event → List Undone → Trace
+trace_asking header history undone = record {
+  version = header.version;
   ceiling = 200;
   dir_fields = 2;
   types = (Ref ∷ Ref ∷ Int ∷ []) ∷ [];
   limits = header.limits;
-  procs = header.first ∷ header.second ∷ [];
+  procs = header.procs;
   shared_heaps = header.shared_heaps;
-  operations = done_by 0 history ∷ done_by 1 history ∷ [];
-  order = doers history;
+  operations = map (λ p. done_by p history ++ undone_by p undone) (numbers_below (length header.procs));
+  order = doers history ++ map (λ line. line.process) undone;
 }
+
+-- the trace whose operations the history does, and no others
+abbrev pub trace_doing : Header → List Event → Trace
+trace_doing header history = trace_asking header history []

@@ -10,6 +10,7 @@
 mod barriers;
 mod collections;
 mod ends;
+mod governing;
 mod impossible;
 mod limits;
 mod liveness;
@@ -26,17 +27,25 @@ pub use ends::{
     a_serial_is_not_given_again_row, an_exit_passes_an_item_on_row, last_collection_row,
     object_of_a_dead_process_row, orphans_before_the_closing_row,
 };
+pub use governing::{
+    a_process_ends_another_row, maxima_change_row, the_root_keeps_its_maximum_row,
+};
 pub use impossible::{
     a_fault_that_is_missed_is_impossible, a_fault_that_is_not_there_is_impossible,
     a_get_on_a_scanned_heap_is_impossible, a_kernel_collection_beside_an_orphan_is_impossible,
-    a_move_on_a_scanned_heap_is_impossible, a_put_into_a_scanned_kernel_is_impossible,
-    a_put_on_a_scanned_heap_is_impossible, a_register_that_is_not_there_is_impossible,
-    a_second_collection_of_a_heap_is_impossible, a_share_too_many_is_impossible,
-    a_shared_heap_that_is_not_there_is_impossible, a_type_that_is_not_there_is_impossible,
-    a_wrong_name_is_impossible, absorbing_a_heap_that_is_not_there_is_impossible,
-    absorbing_a_shared_heap_in_use_is_impossible, absorbing_an_unmade_heap_is_impossible,
-    absorbing_into_a_scanned_kernel_is_impossible, an_allocation_in_a_scanned_kernel_is_impossible,
-    an_end_without_a_collection_is_impossible, an_exit_item_too_many_is_impossible,
+    a_kill_from_beside_is_impossible, a_kill_of_no_process_is_impossible,
+    a_kill_while_the_kernel_is_scanned_is_impossible,
+    a_kill_while_the_target_is_scanned_is_impossible, a_move_on_a_scanned_heap_is_impossible,
+    a_put_into_a_scanned_kernel_is_impossible, a_put_on_a_scanned_heap_is_impossible,
+    a_register_that_is_not_there_is_impossible, a_resize_below_what_is_used_is_impossible,
+    a_resize_beyond_all_maxima_is_impossible, a_resize_beyond_what_is_left_is_impossible,
+    a_resize_of_no_limit_is_impossible, a_second_collection_of_a_heap_is_impossible,
+    a_share_too_many_is_impossible, a_shared_heap_that_is_not_there_is_impossible,
+    a_type_that_is_not_there_is_impossible, a_wrong_name_is_impossible,
+    absorbing_a_heap_that_is_not_there_is_impossible, absorbing_a_shared_heap_in_use_is_impossible,
+    absorbing_an_unmade_heap_is_impossible, absorbing_into_a_scanned_kernel_is_impossible,
+    an_allocation_in_a_scanned_kernel_is_impossible, an_end_without_a_collection_is_impossible,
+    an_exit_item_too_many_is_impossible, an_operation_after_a_kill_is_impossible,
     an_operation_after_an_exit_is_impossible, an_operation_of_no_process_is_impossible,
     closing_a_scanned_kernel_is_impossible, closing_before_all_have_ended_is_impossible,
     closing_beside_an_orphan_is_impossible, closing_twice_is_impossible,

@@ -12,8 +12,9 @@ use Rattle.k_book.specs.Books.{BookRecord}
 use Rattle.k_process.specs.declared.process.Process.{Process}
 use Rattle.k_process.specs.Worlds.{WorldValue}
 use Rattle.k_operate.specs.Adding.{AddsEnd, AddsOne, AddsOperation, known_to}
+use Rattle.k_operate.specs.Killing.{known_to_both}
 use Rattle.k_operate.specs.Steps.{HasPublishedAll}
-use Rattle.k_complete.proofs.Grown.{prefix_by}
+use Rattle.k_complete.proofs.Grown.{prefix_by, prefix_trans}
 use Rattle.k_watch.specs.Shown.{WasShown}
 use Rattle.k_watch.specs.Values.{PenValue}
 
@@ -32,6 +33,15 @@ operation_grows trace pid op p q b l none none_now t =
     let old : known_to p b ≡ b.journal.list = ap (λ (xs : List Event). b.journal.list ++ xs) none ∙ append-nil b.journal.list in
     let new : known_to q l ≡ l.journal.list = ap (λ (xs : List Event). l.journal.list ++ xs) none_now ∙ append-nil l.journal.list in
     subst (λ (xs : List Event). IsPrefixOf xs l.journal.list) old (subst (IsPrefixOf (known_to p b)) new (prefix_by (known_to p b) (known_to q l) _ t.new_is))
+
+-- the kill of another process, after which nothing of the own is unpublished
+pub kill_grows : (trace : Trace) (pid : Pid) (op : Op) (p t q : Process) (b l : BookRecord) → q.cell.value.tail ≡ [] → AddsOperation trace pid op (known_to_both p t b) (known_to q l) → IsPrefixOf b.journal.list l.journal.list
+kill_grows trace pid op p t q b l none_now a =
+    let new : known_to q l ≡ l.journal.list = ap (λ (xs : List Event). l.journal.list ++ xs) none_now ∙ append-nil l.journal.list in
+    let own = prefix_by b.journal.list (known_to p b) p.cell.value.tail refl in
+    let both = prefix_by (known_to p b) (known_to_both p t b) t.cell.value.tail refl in
+    let all = subst (IsPrefixOf (known_to_both p t b)) new (prefix_by (known_to_both p t b) (known_to q l) _ a.new_is) in
+    prefix_trans b.journal.list (known_to p b) l.journal.list own (prefix_trans (known_to p b) (known_to_both p t b) l.journal.list both all)
 
 -- where there is a cell there is a pen
 pub has_pen : (cell : TableId) (trace : Trace) (history : List Event) (pen : Option PenValue) → WasShown (Some cell) trace history pen → ((p : PenValue) → pen ≡ Some p → ⊥) → ⊥

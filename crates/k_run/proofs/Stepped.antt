@@ -1,10 +1,11 @@
 -- What a process has done between two locks.
-use Rattle.std.proofs.Common.{◌≡◌, ◌≢◌, refl, sym, ap, ◌∙◌, subst, [], ◌∷◌, List, Bool, None, false, true}
+use Rattle.std.proofs.Common.{◌≡◌, ◌≢◌, if◌then◌else◌, IsFalse, IsTrue, refl, sym, ap, ◌∙◌, subst, [], ◌∷◌, List, Bool, None, false, true}
 use Rattle.std.proofs.lemmas.Bool.{false≢true}
 use Rattle.k_types.specs.declared.names.Heap.TheVariants.{Kernel, Shared}
+use Rattle.k_types.specs.declared.names.Pid.{Pid}
 use Rattle.k_types.specs.declared.names.SharedId.{SharedId}
 use Rattle.k_types.specs.declared.op.Op.{Op}
-use Rattle.k_types.specs.declared.op.Op.TheVariants.{Exit, KCollect}
+use Rattle.k_types.specs.declared.op.Op.TheVariants.{Exit, KCollect, Kill}
 use Rattle.k_types.specs.Agree.{book_shown_by}
 use Rattle.k_types.specs.Cells.{Cell}
 use Rattle.k_types.specs.Trace.{Trace}
@@ -17,11 +18,13 @@ use Rattle.k_locked.specs.Keeping.{operations_left}
 use Rattle.k_process.specs.declared.process.Process.{Process}
 use Rattle.k_process.specs.Standing.{ComesNext, HasDone, IsNextOf}
 use Rattle.k_process.specs.Worlds.{WorldValue}
-use Rattle.k_operate.specs.Readiness.{begins_or_ends}
+use Rattle.k_operate.specs.Readiness.{IsOutside, begins_or_ends}
 use Rattle.k_operate.specs.Steps.{HasDoneInside, HasPublishedAll, PairStands}
 use Rattle.k_operate.specs.Collecting.{HasSameLeft, IsNextAndSettled}
-use Rattle.k_operate.proofs.Since.{next_since}
-use Rattle.k_run.specs.Running.{HasDoneBeside, HasDoneUnless, IsLeft}
+use Rattle.k_operate.proofs.Since.{next_since, ready_since}
+use Rattle.k_run.specs.declared.turns.Turn.{Turn}
+use Rattle.k_run.specs.declared.turns.Turn.TheVariants.{Done, Over, Kills}
+use Rattle.k_run.specs.Running.{HasDoneBeside, HasDoneUnless, HasTakenTurn, IsLeft, IsReadyBeside}
 
 -- publishing leaves all operations
 pub published_left : (world : WorldValue) (q r : Process) (a b : BookRecord) → HasPublishedAll world q r a b → HasSameLeft world.trace q.cell r.cell
@@ -64,6 +67,10 @@ kernel_not_shared s e = cc
 pub shared_not_kernel : (s : SharedId) → Shared s ∷ [] ≡ Kernel ∷ [] → ⊥
 shared_not_kernel s e = cc
 
+-- two cells are not one
+pub two_reached : (a b c : Cell) → a ∷ b ∷ [] ≡ c ∷ [] → ⊥
+two_reached a b c e = cc
+
 pub shared_apart : (s t : SharedId) → (t ≡ s → ⊥) → Shared s ∷ [] ≡ Shared t ∷ [] → ⊥
 shared_apart s t apart e = apart (same s t e)
   where
@@ -86,24 +93,35 @@ done_same trace op a b c same done = subst (λ (x : HeapRecord). HasDone trace o
 pub steps_stay : (op : Op) → begins_or_ends op ≡ false → op ≢ Exit
 steps_stay op steps is_exit = absurd (false≢true (sym steps ∙ ap begins_or_ends is_exit))
 
-some_touched : (c : Cell) → c ∷ [] ≡ [] → ⊥
-some_touched c e = cc
+some_touched : (c : Cell) (more : List Cell) → c ∷ more ≡ [] → ⊥
+some_touched c more e = cc
 
 -- an operation that touches another cell, and does not end its process, may be left
-pub may_be_left : (world : WorldValue) (p : Process) (b : BookRecord) (op : Op) (cell : Cell) → PairStands world p b → ComesNext world.trace p.cell op → op ≢ Exit →
-    cell ∷ [] ≡ other_cells_in world.trace (book_shown_by b.value) (idle_part p.cell.value) p.cell.pid.0 op → IsLeft world p.cell op
-may_be_left world p b op cell pair next stays touched = record {
+pub may_be_left : (world : WorldValue) (p : Process) (b : BookRecord) (op : Op) (cell : Cell) (more : List Cell) → PairStands world p b → ComesNext world.trace p.cell op → op ≢ Exit →
+    cell ∷ more ≡ other_cells_in world.trace (book_shown_by b.value) (idle_part p.cell.value) p.cell.pid.0 op → IsLeft world p.cell op
+may_be_left world p b op cell more pair next stays touched = record {
   next = next;
   stays = stays;
   book = b;
   keeps = pair.book;
-  touches = λ none. some_touched cell (touched ∙ none);
+  touches = λ none. some_touched cell more (touched ∙ none);
 }
+
+-- once its events are published, an operation that touches another cell is ready, and may be left
+pub ready_beside : (world : WorldValue) (q r : Process) (a b : BookRecord) (op : Op) (c : HeapRecord) (cell : Cell) (more : List Cell) → HasPublishedAll world q r a b → q.cell ≡ c →
+    IsOutside world.trace c op → begins_or_ends op ≡ false → cell ∷ more ≡ other_cells_in world.trace (book_shown_by b.value) (idle_part r.cell.value) r.cell.pid.0 op → IsReadyBeside world op c r.cell
+ready_beside world q r a b op c cell more t is outside steps touched =
+    let before = subst (λ (x : HeapRecord). IsOutside world.trace x op) (sym is) outside in
+    record {
+      ready = ready_since world q r b op t before.next before.outside;
+      same = subst (λ (x : HeapRecord). HasSameLeft world.trace x r.cell) is (published_left world q r a b t);
+      left = may_be_left world r b op cell more t.pair (next_since world q r b op t before.next) (steps_stay op steps) touched;
+    }
 
 -- so may `kcollect`, which touches the kernel's cell
 pub may_wait : (world : WorldValue) (p : Process) (b : BookRecord) → PairStands world p b → ComesNext world.trace p.cell KCollect → IsLeft world p.cell KCollect
 unfolding other_cells_in
-may_wait world p b pair next = may_be_left world p b KCollect Kernel pair next kept refl
+may_wait world p b pair next = may_be_left world p b KCollect Kernel [] pair next kept refl
   where
     kept : KCollect ≢ Exit
     kept e = cc
@@ -121,3 +139,26 @@ module _ (trace : Trace) (c : HeapRecord) where
     where
       apart : {xs : List Op} → [] ≡ op ∷ xs → ⊥
       apart e = cc
+
+module _ (world : WorldValue) (op : Op) (a : HeapRecord) (next : ComesNext world.trace a op) where
+  -- where the operation that comes next is left, no other one comes next
+  pub turn_left : (b : HeapRecord) → IsLeft world b op → HasTakenTurn world a b Over
+  turn_left b left other comes = subst (IsLeft world b) (one_next world.trace a op other next comes) left
+
+  -- what came of a turn that did the operation or left it
+  pub turn_of : (b : HeapRecord) (done : Bool) (turn : Turn) → turn ≡ (if done then Done else Over) → (IsTrue done → HasDone world.trace op a b) → (IsFalse done → IsLeft world b op) → HasTakenTurn world a b turn
+  turn_of b true turn is done left = subst (HasTakenTurn world a b) (sym is) (op, done refl)
+  turn_of b false turn is done left = subst (HasTakenTurn world a b) (sym is) (turn_left b (left refl))
+
+  module _ (b : HeapRecord) (same : b ≡ a) (c : HeapRecord) where
+    -- the same where the events before it were published first
+    pub turn_beside : (d : HeapRecord) (beside : Cell) (book : BookRecord) (done : Bool) (turn : Turn) → turn ≡ (if done then Done else Over) → IsReadyBeside world op b c →
+        HasDoneBeside world.trace op beside c d book done → HasTakenTurn world a d turn
+    turn_beside d beside book done turn is ready t =
+        turn_of d done turn is
+        (λ yes. done_same world.trace op a b d same (done_after world.trace op b c d ready.same (t.done yes)))
+        (λ no. subst (λ (x : HeapRecord). IsLeft world x op) (sym (t.same no)) ready.left)
+
+    -- and where the operation is the kill of a process whose lock is not held
+    pub turn_kills : (q : Pid) → IsReadyBeside world op b c → op ≡ Kill q → HasTakenTurn world a c (Kills q)
+    turn_kills q ready is = (subst (ComesNext world.trace a) is next, subst (IsLeft world c) is ready.left)

@@ -4,7 +4,7 @@ use Rattle.k_types.specs.declared.event.Event.TheVariants.{Absorbed}
 use Rattle.k_types.specs.declared.names.CellPhase.TheVariants.{Begun}
 use Rattle.k_types.specs.declared.names.SharedId.{SharedId}
 use Rattle.k_types.specs.declared.op.Op.{Op}
-use Rattle.k_types.specs.declared.op.Op.TheVariants.{Exit, KCollect}
+use Rattle.k_types.specs.declared.op.Op.TheVariants.{Exit, KCollect, Kill}
 use Rattle.k_types.specs.Agree.{book_shown_by}
 use Rattle.k_types.specs.Cells.{Cell}
 use Rattle.k_types.specs.Trace.{Trace}
@@ -16,7 +16,9 @@ use Rattle.k_heap.specs.Heaps.{HeapRecord}
 use Rattle.k_cell.specs.Holdings.{HoldingsValue}
 use Rattle.k_locked.specs.Keeping.{BookKeeps, KernelKeeps}
 use Rattle.k_steps.specs.declared.reached.Reach.{Reach}
-use Rattle.k_steps.specs.declared.reached.Reach.TheVariants.{Own, Kernel, Shared}
+use Rattle.k_steps.specs.declared.reached.Reach.TheVariants.{Own, Kernel, Shared, End}
+use Rattle.k_run.specs.declared.turns.Turn.{Turn}
+use Rattle.k_run.specs.declared.turns.Turn.TheVariants.{Done, Over, Kills}
 use Rattle.k_operate.specs.Readiness.{IsOutside, IsReady}
 use Rattle.k_operate.specs.Collecting.{HasSameLeft, KernelCollects}
 use Rattle.k_process.specs.Standing.{ComesNext, HasDone}
@@ -36,10 +38,11 @@ pub record IsLeft (world : WorldValue) (c : HeapRecord) (op : Op) : Type 0 where
   pub keeps : BookKeeps world.trace world.table book
   pub touches : other_cells_in world.trace (book_shown_by book.value) (idle_part c.value) c.pid.0 op ≢ []
 
--- the process has done an operation where the answer is yes; where it is no, none comes next, or the one that does is left
-pub record HasTakenTurn (world : WorldValue) (old new : HeapRecord) (answer : Bool) : Type 0 where
-  pub done : IsTrue answer → (op : Op) × HasDone world.trace op old new
-  pub left : IsFalse answer → (op : Op) → ComesNext world.trace old op → IsLeft world new op
+-- the process has done an operation; or none comes next, or the one that does is left; or what comes next is the kill of that process
+abbrev pub HasTakenTurn : WorldValue → HeapRecord → HeapRecord → Turn → Type 0
+HasTakenTurn world old new Done = (op : Op) × HasDone world.trace op old new
+HasTakenTurn world old new Over = (op : Op) → ComesNext world.trace old op → IsLeft world new op
+HasTakenTurn world old new (Kills q) = ComesNext world.trace old (Kill q) × IsLeft world new (Kill q)
 
 -- the events before the operation are published, and it is ready for a step with the other cell that it touches
 pub record IsReadyBeside (world : WorldValue) (op : Op) (old new : HeapRecord) : Type 0 where
@@ -47,11 +50,12 @@ pub record IsReadyBeside (world : WorldValue) (op : Op) (old new : HeapRecord) :
   pub same : HasSameLeft world.trace old new
   pub left : IsLeft world new op
 
--- the operation was done where it reaches no other cell; else it is ready
+-- the operation was done where it reaches no other cell; else it is ready, and where it reaches the end of a process, it is its kill
 abbrev pub IsReadyFor : Reach → WorldValue → Op → HeapRecord → HeapRecord → Type 0
 IsReadyFor Own world op old new = HasDone world.trace op old new
 IsReadyFor Kernel world op old new = IsReadyBeside world op old new
 IsReadyFor (Shared id) world op old new = IsReadyBeside world op old new
+IsReadyFor (End q) world op old new = IsReadyBeside world op old new × (op ≡ Kill q)
 
 -- the process has done the operation where the answer is yes; where it is no, nothing changed, and the operation does not touch just that
 -- cell beside the own one, as cell and book told
@@ -79,3 +83,12 @@ HasCollectedUnless None world old new = HasDone world.trace KCollect old new
 -- where the shared heap was the first orphan, its absorption is the newest event of the book's journal
 abbrev pub IsAbsorbedIfFirst : SharedId → BookRecord → BookRecord → Type 0
 IsAbsorbedIfFirst id old new = lowest_orphan old.value.phases old.value.shares ≡ Some id.0 → new.journal.list ≡ old.journal.list ++ Absorbed id ∷ []
+
+-- the process has done the kill of the other, which has done nothing, where the answer is yes; where it is no, neither changed, and that kill
+-- does not come next
+pub record HasKilledUnless (trace : Trace) (old new target new_target : HeapRecord) (answer : Bool) : Type 0 where
+  pub done : IsTrue answer → HasDone trace (Kill target.pid) old new
+  pub spared : HasSameLeft trace target new_target
+  pub same : IsFalse answer → new ≡ old
+  pub target_same : IsFalse answer → new_target ≡ target
+  pub none : IsFalse answer → ComesNext trace old (Kill target.pid) → ⊥

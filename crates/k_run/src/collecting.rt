@@ -5,7 +5,7 @@ ghost use Rattle.k_operate.specs.Collecting.{Collects, CollectsSwept, HasSameLef
 ghost use Rattle.k_process.specs.Standing.{ComesNext, HasDone, ProcessStands};
 ghost use Rattle.k_run.specs.Running.{HasBegunUnless, HasCollectedUnless, IsAbsorbedIfFirst, IsLeft};
 ghost use Rattle.k_types.specs.declared.names.CellPhase.TheVariants.{Begun};
-ghost use Rattle.k_types.specs.declared.op.Op.TheVariants.{Collect, Exit, KCollect};
+ghost use Rattle.k_types.specs.declared.op.Op.TheVariants.{Collect, Exit, KCollect, Kill};
 
 use crate::locked::{LockedBook, LockedKernel, LockedProcess, LockedShared};
 use crate::stepping::tell;
@@ -17,7 +17,7 @@ use k_io::{Gate, GatePlace};
 use k_kernel::KernelCell;
 use k_mark::Swept;
 use k_operate::{
-    absorb_orphan, begin_collection, begin_kernel_collection, do_exit, end_collection,
+    absorb_orphan, begin_collection, begin_kernel_collection, do_exit, do_kill, end_collection,
     end_kernel_collection, mark_collection, mark_kernel_collection, publish_all, sweep_collection,
     sweep_kernel_collection,
 };
@@ -118,6 +118,32 @@ impl<W: WorldName> LockedProcess<W> {
         publish_all(&mut self.process, &mut book.book);
         tell(&self.process, gate, GatePlace::InBook);
         do_exit(&mut self.process, &mut kernel.kernel, &mut book.book);
+        show(rt, &mut book.pen, &book.book);
+    }
+
+    /// Does the `kill` of the target, whose lock is held too.
+    pub(crate) fn kill(
+        &mut self,
+        rt: &impl Wait,
+        target: &mut LockedProcess<W>,
+        kernel: &mut LockedKernel<W>,
+        book: &mut LockedBook<W>,
+        op: &Op,
+        gate: &impl Gate,
+    )
+        requires next { ComesNext W.world.trace self.old op.now }
+        requires asks { op.now ≡ Kill target.old.pid }
+        ensures own { HasDone W.world.trace op.now self.old self.new }
+        ensures target { HasSameLeft W.world.trace target.old target.new }
+    {
+        tell(&self.process, gate, GatePlace::InBook);
+        do_kill(
+            &mut self.process,
+            &mut target.process,
+            &mut kernel.kernel,
+            &mut book.book,
+            op,
+        );
         show(rt, &mut book.pen, &book.book);
     }
 }

@@ -18,6 +18,7 @@ mod stepping;
 mod still;
 mod stretching;
 mod turning;
+mod turns;
 mod waiting;
 mod watching;
 mod whole;

@@ -90,6 +90,7 @@ impl<W: WorldName> LockedProcess<W> {
             }
             Reach::Kernel => show(rt, &mut book.pen, &book.book),
             Reach::Shared(_) => show(rt, &mut book.pen, &book.book),
+            Reach::End(_) => show(rt, &mut book.pen, &book.book),
         }
         reached
     }
@@ -116,6 +117,7 @@ impl<W: WorldName> LockedProcess<W> {
                 true
             }
             Reach::Shared(_) => false,
+            Reach::End(_) => false,
         }
     }
 
@@ -144,6 +146,7 @@ impl<W: WorldName> LockedProcess<W> {
                 show(rt, &mut book.pen, &book.book);
                 true
             }
+            Reach::End(_) => false,
         }
     }
 }

@@ -34,6 +34,7 @@ fn follow_step<W: WorldName>(
             None => false,
         },
         Reach::Shared(_) => false,
+        Reach::End(_) => false,
     }
 }
 

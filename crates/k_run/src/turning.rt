@@ -1,13 +1,14 @@
 //! The next operation of a process, under the locks that it needs: each takes those of its process's heap, the kernel's, a shared heap's
-//! and the book's in this order, as far as it needs them.
-ghost use Rattle.std.specs.Prelude.{IsFalse, IsTrue};
+//! and the book's in this order, as far as it needs them. A kill takes the locks of two processes' heaps, that of the lower number first.
+ghost use Rattle.std.specs.Prelude.{IsFalse};
 ghost use Rattle.k_operate.specs.Readiness.{begins_or_ends};
-ghost use Rattle.k_process.specs.Standing.{ComesNext, HasDone};
-ghost use Rattle.k_run.specs.Running.{HasTakenTurn, IsLeft};
+ghost use Rattle.k_process.specs.Standing.{ComesNext};
+ghost use Rattle.k_run.specs.Running.{HasKilledUnless, HasTakenTurn};
 
 use crate::collecting::collect_kernel;
 use crate::locked::LockedProcess;
 use crate::stretching::go_inside;
+use crate::turns::Turn;
 use crate::waiting::take;
 use crate::world::Locks;
 use crate::worlds::WorldName;
@@ -28,80 +29,143 @@ pub(crate) fn done_behind<W: WorldName>(
     lock.lock(rt).done_before_next(pid)
 }
 
-/// Does the operation, which neither collects nor ends its process, and says whether it did. It is left for the end where the cell of
-/// another shared heap stands behind the lock of the one that it reaches.
+/// Does the operation, which neither collects nor ends its process, if its process's lock is the only one of a process that it needs. It is
+/// left for the end where the cell of another shared heap stands behind the lock of the one that it reaches.
 fn operate<W: WorldName>(
     rt: &impl Wait,
     locks: &Locks<W>,
     process: &mut LockedProcess<W>,
     op: &Op,
     gate: &impl Gate,
-) -> bool
+) -> Turn
     requires next { ComesNext W.world.trace process.old op.now }
     requires steps { IsFalse (begins_or_ends op.now) }
-    ensures done { IsTrue result → HasDone W.world.trace op.now process.old process.new }
-    ensures left { IsFalse result → IsLeft W.world process.new op.now }
+    ensures { HasTakenTurn W.world process.old process.new result }
 {
     if process.do_inside(op) {
-        return true;
+        return Turn::Done;
     }
     let reached = process.do_under_book(rt, &mut take(rt, &locks.book), op, gate);
     match reached {
-        Reach::Own => true,
+        Reach::Own => Turn::Done,
         Reach::Kernel => {
             let mut kernel = take(rt, &locks.kernel);
-            process.do_under_kernel(rt, &mut kernel, &mut take(rt, &locks.book), op, gate)
+            Turn::of(process.do_under_kernel(rt, &mut kernel, &mut take(rt, &locks.book), op, gate))
         }
         Reach::Shared(id) => match locks.shared.get(id.0 as usize) {
             Some(lock) => {
                 let mut shared = take(rt, lock);
-                process.do_under_shared(rt, &mut shared, &mut take(rt, &locks.book), op, gate)
+                Turn::of(process.do_under_shared(
+                    rt,
+                    &mut shared,
+                    &mut take(rt, &locks.book),
+                    op,
+                    gate,
+                ))
             }
-            None => false,
+            None => Turn::Over,
         },
+        Reach::End(target) => Turn::Kills(target),
     }
 }
 
-/// Does the operation, and says whether it did.
+/// Does the operation, if its process's lock is the only one of a process that it needs.
 fn do_any<W: WorldName>(
     rt: &impl Wait,
     locks: &Locks<W>,
     process: &mut LockedProcess<W>,
     op: &Op,
     gate: &impl Gate,
-) -> bool
+) -> Turn
     requires { ComesNext W.world.trace process.old op.now }
-    ensures done { IsTrue result → HasDone W.world.trace op.now process.old process.new }
-    ensures left { IsFalse result → IsLeft W.world process.new op.now }
+    ensures { HasTakenTurn W.world process.old process.new result }
 {
     match *op {
         Op::Collect => {
             process.collect(rt, &locks.book, gate);
-            true
+            Turn::Done
         }
-        Op::KCollect => collect_kernel(rt, locks, process, gate),
+        Op::KCollect => Turn::of(collect_kernel(rt, locks, process, gate)),
         Op::Exit => {
             let mut kernel = take(rt, &locks.kernel);
             process.exit(rt, &mut kernel, &mut take(rt, &locks.book), gate);
-            true
+            Turn::Done
         }
         _ => operate(rt, locks, process, op, gate),
     }
 }
 
-/// Does the next operation of the process, whose lock is held, and says whether it did. There may be none; or it touches another cell
-/// and is left for the end, where another one stands behind the lock of that cell than its place says.
+/// Does the next operation of the process, whose lock is held. There may be none; or it touches another cell and is left for the end,
+/// where another one stands behind the lock of that cell than its place says; or it ends another process, whose lock is not held.
 fn turn<W: WorldName>(
     rt: &impl Wait,
     locks: &Locks<W>,
     process: &mut LockedProcess<W>,
     gate: &impl Gate,
-) -> bool
+) -> Turn
     ensures { HasTakenTurn W.world process.old process.new result }
 {
     match process.next() {
         Some(op) => do_any(rt, locks, process, &op, gate),
-        None => false,
+        None => Turn::Over,
+    }
+}
+
+/// Does the kill of the target, if that comes next of the process, and says whether it did. Both locks are held.
+fn kill_both<W: WorldName>(
+    rt: &impl Wait,
+    locks: &Locks<W>,
+    process: &mut LockedProcess<W>,
+    target: &mut LockedProcess<W>,
+    gate: &impl Gate,
+) -> bool
+    ensures { HasKilledUnless W.world.trace process.old process.new target.old target.new result }
+{
+    let Some(op) = process.next() else {
+        return false;
+    };
+    let Op::Kill { target: asked } = op else {
+        return false;
+    };
+    if asked != target.pid() {
+        return false;
+    }
+    let mut kernel = take(rt, &locks.kernel);
+    process.kill(
+        rt,
+        target,
+        &mut kernel,
+        &mut take(rt, &locks.book),
+        &op,
+        gate,
+    );
+    true
+}
+
+/// Has the process do its next operation, which was the kill of the target while its lock was held alone, and says whether it did. The
+/// lock of the lower number is taken first, and what comes next is asked again: another process may have ended this one meanwhile.
+fn kill_behind<W: WorldName>(
+    rt: &impl Wait,
+    locks: &Locks<W>,
+    pid: Pid,
+    target: Pid,
+    gate: &impl Gate,
+) -> bool {
+    let own = locks.processes.get(pid.0 as usize);
+    let other = locks.processes.get(target.0 as usize);
+    let (Some(own), Some(other)) = (own, other) else {
+        return false;
+    };
+    if pid.0 < target.0 {
+        let mut process = own.lock(rt);
+        let mut target = other.lock(rt);
+        kill_both(rt, locks, &mut process, &mut target, gate)
+    } else if target.0 < pid.0 {
+        let mut target = other.lock(rt);
+        let mut process = own.lock(rt);
+        kill_both(rt, locks, &mut process, &mut target, gate)
+    } else {
+        false
     }
 }
 
@@ -131,10 +195,19 @@ pub(crate) fn turn_behind<W: WorldName>(
     most: u32,
     gate: &impl Gate,
 ) -> Option<u32> {
-    let mut process = lock.lock(rt);
-    if !turn(rt, locks, &mut process, gate) {
+    let target = {
+        let mut process = lock.lock(rt);
+        match turn(rt, locks, &mut process, gate) {
+            Turn::Done => {
+                stretch(rt, locks, &mut process, most, gate);
+                return process.done_before_next(pid);
+            }
+            Turn::Over => return None,
+            Turn::Kills(target) => target,
+        }
+    };
+    if !kill_behind(rt, locks, pid, target, gate) {
         return None;
     }
-    stretch(rt, locks, &mut process, most, gate);
-    process.done_before_next(pid)
+    done_behind(rt, lock, pid)
 }

@@ -26,7 +26,8 @@ use k_watch::{Sample, WatchPen, Watcher, show_end};
 use std::marker::Model;
 use std::sync::{Mutex, Wait};
 
-/// One lock for each process's heap, for the kernel's, for each shared heap and for the book. They are taken in this order.
+/// One lock for each process's heap, for the kernel's, for each shared heap and for the book. They are taken in this order, those of two
+/// processes by rising number.
 #[derive(Drop)]
 pub(crate) struct Locks<W: WorldName> {
     pub(crate) processes: Vec<Mutex<LockedProcess<W>>>,

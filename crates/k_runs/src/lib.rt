@@ -7,6 +7,8 @@
 #![tactic(auto)]
 
 #[cfg(test)]
+mod killing;
+#[cfg(test)]
 mod reporting;
 #[cfg(test)]
 mod rows;

@@ -200,7 +200,12 @@ fn check_end<R: Abort>(
 }
 
 /// The same of a run of the trace of which threads do nothing.
-fn check_unrun<R: Wait + Abort>(rt: &R, alloc: Global, text: &str, want: &str) -> Result<(), Fail> {
+pub(crate) fn check_unrun<R: Wait + Abort>(
+    rt: &R,
+    alloc: Global,
+    text: &str,
+    want: &str,
+) -> Result<(), Fail> {
     let report = unrun_report(rt, alloc, text)?;
     check_end(rt, alloc, text, &report, want)
 }

@@ -8,16 +8,17 @@ use Rattle.k_types.specs.declared.names.Reg.{Reg}
 use Rattle.k_types.specs.declared.names.SharedId.{SharedId}
 use Rattle.k_types.specs.declared.names.TypeId.{TypeId}
 use Rattle.k_types.specs.declared.op.Op.{Op}
-use Rattle.k_types.specs.declared.op.Op.TheVariants.{New, KNew, SNew, Store, Load, Move, Clear, Dir, Put, Get, Collect, KCollect, Share, Freeze, Attach, Exit}
+use Rattle.k_types.specs.declared.op.Op.TheVariants.{SNew, Store, Load, Put, Get, Share, Freeze, Attach, Kill}
 use Rattle.k_types.specs.Agree.{book_shown_by}
 use Rattle.k_types.specs.Cells.{BookPart}
 use Rattle.k_types.specs.Steps.{in_range}
 use Rattle.k_types.specs.Trace.{Trace}
 use Rattle.k_changes.specs.BookChanges.{owner_in}
 use Rattle.k_frame.specs.PartUpdates.{held_in}
-use Rattle.k_squares.specs.Touches.{access_cell_in, base_cell_in, other_cells_in}
+use Rattle.k_squares.specs.Touches.{access_cell_in, base_cell_in, ends_other_in, other_cells_in}
 use Rattle.k_book.specs.Books.{BookRecord}
 use Rattle.k_heap.specs.Heaps.{HeapRecord}
+use Rattle.k_moves.proofs.Killing.{never_one}
 use Rattle.k_sharing.specs.Operating.{TouchesShared}
 
 -- one heap alone that is the other
@@ -132,19 +133,13 @@ pub one_of_eight : (trace : Trace) (c : HeapRecord) (b : BookRecord) (id : Share
     ((base : Reg) (i : ℕ) (value : Reg) → op ≡ Store base i value → ⊥) → ((r base : Reg) (i : ℕ) → op ≡ Load r base i → ⊥) →
     ((base : Reg) (i number : ℕ) → op ≡ Put base i number → ⊥) → ((base : Reg) (i : ℕ) → op ≡ Get base i → ⊥) → ⊥
 unfolding other_cells_in
-one_of_eight trace c b id (New r ty) touches share freeze attach snew store load put get = absurd (cc touches)
-one_of_eight trace c b id (KNew r ty) touches share freeze attach snew store load put get = absurd (cc touches)
 one_of_eight trace c b id (SNew r s ty) touches share freeze attach snew store load put get = snew r s ty refl
 one_of_eight trace c b id (Store base i value) touches share freeze attach snew store load put get = store base i value refl
 one_of_eight trace c b id (Load r base i) touches share freeze attach snew store load put get = load r base i refl
-one_of_eight trace c b id (Move r from) touches share freeze attach snew store load put get = absurd (cc touches)
-one_of_eight trace c b id (Clear r) touches share freeze attach snew store load put get = absurd (cc touches)
-one_of_eight trace c b id (Dir r) touches share freeze attach snew store load put get = absurd (cc touches)
 one_of_eight trace c b id (Put base i number) touches share freeze attach snew store load put get = put base i number refl
 one_of_eight trace c b id (Get base i) touches share freeze attach snew store load put get = get base i refl
-one_of_eight trace c b id Collect touches share freeze attach snew store load put get = absurd (cc touches)
-one_of_eight trace c b id KCollect touches share freeze attach snew store load put get = absurd (cc touches)
 one_of_eight trace c b id (Share s) touches share freeze attach snew store load put get = share s refl
 one_of_eight trace c b id (Freeze s root) touches share freeze attach snew store load put get = freeze s root refl
 one_of_eight trace c b id (Attach r s) touches share freeze attach snew store load put get = attach r s refl
-one_of_eight trace c b id Exit touches share freeze attach snew store load put get = absurd (cc touches)
+one_of_eight trace c b id (Kill q) touches share freeze attach snew store load put get = never_one (ends_other_in trace (book_shown_by b.value) c.pid.0 q.0) q (Shared id) touches
+one_of_eight trace c b id _ touches share freeze attach snew store load put get = absurd (cc touches)

@@ -4,7 +4,7 @@ use Rattle.std.specs.List.{list_all}
 use Rattle.k_types.specs.declared.names.Heap.{Heap}
 use Rattle.k_types.specs.declared.names.Heap.TheVariants.{Kernel}
 use Rattle.k_types.specs.declared.op.Op.{Op}
-use Rattle.k_types.specs.declared.op.Op.TheVariants.{New, KNew, SNew, Store, Load, Move, Clear, Dir, Put, Get, Collect, KCollect, Share, Freeze, Attach, Exit}
+use Rattle.k_types.specs.declared.op.Op.TheVariants.{New}
 use Rattle.k_types.specs.declared.event.Fault.{Fault}
 use Rattle.k_types.specs.declared.event.Event.{Event}
 use Rattle.k_types.specs.declared.event.Event.TheVariants.{Done, Ended, Absorbed, Closing}
@@ -13,7 +13,7 @@ use Rattle.k_types.specs.State.{State, is_scanned}
 use Rattle.k_types.specs.Reach.{is_entered, reach_in, roots_of}
 use Rattle.k_types.specs.Cells.{Cell, cells_touched, other_cells}
 use Rattle.k_types.specs.Replies.{access_faults, answer, faults, passes_barrier, first_fault, reply_to, size_fault}
-use Rattle.k_types.specs.Effects.{after_absorbed, after_closing, after_end_of, after_ended, after_operation, after_store, effect, effect_unless, exit_stays, share_stays, step, survives, with_exit_of_store}
+use Rattle.k_types.specs.Effects.{after_absorbed, after_closing, after_end_of, after_ended, after_kill, after_operation, after_store, effect, effect_unless, exit_stays, share_stays, step, survives, with_exit_of_store}
 use Rattle.k_types.specs.Updates.{count_done}
 use Rattle.k_types.specs.Complete.{all_ended}
 use Rattle.k_types.specs.FileOrder.{absorptions, end_of, events_of, heap_begun, last_events, with_end}
@@ -24,59 +24,17 @@ module _ (trace : Trace) where
   reply_unread : (st : State) (p : ℕ) (op : Op) → reply_to trace st p op ≡ reply_to (setup_of trace) st p op
   unfolding reply_to faults answer access_faults passes_barrier size_fault
   reply_unread st p (New r ty) = refl
-  reply_unread st p (KNew r ty) = refl
-  reply_unread st p (SNew r s ty) = refl
-  reply_unread st p (Store base i value) = refl
-  reply_unread st p (Load r base i) = refl
-  reply_unread st p (Move r from) = refl
-  reply_unread st p (Clear r) = refl
-  reply_unread st p (Dir r) = refl
-  reply_unread st p (Put base i number) = refl
-  reply_unread st p (Get base i) = refl
-  reply_unread st p Collect = refl
-  reply_unread st p KCollect = refl
-  reply_unread st p (Share s) = refl
-  reply_unread st p (Freeze s root) = refl
-  reply_unread st p (Attach r s) = refl
-  reply_unread st p Exit = refl
+  reply_unread st p _ = refl
 
   faults_unread : (st : State) (p : ℕ) (op : Op) → faults trace st p op ≡ faults (setup_of trace) st p op
   unfolding faults access_faults passes_barrier size_fault
   faults_unread st p (New r ty) = refl
-  faults_unread st p (KNew r ty) = refl
-  faults_unread st p (SNew r s ty) = refl
-  faults_unread st p (Store base i value) = refl
-  faults_unread st p (Load r base i) = refl
-  faults_unread st p (Move r from) = refl
-  faults_unread st p (Clear r) = refl
-  faults_unread st p (Dir r) = refl
-  faults_unread st p (Put base i number) = refl
-  faults_unread st p (Get base i) = refl
-  faults_unread st p Collect = refl
-  faults_unread st p KCollect = refl
-  faults_unread st p (Share s) = refl
-  faults_unread st p (Freeze s root) = refl
-  faults_unread st p (Attach r s) = refl
-  faults_unread st p Exit = refl
+  faults_unread st p _ = refl
 
   effect_unread : (st : State) (p : ℕ) (op : Op) → effect trace p op st ≡ effect (setup_of trace) p op st
-  unfolding effect after_store with_exit_of_store roots_of is_entered after_end_of
+  unfolding effect after_store with_exit_of_store roots_of is_entered after_end_of after_kill
   effect_unread st p (New r ty) = refl
-  effect_unread st p (KNew r ty) = refl
-  effect_unread st p (SNew r s ty) = refl
-  effect_unread st p (Store base i value) = refl
-  effect_unread st p (Load r base i) = refl
-  effect_unread st p (Move r from) = refl
-  effect_unread st p (Clear r) = refl
-  effect_unread st p (Dir r) = refl
-  effect_unread st p (Put base i number) = refl
-  effect_unread st p (Get base i) = refl
-  effect_unread st p Collect = refl
-  effect_unread st p KCollect = refl
-  effect_unread st p (Share s) = refl
-  effect_unread st p (Freeze s root) = refl
-  effect_unread st p (Attach r s) = refl
-  effect_unread st p Exit = refl
+  effect_unread st p _ = refl
 
   unless_unread : (st : State) (p : ℕ) (op : Op) (fault : Option Fault) → effect_unless fault trace p op st ≡ effect_unless fault (setup_of trace) p op st
   unless_unread st p op None = effect_unread st p op
@@ -116,40 +74,12 @@ module _ (trace : Trace) where
   range_unread : (op : Op) → in_range trace op ≡ in_range (setup_of trace) op
   unfolding in_range
   range_unread (New r ty) = refl
-  range_unread (KNew r ty) = refl
-  range_unread (SNew r s ty) = refl
-  range_unread (Store base i value) = refl
-  range_unread (Load r base i) = refl
-  range_unread (Move r from) = refl
-  range_unread (Clear r) = refl
-  range_unread (Dir r) = refl
-  range_unread (Put base i number) = refl
-  range_unread (Get base i) = refl
-  range_unread Collect = refl
-  range_unread KCollect = refl
-  range_unread (Share s) = refl
-  range_unread (Freeze s root) = refl
-  range_unread (Attach r s) = refl
-  range_unread Exit = refl
+  range_unread _ = refl
 
   cells_unread : (st : State) (event : Event) → cells_touched trace st event ≡ cells_touched (setup_of trace) st event
   unfolding cells_touched other_cells
   cells_unread st (Done pid (New r ty) said) = refl
-  cells_unread st (Done pid (KNew r ty) said) = refl
-  cells_unread st (Done pid (SNew r s ty) said) = refl
-  cells_unread st (Done pid (Store base i value) said) = refl
-  cells_unread st (Done pid (Load r base i) said) = refl
-  cells_unread st (Done pid (Move r from) said) = refl
-  cells_unread st (Done pid (Clear r) said) = refl
-  cells_unread st (Done pid (Dir r) said) = refl
-  cells_unread st (Done pid (Put base i number) said) = refl
-  cells_unread st (Done pid (Get base i) said) = refl
-  cells_unread st (Done pid Collect said) = refl
-  cells_unread st (Done pid KCollect said) = refl
-  cells_unread st (Done pid (Share s) said) = refl
-  cells_unread st (Done pid (Freeze s root) said) = refl
-  cells_unread st (Done pid (Attach r s) said) = refl
-  cells_unread st (Done pid Exit said) = refl
+  cells_unread st (Done pid _ said) = refl
   cells_unread st (Ended h a b c d) = refl
   cells_unread st (Absorbed s) = refl
   cells_unread st Closing = refl

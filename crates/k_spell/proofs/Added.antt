@@ -60,18 +60,18 @@ pub mapped_at : {A B : Type 0} (f : A → B) (xs : List A) (i : ℕ) (x : A) →
 mapped_at f xs i x e = mapped_next f xs i x (slice_get_within xs i x e) ∙ ap (λ y. f y ∷ map f (drop (i + 1) xs)) (get_or_from_slice_get xs i x x e)
 
 -- The first two lines.
-pub heading_added : {E : Type 0} (r : Result (Unit {0}) E) (old first second one two a b : Text) → one ≡ codes "kaffe 1" → first ≡ old ++ one ++ 10 ∷ [] → two ≡ (codes "kernel" ++ 32 ∷ a) ++ 32 ∷ b
-    → OnOk r (second ≡ first ++ two ++ 10 ∷ []) → OnOk r (second ≡ old ++ text_of ((codes "kaffe" ∷ codes "1" ∷ []) ∷ (codes "kernel" ∷ a ∷ b ∷ []) ∷ []))
-heading_added (Err e) old first second one two a b ones firsts twos seconds = tt
-heading_added (Ok u) old first second one two a b ones firsts twos seconds =
-    let all : Text = old ++ text_of ((codes "kaffe" ∷ codes "1" ∷ []) ∷ (codes "kernel" ∷ a ∷ b ∷ []) ∷ []) in
+pub heading_added : {E : Type 0} (r : Result (Unit {0}) E) (old first second one two v a b : Text) → one ≡ codes "kaffe" ++ 32 ∷ v → first ≡ old ++ one ++ 10 ∷ [] → two ≡ (codes "kernel" ++ 32 ∷ a) ++ 32 ∷ b
+    → OnOk r (second ≡ first ++ two ++ 10 ∷ []) → OnOk r (second ≡ old ++ text_of ((codes "kaffe" ∷ v ∷ []) ∷ (codes "kernel" ∷ a ∷ b ∷ []) ∷ []))
+heading_added (Err e) old first second one two v a b ones firsts twos seconds = tt
+heading_added (Ok u) old first second one two v a b ones firsts twos seconds =
+    let all : Text = old ++ text_of ((codes "kaffe" ∷ v ∷ []) ∷ (codes "kernel" ∷ a ∷ b ∷ []) ∷ []) in
     none_left second all [] refl
     (line_added first two second all (codes "kernel" ∷ a ∷ b ∷ []) ((codes "kernel" ∷ a ∷ b ∷ []) ∷ []) [] refl twos seconds
-    (line_added old one first all (codes "kaffe" ∷ codes "1" ∷ []) ((codes "kaffe" ∷ codes "1" ∷ []) ∷ (codes "kernel" ∷ a ∷ b ∷ []) ∷ []) ((codes "kernel" ∷ a ∷ b ∷ []) ∷ []) refl ones firsts refl))
+    (line_added old one first all (codes "kaffe" ∷ v ∷ []) ((codes "kaffe" ∷ v ∷ []) ∷ (codes "kernel" ∷ a ∷ b ∷ []) ∷ []) ((codes "kernel" ∷ a ∷ b ∷ []) ∷ []) refl ones firsts refl))
 
 -- The parts of a trace's text, one behind the other.
 pub whole_text : (t : NamedTrace) (x0 x1 x2 x3 x4 x5 x6 : Text) → x0 ≡ []
-    → x1 ≡ x0 ++ text_of ((codes "kaffe" ∷ codes "1" ∷ []) ∷ (codes "kernel" ∷ decimal t.trace.ceiling ∷ decimal t.trace.dir_fields ∷ []) ∷ [])
+    → x1 ≡ x0 ++ text_of ((codes "kaffe" ∷ decimal t.trace.version ∷ []) ∷ (codes "kernel" ∷ decimal t.trace.ceiling ∷ decimal t.trace.dir_fields ∷ []) ∷ [])
     → x2 ≡ x1 ++ text_of (declarations type_words t.names.types t.trace.types)
     → x3 ≡ x2 ++ text_of (declarations (limit_words t.names) t.names.limits t.trace.limits)
     → x4 ≡ x3 ++ text_of (declarations (proc_words t.names) t.names.procs t.trace.procs)
@@ -79,7 +79,7 @@ pub whole_text : (t : NamedTrace) (x0 x1 x2 x3 x4 x5 x6 : Text) → x0 ≡ []
     → x6 ≡ x5 ++ text_of (operation_lines t.names (operations_of t.trace) t.trace.order)
     → x6 ≡ text t
 whole_text t x0 x1 x2 x3 x4 x5 x6 e0 e1 e2 e3 e4 e5 e6 =
-    let heading : List (List Text) = (codes "kaffe" ∷ codes "1" ∷ []) ∷ (codes "kernel" ∷ decimal t.trace.ceiling ∷ decimal t.trace.dir_fields ∷ []) ∷ [] in
+    let heading : List (List Text) = (codes "kaffe" ∷ decimal t.trace.version ∷ []) ∷ (codes "kernel" ∷ decimal t.trace.ceiling ∷ decimal t.trace.dir_fields ∷ []) ∷ [] in
     let types : List (List Text) = declarations type_words t.names.types t.trace.types in
     let limits : List (List Text) = declarations (limit_words t.names) t.names.limits t.trace.limits in
     let procs : List (List Text) = declarations (proc_words t.names) t.names.procs t.trace.procs in

@@ -14,10 +14,11 @@ use k_words::LineBuffer;
 /// Adds the lines of the version and of the kernel.
 pub fn add_heading(text: &mut Vec<u8>, setup: &Setup) -> Result<(), NoMemory>
     ensures { OnOk result (text.new.items ≡ text.old.items
-        ++ text_of ((codes "kaffe" ∷ codes "1" ∷ []) ∷ (codes "kernel" ∷ decimal setup.now.ceiling ∷ decimal setup.now.dir_fields ∷ []) ∷ [])) }
+        ++ text_of ((codes "kaffe" ∷ decimal setup.now.version ∷ []) ∷ (codes "kernel" ∷ decimal setup.now.ceiling ∷ decimal setup.now.dir_fields ∷ []) ∷ [])) }
 {
     let mut line = LineBuffer::new();
-    line.push_text(b"kaffe 1");
+    line.push_text(b"kaffe");
+    line.push_number(u64::from(setup.version));
     line.append_to(text)?;
     line.push_text(b"kernel");
     line.push_number(setup.ceiling);

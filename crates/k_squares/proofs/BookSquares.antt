@@ -6,11 +6,11 @@ use Rattle.k_types.specs.declared.names.Reg.{Reg}
 use Rattle.k_types.specs.declared.names.TypeId.{TypeId}
 use Rattle.k_types.specs.declared.names.Field.{Field}
 use Rattle.k_types.specs.declared.names.SharedId.{SharedId}
-use Rattle.k_types.specs.declared.names.Heap.TheVariants.{Kernel}
+use Rattle.k_types.specs.declared.names.Heap.TheVariants.{Kernel, User}
 use Rattle.k_types.specs.declared.names.Phase.TheVariants.{Unmade, Populating, Frozen}
 use Rattle.k_types.specs.declared.event.Fault.TheVariants.{Taken}
 use Rattle.k_types.specs.declared.op.Op.{Op}
-use Rattle.k_types.specs.declared.op.Op.TheVariants.{New, KNew, SNew, Store, Load, Move, Clear, Dir, Put, Get, Collect, KCollect, Share, Freeze, Attach, Exit}
+use Rattle.k_types.specs.declared.op.Op.TheVariants.{New, KNew, SNew, Store, Load, Move, Clear, Dir, Put, Get, Collect, KCollect, Share, Freeze, Attach, Exit, Kill, Resize}
 use Rattle.k_types.specs.Bounds.{register_count}
 use Rattle.k_types.specs.Names.{heap_eq, directory, among}
 use Rattle.k_types.specs.Trace.{Trace, process_count, kinds_of, limit_of, size_of_type}
@@ -29,7 +29,7 @@ use Rattle.k_laws.specs.Changes.{MayAbsorb, MayExit}
 use Rattle.k_laws.proofs.SoundEffects.{Acts, is_unmade_so}
 use Rattle.k_laws.proofs.SoundSharing.{bytes_none, sharer_of}
 use Rattle.k_changes.specs.BookChanges.{owner_in, with_pin_moved, with_charge, with_shared_bytes, with_share, with_phase, with_entry, when_closed, when_ended, when_taken}
-use Rattle.k_changes.proofs.OnBook.{owner_told, open_scan_on_book, close_on_book, write_on_book, add_exit_on_book, set_phase_on_book, add_share_on_book, share_again}
+use Rattle.k_changes.proofs.OnBook.{owner_told, open_scan_on_book, close_on_book, write_on_book, add_exit_on_book, set_phase_on_book, add_share_on_book, share_again, set_max_on_book}
 use Rattle.k_changes.proofs.PinsOnBook.{set_register_on_book}
 use Rattle.k_changes.proofs.MadeOnBook.{new_on_book, new_in_kernel_on_book, new_in_shared_on_book}
 use Rattle.k_changes.proofs.EndsOnBook.{end_on_book}
@@ -37,7 +37,7 @@ use Rattle.k_changes.proofs.TakenOnBook.{taken_on_book}
 use Rattle.k_changes.proofs.ToldBy.{shared_bytes_told}
 use Rattle.k_squares.specs.CellAfter.{register_in}
 use Rattle.k_squares.specs.BookAfter.{book_repinned, book_stored, book_frozen, book_attached, book_operated}
-use Rattle.k_squares.proofs.CellSquares.{told, populates, populating_phase, freezes, may_exit}
+use Rattle.k_squares.proofs.CellSquares.{told, populates, populating_phase, freezes, may_exit, killed, kills, may_end_other, ends_told}
 
 -- a number of a list that is set to what it is
 set_again : (xs : List ℕ) (k : ℕ) → set xs k (get_or xs k 0 + 0) ≡ xs
@@ -161,8 +161,8 @@ module _ (trace : Trace) (st : State) where
         let inside = ltb-true _ _ (and_parts (nat_lt r.0 register_count) (nat_lt s.0 trace.shared_heaps) (and_parts (nat_lt r.0 register_count && nat_lt s.0 trace.shared_heaps) (nat_lt ty.0 (length trace.types)) acts.in_range).0).1 in
         new_in_shared_on_book trace st limits sound (record { 0 = p }) s.0 ty acts.known acts.lives inside (populating_phase (phase_of st.phases s.0) p (populates trace st p s _ acts.fine))
 
-    exit_book : MayExit trace st p → book_part trace (after_end_of trace p st) ≡ when_ended trace (owner_in trace (book_part trace st)) p (part trace st (user p)) (part trace st Kernel) (book_part trace st)
-    exit_book may =
+    exit_book : (p : ℕ) → MayExit trace st p → book_part trace (after_end_of trace p st) ≡ when_ended trace (owner_in trace (book_part trace st)) p (part trace st (user p)) (part trace st Kernel) (book_part trace st)
+    exit_book p may =
         end_on_book trace limits st p sound may
         ∙ ap (λ own. when_ended trace own p (part trace st (user p)) (part trace st Kernel) (book_part trace st)) (sym (owner_told trace st))
 
@@ -191,4 +191,9 @@ module _ (trace : Trace) (st : State) where
     effect_book (Freeze s root) acts = freeze_book s root acts
     effect_book (Attach r s) acts =
         attach_book r s.0 _ acts.known acts.lives (small_register r _ acts.in_range) (ltb-true _ _ (and_parts (nat_lt r.0 register_count) (nat_lt s.0 trace.shared_heaps) acts.in_range).1)
-    effect_book Exit acts = exit_book (may_exit trace st p acts)
+    effect_book Exit acts = exit_book p (may_exit trace st p acts)
+    effect_book (Kill q) acts =
+        killed trace st p q (book_part trace) (when_ended trace (owner_in trace (book_part trace st)) q.0 (part trace st (User q)) (part trace st Kernel) (book_part trace st)) (kills trace st p q acts)
+        (λ ends. exit_book q.0 (may_end_other trace st p q acts ends))
+        ∙ ap (λ b. cond b (when_ended trace (owner_in trace (book_part trace st)) q.0 (part trace st (User q)) (part trace st Kernel) (book_part trace st)) (book_part trace st)) (ends_told trace st p q.0)
+    effect_book (Resize m max) acts = set_max_on_book trace st m.0 max

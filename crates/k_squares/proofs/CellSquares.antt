@@ -1,5 +1,5 @@
 -- What the effect of an operation and the other events make of the parts of cells.
-use Rattle.std.proofs.Common.{◌≡◌, ℕ, ◌+◌, ◌<◌, ◌&&◌, nat_lt, not, true, false, cond, refl, sym, ap, ap₂, ◌∙◌, List, [], ◌∷◌, length, Option, Some, None, arith, IsTrue, IsFalse}
+use Rattle.std.proofs.Common.{◌≡◌, ℕ, ◌+◌, ◌<◌, ◌&&◌, nat_lt, not, true, false, cond, refl, sym, ap, ap₂, ◌∙◌, List, [], ◌∷◌, length, Option, Some, None, arith, IsTrue, IsFalse, Bool}
 use Rattle.std.proofs.lemmas.Bool.{ltb-true, and_parts, not-true, not-false}
 use Rattle.std.proofs.Math.Path.{fun_ext}
 use Rattle.k_types.specs.declared.names.Name.{Name}
@@ -7,27 +7,27 @@ use Rattle.k_types.specs.declared.names.SharedId.{SharedId}
 use Rattle.k_types.specs.declared.names.Reg.{Reg}
 use Rattle.k_types.specs.declared.names.TypeId.{TypeId}
 use Rattle.k_types.specs.declared.names.Heap.{Heap}
-use Rattle.k_types.specs.declared.names.Heap.TheVariants.{Kernel, Shared}
+use Rattle.k_types.specs.declared.names.Heap.TheVariants.{Kernel, Shared, User}
 use Rattle.k_types.specs.declared.names.Phase.{Phase}
 use Rattle.k_types.specs.declared.names.Phase.TheVariants.{Populating, Frozen}
 use Rattle.k_types.specs.declared.event.Fault.{Fault}
-use Rattle.k_types.specs.declared.event.Fault.TheVariants.{Segv, NotPopulating, Taken}
+use Rattle.k_types.specs.declared.event.Fault.TheVariants.{Segv, NotPopulating, Taken, ProcNotBelow}
 use Rattle.k_types.specs.declared.op.Op.{Op}
-use Rattle.k_types.specs.declared.op.Op.TheVariants.{New, KNew, SNew, Store, Load, Move, Clear, Dir, Put, Get, Collect, KCollect, Share, Freeze, Attach, Exit}
+use Rattle.k_types.specs.declared.op.Op.TheVariants.{New, KNew, SNew, Store, Load, Move, Clear, Dir, Put, Get, Collect, KCollect, Share, Freeze, Attach, Exit, Kill, Resize}
 use Rattle.k_types.specs.Bounds.{register_count}
-use Rattle.k_types.specs.Names.{heap_eq, directory}
+use Rattle.k_types.specs.Names.{heap_eq, directory, among}
 use Rattle.k_types.specs.Trace.{Trace, process_count, segment_count, kinds_of}
 use Rattle.k_types.specs.State.{State, Refers, Holds, register, is_scanned}
 use Rattle.k_types.specs.Owners.{owner_of, user, shared, phase_of, is_absorbed}
 use Rattle.k_types.specs.Reach.{roots_of}
 use Rattle.k_types.specs.Updates.{set_register, create, add_exit, add_share, set_phase, open_scan}
-use Rattle.k_types.specs.Replies.{fault_where, first_fault, faults, at_base, answer, is_populating, is_unmade}
-use Rattle.k_types.specs.Effects.{effect, after_store, after_put, after_freeze, with_exit_of_store, after_end_of, after_absorbed, after_closing}
+use Rattle.k_types.specs.Replies.{fault_where, first_fault, faults, at_base, answer, is_populating, is_unmade, ends_other}
+use Rattle.k_types.specs.Effects.{effect, after_store, after_put, after_freeze, with_exit_of_store, after_end_of, after_absorbed, after_closing, after_kill}
 use Rattle.k_types.specs.Cells.{Cell, CellPart, part, book_part, other_cells}
 use Rattle.k_types.specs.Steps.{in_range}
 use Rattle.k_types.specs.Sound.{IsSound}
 use Rattle.k_frame.specs.PartUpdates.{with_written}
-use Rattle.k_frame.proofs.Elsewhere.{add_share_elsewhere, close_elsewhere}
+use Rattle.k_frame.proofs.Elsewhere.{add_share_elsewhere, close_elsewhere, set_max_elsewhere}
 use Rattle.k_frame.proofs.ElsewhereOther.{exited_elsewhere, absorbed_elsewhere}
 use Rattle.k_frame.proofs.FrameSteps.{none_on, owner_linked}
 use Rattle.k_frame.proofs.OwnerOf.{owner_user, owner_kernel, owner_shared}
@@ -42,6 +42,10 @@ use Rattle.k_changes.proofs.ToldBy.{register_told}
 use Rattle.k_squares.specs.CellAfter.{at_cell, register_in, cells_with_register, cells_with_new, with_exit_for, cells_stored, cells_put, cells_frozen, cells_scanned, cells_given, cells_operated}
 use Rattle.k_squares.proofs.AtCells.{one_cell, two_cells, register_cells, create_cells, write_cells, exit_cells, scan_cells, phase_cells}
 use Rattle.k_base.proofs.Lists.{none_is}
+use Rattle.k_types.specs.Limits.{is_above}
+use Rattle.k_types.specs.declared.names.Pid.{Pid}
+use Rattle.std.specs.List.{list_all}
+use Rattle.k_squares.specs.Touches.{ends_other_in}
 
 -- no change of a cell's part
 same_cell : (h : Heap) (parts : Cell → CellPart) → parts ≡ at_cell h (λ c. c) parts
@@ -64,6 +68,39 @@ freezes trace st p s (Some x) e = ap is_absorbed (populating_phase (phase_of st.
 pub may_exit : (trace : Trace) (st : State) (p : ℕ) → Acts trace st p Exit → MayExit trace st p
 unfolding other_cells
 may_exit trace st p acts = record { known = acts.known; lives = acts.lives; idle = acts.idle; kernel_idle = none_is _ (not-true _ (and_parts (not (is_scanned st.scans Kernel)) true acts.others).0) }
+
+-- a kill that isn't refused may be done, and whoever it ends may end
+pub kills : (trace : Trace) (st : State) (p : ℕ) (q : Pid) → Acts trace st p (Kill q) → is_above trace p q.0 ≡ true
+unfolding faults
+kills trace st p q acts = not-false _ (none_on (not (is_above trace p q.0)) (ProcNotBelow q) [] acts.fine).0
+
+pub may_end_other : (trace : Trace) (st : State) (p : ℕ) (q : Pid) → Acts trace st p (Kill q) → IsTrue (ends_other trace st p q.0) → MayExit trace st q.0
+unfolding other_cells in_range
+may_end_other trace st p q acts ends =
+    let idle = ap (λ b. list_all (λ c. not (is_scanned st.scans c)) (cond b (User q ∷ Kernel ∷ []) [])) (sym ends) ∙ acts.others in
+    let parts = and_parts (not (is_scanned st.scans (User q))) (list_all (λ c. not (is_scanned st.scans c)) (Kernel ∷ [])) idle in
+    record {
+      known = ltb-true _ _ acts.in_range;
+      lives = not-true _ (and_parts (is_above trace p q.0) (not (among q.0 st.ended)) ends).1;
+      idle = none_is _ (not-true _ parts.0);
+      kernel_idle = none_is _ (not-true _ (and_parts (not (is_scanned st.scans Kernel)) true parts.1).0);
+    }
+
+-- the book tells whom a kill ends
+pub ends_told : (trace : Trace) (st : State) (p q : ℕ) → ends_other trace st p q ≡ ends_other_in trace (book_part trace st) p q
+unfolding book_part
+ends_told trace st p q = refl
+
+-- what a kill leaves of some view of the state, by whether it ends its target
+pub killed : {A : Type 0} (trace : Trace) (st : State) (p : ℕ) (q : Pid) (view : State → A) (ended : A) → is_above trace p q.0 ≡ true →
+    (IsTrue (ends_other trace st p q.0) → view (after_end_of trace q.0 st) ≡ ended) →
+    view (after_kill trace q.0 st) ≡ cond (ends_other trace st p q.0) ended (view st)
+unfolding after_kill
+killed trace st p q view ended above ends = go (among q.0 st.ended) refl
+  where
+    go : (b : Bool) → among q.0 st.ended ≡ b → view (cond b st (after_end_of trace q.0 st)) ≡ cond (ends_other trace st p q.0) ended (view st)
+    go true e = sym (ap₂ (λ a b. cond (a && not b) ended (view st)) above e)
+    go false e = ends (ap₂ (λ a b. a && not b) above e) ∙ sym (ap₂ (λ a b. cond (a && not b) ended (view st)) above e)
 
 module _ (trace : Trace) (st : State) where
   pub told : (p r : ℕ) → register st.registers p r ≡ register_in (part trace st) p r
@@ -176,3 +213,8 @@ module _ (trace : Trace) (st : State) where
       effect_cells (Freeze s root) acts = freeze_cells s root acts
       effect_cells (Attach r s) acts = attached r.0 s.0 _
       effect_cells Exit acts = exit_effect p (may_exit trace st p acts)
+      effect_cells (Kill q) acts =
+          killed trace st p q (part trace) (cells_given (owner_in trace (book_part trace st)) (User q) at_its_end (part trace st)) (kills trace st p q acts)
+          (λ ends. exit_effect q.0 (may_end_other trace st p q acts ends))
+          ∙ ap (λ b. cond b (cells_given (owner_in trace (book_part trace st)) (User q) at_its_end (part trace st)) (part trace st)) (ends_told trace st p q.0)
+      effect_cells (Resize m max) acts = fun_ext (λ c. set_max_elsewhere trace st c m.0 max)

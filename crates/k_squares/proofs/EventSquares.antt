@@ -7,7 +7,7 @@ use Rattle.k_types.specs.declared.names.SharedId.{SharedId}
 use Rattle.k_types.specs.declared.names.Heap.{Heap}
 use Rattle.k_types.specs.declared.names.Heap.TheVariants.{Kernel, User, Shared}
 use Rattle.k_types.specs.declared.op.Op.{Op}
-use Rattle.k_types.specs.declared.op.Op.TheVariants.{New, KNew, SNew, Store, Load, Move, Clear, Dir, Put, Get, Collect, KCollect, Share, Freeze, Attach, Exit}
+use Rattle.k_types.specs.declared.op.Op.TheVariants.{New, KNew, SNew, Store, Load, Move, Clear, Dir, Put, Get, Collect, KCollect, Share, Freeze, Attach, Exit, Kill, Resize}
 use Rattle.k_types.specs.declared.event.Fault.{Fault}
 use Rattle.k_types.specs.declared.event.Reply.{Reply}
 use Rattle.k_types.specs.declared.event.Event.{Event}
@@ -59,6 +59,8 @@ answer_is_one trace st p (Share s) after before = refl
 answer_is_one trace st p (Freeze s root) after before = refl
 answer_is_one trace st p (Attach r s) after before = refl
 answer_is_one trace st p Exit after before = refl
+answer_is_one trace st p (Kill q) after before = refl
+answer_is_one trace st p (Resize m max) after before = refl
 
 pub acts_of : (trace : Trace) (st : State) (pid : Pid) (op : Op) (said : Reply) → IsPossible trace st (Done pid op said) → first_fault (faults trace st pid.0 op) ≡ None → Acts trace st pid.0 op
 unfolding cells_touched

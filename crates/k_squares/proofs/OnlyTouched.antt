@@ -1,5 +1,5 @@
 -- The functions of parts read only the parts of touched cells and of the book.
-use Rattle.std.proofs.Common.{◌≡◌, ◌⊎◌, ℕ, ◌+◌, ◌==◌, ◌++◌, not, nat_lt, cond, refl, sym, ap, ap₂, ◌∙◌, List, [], ◌∷◌, Option, Some, None, eqb-true, IsTrue, inl, inr}
+use Rattle.std.proofs.Common.{◌≡◌, ◌⊎◌, ℕ, ◌+◌, ◌==◌, ◌++◌, not, nat_lt, cond, refl, sym, ap, ap₂, ◌∙◌, List, [], ◌∷◌, Option, Some, None, eqb-true, IsTrue, inl, inr, Bool, false, true}
 use Rattle.std.specs.List.{list_any}
 use Rattle.std.proofs.lemmas.Bool.{or_left, or_right, cases_Bool}
 use Rattle.k_types.specs.declared.names.Name.{Name}
@@ -9,7 +9,7 @@ use Rattle.k_types.specs.declared.names.Heap.{Heap}
 use Rattle.k_types.specs.declared.names.Heap.TheVariants.{Kernel, User, Shared}
 use Rattle.k_types.specs.declared.names.Phase.TheVariants.{Populating, Frozen}
 use Rattle.k_types.specs.declared.op.Op.{Op}
-use Rattle.k_types.specs.declared.op.Op.TheVariants.{New, KNew, SNew, Store, Load, Move, Clear, Dir, Put, Get, Collect, KCollect, Share, Freeze, Attach, Exit}
+use Rattle.k_types.specs.declared.op.Op.TheVariants.{New, KNew, SNew, Store, Load, Move, Clear, Dir, Put, Get, Collect, KCollect, Share, Freeze, Attach, Exit, Kill, Resize}
 use Rattle.k_types.specs.declared.event.Fault.{Fault}
 use Rattle.k_types.specs.declared.event.Fault.TheVariants.{Foreign, NotSharer, WrongKind, Frozen as FrozenFault, Segv, NotPopulating, KernelFull}
 use Rattle.k_types.specs.declared.event.Reply.{Reply}
@@ -30,7 +30,7 @@ use Rattle.k_changes.specs.Roots.{roots_in}
 use Rattle.k_squares.specs.CellAfter.{at_cell, register_in, reference_given, unless_refused, cells_with_register, cells_with_new, with_exit_for, cells_stored, cells_put, cells_frozen, cells_scanned, cells_given, cells_operated, cell_after}
 use Rattle.k_squares.specs.BookAfter.{book_repinned, book_stored, book_frozen, book_collected, book_operated, book_after}
 use Rattle.k_squares.specs.Answers.{field_in, size_fault_in, access_faults_in, is_frozen_in, passes_barrier_in, store_faults_in, load_faults_in, number_faults_in, freeze_faults_in, faults_in, reference_from_in, number_from_in, answer_in, reply_in, IsAnswered}
-use Rattle.k_squares.specs.Touches.{base_cell_in, access_cell_in, other_cells_in}
+use Rattle.k_squares.specs.Touches.{base_cell_in, access_cell_in, other_cells_in, ends_other_in}
 use Rattle.k_squares.specs.Follows.{AgreeWhereTouched, GiveTheSame}
 
 -- of two choices the same is taken
@@ -90,6 +90,12 @@ module _ (trace : Trace) (b : BookPart) (f g : Cell → CellPart) (c : Cell) (he
     operated_same (Freeze s root) said others = ap (λ v. cells_frozen (Shared s) v f c) (held root.0) ∙ frozen_same (Shared s) (register_in g p root.0)
     operated_same (Attach r s) said others = register_same p r.0 (reference_given said)
     operated_same Exit said others = given_same (owner_in trace b) (user p) at_its_end own
+    operated_same (Kill q) said others = kill_same (ends_other_in trace b p q.0) refl
+      where
+        kill_same : (ends : Bool) → ends_other_in trace b p q.0 ≡ ends → cond ends (cells_given (owner_in trace b) (User q) at_its_end f) f c ≡ cond ends (cells_given (owner_in trace b) (User q) at_its_end g) g c
+        kill_same false e = here
+        kill_same true e = given_same (owner_in trace b) (User q) at_its_end (others (User q) (ap (λ t. list_any (λ d. heap_eq d (User q)) (cond t (User q ∷ Kernel ∷ []) [])) e ∙ or_left _ _ (heap_eq_refl (User q))))
+    operated_same (Resize m max) said others = here
 
 -- what is accessed through the register of a process whose cell has the same part in both
 module _ (trace : Trace) (b : BookPart) (f g : Cell → CellPart) (p : ℕ) (own : f (user p) ≡ g (user p)) where
@@ -180,6 +186,8 @@ module _ (trace : Trace) (b : BookPart) (f g : Cell → CellPart) (p : ℕ) (own
   reply_same (Freeze s root) others = ap (λ x. refused_or (first_fault (at_base x (freeze_faults_in trace b p (Shared s) s))) DoneReply) (held_too root.0)
   reply_same (Attach r s) others = refl
   reply_same Exit others = refl
+  reply_same (Kill q) others = refl
+  reply_same (Resize m max) others = refl
 
   -- the book after an operation that isn't refused
   book_stored_same : (x : Option Name) (i : ℕ) (w v : Option Name) → Through x → first_fault (at_base x (λ y. store_faults_in trace b (home y) (f (home y)) p i w y)) ≡ None → book_stored (owner_in trace b) x v f b ≡ book_stored (owner_in trace b) x v g b
@@ -215,6 +223,16 @@ module _ (trace : Trace) (b : BookPart) (f g : Cell → CellPart) (p : ℕ) (own
   book_operated_same (Freeze s root) said fine others = ap (λ v. book_frozen s.0 v b) (held_too root.0)
   book_operated_same (Attach r s) said fine others = repinned_same r.0 (reference_given said) _
   book_operated_same Exit said fine others = ap₂ (λ heap kernel. when_ended trace (owner_in trace b) p heap kernel b) own (others Kernel refl)
+  book_operated_same (Kill q) said fine others = kill_same (ends_other_in trace b p q.0) refl
+    where
+      kill_same : (ends : Bool) → ends_other_in trace b p q.0 ≡ ends →
+          cond ends (when_ended trace (owner_in trace b) q.0 (f (User q)) (f Kernel) b) b ≡ cond ends (when_ended trace (owner_in trace b) q.0 (g (User q)) (g Kernel) b) b
+      kill_same false e = refl
+      kill_same true e =
+          ap₂ (λ heap kernel. when_ended trace (owner_in trace b) q.0 heap kernel b)
+          (others (User q) (ap (λ t. list_any (λ d. heap_eq d (User q)) (cond t (User q ∷ Kernel ∷ []) [])) e ∙ or_left _ _ (heap_eq_refl (User q))))
+          (others Kernel (ap (λ t. list_any (λ d. heap_eq d Kernel) (cond t (User q ∷ Kernel ∷ []) [])) e ∙ or_right (heap_eq (User q) Kernel) _ refl))
+  book_operated_same (Resize m max) said fine others = refl
 
 module _ (trace : Trace) (b : BookPart) (f g : Cell → CellPart) where
   own_same : (pid : Pid) (op : Op) (said : Reply) → AgreeWhereTouched trace b f g (Done pid op said) → f (User pid) ≡ g (User pid)

@@ -7,21 +7,21 @@ use Rattle.k_types.specs.declared.names.Phase.{Phase}
 use Rattle.k_types.specs.declared.names.Heap.{Heap}
 use Rattle.k_types.specs.declared.names.Heap.TheVariants.{Kernel, User, Shared}
 use Rattle.k_types.specs.declared.op.Op.{Op}
-use Rattle.k_types.specs.declared.op.Op.TheVariants.{New, KNew, SNew, Store, Load, Move, Clear, Dir, Put, Get, Collect, KCollect, Share, Freeze, Attach, Exit}
+use Rattle.k_types.specs.declared.op.Op.TheVariants.{New, KNew, SNew, Store, Load, Move, Clear, Dir, Put, Get, Collect, KCollect, Share, Freeze, Attach, Exit, Kill, Resize}
 use Rattle.k_types.specs.declared.event.Fault.{Fault}
-use Rattle.k_types.specs.declared.event.Fault.TheVariants.{Foreign, NoField, WrongKind, Frozen, Segv, NotPopulating, NotFrozen, Taken, KernelFull}
+use Rattle.k_types.specs.declared.event.Fault.TheVariants.{Foreign, NoField, WrongKind, Frozen, Segv, NotPopulating, NotFrozen, Taken, KernelFull, LimitNotBelow, InUse}
 use Rattle.k_types.specs.declared.event.Reply.{Reply}
 use Rattle.k_types.specs.declared.event.Reply.TheVariants.{Made, Loaded, Value}
 use Rattle.k_types.specs.declared.event.Event.{Event}
 use Rattle.k_types.specs.declared.event.Event.TheVariants.{Done, Ended, Absorbed, Closing}
 use Rattle.k_types.specs.Barrier.{legal_store}
-use Rattle.k_types.specs.Bounds.{register_count}
+use Rattle.k_types.specs.Bounds.{maximum_below, register_count}
 use Rattle.k_types.specs.Names.{heap_eq, kind_of, among}
 use Rattle.k_types.specs.Trace.{Trace, process_count, limit_of, size_of_type}
 use Rattle.k_types.specs.TraceRules.{AreLimits}
 use Rattle.k_types.specs.State.{State, Content, Holds, register, object_at, fields_of, has_share}
 use Rattle.k_types.specs.Owners.{owner_of, user, phase_of, bytes_of, is_absorbed}
-use Rattle.k_types.specs.Replies.{fault_where, first_fault, faults, at_base, answer, reply_to, refused_or, access_faults, store_faults, load_faults, number_faults, sharer_fault, is_frozen_heap, is_foreign, is_ref, is_unmade, root_of, is_frozen, is_populating, passes_barrier, limit_fault, size_fault, field_at, field_count, reference, reference_from, number_in, number_from}
+use Rattle.k_types.specs.Replies.{fault_where, first_fault, faults, at_base, answer, reply_to, refused_or, access_faults, store_faults, load_faults, number_faults, sharer_fault, is_frozen_heap, is_foreign, is_ref, is_unmade, root_of, is_frozen, is_populating, passes_barrier, limit_fault, size_fault, field_at, field_count, reference, reference_from, number_in, number_from, may_resize}
 use Rattle.k_types.specs.Cells.{CellPart, part, book_part, base_cell, access_cell, other_cells, cells_touched}
 use Rattle.k_types.specs.Local.{is_local, is_own, is_local_store, is_local_load}
 use Rattle.k_types.specs.Steps.{in_range}
@@ -29,12 +29,13 @@ use Rattle.k_frame.specs.PartUpdates.{held_in}
 use Rattle.k_frame.proofs.OwnerOf.{owner_user, owner_kernel, owner_shared}
 use Rattle.k_changes.specs.BookChanges.{owner_in}
 use Rattle.k_changes.proofs.OnBook.{owner_told}
-use Rattle.k_changes.proofs.ToldBy.{register_told, object_told, name_told, bytes_told, shared_bytes_told, limit_told}
+use Rattle.k_changes.proofs.ToldBy.{register_told, object_told, name_told, bytes_told, shared_bytes_told, limit_told, full_for_told, use_told}
 use Rattle.k_squares.specs.CellAfter.{register_in}
 use Rattle.k_squares.specs.Answers.{field_in, field_count_in, sharer_fault_in, is_frozen_in, size_fault_in, passes_barrier_in, access_faults_in, store_faults_in, load_faults_in, number_faults_in, freeze_faults_in, faults_in, reference_from_in, number_from_in, answer_in, reply_in}
 use Rattle.k_squares.specs.Touches.{base_cell_in, access_cell_in, other_cells_in, touched_in}
 use Rattle.k_squares.specs.Locals.{is_local_store_in, is_local_load_in, is_local_in}
 use Rattle.k_squares.proofs.CellSquares.{told, populates, populating_phase}
+use Rattle.k_types.specs.Limits.{is_above}
 
 -- the faults at a base by two functions that agree
 at_base_same : (r : Option Name) (f g : Name → List (Option Fault)) → ((x : Name) → f x ≡ g x) → at_base r f ≡ at_base r g
@@ -64,6 +65,10 @@ module _ (trace : Trace) (st : State) where
   through : (p r : ℕ) → access_cell trace st p (register st.registers p r) ≡ access_cell_in trace (book_part trace st) p (held_in (part trace st (user p)).process r)
   through p r = access_told p (register st.registers p r) ∙ ap (access_cell_in trace (book_part trace st) p) (sym (register_told trace st p r))
 
+  ended_told : (q : ℕ) → among q st.ended ≡ (book_part trace st).ended q
+  unfolding book_part
+  ended_told q = refl
+
   others_told : (p : ℕ) (op : Op) → other_cells trace st p op ≡ other_cells_in trace (book_part trace st) (part trace st (user p)) p op
   unfolding other_cells other_cells_in
   others_told p (New r ty) = refl
@@ -82,6 +87,8 @@ module _ (trace : Trace) (st : State) where
   others_told p (Freeze s root) = refl
   others_told p (Attach r s) = refl
   others_told p Exit = refl
+  others_told p (Kill q) = ap (λ b. cond (is_above trace p q.0 && not b) (User q ∷ Kernel ∷ []) []) (ended_told q.0)
+  others_told p (Resize m max) = refl
 
   pub touched_told : (event : Event) → cells_touched trace st event ≡ touched_in trace (book_part trace st) (part trace st) event
   unfolding cells_touched
@@ -201,6 +208,11 @@ module _ (trace : Trace) (st : State) where
         ap₂ (λ (phases : List Phase) f. fault_where (not (is_frozen (phase_of phases s.0))) (NotFrozen s) ∷ f ∷ []) phases_told
         (ap₂ (λ b f. cond b None f) (shares_told p s.0) (size_told (bytes_of trace st (Shared s)) ∙ ap (size_fault_in trace (book_part trace st) p) (sym (shared_bytes_told trace st s.0 heap))))
     faults_told Exit inside = refl
+    faults_told (Kill q) inside = refl
+    faults_told (Resize m max) inside =
+        let known = ltb-true _ _ (and_parts (nat_lt m.0 (length trace.limits)) (nat_lt max maximum_below) inside).0 in
+        ap₂ (λ full used. cond (may_resize trace p m.0) (limit_fault full) None ∷ fault_where (not (may_resize trace p m.0)) (LimitNotBelow m) ∷ fault_where (may_resize trace p m.0 && nat_lt max used) (InUse m) ∷ [])
+        (sym (full_for_told trace limits st m.0 max known)) (sym (use_told trace st m.0 known))
 
     answer_told : (op : Op) → IsFalse (among p st.ended) → first_fault (faults trace st p op) ≡ None → answer trace st p op ≡ answer_in trace (book_part trace st) (part trace st) p op
     unfolding faults answer answer_in
@@ -221,6 +233,8 @@ module _ (trace : Trace) (st : State) where
     answer_told (Freeze s root) lives fine = refl
     answer_told (Attach r s) lives fine = ap (λ (phases : List Phase). Loaded (root_of (phase_of phases s.0))) phases_told
     answer_told Exit lives fine = refl
+    answer_told (Kill q) lives fine = refl
+    answer_told (Resize m max) lives fine = refl
 
     pub reply_told : (op : Op) → IsFalse (among p st.ended) → IsTrue (in_range trace op) → reply_to trace st p op ≡ reply_in trace (book_part trace st) (part trace st) p op
     unfolding reply_to reply_in
@@ -270,3 +284,5 @@ module _ (trace : Trace) (st : State) where
     local_told (Freeze s root) = refl
     local_told (Attach r s) = refl
     local_told Exit = refl
+    local_told (Kill q) = refl
+    local_told (Resize m max) = refl

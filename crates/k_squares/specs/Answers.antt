@@ -1,13 +1,13 @@
 -- What an operation is answered, by the parts of the process's own cell, of the touched cells and of the book.
-use Rattle.std.specs.Prelude.{◌≡◌, ℕ, ◌+◌, not, nat_lt, nat_le, Bool, true, false, List, [], ◌∷◌, ◌++◌, length, slice_index_or, Option, Some, None, if◌then◌else◌}
+use Rattle.std.specs.Prelude.{◌≡◌, ℕ, ◌+◌, not, nat_lt, nat_le, Bool, true, false, List, [], ◌∷◌, ◌++◌, length, slice_index_or, Option, Some, None, if◌then◌else◌, ◌&&◌}
 use Rattle.k_types.specs.declared.names.Name.{Name}
 use Rattle.k_types.specs.declared.names.SharedId.{SharedId}
 use Rattle.k_types.specs.declared.names.Heap.{Heap}
 use Rattle.k_types.specs.declared.names.Heap.TheVariants.{Kernel, User, Shared}
 use Rattle.k_types.specs.declared.op.Op.{Op}
-use Rattle.k_types.specs.declared.op.Op.TheVariants.{New, KNew, SNew, Store, Load, Move, Clear, Dir, Put, Get, Collect, KCollect, Share, Freeze, Attach, Exit}
+use Rattle.k_types.specs.declared.op.Op.TheVariants.{New, KNew, SNew, Store, Load, Move, Clear, Dir, Put, Get, Collect, KCollect, Share, Freeze, Attach, Exit, Kill, Resize}
 use Rattle.k_types.specs.declared.event.Fault.{Fault}
-use Rattle.k_types.specs.declared.event.Fault.TheVariants.{Foreign, NotSharer, NoField, WrongKind, Frozen, Segv, NotPopulating, NotFrozen, Taken, KernelFull}
+use Rattle.k_types.specs.declared.event.Fault.TheVariants.{Foreign, NotSharer, NoField, WrongKind, Frozen, Segv, NotPopulating, NotFrozen, Taken, KernelFull, ProcNotBelow, LimitNotBelow, InUse}
 use Rattle.k_types.specs.declared.event.Event.{Event}
 use Rattle.k_types.specs.declared.event.Event.TheVariants.{Done as DoneEvent, Ended, Absorbed, Closing}
 use Rattle.k_types.specs.declared.event.Reply.{Reply}
@@ -17,12 +17,13 @@ use Rattle.k_types.specs.Names.{heap_eq, kind_of, directory}
 use Rattle.k_types.specs.Trace.{Trace, limit_of, size_of_type, segment_of}
 use Rattle.k_types.specs.State.{Content, Holds, object_at, fields_of}
 use Rattle.k_types.specs.Owners.{user, phase_of}
-use Rattle.k_types.specs.Replies.{fault_where, first_fault, at_base, limit_fault, refused_or, is_foreign, is_ref, is_unmade, is_frozen, is_populating, root_of, reference, number_in}
-use Rattle.k_types.specs.Cells.{Cell, CellPart, BookPart}
+use Rattle.k_types.specs.Replies.{fault_where, first_fault, at_base, limit_fault, refused_or, is_foreign, is_ref, is_unmade, is_frozen, is_populating, root_of, reference, number_in, may_resize}
+use Rattle.k_types.specs.Cells.{Cell, CellPart, BookPart, use_shown}
 use Rattle.k_changes.specs.CellChanges.{next_name_in}
 use Rattle.k_changes.specs.BookChanges.{owner_in, bytes_in}
-use Rattle.k_changes.specs.Told.{full_limit_in}
+use Rattle.k_changes.specs.Told.{full_limit_in, full_for_in}
 use Rattle.k_squares.specs.CellAfter.{register_in}
+use Rattle.k_types.specs.Limits.{is_above}
 
 -- what the field of the object holds, by the cell that has it
 abbrev pub field_in : CellPart → Name → ℕ → Content
@@ -114,6 +115,12 @@ faults_in trace book parts p (Attach r s) =
     ∷ (if book.shares p s.0 then None else size_fault_in trace book p (slice_index_or book.shared_bytes s.0 0))
     ∷ []
 faults_in trace book parts p Exit = []
+faults_in trace book parts p (Kill q) = fault_where (not (is_above trace p q.0)) (ProcNotBelow q) ∷ []
+faults_in trace book parts p (Resize m max) =
+    (if may_resize trace p m.0 then limit_fault (full_for_in trace book m.0 max) else None)
+    ∷ fault_where (not (may_resize trace p m.0)) (LimitNotBelow m)
+    ∷ fault_where (may_resize trace p m.0 && nat_lt max (use_shown trace book m.0)) (InUse m)
+    ∷ []
 
 -- the reference in the field of what the register holds
 abbrev pub reference_from_in : Trace → BookPart → (Cell → CellPart) → Option Name → ℕ → Option Name
@@ -143,6 +150,8 @@ answer_in trace book parts p (Share s) = Done
 answer_in trace book parts p (Freeze s root) = Done
 answer_in trace book parts p (Attach r s) = Loaded (root_of (phase_of book.phases s.0))
 answer_in trace book parts p Exit = Done
+answer_in trace book parts p (Kill q) = Done
+answer_in trace book parts p (Resize m max) = Done
 
 -- the reply to an operation of the process: the lowest fault that applies, or else its answer
 unfoldable pub reply_in : Trace → BookPart → (Cell → CellPart) → ℕ → Op → Reply

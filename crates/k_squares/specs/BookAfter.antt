@@ -5,7 +5,7 @@ use Rattle.k_types.specs.declared.names.Heap.{Heap}
 use Rattle.k_types.specs.declared.names.Heap.TheVariants.{Kernel, User, Shared}
 use Rattle.k_types.specs.declared.names.Phase.TheVariants.{Populating, Frozen}
 use Rattle.k_types.specs.declared.op.Op.{Op}
-use Rattle.k_types.specs.declared.op.Op.TheVariants.{New, KNew, SNew, Store, Load, Move, Clear, Dir, Put, Get, Collect, KCollect, Share, Freeze, Attach, Exit}
+use Rattle.k_types.specs.declared.op.Op.TheVariants.{New, KNew, SNew, Store, Load, Move, Clear, Dir, Put, Get, Collect, KCollect, Share, Freeze, Attach, Exit, Kill, Resize}
 use Rattle.k_types.specs.declared.event.Event.{Event}
 use Rattle.k_types.specs.declared.event.Event.TheVariants.{Done as DoneEvent, Ended, Absorbed, Closing}
 use Rattle.k_types.specs.declared.event.Reply.{Reply}
@@ -13,8 +13,9 @@ use Rattle.k_types.specs.Names.{heap_eq}
 use Rattle.k_types.specs.Trace.{Trace, limit_of, size_of_type}
 use Rattle.k_types.specs.Owners.{user, shared}
 use Rattle.k_types.specs.Cells.{Cell, CellPart, BookPart}
-use Rattle.k_changes.specs.BookChanges.{owner_in, with_pin_moved, with_charge, with_shared_bytes, with_entry, with_phase, with_share, when_closed, without_entries, drops, when_collected, when_ended, when_taken}
+use Rattle.k_changes.specs.BookChanges.{owner_in, with_pin_moved, with_charge, with_shared_bytes, with_entry, with_phase, with_share, when_closed, without_entries, drops, when_collected, when_ended, when_taken, with_max}
 use Rattle.k_squares.specs.CellAfter.{register_in, reference_given, unless_refused}
+use Rattle.k_squares.specs.Touches.{ends_other_in}
 
 -- the pin of what the register of the process held is let go, and that of what it holds now is taken
 abbrev pub book_repinned : Trace → BookPart → (Cell → CellPart) → ℕ → ℕ → Option Name → BookPart → BookPart
@@ -66,6 +67,9 @@ book_operated trace book parts p (Freeze s root) said = book_frozen s.0 (registe
 book_operated trace book parts p (Attach r s) said =
     book_repinned trace book parts p r.0 (reference_given said) (book_attached trace p s.0 book)
 book_operated trace book parts p Exit said = when_ended trace (owner_in trace book) p (parts (user p)) (parts Kernel) book
+book_operated trace book parts p (Kill q) said =
+    if ends_other_in trace book p q.0 then when_ended trace (owner_in trace book) q.0 (parts (User q)) (parts Kernel) book else book
+book_operated trace book parts p (Resize m max) said = with_max m.0 max book
 
 -- the book's part after an event
 unfoldable pub book_after : Trace → BookPart → (Cell → CellPart) → Event → BookPart

@@ -4,10 +4,10 @@ use Rattle.std.specs.Prelude.{ℕ, Option, Some, None, if◌then◌else◌}
 use Rattle.k_types.specs.declared.names.Name.{Name}
 use Rattle.k_types.specs.declared.names.TypeId.{TypeId}
 use Rattle.k_types.specs.declared.names.Heap.{Heap}
-use Rattle.k_types.specs.declared.names.Heap.TheVariants.{Kernel, Shared}
+use Rattle.k_types.specs.declared.names.Heap.TheVariants.{Kernel, Shared, User}
 use Rattle.k_types.specs.declared.names.Phase.TheVariants.{Populating, Frozen}
 use Rattle.k_types.specs.declared.op.Op.{Op}
-use Rattle.k_types.specs.declared.op.Op.TheVariants.{New, KNew, SNew, Store, Load, Move, Clear, Dir, Put, Get, Collect, KCollect, Share, Freeze, Attach, Exit}
+use Rattle.k_types.specs.declared.op.Op.TheVariants.{New, KNew, SNew, Store, Load, Move, Clear, Dir, Put, Get, Collect, KCollect, Share, Freeze, Attach, Exit, Kill, Resize}
 use Rattle.k_types.specs.declared.event.Event.{Event}
 use Rattle.k_types.specs.declared.event.Event.TheVariants.{Done as DoneEvent, Ended, Absorbed, Closing}
 use Rattle.k_types.specs.declared.event.Reply.{Reply}
@@ -21,6 +21,7 @@ use Rattle.k_frame.specs.PartUpdates.{held_in, with_done, with_register, with_wr
 use Rattle.k_changes.specs.CellChanges.{with_created, with_exit_to, with_scan, in_phase, collected, at_its_end, when_absorbed, taking_in}
 use Rattle.k_changes.specs.BookChanges.{owner_in}
 use Rattle.k_changes.specs.Roots.{roots_in}
+use Rattle.k_squares.specs.Touches.{ends_other_in}
 
 -- the parts of all cells, of which that of the one is changed
 abbrev pub at_cell : Cell → (CellPart → CellPart) → (Cell → CellPart) → Cell → CellPart
@@ -101,6 +102,8 @@ cells_operated trace book parts p (Share s) said = at_cell (Shared s) (in_phase 
 cells_operated trace book parts p (Freeze s root) said = cells_frozen (Shared s) (register_in parts p root.0) parts
 cells_operated trace book parts p (Attach r s) said = cells_with_register p r.0 (reference_given said) parts
 cells_operated trace book parts p Exit said = cells_given (owner_in trace book) (user p) at_its_end parts
+cells_operated trace book parts p (Kill q) said = if ends_other_in trace book p q.0 then cells_given (owner_in trace book) (User q) at_its_end parts else parts
+cells_operated trace book parts p (Resize m max) said = parts
 
 -- the part of a cell after an event. An operation counts as done in its process's cell, and has its effect unless it is refused
 unfoldable pub cell_after : Trace → BookPart → (Cell → CellPart) → Event → Cell → CellPart

@@ -2,7 +2,7 @@
 use Rattle.std.specs.Prelude.{ℕ, ◌+◌, ◌==◌, ◌&&◌, ◌||◌, not, nat_le, Bool, true, false, Option, Some, None}
 use Rattle.k_types.specs.declared.names.Name.{Name}
 use Rattle.k_types.specs.declared.op.Op.{Op}
-use Rattle.k_types.specs.declared.op.Op.TheVariants.{New, KNew, SNew, Store, Load, Move, Clear, Dir, Put, Get, Collect, KCollect, Share, Freeze, Attach, Exit}
+use Rattle.k_types.specs.declared.op.Op.TheVariants.{New, KNew, SNew, Store, Load, Move, Clear, Dir, Put, Get, Collect, KCollect, Share, Freeze, Attach, Exit, Kill, Resize}
 use Rattle.k_types.specs.Replies.{is_ref, reference}
 use Rattle.k_types.specs.Local.{is_own}
 use Rattle.k_types.specs.Cells.{CellPart}
@@ -42,3 +42,5 @@ is_local_in own p (Share s) = false
 is_local_in own p (Freeze s root) = false
 is_local_in own p (Attach r s) = false
 is_local_in own p Exit = false
+is_local_in own p (Kill q) = false
+is_local_in own p (Resize m max) = false

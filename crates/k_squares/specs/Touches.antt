@@ -1,17 +1,18 @@
 -- Which cells an event touches, by the book's part and for an operation by the part of its process's own cell.
-use Rattle.std.specs.Prelude.{ℕ, List, [], ◌∷◌, Option, Some, None, if◌then◌else◌}
+use Rattle.std.specs.Prelude.{ℕ, List, [], ◌∷◌, Option, Some, None, if◌then◌else◌, Bool, not, ◌&&◌}
 use Rattle.k_types.specs.declared.names.Name.{Name}
 use Rattle.k_types.specs.declared.names.Pid.{Pid}
 use Rattle.k_types.specs.declared.names.Heap.{Heap}
 use Rattle.k_types.specs.declared.names.Heap.TheVariants.{Kernel, User, Shared}
 use Rattle.k_types.specs.declared.op.Op.{Op}
-use Rattle.k_types.specs.declared.op.Op.TheVariants.{New, KNew, SNew, Store, Load, Move, Clear, Dir, Put, Get, Collect, KCollect, Share, Freeze, Attach, Exit}
+use Rattle.k_types.specs.declared.op.Op.TheVariants.{New, KNew, SNew, Store, Load, Move, Clear, Dir, Put, Get, Collect, KCollect, Share, Freeze, Attach, Exit, Kill, Resize}
 use Rattle.k_types.specs.declared.event.Event.{Event}
 use Rattle.k_types.specs.declared.event.Event.TheVariants.{Done as DoneEvent, Ended, Absorbed, Closing}
 use Rattle.k_types.specs.Trace.{Trace}
 use Rattle.k_types.specs.Cells.{Cell, CellPart, BookPart}
 use Rattle.k_frame.specs.PartUpdates.{held_in}
 use Rattle.k_changes.specs.BookChanges.{owner_in}
+use Rattle.k_types.specs.Limits.{is_above}
 
 -- the cell beside the process's own that an access to an object of the heap touches
 abbrev pub base_cell_in : BookPart → ℕ → Heap → List Cell
@@ -23,6 +24,10 @@ base_cell_in book p (Shared s) = if book.shares p s.0 then Shared s ∷ [] else 
 abbrev pub access_cell_in : Trace → BookPart → ℕ → Option Name → List Cell
 access_cell_in trace book p None = []
 access_cell_in trace book p (Some x) = base_cell_in book p (owner_in trace book x.seg.0)
+
+-- the process ends the other one when it kills it, by the book
+abbrev pub ends_other_in : Trace → BookPart → ℕ → ℕ → Bool
+ends_other_in trace book p q = is_above trace p q && not (book.ended q)
 
 -- the cells beside the process's own that its operation touches, by the own cell's and the book's part
 unfoldable pub other_cells_in : Trace → BookPart → CellPart → ℕ → Op → List Cell
@@ -42,6 +47,8 @@ other_cells_in trace book own p (Share s) = Shared s ∷ []
 other_cells_in trace book own p (Freeze s root) = Shared s ∷ []
 other_cells_in trace book own p (Attach r s) = Shared s ∷ []
 other_cells_in trace book own p Exit = Kernel ∷ []
+other_cells_in trace book own p (Kill q) = if ends_other_in trace book p q.0 then User q ∷ Kernel ∷ [] else []
+other_cells_in trace book own p (Resize m max) = []
 
 -- the cells that the process's operation touches, its own first
 abbrev pub cells_in : Trace → BookPart → CellPart → Pid → Op → List Cell

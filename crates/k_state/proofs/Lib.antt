@@ -1,3 +1,4 @@
+pub mod Above
 pub mod Changes
 pub mod Fields
 pub mod Heaps

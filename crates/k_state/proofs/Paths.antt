@@ -5,7 +5,7 @@ use Rattle.k_types.specs.declared.names.LimitId.{LimitId}
 use Rattle.k_types.specs.Trace.{row_of}
 use Rattle.k_types.specs.Limits.{path_above, path_within, with_maxima}
 use Rattle.k_types.specs.TraceRules.{IsTree}
-use Rattle.k_state.proofs.Rows.{row_in}
+use Rattle.k_state.proofs.Rows.{parent_kept}
 
 path_step : (rows : List LimitRow) (depth m : ℕ) → 0 < depth →
     path_within rows depth m ≡ m ∷ path_above (path_within rows (depth - 1)) (row_of rows m).hard (row_of rows m).parent
@@ -62,6 +62,6 @@ path_root rows test depth m row positive fails is root =
 pub parent_known : (limits : List LimitRow) (maxima : List ℕ) (m : ℕ) (row : LimitRow) (parent : LimitId) → IsTree limits → m < length limits →
     length maxima ≡ length limits → row ≡ row_of (with_maxima limits maxima) m → row.parent ≡ Some parent → parent.0 < length limits
 parent_known limits maxima m row parent tree inside same is above =
-    let at : (row_of limits m).parent ≡ Some parent = sym (ap (λ (r : LimitRow). r.parent) (is ∙ row_in limits maxima m 0 inside same)) ∙ above in
+    let at : (row_of limits m).parent ≡ Some parent = sym (parent_kept limits maxima m row inside same is) ∙ above in
     let below = tree m parent inside at in
     omega arith

@@ -8,17 +8,17 @@ use Rattle.k_types.specs.declared.names.Reg.{Reg}
 use Rattle.k_types.specs.declared.names.SharedId.{SharedId}
 use Rattle.k_types.specs.declared.names.TypeId.{TypeId}
 use Rattle.k_types.specs.declared.op.Op.{Op}
-use Rattle.k_types.specs.declared.op.Op.TheVariants.{New, KNew, SNew, Store, Load, Move, Clear, Dir, Put, Get, Collect, KCollect, Share, Freeze, Attach, Exit}
+use Rattle.k_types.specs.declared.op.Op.TheVariants.{New, KNew, SNew, Store, Load, Move, Clear, Dir, Put, Get, Collect, KCollect, Share, Freeze, Attach, Exit, Kill, Resize}
 use Rattle.k_types.specs.declared.event.Fault.{Fault}
 use Rattle.k_types.specs.declared.event.Event.{Event}
 use Rattle.k_types.specs.declared.event.Event.TheVariants.{Done, Ended, Absorbed, Closing}
-use Rattle.k_types.specs.Effects.{step, effect, effect_unless, after_new, after_operation, after_store, after_put, after_freeze, after_end_of, after_ended, after_absorbed, after_closing, exit_after, exit_stays, share_stays, stays_after_absorb, survives, with_exit_of_store}
-use Rattle.k_types.specs.Names.{heap_eq}
+use Rattle.k_types.specs.Effects.{step, effect, effect_unless, after_new, after_operation, after_store, after_put, after_freeze, after_end_of, after_kill, after_ended, after_absorbed, after_closing, exit_after, exit_stays, share_stays, stays_after_absorb, survives, with_exit_of_store}
+use Rattle.k_types.specs.Names.{among, heap_eq}
 use Rattle.k_types.specs.Owners.{owner_of}
 use Rattle.k_types.specs.Replies.{faults, first_fault}
 use Rattle.k_types.specs.State.{State, Content, Refers, Holds, fresh, has_exit, has_share, opening}
 use Rattle.k_types.specs.Trace.{Trace, kinds_of, process_count}
-use Rattle.k_types.specs.Updates.{next_name, count_done, set_register, create, write, object_after_write, add_exit, open_scan, set_phase, add_share, keep_objects, keep_exits, keep_shares, close_scan, clear_registers, end_process, turn_exits, close}
+use Rattle.k_types.specs.Updates.{next_name, count_done, set_register, create, write, object_after_write, add_exit, open_scan, set_phase, add_share, keep_objects, keep_exits, keep_shares, close_scan, clear_registers, end_process, turn_exits, set_max, close}
 use Rattle.k_base.proofs.Lists.{get_or-set_cases}
 use Rattle.k_frame.proofs.Sizes.{zeros_at}
 use Rattle.k_state.specs.Rooms.{HasRoom}
@@ -152,13 +152,33 @@ module _ (trace : Trace) (st : State) (p : ℕ) where
     done = refl;
   }
 
-  end_next : IsNext st (after_end_of trace p st)
+  end_next : (q : ℕ) → IsNext st (after_end_of trace q st)
   unfolding after_end_of end_process clear_registers keep_shares turn_exits
-  end_next = record {
+  end_next q = record {
     objects = omega arith;
-    exits = omega (arith, turned_length (exit_after trace st p) st.exits);
-    shares = omega (arith, kept_length (λ e. not (e.process == p)) st.shares);
-    ended = omega (arith, length-append st.ended (p ∷ []));
+    exits = omega (arith, turned_length (exit_after trace st q) st.exits);
+    shares = omega (arith, kept_length (λ e. not (e.process == q)) st.shares);
+    ended = omega (arith, length-append st.ended (q ∷ []));
+    scans = omega arith;
+    serials = λ seg. omega arith;
+    done = refl;
+  }
+
+  kill_next : (q : ℕ) → IsNext st (after_kill trace q st)
+  unfolding after_kill
+  kill_next q =
+      elim (among q st.ended) as (λ b. IsNext st (cond b st (after_end_of trace q st))) [
+        | true ↦ same st
+        | false ↦ end_next q
+      ]
+
+  max_next : (m max : ℕ) → IsNext st (set_max m max st)
+  unfolding set_max
+  max_next m max = record {
+    objects = omega arith;
+    exits = omega arith;
+    shares = omega arith;
+    ended = omega arith;
     scans = omega arith;
     serials = λ seg. omega arith;
     done = refl;
@@ -205,7 +225,9 @@ module _ (trace : Trace) (st : State) (p : ℕ) where
   effect_next (Share s) = share_next s
   effect_next (Freeze s root) = freeze_next _ _
   effect_next (Attach r s) = attach_next r s
-  effect_next Exit = end_next
+  effect_next Exit = end_next p
+  effect_next (Kill q) = kill_next q.0
+  effect_next (Resize m max) = max_next m.0 max
 
   unless_next : (f : Option Fault) (op : Op) → IsNext st (effect_unless f trace p op st)
   unless_next None op = effect_next op

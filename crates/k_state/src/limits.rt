@@ -1,7 +1,7 @@
 //! What is used at the limits, and which of them is full.
 ghost use Rattle.std.specs.Prelude.{◌≡◌, ℕ, ◌<◌, ◌≤◌, ◌+◌, ◌-◌, ◌^◌, length, min, nat_lt, option_map, IfSome};
 ghost use Rattle.k_types.specs.Bounds.{maximum_below};
-ghost use Rattle.k_types.specs.Limits.{direct_by, full_limit, is_parent, limits_in, max_of, use_of, use_within};
+ghost use Rattle.k_types.specs.Limits.{direct_by, full_for, full_limit, is_ancestor, is_parent, limits_in, max_of, use_of, use_within};
 ghost use Rattle.k_types.specs.Owners.{charge_of};
 ghost use Rattle.k_types.specs.Trace.{row_of};
 ghost use Rattle.k_types.specs.declared.names.LimitId.{LimitId};
@@ -116,5 +116,47 @@ impl PlainLists {
             }
         }
         None
+    }
+
+    /// The first limit that is full where the limit is to have that maximum: what a hard limit gets more has to fit on the path
+    /// upward from its parent. Sums each use on that path afresh.
+    pub fn full_for(&self, limit: LimitId, max: u64) -> Option<LimitId>
+        requires { limit.0 < length self.now.setup.limits }
+        ensures full { option_map (λ (m : LimitId). m.0) result ≡ full_for self.now.setup self.now.state limit.0 max }
+        ensures known { IfSome result (λ m. m.0 < length self.now.setup.limits) }
+    {
+        let _shape = self.setup();
+        let row = self.row(limit);
+        if !row.hard {
+            return None;
+        }
+        if max <= row.max {
+            return None;
+        }
+        match row.parent {
+            Some(parent) => self.full_limit(parent, max - row.max),
+            None => None,
+        }
+    }
+
+    /// Whether the first limit is an ancestor of the second. No limit is its own.
+    pub fn is_ancestor(&self, upper: LimitId, lower: LimitId) -> bool
+        requires { lower.0 < length self.now.setup.limits }
+        ensures { result ≡ is_ancestor self.now.setup.limits upper.0 lower.0 }
+    {
+        let mut at = lower;
+        for _ in 0..self.setup.limits.len() {
+            let row = self.row(at);
+            match row.parent {
+                Some(parent) => {
+                    if parent.0 == upper.0 {
+                        return true;
+                    }
+                    at = parent;
+                }
+                None => return false,
+            }
+        }
+        false
     }
 }

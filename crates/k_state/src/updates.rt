@@ -1,5 +1,6 @@
 //! The changes of a state that touch one place.
-ghost use Rattle.std.specs.Prelude.{◌≡◌, ◌<◌, ◌-◌, ◌^◌, OnErr, OnOk, slice_index_or};
+ghost use Rattle.std.specs.Prelude.{◌≡◌, ◌<◌, ◌-◌, ◌^◌, OnErr, OnOk, length, slice_index_or};
+ghost use Rattle.k_types.specs.Bounds.{maximum_below};
 ghost use Rattle.k_types.specs.Known.{IsKnownPhase};
 ghost use Rattle.k_types.specs.Trace.{process_count};
 ghost use Rattle.k_types.specs.Updates.{
@@ -10,6 +11,7 @@ ghost use Rattle.k_types.specs.Updates.{
   count_done,
   end_process,
   open_scan,
+  set_max,
   set_phase,
   set_register,
 };
@@ -18,7 +20,7 @@ use crate::items::{Scan, Share, has_share};
 use crate::lists::PlainLists;
 use crate::registers::Registers;
 use k_io::NoMemory;
-use k_types::{Heap, Name, Phase, Pid, Reg, SharedId};
+use k_types::{Heap, LimitId, Name, Phase, Pid, Reg, SharedId};
 
 impl PlainLists {
     /// One more operation of the process is done.
@@ -63,6 +65,17 @@ impl PlainLists {
         ensures state { self.new.state ≡ set_phase shared.0 phase self.old.state }
     {
         self.phases[shared.0 as usize] = phase;
+    }
+
+    /// The limit has the maximum from now on.
+    #[tactic(auto, unfolding(k_types::specs::Updates::set_max))]
+    pub fn set_max(&mut self, limit: LimitId, max: u64)
+        requires limit { limit.0 < length self.old.setup.limits }
+        requires small { max < maximum_below }
+        ensures setup { self.new.setup ≡ self.old.setup }
+        ensures state { self.new.state ≡ set_max limit.0 max self.old.state }
+    {
+        self.maxima[limit.0 as usize] = max;
     }
 
     /// The process shares the heap, if it does not yet. `NoMemory` comes where the share finds no memory, and leaves the state

@@ -7,16 +7,17 @@ use Rattle.k_types.specs.declared.event.Reply.{Reply}
 use Rattle.k_types.specs.declared.names.Heap.{Heap}
 use Rattle.k_types.specs.declared.names.Heap.TheVariants.{User}
 use Rattle.k_types.specs.declared.names.Name.{Name}
+use Rattle.k_types.specs.declared.names.Pid.{Pid}
 use Rattle.k_types.specs.declared.names.Reg.{Reg}
 use Rattle.k_types.specs.declared.op.Op.{Op}
-use Rattle.k_types.specs.declared.op.Op.TheVariants.{Get, Load, Put, Store}
+use Rattle.k_types.specs.declared.op.Op.TheVariants.{Get, Kill, Load, Put, Store}
 use Rattle.k_types.specs.Agree.{book_shown_by}
 use Rattle.k_types.specs.Cells.{BookPart, CellPart, ProcessPart, ShownPart, book_part, cells_touched, part}
 use Rattle.k_types.specs.Numbers.{numbers_below}
 use Rattle.k_types.specs.Owners.{owner_of}
 use Rattle.k_types.specs.State.{State}
 use Rattle.k_types.specs.Steps.{in_range, state_after}
-use Rattle.k_types.specs.Trace.{IsHeap, Trace, segment_count}
+use Rattle.k_types.specs.Trace.{IsHeap, Trace, process_count, segment_count}
 use Rattle.k_base.proofs.Lists.{numbers_length}
 use Rattle.k_frame.proofs.OwnerOf.{owner_known}
 use Rattle.k_frame.proofs.Sizes.{history_sized}
@@ -35,7 +36,7 @@ use Rattle.k_squares.proofs.Laws.{touched_cells_are_told}
 use Rattle.k_squares.specs.Touches.{other_cells_in}
 use Rattle.k_commit.specs.Met.{Before, HaveMet}
 use Rattle.k_commit.proofs.Placed.{register_is_placed}
-use Rattle.k_steps.specs.Reaching.{CanReach, CanReachOwner, CanReachThrough}
+use Rattle.k_steps.specs.Reaching.{CanReach, CanReachEnd, CanReachOwner, CanReachThrough}
 
 module _ (trace : Trace) (c : HeapRecord) (b : BookRecord) (r : ℕ) (can : CanReachThrough trace c b r) where
   -- the state that the cell shows, and that of the book
@@ -97,6 +98,10 @@ module _ (trace : Trace) (c : HeapRecord) (b : BookRecord) where
   pub get_through : (base : Reg) (i : ℕ) → CanReach trace c b (Get base i) → CanReachThrough trace c b base.0
   unfolding in_range
   get_through base i can = record { book_stands = can.book_stands; agrees = can.agrees; register = ltb-true base.0 16 can.in_range }
+
+  pub kill_reaches : (q : Pid) → CanReach trace c b (Kill q) → CanReachEnd trace b c.pid.0 q.0
+  unfolding in_range
+  kill_reaches q can = record { book_stands = can.book_stands; process = can.agrees.there; target = ltb-true q.0 (process_count trace) can.in_range }
 
 -- the values of a cell that has met the journal, and of the book, tell the touched cells
 pub reached_is_touched : (before : Before) → HaveMet before → (op : Op) (said : Reply) →

@@ -1,8 +1,8 @@
 //! The step calls: each is lent just the cells that its event touches and the book, appends one event, and keeps agreement.
 //!
-//! [`reach`] tells which cell an operation touches beside its process's own, and so which call does it: [`step_own`],
-//! [`step_kernel`] or [`step_shared`]. The end of a process is [`exit`], and the absorption of a shared heap that nobody shares is
-//! [`absorb`]. Collections begin with [`begin_heap`], [`begin_kernel`] and [`close_kernel`], and end with [`end_heap`] and
+//! [`reach`] tells which cells an operation touches beside its process's own, and so which call does it: [`step_own`],
+//! [`step_kernel`], [`step_shared`], or [`kill`] where it ends another process. The end of a process by itself is [`exit`], and the
+//! absorption of a shared heap that nobody shares is [`absorb`]. Collections begin with [`begin_heap`], [`begin_kernel`] and [`close_kernel`], and end with [`end_heap`] and
 //! [`end_kernel`]; between the two a cell is marked alone. It can be swept alone too, and then its collection ends with
 //! [`end_swept_heap`] or [`end_swept_kernel`]. [`publish`] appends what a process did inside its heap, and [`settle_heap`] and
 //! [`settle_kernel`] end what is still open.
@@ -20,10 +20,10 @@ pub use k_collect::{
     settle_heap, settle_kernel,
 };
 pub use k_commit::publish;
-pub use k_depart::{absorb, exit};
+pub use k_depart::{absorb, exit, kill};
 pub use k_own::step_own;
 pub use k_pair::step_kernel;
 pub use k_sharing::step_shared;
-pub use laws::reached_cells_are_touched;
+pub use laws::{ends_are_told_once, reached_cells_are_touched};
 pub use reached::Reach;
 pub use reaching::reach;

@@ -1,14 +1,16 @@
-//! The cell beside the process's own that an operation touches.
-ghost use Rattle.std.specs.Prelude.{◌≡◌, ◌<◌, Some, length, option_map};
+//! The cells beside the process's own that an operation touches.
+ghost use Rattle.std.specs.Prelude.{◌≡◌, ◌∷◌, [], Some, if◌then◌else◌};
 ghost use Rattle.k_frame.specs.PartUpdates.{held_in};
 ghost use Rattle.k_moves.specs.Shown.{idle_part};
-ghost use Rattle.k_squares.specs.Touches.{access_cell_in, base_cell_in, other_cells_in};
-ghost use Rattle.k_steps.specs.Reaching.{CanReach, CanReachOwner, CanReachThrough, cells_of};
+ghost use Rattle.k_squares.specs.Touches.{access_cell_in, base_cell_in, ends_other_in, other_cells_in};
+ghost use Rattle.k_steps.specs.Reaching.{CanReach, CanReachEnd, CanReachOwner, CanReachThrough, cells_of};
 ghost use Rattle.k_types.specs.Agree.{book_shown_by};
 ghost use Rattle.k_types.specs.Trace.{Trace};
+ghost use Rattle.k_types.specs.declared.names.Heap.TheVariants.{Kernel, User};
 
 use crate::reached::Reach;
 use k_book::Book;
+use k_commit::is_above;
 use k_heap::HeapCell;
 use k_types::{Heap, Op, Pid, Reg};
 
@@ -42,10 +44,24 @@ fn reach_through(cell: &HeapCell, book: &Book, base: Reg) -> Reach
     }
 }
 
-/// The cell that the operation touches beside its process's own, as cell and book are now; a cell that has met the journal is
-/// as the machine has it. While the process's cell is held the answer changes at most once, from `Own` to `Kernel`, where the
-/// kernel takes over the object: with the shared heap that it absorbs, or with the heap of another process that ends
-/// (`reached_cells_change_at_most_once` of `k_kept`). Constant time.
+/// The cells that a kill of the target touches: none where it is refused or the target has ended.
+fn reach_end(book: &Book, pid: Pid, target: Pid) -> Reach
+    ghost trace: { Trace }
+    requires { CanReachEnd trace book.now pid.0 target.0 }
+    ensures { cells_of result ≡ (if ends_other_in trace (book_shown_by book.now.value) pid.0 target.0 then User target ∷ Kernel ∷ [] else []) }
+{
+    if is_above(book, pid, target) && book.lives(target) {
+        Reach::End(target)
+    } else {
+        Reach::Own
+    }
+}
+
+/// The cells that the operation touches beside its process's own, as cell and book are now; a cell that has met the journal is
+/// as the machine has it. While the process's cell is held the answer changes at most once: from `Own` to `Kernel`, where the
+/// kernel takes over the object, with the shared heap that it absorbs or with the heap of another process that ends; or from `End`
+/// to `Own`, where the target has ended (`reached_cells_change_at_most_once` of `k_kept`). Constant time, but that a kill passes
+/// the limits above the target's.
 #[tactic(auto, unfolding(k_squares::specs::Touches::other_cells_in))]
 pub fn reach(cell: &HeapCell, book: &Book, op: &Op) -> Reach
     ghost trace: { Trace }
@@ -85,5 +101,7 @@ pub fn reach(cell: &HeapCell, book: &Book, op: &Op) -> Reach
         Op::Clear { reg: _ } => Reach::Own,
         Op::Dir { reg: _ } => Reach::Own,
         Op::Collect => Reach::Own,
+        Op::Kill { target } => reach_end(book, cell.pid(), target),
+        Op::Resize { limit: _, max: _ } => Reach::Own,
     }
 }

@@ -9,7 +9,7 @@ use Rattle.std.proofs.lemmas.Grind.{get_or-set_at}
 use Rattle.std.proofs.lemmas.List.{get_or-replicate, get_or-set_other, length-replicate, length-set}
 use Rattle.std.proofs.lemmas.Option.{get_or_from_slice_get, slice_get_within}
 use Rattle.k_types.specs.declared.op.Op.{Op}
-use Rattle.k_types.specs.declared.op.Op.TheVariants.{New, KNew, SNew, Store, Load, Move, Clear, Dir, Put, Get, Collect, KCollect, Share, Freeze, Attach, Exit}
+use Rattle.k_types.specs.declared.op.Op.TheVariants.{Share}
 use Rattle.k_types.specs.Steps.{in_range}
 use Rattle.k_types.specs.Totals.{total}
 use Rattle.k_types.specs.Trace.{Trace, operations_of, process_count}
@@ -69,22 +69,8 @@ raised_grows most n (op ∷ ops) xs s v inside fits least =
 
 -- the operation makes the shared heap of that number
 made_by : (s : ℕ) (op : Op) → is_share_of s op ≡ true → heap_made op ≡ Some s
-made_by s (New r ty) t = absurd (cc)
-made_by s (KNew r ty) t = absurd (cc)
-made_by s (SNew r h ty) t = absurd (cc)
-made_by s (Store base i value) t = absurd (cc)
-made_by s (Load r base i) t = absurd (cc)
-made_by s (Move r from) t = absurd (cc)
-made_by s (Clear r) t = absurd (cc)
-made_by s (Dir r) t = absurd (cc)
-made_by s (Put base i number) t = absurd (cc)
-made_by s (Get base i) t = absurd (cc)
-made_by s Collect t = absurd (cc)
-made_by s KCollect t = absurd (cc)
 made_by s (Share h) t = ap Some (eqb-true h.0 s t)
-made_by s (Freeze h root) t = absurd (cc)
-made_by s (Attach r h) t = absurd (cc)
-made_by s Exit t = absurd (cc)
+made_by s _ t = absurd (cc)
 
 more_here : (most n : ℕ) (o : Option ℕ) (xs : List ℕ) (s v : ℕ) → o ≡ Some s → s < length xs → v + n ≤ most → v ≤ get_or xs s 0 → v + n ≤ get_or (with_more most n o xs) s 0
 more_here most n o xs s v is inside fits least =
@@ -129,22 +115,8 @@ IsMadeBelow heaps op = IfSome (heap_made op) (λ s. s < heaps)
 
 made_below : (trace : Trace) (op : Op) → IsTrue (in_range trace op) → IsMadeBelow trace.shared_heaps op
 unfolding in_range
-made_below trace (New r ty) h = tt
-made_below trace (KNew r ty) h = tt
-made_below trace (SNew r s ty) h = tt
-made_below trace (Store base i value) h = tt
-made_below trace (Load r base i) h = tt
-made_below trace (Move r from) h = tt
-made_below trace (Clear r) h = tt
-made_below trace (Dir r) h = tt
-made_below trace (Put base i number) h = tt
-made_below trace (Get base i) h = tt
-made_below trace Collect h = tt
-made_below trace KCollect h = tt
 made_below trace (Share s) h = ltb-true s.0 trace.shared_heaps h
-made_below trace (Freeze s root) h = tt
-made_below trace (Attach r s) h = tt
-made_below trace Exit h = tt
+made_below trace _ h = tt
 
 all_made : (trace : Trace) (ops : List Op) → IsTrue (list_all (in_range trace) ops) → AllByRecursion (IsMadeBelow trace.shared_heaps) ops
 all_made trace [] ranged = tt

@@ -8,7 +8,7 @@ use Rattle.std.proofs.lemmas.List.{get_or-set_other, length-replicate, length-se
 use Rattle.k_frame.proofs.Sizes.{zeros_at}
 use Rattle.std.proofs.lemmas.Option.{get_or_from_slice_get, slice_get_within}
 use Rattle.k_types.specs.declared.op.Op.{Op}
-use Rattle.k_types.specs.declared.op.Op.TheVariants.{New, KNew, SNew, Store, Load, Move, Clear, Dir, Put, Get, Collect, KCollect, Share, Freeze, Attach, Exit}
+use Rattle.k_types.specs.declared.op.Op.TheVariants.{New, KNew, SNew}
 use Rattle.k_types.specs.Bounds.{register_count}
 use Rattle.k_types.specs.Numbers.{numbers_below}
 use Rattle.k_types.specs.Steps.{in_range}
@@ -62,21 +62,7 @@ counted_at procs p (op ∷ ops) xs seg inside =
 
 given_at : (trace : Trace) (seg p : ℕ) (op : Op) → is_given (segment_given (process_count trace) p op) seg ≡ allocates_in trace seg p op
 given_at trace seg p (New r ty) = refl
-given_at trace seg p (KNew r ty) = refl
-given_at trace seg p (SNew r s ty) = refl
-given_at trace seg p (Store base i value) = refl
-given_at trace seg p (Load r base i) = refl
-given_at trace seg p (Move r from) = refl
-given_at trace seg p (Clear r) = refl
-given_at trace seg p (Dir r) = refl
-given_at trace seg p (Put base i number) = refl
-given_at trace seg p (Get base i) = refl
-given_at trace seg p Collect = refl
-given_at trace seg p KCollect = refl
-given_at trace seg p (Share s) = refl
-given_at trace seg p (Freeze s root) = refl
-given_at trace seg p (Attach r s) = refl
-given_at trace seg p Exit = refl
+given_at trace seg p _ = refl
 
 totals_given : (trace : Trace) (seg p : ℕ) (ops : List Op) → total (λ op. one_if (is_given (segment_given (process_count trace) p op) seg)) ops ≡ total (λ op. one_if (allocates_in trace seg p op)) ops
 totals_given trace seg p [] = refl
@@ -101,19 +87,7 @@ given_below trace p (KNew r ty) known h = omega arith
 given_below trace p (SNew r s ty) known h =
     let parts = and_parts (nat_lt r.0 register_count && nat_lt s.0 trace.shared_heaps) (nat_lt ty.0 (length trace.types)) h in
     omega (arith, ltb-true s.0 trace.shared_heaps (and_parts (nat_lt r.0 register_count) (nat_lt s.0 trace.shared_heaps) parts.0).1)
-given_below trace p (Store base i value) known h = tt
-given_below trace p (Load r base i) known h = tt
-given_below trace p (Move r from) known h = tt
-given_below trace p (Clear r) known h = tt
-given_below trace p (Dir r) known h = tt
-given_below trace p (Put base i number) known h = tt
-given_below trace p (Get base i) known h = tt
-given_below trace p Collect known h = tt
-given_below trace p KCollect known h = tt
-given_below trace p (Share s) known h = tt
-given_below trace p (Freeze s root) known h = tt
-given_below trace p (Attach r s) known h = tt
-given_below trace p Exit known h = tt
+given_below trace p _ known h = tt
 
 all_given : (trace : Trace) (p : ℕ) (ops : List Op) → p < process_count trace → IsTrue (list_all (in_range trace) ops) → AllByRecursion (IsGivenBelow (segment_count trace) (process_count trace) p) ops
 all_given trace p [] known ranged = tt

@@ -2,7 +2,7 @@
 //! and has 400 in most.
 ghost use Rattle.std.specs.Prelude.{◌≡◌, Some, None, true, false};
 
-use k_limits::{LimitTree, MakeError};
+use k_limits::{LimitTree, MakeError, ResizeRefusal};
 use k_types::{LimitId, LimitRow};
 use std::test::Fail;
 
@@ -88,6 +88,23 @@ fn two_hard_children_fill_a_soft_limit_exactly(rt: HostRuntime) -> Result<(), Fa
     );
     assert_eq!(rt; tree.use_of(ROOT), 520);
     assert_eq!(rt; tree.charge(B, 40), Err(B));
+    Ok(())
+}
+
+#[test]
+fn a_resize_moves_the_reservation(rt: HostRuntime) -> Result<(), Fail> {
+    let rows = [root(1000), hard(ROOT, 120), soft(ROOT, 400)];
+    let mut tree = LimitTree::make(rt.alloc(), &rows)?;
+    assert!(rt; tree.charge(A, 40).is_ok());
+    assert_eq!(rt; tree.resize(A, 39), Err(ResizeRefusal::InUse));
+    assert_eq!(rt; tree.resize(A, 1001), Err(ResizeRefusal::Full(ROOT)));
+    assert_eq!(rt; tree.resize(A, 1000), Ok(()));
+    assert_eq!(rt; (tree.use_of(A), tree.use_of(ROOT)), (40, 1000));
+    assert_eq!(rt; tree.resize(A, 40), Ok(()));
+    assert_eq!(rt; (tree.use_of(A), tree.use_of(ROOT)), (40, 40));
+    assert_eq!(rt; tree.charge(A, 1), Err(A));
+    assert_eq!(rt; tree.resize(B, 2000), Ok(()));
+    assert_eq!(rt; tree.use_of(ROOT), 40);
     Ok(())
 }
 

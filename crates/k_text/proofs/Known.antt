@@ -2,13 +2,13 @@
 use Rattle.std.proofs.Common.{◌≡◌, ◌<◌, ◌+◌, ◌-◌, ◌==◌, ℕ, Bool, true, false, nat_le, IsTrue, List, arith, refl, if◌then◌else◌, Option, Some, None, length}
 use Rattle.std.specs.Prelude.{IfSome}
 use Rattle.k_types.specs.declared.op.Op.{Op}
-use Rattle.k_types.specs.declared.op.Op.TheVariants.{New, KNew, SNew, Store, Load, Move, Clear, Dir, Put, Get, Collect, KCollect, Share, Freeze, Attach, Exit}
+use Rattle.k_types.specs.declared.op.Op.TheVariants.{New, KNew, SNew, Share, Freeze, Attach, Kill, Resize}
 use Rattle.k_types.specs.Trace.{Trace, IsHeap, process_count, segment_count}
 use Rattle.k_types.specs.declared.names.TypeId.{TypeId}
 use Rattle.k_types.specs.declared.names.Heap.{Heap}
 use Rattle.k_types.specs.declared.names.Heap.TheVariants.{Kernel, User, Shared}
 use Rattle.k_types.specs.declared.event.Fault.{Fault}
-use Rattle.k_types.specs.declared.event.Fault.TheVariants.{Null, Foreign, NotSharer, NoField, WrongKind, Frozen, Segv, NotPopulating, NotFrozen, Taken, LimitFull, KernelFull}
+use Rattle.k_types.specs.declared.event.Fault.TheVariants.{NotSharer, NotPopulating, NotFrozen, Taken, LimitFull, ProcNotBelow, LimitNotBelow, InUse}
 use Rattle.k_types.specs.declared.names.Phase.{Phase}
 use Rattle.k_types.specs.Names.{among}
 use Rattle.k_types.specs.State.{State}
@@ -30,16 +30,9 @@ named_op names trace (SNew r s ty) n h = let e = n.types in let f = n.shared in 
 named_op names trace (Share s) n h = let e = n.shared in grind (arith, common_steps)
 named_op names trace (Freeze s root) n h = let e = n.shared in grind (arith, common_steps)
 named_op names trace (Attach r s) n h = let e = n.shared in grind (arith, common_steps)
-named_op names trace (Store base i value) n h = tt
-named_op names trace (Load r base i) n h = tt
-named_op names trace (Move r from) n h = tt
-named_op names trace (Clear r) n h = tt
-named_op names trace (Dir r) n h = tt
-named_op names trace (Put base i number) n h = tt
-named_op names trace (Get base i) n h = tt
-named_op names trace Collect n h = tt
-named_op names trace KCollect n h = tt
-named_op names trace Exit n h = tt
+named_op names trace (Kill q) n h = let e = n.procs in grind (arith, common_steps)
+named_op names trace (Resize m max) n h = let e = n.limits in grind (arith, common_steps)
+named_op names trace _ n h = tt
 
 -- a fault of the trace
 pub named_fault : (names : DeclaredNames) (trace : Trace) (fault : Fault) → AreNamed names trace → IsKnownFault trace fault → IsNamedFault names fault
@@ -48,13 +41,10 @@ named_fault names trace (NotPopulating s) n h = omega (arith, n.shared)
 named_fault names trace (NotFrozen s) n h = omega (arith, n.shared)
 named_fault names trace (Taken s) n h = omega (arith, n.shared)
 named_fault names trace (LimitFull m) n h = omega (arith, n.limits)
-named_fault names trace Null n h = tt
-named_fault names trace Foreign n h = tt
-named_fault names trace NoField n h = tt
-named_fault names trace WrongKind n h = tt
-named_fault names trace Frozen n h = tt
-named_fault names trace Segv n h = tt
-named_fault names trace KernelFull n h = tt
+named_fault names trace (ProcNotBelow q) n h = omega (arith, n.procs)
+named_fault names trace (LimitNotBelow m) n h = omega (arith, n.limits)
+named_fault names trace (InUse m) n h = omega (arith, n.limits)
+named_fault names trace _ n h = tt
 
 -- a heap of the trace
 pub named_heap : (names : DeclaredNames) (trace : Trace) (h : Heap) → AreNamed names trace → IsHeap trace h → IsNamedHeap names h

@@ -2,6 +2,7 @@
 use Rattle.std.proofs.Common.{◌≡◌, refl}
 use Rattle.k_text.specs.Worked.{file_order_report, first_run, first_report, no_operations, no_operations_report, barrier, barrier_report, every_sharer_pays, every_sharer_pays_report, object_of_a_dead_process, object_of_a_dead_process_report, orphaned_and_absorbed, orphaned_and_absorbed_report}
 use Rattle.k_text.specs.WorkedHeaps.{ceiling, ceiling_report, order_of_faults, order_of_faults_report, phases_of_a_shared_heap, phases_of_a_shared_heap_report, heap_that_is_not_shared, heap_that_is_not_shared_report, exits_of_each_kind, exits_of_each_kind_report, all_processes_end, all_processes_end_report}
+use Rattle.k_text.specs.WorkedGoverning.{a_process_ends_another, a_process_ends_another_report, maxima_change, maxima_change_report, the_root_keeps_its_maximum, the_root_keeps_its_maximum_report}
 use Rattle.k_text.proofs.Machine.{machine}
 
 pub first_run_is : file_order_report first_run ≡ first_report
@@ -51,3 +52,15 @@ exits_of_each_kind_is = refl
 pub all_processes_end_is : file_order_report all_processes_end ≡ all_processes_end_report
 unfolding machine
 all_processes_end_is = refl
+
+pub a_process_ends_another_is : file_order_report a_process_ends_another ≡ a_process_ends_another_report
+unfolding machine
+a_process_ends_another_is = refl
+
+pub maxima_change_is : file_order_report maxima_change ≡ maxima_change_report
+unfolding machine
+maxima_change_is = refl
+
+pub the_root_keeps_its_maximum_is : file_order_report the_root_keeps_its_maximum ≡ the_root_keeps_its_maximum_report
+unfolding machine
+the_root_keeps_its_maximum_is = refl

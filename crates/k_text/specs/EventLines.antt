@@ -1,13 +1,13 @@
 -- The words of the report's lines on events.
 use Rattle.std.specs.Prelude.{List, [], ◌∷◌, ◌++◌, map, decimal, codes}
 use Rattle.k_types.specs.declared.event.Fault.{Fault}
-use Rattle.k_types.specs.declared.event.Fault.TheVariants.{Null, Foreign, NotSharer, NoField, WrongKind, Frozen, Segv, NotPopulating, NotFrozen, Taken, LimitFull, KernelFull}
+use Rattle.k_types.specs.declared.event.Fault.TheVariants.{Null, Foreign, NotSharer, NoField, WrongKind, Frozen, Segv, NotPopulating, NotFrozen, Taken, LimitFull, KernelFull, ProcNotBelow, LimitNotBelow, InUse}
 use Rattle.k_types.specs.declared.event.Reply.{Reply}
 use Rattle.k_types.specs.declared.event.Reply.TheVariants.{Done as DoneReply, Made, Loaded, Value, Refused}
 use Rattle.k_types.specs.declared.event.Event.{Event}
 use Rattle.k_types.specs.declared.event.Event.TheVariants.{Done, Ended, Absorbed, Closing}
 use Rattle.k_words.specs.Words.{Text}
-use Rattle.k_trace.specs.Named.{DeclaredNames, limit_name, shared_name}
+use Rattle.k_trace.specs.Named.{DeclaredNames, limit_name, proc_name, shared_name}
 use Rattle.k_trace.specs.Spelling.{line_words}
 use Rattle.k_text.specs.Named.{name_word, reference_word, heap_word}
 
@@ -25,6 +25,9 @@ fault_words names (NotFrozen s) = codes "NotFrozen" ∷ shared_name names s ∷ 
 fault_words names (Taken s) = codes "Taken" ∷ shared_name names s ∷ []
 fault_words names (LimitFull m) = codes "LimitFull" ∷ limit_name names m ∷ []
 fault_words names KernelFull = codes "KernelFull" ∷ []
+fault_words names (ProcNotBelow q) = codes "ProcNotBelow" ∷ proc_name names q ∷ []
+fault_words names (LimitNotBelow m) = codes "LimitNotBelow" ∷ limit_name names m ∷ []
+fault_words names (InUse m) = codes "InUse" ∷ limit_name names m ∷ []
 
 -- The words of a reply.
 unfoldable pub reply_words : DeclaredNames → Reply → List Text

@@ -6,3 +6,4 @@ pub use Rattle.k_words.specs.Spaced
 pub mod Writing
 pub mod Worked
 pub mod WorkedHeaps
+pub mod WorkedGoverning

@@ -5,7 +5,7 @@ use Rattle.k_types.specs.declared.names.Heap.{Heap}
 use Rattle.k_types.specs.declared.names.Heap.TheVariants.{Kernel, User, Shared}
 use Rattle.k_types.specs.declared.names.TypeId.{TypeId}
 use Rattle.k_types.specs.declared.event.Fault.{Fault}
-use Rattle.k_types.specs.declared.event.Fault.TheVariants.{Null, Foreign, NotSharer, NoField, WrongKind, Frozen, Segv, NotPopulating, NotFrozen, Taken, LimitFull, KernelFull}
+use Rattle.k_types.specs.declared.event.Fault.TheVariants.{Null, Foreign, NotSharer, NoField, WrongKind, Frozen, Segv, NotPopulating, NotFrozen, Taken, LimitFull, KernelFull, ProcNotBelow, LimitNotBelow, InUse}
 use Rattle.k_types.specs.Trace.{Trace, process_count}
 use Rattle.k_words.specs.Words.{Text, word_at}
 use Rattle.k_trace.specs.Named.{DeclaredNames, type_name, proc_name, shared_name}
@@ -23,7 +23,7 @@ IsNamedHeap names Kernel = Unit {0}
 IsNamedHeap names (User p) = p.0 < length names.procs
 IsNamedHeap names (Shared s) = s.0 < length names.shared
 
--- The shared heap or the limit of the fault has a name.
+-- The shared heap, the limit or the process of the fault has a name.
 abbrev pub IsNamedFault : DeclaredNames → Fault → Type 0
 IsNamedFault names Null = Unit {0}
 IsNamedFault names Foreign = Unit {0}
@@ -37,6 +37,9 @@ IsNamedFault names (NotFrozen s) = s.0 < length names.shared
 IsNamedFault names (Taken s) = s.0 < length names.shared
 IsNamedFault names (LimitFull m) = m.0 < length names.limits
 IsNamedFault names KernelFull = Unit {0}
+IsNamedFault names (ProcNotBelow q) = q.0 < length names.procs
+IsNamedFault names (LimitNotBelow m) = m.0 < length names.limits
+IsNamedFault names (InUse m) = m.0 < length names.limits
 
 -- The names of the segments: the kernel's, those of the processes, those of the shared heaps.
 abbrev pub segment_names : DeclaredNames → List Text

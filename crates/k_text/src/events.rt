@@ -39,6 +39,9 @@ fn push_fault(line: &mut LineBuffer, names: &Names, fault: Fault)
         Fault::Taken(shared) => line.push_words(b"Taken", names.shared_name(shared)),
         Fault::LimitFull(limit) => line.push_words(b"LimitFull", names.limit_name(limit)),
         Fault::KernelFull => line.push_word(b"KernelFull"),
+        Fault::ProcNotBelow(pid) => line.push_words(b"ProcNotBelow", names.proc_name(pid)),
+        Fault::LimitNotBelow(limit) => line.push_words(b"LimitNotBelow", names.limit_name(limit)),
+        Fault::InUse(limit) => line.push_words(b"InUse", names.limit_name(limit)),
     }
 }
 

@@ -26,7 +26,8 @@ pub use laws::{exits_are_told_by_their_targets, reports_read_the_setup_alone};
 pub use reporting::report;
 pub use view::View;
 pub use worked::{
-    all_processes_end_row, barrier_row, ceiling_row, every_sharer_pays_row, exits_of_each_kind_row,
-    first_run_row, heap_that_is_not_shared_row, no_operations_row, object_of_a_dead_process_row,
-    order_of_faults_row, orphaned_and_absorbed_row, phases_of_a_shared_heap_row,
+    a_process_ends_another_row, all_processes_end_row, barrier_row, ceiling_row,
+    every_sharer_pays_row, exits_of_each_kind_row, first_run_row, heap_that_is_not_shared_row,
+    maxima_change_row, no_operations_row, object_of_a_dead_process_row, order_of_faults_row,
+    orphaned_and_absorbed_row, phases_of_a_shared_heap_row, the_root_keeps_its_maximum_row,
 };

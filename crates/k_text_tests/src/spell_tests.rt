@@ -40,6 +40,25 @@ fn spells_each_form_of_line(rt: HostRuntime) -> Result<(), Fail> {
     Ok(())
 }
 
+/// The forms that the second version has beside those of the first.
+const SECOND_VERSION: &[u8] = b"kaffe 2
+kernel 16 0
+limit root 1000
+limit a root soft 600
+proc p0 root
+proc p1 a
+p0 kill p1
+p0 resize a 1099511627775
+p1 resize root 0
+";
+
+#[test]
+fn spells_the_second_version(rt: HostRuntime) -> Result<(), Fail> {
+    let trace = read_trace(rt.alloc(), SECOND_VERSION)?;
+    assert_eq!(rt; trace_text(rt.alloc(), &trace)?.as_slice(), SECOND_VERSION);
+    Ok(())
+}
+
 #[test]
 fn ends_the_last_line(rt: HostRuntime) -> Result<(), Fail> {
     let trace = read_trace(rt.alloc(), b"kaffe 1\nkernel 16 0\nlimit a 0\nproc p a")?;

@@ -11,14 +11,15 @@ use std::test::Fail;
 use std::thread::Threads;
 
 /// Appends the report, of which so many lines from the given one on, counted from 1, are left out and replaced by the text.
-fn push_altered(
+pub(crate) fn push_altered(
     input: &mut String,
+    report: &str,
     first: usize,
     left_out: usize,
     put: &str,
 ) -> Result<(), NoMemory> {
     let mut number = 0usize;
-    for line in WRITTEN.split_inclusive('\n') {
+    for line in report.split_inclusive('\n') {
         number = number.saturating_add(1);
         if number == first {
             input.push_str(put)?;
@@ -36,7 +37,7 @@ fn push_altered(
 /// The trace and behind it the report, altered so.
 fn altered(alloc: Global, first: usize, left_out: usize, put: &str) -> Result<String, NoMemory> {
     let mut input = trace_of(alloc, HEADER, WRITTEN)?;
-    push_altered(&mut input, first, left_out, put)?;
+    push_altered(&mut input, WRITTEN, first, left_out, put)?;
     Ok(input)
 }
 

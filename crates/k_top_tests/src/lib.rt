@@ -14,6 +14,8 @@ mod long_runs;
 #[cfg(test)]
 mod ranges;
 #[cfg(test)]
+mod refused_governing;
+#[cfg(test)]
 mod server;
 #[cfg(test)]
 mod summaries;
@@ -23,6 +25,8 @@ mod tests;
 mod watched;
 #[cfg(test)]
 mod worked;
+#[cfg(test)]
+mod worked_governing;
 #[cfg(test)]
 mod worked_heaps;
 #[cfg(test)]

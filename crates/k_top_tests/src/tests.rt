@@ -84,7 +84,7 @@ fn tells_the_first_bad_line_of_a_header(rt: HostRuntime) -> Result<(), Fail> {
     for (input, text) in [
         ("", "bad trace: line 1 reason 12\n"),
         ("\n", "bad trace: line 1 reason 4\n"),
-        ("kaffe 2\n", "bad trace: line 1 reason 4\n"),
+        ("kaffe 3\n", "bad trace: line 1 reason 4\n"),
         ("kaffe 1\nkernel 32\t2\n", "bad trace: line 2 reason 3\n"),
         ("kaffe 1\nkernel 32 17\n", "bad trace: line 2 reason 5\n"),
         ("kaffe 1\nkernel 31 2\n", "bad trace: line 2 reason 10\n"),

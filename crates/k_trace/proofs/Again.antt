@@ -1,11 +1,13 @@
 -- A step is a line that is judged good.
-use Rattle.std.proofs.Common.{◌≡◌, ◌∙◌, ◌⊎◌, ℕ, suc, ◌<◌, ◌≤◌, ◌^◌, Bool, true, false, not, ◌&&◌, ◌||◌, leb, List, [], ◌∷◌, length, map, get_or, Ok, refl, arith, codes, decimal, inl, inr}
+use Rattle.std.proofs.Common.{◌≡◌, ◌∙◌, ◌⊎◌, ℕ, zero, suc, ◌<◌, ◌≤◌, ◌^◌, Bool, true, false, not, ◌&&◌, ◌||◌, leb, List, [], ◌∷◌, length, map, get_or, Ok, refl, arith, codes, decimal, inl, inr}
 use Rattle.std.proofs.lemmas.Bool.{lt-ltb, le-leb}
 use Rattle.std.proofs.lemmas.List.{length-map}
+use Rattle.std.specs.Fmt.{digits}
 use Rattle.std.specs.List.{list_all}
 use Rattle.std.specs.Str.{bytes_eq}
 use Rattle.k_types.specs.declared.names.Field.{Field}
 use Rattle.k_types.specs.declared.names.Field.TheVariants.{Ref, Int}
+use Rattle.k_types.specs.TraceRules.{IsBuilt}
 use Rattle.k_words.specs.Words.{Text, word_at}
 use Rattle.k_words.specs.Names.{is_name, is_letter, is_name_byte, is_keyword, is_section, is_report_word, is_reserved}
 use Rattle.k_words.proofs.Spelled.{both}
@@ -15,9 +17,9 @@ use Rattle.k_trace.specs.declared.place.Place.TheVariants.{Version, Kernel, Type
 use Rattle.k_trace.specs.Named.{NamedTrace}
 use Rattle.k_trace.specs.Spelling.{field_word}
 use Rattle.k_trace.specs.Demands.{demands}
-use Rattle.k_trace.specs.Judgement.{SoFar, version_line, kernel_line, is_field, field_of, type_line, root_line, limit_line, proc_line, shared_line, process_line, operation_line, later_line, line_of_types, line_of_limits, line_of_procs, line_in, has_process}
+use Rattle.k_trace.specs.Judgement.{SoFar, is_version, version_of, version_line, kernel_line, is_field, field_of, type_line, root_line, limit_line, proc_line, shared_line, process_line, operation_line, later_line, line_of_types, line_of_limits, line_of_procs, line_in, has_process}
 use Rattle.k_trace.proofs.OpForms.{AreNamed}
-use Rattle.k_trace.proofs.OpAgain.{AreDistinct, op_again}
+use Rattle.k_trace.proofs.OpAgain.{AreDistinct, op_in_again}
 use Rattle.k_trace.proofs.Found.{not_true, hardness, limit_words_are}
 use Rattle.k_trace.proofs.Steps.{VersionStep, KernelStep, TypeStep, RootStep, LimitStep, ProcStep, SharedStep, OperationStep, Step, OfVersion, OfKernel, OfType, OfRoot, OfLimit, OfProc, OfShared, OfOperation}
 
@@ -64,9 +66,22 @@ field_words_of : (fs : List Field) → map field_of (map field_word fs) ≡ fs
 field_words_of [] = refl
 field_words_of (f ∷ fs) = rw ((field_word_is f).1, field_words_of fs) refl
 
+pub one_or_two : (version : ℕ) → IsBuilt version → (version ≡ 1) ⊎ (version ≡ 2)
+one_or_two zero built = absurd (omega (arith, built.0))
+one_or_two (suc zero) built = inl refl
+one_or_two (suc (suc zero)) built = inr refl
+one_or_two (suc (suc (suc n))) built = absurd (omega (arith, built.1))
+
+version_is : (version : ℕ) → (version ≡ 1) ⊎ (version ≡ 2) → (is_version (decimal version) ≡ true) × (version_of (decimal version) ≡ version)
+unfolding digits
+version_is version (inl one) = rw one (refl, refl)
+version_is version (inr two) = rw two (refl, refl)
+
 version_again : (c d : SoFar) (ws : List Text) → VersionStep c ws d → line_in c.place c.said ws ≡ Ok d
 unfolding line_in version_line demands
-version_again c d ws s = rw (s.at, s.words, s.after) refl
+version_again c d ws s =
+    let version = version_is s.version (one_or_two s.version s.built) in
+    rw (s.at, s.words, s.after, version.0, version.1) refl
 
 kernel_again : (c d : SoFar) (ws : List Text) → KernelStep c ws d → line_in c.place c.said ws ≡ Ok d
 unfolding line_in kernel_line demands
@@ -169,7 +184,7 @@ operation_line_again c d ws o s = (
   rw (
     s.words,
     s.after,
-    op_again c.said s.op o.named o.distinct s.ranged s.spelled,
+    op_in_again c.said s.op o.named o.distinct s.ranged s.spelled s.of_version,
     declares-at c.said.names.procs s.process s.declared,
     lt-ltb _ 200000 s.few,
     number_of-at c.said.names.procs s.process o.procs s.declared,

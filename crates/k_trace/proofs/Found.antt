@@ -1,10 +1,12 @@
 -- A line that is judged good is a step.
-use Rattle.std.proofs.Common.{◌≡◌, ◌∙◌, ◌⊎◌, ℕ, ◌≤◌, ◌^◌, Bool, true, false, cond, not, ◌||◌, eqb, ltb, leb, List, [], ◌∷◌, length, map, drop, Result, Ok, Err, refl, sym, arith, codes, decimal, inl, inr}
+use Rattle.std.proofs.Common.{◌≡◌, ◌∙◌, ◌⊎◌, ℕ, ◌≤◌, ◌^◌, Bool, true, false, cond, not, ◌||◌, eqb, ltb, leb, List, [], ◌∷◌, length, map, drop, Result, Ok, Err, refl, sym, ap, arith, codes, decimal, inl, inr}
 use Rattle.std.proofs.lemmas.Bool.{ltb-true, eqb-true, leb-true}
 use Rattle.std.proofs.lemmas.List.{length-map, length-drop}
+use Rattle.std.specs.Fmt.{digits}
 use Rattle.std.specs.List.{list_all}
 use Rattle.std.specs.Str.{bytes_eq}
 use Rattle.k_types.specs.declared.op.Op.{Op}
+use Rattle.k_types.specs.TraceRules.{IsBuilt}
 use Rattle.k_words.specs.Words.{Text, word_at}
 use Rattle.k_words.specs.Numbers.{is_below, value}
 use Rattle.k_words.specs.Names.{is_keyword, declares, number_of}
@@ -13,10 +15,12 @@ use Rattle.k_trace.specs.declared.place.Place.{Place}
 use Rattle.k_trace.specs.declared.place.Place.TheVariants.{Version, Kernel, Types, Limits, Procs, Shared, Operations}
 use Rattle.k_trace.specs.Named.{NamedTrace}
 use Rattle.k_trace.specs.Spelling.{field_word, limit_words}
-use Rattle.k_trace.specs.Forms.{op_of, register_op, bare_op, sharing_op}
-use Rattle.k_trace.specs.Grown.{with_kernel, with_type, with_limit, with_proc, with_shared, with_op}
-use Rattle.k_trace.specs.Judgement.{SoFar, Judged, begins, version_line, kernel_line, is_field, field_of, type_line, root_line, limit_line, limit_of_name, proc_line, shared_line, process_line, process_line_of, operation_line, later_line, line_of_types, line_of_limits, line_of_procs, line_in, has_process}
+use Rattle.k_trace.specs.Forms.{op_of, register_op, bare_op, sharing_op, governing_op, has_operation, op_in}
+use Rattle.k_trace.specs.Demands.{demands}
+use Rattle.k_trace.specs.Grown.{with_version, with_kernel, with_type, with_limit, with_proc, with_shared, with_op}
+use Rattle.k_trace.specs.Judgement.{SoFar, Judged, begins, is_version, version_of, version_line, kernel_line, is_field, field_of, type_line, root_line, limit_line, limit_of_name, proc_line, shared_line, process_line, process_line_of, operation_line, later_line, line_of_types, line_of_limits, line_of_procs, line_in, has_process}
 use Rattle.k_trace.proofs.Readers.{demands_ok, ok_is}
+use Rattle.k_trace.proofs.OpAgain.{has_own_operation}
 use Rattle.k_trace.proofs.OpForms.{two, three, five, number_below, AreNamed, op_found}
 use Rattle.k_trace.proofs.Steps.{at_place, root_row, limit_row, Step, OfVersion, OfKernel, OfType, OfRoot, OfLimit, OfProc, OfShared, OfOperation}
 use Rattle.k_trace.specs.declared.reasons.Reason.{Reason}
@@ -32,16 +36,28 @@ has_first ws keyword = bytes_eq (word_at ws 0) keyword ≡ true
 first_is : (ws : List Text) (keyword : Text) → has_first ws keyword → word_at ws 0 ≡ keyword
 first_is ws keyword h = same (word_at ws 0) keyword h
 
+version_is : (w : Text) (t : Bool) → bytes_eq w (codes "1") ≡ t → (t || bytes_eq w (codes "2")) ≡ true → decimal (cond t 1 2) ≡ w
+unfolding digits
+version_is w true e h = sym (same w (codes "1") e)
+version_is w false e h = sym (same w (codes "2") h)
+
+built : (t : Bool) → IsBuilt (cond t 1 2)
+built true = (omega arith, omega arith)
+built false = (omega arith, omega arith)
+
 version_found : (c d : SoFar) (ws : List Text) → c.place ≡ Version → version_line c.said ws ≡ Ok d → Step c ws d
 unfolding version_line
 version_found c d ws at e =
     let a = demands_ok _ _ _ d e in
-    let p = both (begins ws 2 (codes "kaffe")) (bytes_eq (word_at ws 1) (codes "1")) a.0 in
+    let p = both (begins ws 2 (codes "kaffe")) (is_version (word_at ws 1)) a.0 in
     let q = both (eqb (length ws) 2) (bytes_eq (word_at ws 0) (codes "kaffe")) p.0 in
+    let word : decimal (version_of (word_at ws 1)) ≡ word_at ws 1 = version_is (word_at ws 1) (bytes_eq (word_at ws 1) (codes "1")) refl p.1 in
     OfVersion (record {
+      version = version_of (word_at ws 1);
       at = at;
-      words = rw (← first_is ws (codes "kaffe") q.1, ← same (word_at ws 1) (codes "1") p.1) (two ws (eqb-true _ _ q.0));
-      after = sym (ok_is (at_place Kernel c.said) d a.1);
+      built = built (bytes_eq (word_at ws 1) (codes "1"));
+      words = rw (word, ← first_is ws (codes "kaffe") q.1) (two ws (eqb-true _ _ q.0));
+      after = sym (ok_is (at_place Kernel (with_version c.said (version_of (word_at ws 1)))) d a.1);
     })
 
 kernel_found : (c d : SoFar) (ws : List Text) → c.place ≡ Kernel → kernel_line c.said ws ≡ Ok d → Step c ws d
@@ -213,19 +229,21 @@ shared_found c d ws at first e =
     })
 
 -- there is a word at least
-no_words : (t : NamedTrace) (op : Op) → op_of t.names [] ≡ Ok op → ⊥
-unfolding op_of register_op bare_op sharing_op
+no_words : (t : NamedTrace) (op : Op) → op_in t.trace.version t.names [] ≡ Ok op → ⊥
+unfolding op_in op_of register_op bare_op sharing_op governing_op demands
 no_words t op e = absurd cc
 
-one_up : (ws : List Text) (t : NamedTrace) (op : Op) → op_of t.names (drop 1 ws) ≡ Ok op → ws ≡ word_at ws 0 ∷ drop 1 ws
+one_up : (ws : List Text) (t : NamedTrace) (op : Op) → op_in t.trace.version t.names (drop 1 ws) ≡ Ok op → ws ≡ word_at ws 0 ∷ drop 1 ws
 one_up [] t op e = absurd (no_words t op e)
 one_up (w ∷ ws) t op e = refl
 
-process_found : (c d : SoFar) (ws : List Text) (op : Op) → AreNamed c.said → has_process c.place ≡ true → op_of c.said.names (drop 1 ws) ≡ Ok op
+process_found : (c d : SoFar) (ws : List Text) (op : Op) → AreNamed c.said → has_process c.place ≡ true → op_in c.said.trace.version c.said.names (drop 1 ws) ≡ Ok op
     → process_line c.said (word_at ws 0) op ≡ Ok d → Step c ws d
-unfolding process_line
+unfolding process_line op_in
 process_found c d ws op named at read e =
-    let found = op_found c.said (drop 1 ws) named op read in
+    let version = c.said.trace.version in
+    let has = demands_ok NoForm (has_operation version (drop 1 ws)) (op_of c.said.names (drop 1 ws)) op read in
+    let found = op_found c.said (drop 1 ws) named op has.1 in
     let p = number_of c.said.names.procs (word_at ws 0) in
     let a = demands_ok _ _ _ d e in
     let b = demands_ok _ _ _ d a.1 in
@@ -237,20 +255,21 @@ process_found c d ws op named at read e =
       declared = number_below c.said.names.procs (word_at ws 0) a.0;
       ranged = found.in_range;
       spelled = found.spelled;
+      of_version = sym (has_own_operation version c.said.names op) ∙ ap (has_operation version) found.words ∙ has.0;
       few = ltb-true _ _ b.0;
       lives = not_true _ g.0;
       words = rw (found.words, name_at c.said.names.procs (word_at ws 0) a.0) (one_up ws c.said op read);
       after = sym (ok_is (at_place Operations (with_op c.said p op)) d g.1);
     })
 
-operation_cases : (c d : SoFar) (ws : List Text) (r : Result Op Reason) → op_of c.said.names (drop 1 ws) ≡ r → AreNamed c.said → has_process c.place ≡ true
+operation_cases : (c d : SoFar) (ws : List Text) (r : Result Op Reason) → op_in c.said.trace.version c.said.names (drop 1 ws) ≡ r → AreNamed c.said → has_process c.place ≡ true
     → process_line_of c.said (word_at ws 0) r ≡ Ok d → Step c ws d
 operation_cases c d ws (Err reason) read named at e = absurd cc
 operation_cases c d ws (Ok op) read named at e = process_found c d ws op named at read e
 
 operation_found : (c d : SoFar) (ws : List Text) → AreNamed c.said → has_process c.place ≡ true → operation_line c.said ws ≡ Ok d → Step c ws d
 unfolding operation_line
-operation_found c d ws named at e = operation_cases c d ws (op_of c.said.names (drop 1 ws)) refl named at e
+operation_found c d ws named at e = operation_cases c d ws (op_in c.said.trace.version c.said.names (drop 1 ws)) refl named at e
 
 -- one of two lines was judged good
 branch : (c d : SoFar) (ws : List Text) (test : Bool) (a b : Judged) → (test ≡ true → a ≡ Ok d → Step c ws d) → (b ≡ Ok d → Step c ws d) → cond test a b ≡ Ok d → Step c ws d

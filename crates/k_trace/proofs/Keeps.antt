@@ -9,14 +9,14 @@ use Rattle.k_types.specs.declared.setup.LimitRow.{LimitRow}
 use Rattle.k_types.specs.declared.op.Op.{Op}
 use Rattle.k_types.specs.Trace.{operations_of, row_of, no_row}
 use Rattle.k_types.specs.Steps.{in_range}
-use Rattle.k_types.specs.TraceRules.{AreOperations, IsTree, is_spelled}
+use Rattle.k_types.specs.TraceRules.{AreOperations, IsBuilt, IsTree, is_of_version, is_spelled}
 use Rattle.k_words.specs.Words.{Text}
 use Rattle.k_words.specs.Names.{is_name, declares}
 use Rattle.k_trace.specs.declared.place.Place.{Place}
 use Rattle.k_trace.specs.declared.place.Place.TheVariants.{Version, Kernel, Types, Limits, Procs, Shared, Operations}
 use Rattle.k_trace.specs.Named.{DeclaredNames, NamedTrace}
 use Rattle.k_trace.specs.Spelling.{declarations, type_words, limit_words, proc_words, shared_words, operation_lines, line_words}
-use Rattle.k_trace.specs.Grown.{blank, fits, has_exit, with_kernel, with_type, with_limit, with_proc, with_shared, with_op}
+use Rattle.k_trace.specs.Grown.{blank, fits, has_exit, with_version, with_kernel, with_type, with_limit, with_proc, with_shared, with_op}
 use Rattle.k_trace.specs.Judgement.{SoFar, has_process}
 use Rattle.k_trace.proofs.Steps.{version_words, kernel_words, root_row, limit_row, VersionStep, KernelStep, TypeStep, RootStep, LimitStep, ProcStep, SharedStep, OperationStep, Step, OfVersion, OfKernel, OfType, OfRoot, OfLimit, OfProc, OfShared, OfOperation}
 use Rattle.k_limits.proofs.Reserves.{row_before}
@@ -139,14 +139,14 @@ nothing_operated t e f = no_operations t.trace e f
 version_keeps : (c d : SoFar) (ws : List Text) (wss : List (List Text)) → Holds c.place c.said wss → VersionStep c ws d → Holds d.place d.said (wss ++ ws ∷ [])
 version_keeps c d ws wss h s =
     let g : Holds Version c.said wss = rw s.at at h in
-    rw s.after (g.0, rw (g.1, s.words) refl)
+    rw s.after (ap (λ (x : NamedTrace). with_version x s.version) g.0, s.built, rw (g.1, s.words) refl)
 
-kernel_said : (t : NamedTrace) (ceiling dir_fields : ℕ) → t ≡ blank → ceiling < 2 ^ 40 → dir_fields < 17 → 16 + 8 * dir_fields ≤ ceiling
-    → Holds Types (with_kernel t ceiling dir_fields) (version_words ∷ kernel_words ceiling dir_fields ∷ [])
-kernel_said t ceiling dir_fields e small few room = rw e (
+kernel_said : (t : NamedTrace) (version ceiling dir_fields : ℕ) → t ≡ with_version blank version → IsBuilt version → ceiling < 2 ^ 40 → dir_fields < 17 → 16 + 8 * dir_fields ≤ ceiling
+    → Holds Types (with_kernel t ceiling dir_fields) (version_words version ∷ kernel_words ceiling dir_fields ∷ [])
+kernel_said t version ceiling dir_fields e built small few room = rw e (
   record {
     begun = record {
-      version = refl;
+      version = built;
       kernel = record { small = small; few = omega (arith, few); room = room };
       types = record { few = omega arith; few_fields = λ ty. omega arith; are_names = AreNames_nil; named = refl };
       limits = record {
@@ -167,7 +167,7 @@ kernel_said t ceiling dir_fields e small few room = rw e (
         procs_named = refl;
         shared_named = refl;
       };
-      operations = nothing_operated (with_kernel blank ceiling dir_fields) refl refl;
+      operations = nothing_operated (with_kernel (with_version blank version) ceiling dir_fields) refl refl;
     };
     lines = refl;
   },
@@ -180,11 +180,11 @@ kernel_said t ceiling dir_fields e small few room = rw e (
 kernel_keeps : (c d : SoFar) (ws : List Text) (wss : List (List Text)) → Holds c.place c.said wss → KernelStep c ws d → Holds d.place d.said (wss ++ ws ∷ [])
 kernel_keeps c d ws wss h s =
     let g : Holds Kernel c.said wss = rw s.at at h in
-    rw (s.after, g.1, s.words) (kernel_said c.said s.ceiling s.dir_fields g.0 s.small s.few s.room)
+    rw (s.after, g.2, s.words) (kernel_said c.said c.said.trace.version s.ceiling s.dir_fields g.0 g.1 s.small s.few s.room)
 
 -- the lines of the parts
 abbrev front_of : NamedTrace → List (List Text)
-front_of t = version_words ∷ kernel_words t.trace.ceiling t.trace.dir_fields ∷ declarations type_words t.names.types t.trace.types
+front_of t = version_words t.trace.version ∷ kernel_words t.trace.ceiling t.trace.dir_fields ∷ declarations type_words t.names.types t.trace.types
 
 type_said : (t : NamedTrace) (name : Text) (fields : List Field) (wss : List (List Text)) → Holds Types t wss → is_name name ≡ true → declares t.names.types name ≡ false → length fields ≤ 16
     → length t.names.types < 256 → Holds Types (with_type t name fields) (wss ++ type_words name fields ∷ [])
@@ -388,8 +388,8 @@ pub late : (c : SoFar) (wss : List (List Text)) → has_process c.place ≡ true
 late c wss at h = late_in c.place c.said wss at h
 
 operation_said : (t : NamedTrace) (p : ℕ) (op : Op) (wss : List (List Text)) → IsLate t wss → p < length t.names.procs → in_range t.trace op ≡ true → is_spelled op ≡ true
-    → length t.trace.order < 200000 → has_exit (operations_of t.trace p) ≡ false → Holds Operations (with_op t p op) (wss ++ line_words t.names p op ∷ [])
-operation_said t p op wss h known ranged fit room none =
+    → is_of_version t.trace.version op ≡ true → length t.trace.order < 200000 → has_exit (operations_of t.trace p) ≡ false → Holds Operations (with_op t p op) (wss ++ line_words t.names p op ∷ [])
+operation_said t p op wss h known ranged fit has room none =
     let begun = h.said.begun in
     let within : p < length t.trace.procs = omega (arith, begun.heaps.procs_named, known) in
     let listed : p < length t.trace.operations = omega (arith, begun.operations.each, within) in
@@ -401,7 +401,7 @@ operation_said t p op wss h known ranged fit room none =
           types = begun.types;
           limits = begun.limits;
           heaps = begun.heaps;
-          operations = operation_kept t.trace (with_op t p op).trace p op begun.operations within ranged fit room none refl refl refl refl refl;
+          operations = operation_kept t.trace (with_op t p op).trace p op begun.operations within ranged fit has room none (record { types = refl; shared = refl; procs = refl; limits = refl; version = refl }) refl refl;
         };
         lines = rw (← h.said.lines, lines_push t.names p op t.trace.order (operations_of t.trace) (operations_of (with_op t p op).trace) (op_added t.trace.operations p op listed) counted)
             (behind_all (front_of t) (declarations (limit_words t.names) t.names.limits t.trace.limits) (declarations (proc_words t.names) t.names.procs t.trace.procs)
@@ -413,7 +413,7 @@ operation_said t p op wss h known ranged fit room none =
 
 operation_keeps : (c d : SoFar) (ws : List Text) (wss : List (List Text)) → Holds c.place c.said wss → OperationStep c ws d → Holds d.place d.said (wss ++ ws ∷ [])
 operation_keeps c d ws wss h s =
-    rw (s.after, s.words) (operation_said c.said s.process s.op wss (late c wss s.at h) s.declared s.ranged s.spelled s.few s.lives)
+    rw (s.after, s.words) (operation_said c.said s.process s.op wss (late c wss s.at h) s.declared s.ranged s.spelled s.of_version s.few s.lives)
 
 -- a step keeps what holds, with its line behind the others
 pub step_keeps : (c d : SoFar) (ws : List Text) (wss : List (List Text)) → Holds c.place c.said wss → Step c ws d → Holds d.place d.said (wss ++ ws ∷ [])

@@ -5,7 +5,7 @@ use Rattle.k_types.specs.declared.names.LimitId.{LimitId}
 use Rattle.k_types.specs.declared.setup.LimitRow.{LimitRow}
 use Rattle.k_types.specs.Types.{HaveFewFields, object_size}
 use Rattle.k_types.specs.Trace.{row_of}
-use Rattle.k_types.specs.TraceRules.{AreOperations, IsTree}
+use Rattle.k_types.specs.TraceRules.{AreOperations, IsBuilt, IsTree}
 use Rattle.k_types.specs.Limits.{max_of}
 use Rattle.k_words.specs.Words.{Text}
 use Rattle.k_trace.specs.declared.place.Place.{Place}
@@ -13,7 +13,7 @@ use Rattle.k_trace.specs.declared.place.Place.TheVariants.{Version, Kernel, Type
 use Rattle.k_trace.specs.Named.{NamedTrace}
 use Rattle.k_trace.specs.Rules.{AreNames}
 use Rattle.k_trace.specs.Spelling.{words}
-use Rattle.k_trace.specs.Grown.{blank}
+use Rattle.k_trace.specs.Grown.{blank, with_version}
 use Rattle.k_trace.proofs.Steps.{version_words}
 use Rattle.k_trace.proofs.OpRules.{none_each}
 use Rattle.k_trace.proofs.Reserved.{AllFit}
@@ -52,7 +52,7 @@ pub record AreHeaps (procs : List Text) (limits : List LimitId) (shared : List T
 
 -- all rules but that there is a limit and a process
 pub record IsBegun (t : NamedTrace) : Type 0 where
-  pub version : t.trace.version ≡ 1
+  pub version : IsBuilt t.trace.version
   pub kernel : IsKernel t.trace.ceiling t.trace.dir_fields
   pub types : AreTypes t.names.types t.trace.types
   pub limits : AreRows t.names.limits t.trace.limits
@@ -83,7 +83,7 @@ pub record IsSaid (t : NamedTrace) (wss : List (List Text)) : Type 0 where
 -- what holds where the next line stands
 abbrev pub Holds : Place → NamedTrace → List (List Text) → Type 0
 Holds Version t wss = (t ≡ blank) × (wss ≡ [])
-Holds Kernel t wss = (t ≡ blank) × (wss ≡ version_words ∷ [])
+Holds Kernel t wss = (t ≡ with_version blank t.trace.version) × IsBuilt t.trace.version × (wss ≡ version_words t.trace.version ∷ [])
 Holds Types t wss = IsSaid t wss × NoLimits t × NoProcs t × NoShared t × NoOperations t
 Holds Limits t wss = IsSaid t wss × (0 < length t.trace.limits) × NoProcs t × NoShared t × NoOperations t
 Holds Procs t wss = IsSaid t wss × (0 < length t.trace.limits) × (0 < length t.trace.procs) × NoShared t × NoOperations t

@@ -2,24 +2,28 @@
 use Rattle.std.proofs.Common.{◌≡◌, ℕ, ◌<◌, ◌^◌, true, ◌&&◌, ltb, length, Ok, refl, arith}
 use Rattle.std.proofs.lemmas.Bool.{ltb-true}
 use Rattle.k_types.specs.declared.op.Op.{Op}
-use Rattle.k_types.specs.declared.op.Op.TheVariants.{New, KNew, SNew, Store, Load, Move, Clear, Dir, Put, Get, Collect, KCollect, Share, Freeze, Attach, Exit}
+use Rattle.k_types.specs.declared.op.Op.TheVariants.{New, KNew, SNew, Store, Load, Move, Clear, Dir, Put, Get, Collect, KCollect, Share, Freeze, Attach, Exit, Kill, Resize}
 use Rattle.k_types.specs.declared.names.Reg.{Reg}
 use Rattle.k_types.specs.declared.names.TypeId.{TypeId}
+use Rattle.k_types.specs.declared.names.LimitId.{LimitId}
+use Rattle.k_types.specs.declared.names.Pid.{Pid}
 use Rattle.k_types.specs.declared.names.SharedId.{SharedId}
 use Rattle.k_types.specs.Steps.{in_range}
-use Rattle.k_types.specs.TraceRules.{is_spelled}
+use Rattle.k_types.specs.TraceRules.{is_of_version, is_spelled}
 use Rattle.k_words.specs.Numbers.{value}
 use Rattle.k_words.proofs.Spelled.{both}
 use Rattle.k_words.proofs.Again.{AreApart, number_of-at, declares-at, value-decimal, is_below-decimal, is_register-word}
-use Rattle.k_trace.specs.Named.{NamedTrace}
+use Rattle.k_trace.specs.Named.{DeclaredNames, NamedTrace}
 use Rattle.k_trace.specs.Spelling.{op_words}
 use Rattle.k_trace.specs.Demands.{demands}
-use Rattle.k_trace.specs.Forms.{new_form, knew_form, snew_form, store_form, load_form, move_form, drop_form, dir_form, put_form, get_form, share_form, freeze_form, attach_form, sharing_op, bare_op, register_op, op_of}
+use Rattle.k_trace.specs.Forms.{new_form, knew_form, snew_form, store_form, load_form, move_form, drop_form, dir_form, put_form, get_form, share_form, freeze_form, attach_form, kill_form, resize_form, governing_op, sharing_op, bare_op, register_op, op_of, has_operation, op_in}
 use Rattle.k_trace.proofs.OpForms.{AreNamed}
 
--- no two types and no two shared heaps have one name
+-- no two types, limits, processes or shared heaps have one name
 pub record AreDistinct (t : NamedTrace) : Type 0 where
   pub types : AreApart t.names.types
+  pub limits : AreApart t.names.limits
+  pub procs : AreApart t.names.procs
   pub shared : AreApart t.names.shared
 
 abbrev IsRead : NamedTrace → Op → Type 0
@@ -27,6 +31,12 @@ IsRead t op = op_of t.names (op_words t.names op) ≡ Ok op
 
 pub type_below : (t : NamedTrace) (ty : TypeId) → AreNamed t → ltb ty.0 (length t.trace.types) ≡ true → ty.0 < length t.names.types
 type_below t ty named h = rw named.types (ltb-true _ _ h)
+
+pub limit_below : (t : NamedTrace) (m : LimitId) → AreNamed t → ltb m.0 (length t.trace.limits) ≡ true → m.0 < length t.names.limits
+limit_below t m named h = rw named.limits (ltb-true _ _ h)
+
+pub proc_below : (t : NamedTrace) (q : Pid) → AreNamed t → ltb q.0 (length t.trace.procs) ≡ true → q.0 < length t.names.procs
+proc_below t q named h = rw named.procs (ltb-true _ _ h)
 
 pub shared_below : (t : NamedTrace) (s : SharedId) → AreNamed t → ltb s.0 t.trace.shared_heaps ≡ true → s.0 < length t.names.shared
 shared_below t s named h = rw named.shared (ltb-true _ _ h)
@@ -133,6 +143,20 @@ attach_again t r s named apart h k =
     let lt_s = shared_below t s named p.1 in
     rw (is_register-word r.0 lt_r, declares-at t.names.shared s.0 lt_s, value-decimal r.0 (omega arith), number_of-at t.names.shared s.0 apart.shared lt_s) refl
 
+kill_again : (t : NamedTrace) (q : Pid) → AreNamed t → AreDistinct t → in_range t.trace (Kill q) ≡ true → is_spelled (Kill q) ≡ true → IsRead t (Kill q)
+unfolding op_of register_op bare_op sharing_op governing_op kill_form op_words in_range demands
+kill_again t q named apart h k =
+    let lt_q = proc_below t q named h in
+    rw (declares-at t.names.procs q.0 lt_q, number_of-at t.names.procs q.0 apart.procs lt_q) refl
+
+resize_again : (t : NamedTrace) (m : LimitId) (max : ℕ) → AreNamed t → AreDistinct t → in_range t.trace (Resize m max) ≡ true → is_spelled (Resize m max) ≡ true → IsRead t (Resize m max)
+unfolding op_of register_op bare_op sharing_op governing_op resize_form op_words in_range demands
+resize_again t m max named apart h k =
+    let p = both (ltb m.0 (length t.trace.limits)) (ltb max (2 ^ 40)) h in
+    let lt_m = limit_below t m named p.0 in
+    let lt_max : max < 2 ^ 40 = ltb-true _ _ p.1 in
+    rw (is_below-decimal max (2 ^ 40) lt_max (omega arith), declares-at t.names.limits m.0 lt_m, number_of-at t.names.limits m.0 apart.limits lt_m, value-decimal max (omega arith)) refl
+
 bare_again : (t : NamedTrace) → IsRead t Collect × IsRead t KCollect × IsRead t Exit
 unfolding op_of register_op bare_op op_words demands
 bare_again t = (refl, refl, refl)
@@ -155,3 +179,17 @@ op_again t (Attach r s) named apart h k = attach_again t r s named apart h k
 op_again t Collect named apart h k = (bare_again t).0
 op_again t KCollect named apart h k = (bare_again t).1
 op_again t Exit named apart h k = (bare_again t).2
+op_again t (Kill q) named apart h k = kill_again t q named apart h k
+op_again t (Resize m max) named apart h k = resize_again t m max named apart h k
+
+-- the verb is one that the version has exactly where the operation is
+pub has_own_operation : (version : ℕ) (names : DeclaredNames) (op : Op) → has_operation version (op_words names op) ≡ is_of_version version op
+unfolding op_words
+has_own_operation version names (Kill q) = refl
+has_own_operation version names _ = refl
+
+-- so it is in a trace of its version
+pub op_in_again : (t : NamedTrace) (op : Op) → AreNamed t → AreDistinct t → in_range t.trace op ≡ true → is_spelled op ≡ true → is_of_version t.trace.version op ≡ true
+    → op_in t.trace.version t.names (op_words t.names op) ≡ Ok op
+unfolding op_in demands
+op_in_again t op named apart h k has = rw (has_own_operation t.trace.version t.names op, has) (op_again t op named apart h k)

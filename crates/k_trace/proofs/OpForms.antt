@@ -13,7 +13,7 @@ use Rattle.k_words.proofs.Spelled.{both, same, name_at, number_word, register_is
 use Rattle.k_trace.specs.Named.{NamedTrace}
 use Rattle.k_trace.specs.Spelling.{op_words}
 use Rattle.k_trace.specs.Demands.{demands}
-use Rattle.k_trace.specs.Forms.{form, new_form, knew_form, snew_form, store_form, load_form, move_form, drop_form, dir_form, put_form, get_form, share_form, freeze_form, attach_form, bare_form, has_verb, sharing_op, bare_op, register_op, op_of}
+use Rattle.k_trace.specs.Forms.{form, new_form, knew_form, snew_form, store_form, load_form, move_form, drop_form, dir_form, put_form, get_form, share_form, freeze_form, attach_form, kill_form, resize_form, bare_form, has_verb, governing_op, sharing_op, bare_op, register_op, op_of}
 use Rattle.k_trace.proofs.Readers.{demands_ok, ok_is}
 use Rattle.k_trace.specs.declared.reasons.Reason.{Reason}
 use Rattle.k_trace.specs.declared.reasons.Reason.TheVariants.{NoForm, NoNumber, Undeclared}
@@ -57,9 +57,11 @@ pub record IsFound (t : NamedTrace) (ws : List Text) (op : Op) : Type 0 where
   pub in_range : in_range t.trace op ≡ true
   pub spelled : is_spelled op ≡ true
 
--- a name for each type and each shared heap
+-- a name for each type, limit, process and shared heap
 pub record AreNamed (t : NamedTrace) : Type 0 where
   pub types : length t.names.types ≡ length t.trace.types
+  pub limits : length t.names.limits ≡ length t.trace.limits
+  pub procs : length t.names.procs ≡ length t.trace.procs
   pub shared : length t.names.shared ≡ t.trace.shared_heaps
 
 abbrev pub Finds : NamedTrace → List Text → Result Op Reason → Type 0
@@ -76,6 +78,12 @@ number_below (n ∷ names) w h = number_below_cons (bytes_eq w n) w n names refl
 
 type_below : (t : NamedTrace) (w : Text) → AreNamed t → declares t.names.types w ≡ true → ltb (number_of t.names.types w) (length t.trace.types) ≡ true
 type_below t w named h = lt-ltb _ _ (rw (← named.types) (number_below t.names.types w h))
+
+limit_below : (t : NamedTrace) (w : Text) → AreNamed t → declares t.names.limits w ≡ true → ltb (number_of t.names.limits w) (length t.trace.limits) ≡ true
+limit_below t w named h = lt-ltb _ _ (rw (← named.limits) (number_below t.names.limits w h))
+
+proc_below : (t : NamedTrace) (w : Text) → AreNamed t → declares t.names.procs w ≡ true → ltb (number_of t.names.procs w) (length t.trace.procs) ≡ true
+proc_below t w named h = lt-ltb _ _ (rw (← named.procs) (number_below t.names.procs w h))
 
 shared_below : (t : NamedTrace) (w : Text) → AreNamed t → declares t.names.shared w ≡ true → ltb (number_of t.names.shared w) t.trace.shared_heaps ≡ true
 shared_below t w named h = lt-ltb _ _ (rw (← named.shared) (number_below t.names.shared w h))
@@ -228,6 +236,26 @@ attach_found t ws named verb op e =
       spelled = refl;
     })
 
+kill_found : (t : NamedTrace) (ws : List Text) → AreNamed t → has_verb ws (codes "kill") ≡ true → Finds t ws (kill_form t.names ws)
+unfolding kill_form op_words in_range
+kill_found t ws named verb op e =
+    let m = form_met ws 2 (true) (declares t.names.procs (word_at ws 1)) _ op e in
+    subst (IsFound t ws) m.1 (record {
+      words = rw (name_at t.names.procs (word_at ws 1) m.0.declared, ← verb_is ws (codes "kill") verb) (sym (two ws m.0.counted));
+      in_range = rw (proc_below t (word_at ws 1) named m.0.declared) refl;
+      spelled = refl;
+    })
+
+resize_found : (t : NamedTrace) (ws : List Text) → AreNamed t → has_verb ws (codes "resize") ≡ true → Finds t ws (resize_form t.names ws)
+unfolding resize_form op_words in_range
+resize_found t ws named verb op e =
+    let m = form_met ws 3 (is_below (2 ^ 40) (word_at ws 2)) (declares t.names.limits (word_at ws 1)) _ op e in
+    subst (IsFound t ws) m.1 (record {
+      words = rw (name_at t.names.limits (word_at ws 1) m.0.declared, (number_word (2 ^ 40) (word_at ws 2) (omega arith) m.0.in_form).0, ← verb_is ws (codes "resize") verb) (sym (three ws m.0.counted));
+      in_range = rw (limit_below t (word_at ws 1) named m.0.declared, number_fits (word_at ws 2) (2 ^ 40) (omega arith) m.0.in_form) refl;
+      spelled = rw (number_fits (word_at ws 2) (2 ^ 40) (omega arith) m.0.in_form) refl;
+    })
+
 bare_found : (t : NamedTrace) (ws : List Text) (made : Op) (verb : Text) → op_words t.names made ≡ verb ∷ [] → in_range t.trace made ≡ true → is_spelled made ≡ true
     → has_verb ws verb ≡ true → Finds t ws (bare_form ws made)
 bare_found t ws made verb spelled ranged fit has op e =
@@ -242,13 +270,19 @@ either t ws false a b f g = g
 none_found : (t : NamedTrace) (ws : List Text) → Finds t ws (Err NoForm)
 none_found t ws op e = absurd cc
 
+governing_found : (t : NamedTrace) (ws : List Text) → AreNamed t → Finds t ws (governing_op t.names ws)
+unfolding governing_op
+governing_found t ws named =
+    either t ws (has_verb ws (codes "kill")) _ _ (kill_found t ws named)
+    (either t ws (has_verb ws (codes "resize")) _ _ (resize_found t ws named) (none_found t ws))
+
 sharing_found : (t : NamedTrace) (ws : List Text) → AreNamed t → Finds t ws (sharing_op t.names ws)
 unfolding sharing_op
 sharing_found t ws named =
     either t ws (has_verb ws (codes "snew")) _ _ (snew_found t ws named)
     (either t ws (has_verb ws (codes "share")) _ _ (share_found t ws named)
     (either t ws (has_verb ws (codes "freeze")) _ _ (freeze_found t ws named)
-    (either t ws (has_verb ws (codes "attach")) _ _ (attach_found t ws named) (none_found t ws))))
+    (either t ws (has_verb ws (codes "attach")) _ _ (attach_found t ws named) (governing_found t ws named))))
 
 bare_op_found : (t : NamedTrace) (ws : List Text) → AreNamed t → Finds t ws (bare_op t.names ws)
 unfolding bare_op op_words in_range

@@ -1,11 +1,11 @@
 -- Operations and the order of the file, with one operation more.
-use Rattle.std.proofs.Common.{◌≡◌, ◌∙◌, ℕ, ◌+◌, ◌<◌, Bool, true, false, cond, ◌||◌, eqb, List, [], ◌∷◌, ◌++◌, length, drop, refl, sym, ap, arith, append_assoc, eq-eqb}
+use Rattle.std.proofs.Common.{◌≡◌, ◌∙◌, ℕ, ◌+◌, ◌<◌, Bool, true, false, cond, ◌||◌, eqb, ltb, List, [], ◌∷◌, ◌++◌, length, drop, refl, sym, ap, arith, append_assoc, eq-eqb}
 use Rattle.std.proofs.lemmas.Bool.{eqb-true}
 use Rattle.std.proofs.lemmas.Grind.{common_steps}
 use Rattle.std.specs.List.{list_all, count_by}
 use Rattle.k_types.specs.declared.op.Op.{Op}
-use Rattle.k_types.specs.declared.op.Op.TheVariants.{New, KNew, SNew, Store, Load, Move, Clear, Dir, Put, Get, Collect, KCollect, Share, Freeze, Attach, Exit}
-use Rattle.k_types.specs.Trace.{Trace}
+use Rattle.k_types.specs.declared.op.Op.TheVariants.{New, KNew, SNew, Share, Freeze, Attach, Kill, Resize}
+use Rattle.k_types.specs.Trace.{Trace, process_count}
 use Rattle.k_types.specs.Steps.{in_range}
 use Rattle.k_types.specs.TraceRules.{EndsWithExit, is_exit}
 use Rattle.k_trace.specs.Named.{DeclaredNames}
@@ -91,27 +91,25 @@ lines_push names p op (q ∷ order) f g adds counted =
 
 -- ---- the rules of operations
 
-same_range : (a b : Trace) (op : Op) → length a.types ≡ length b.types → a.shared_heaps ≡ b.shared_heaps → in_range a op ≡ in_range b op
-unfolding in_range
-same_range a b (New r ty) e f = rw e refl
-same_range a b (KNew r ty) e f = rw e refl
-same_range a b (SNew r s ty) e f = rw (e, f) refl
-same_range a b (Store base i value) e f = refl
-same_range a b (Load r base i) e f = refl
-same_range a b (Move r from) e f = refl
-same_range a b (Clear r) e f = refl
-same_range a b (Dir r) e f = refl
-same_range a b (Put base i number) e f = refl
-same_range a b (Get base i) e f = refl
-same_range a b Collect e f = refl
-same_range a b KCollect e f = refl
-same_range a b (Share s) e f = rw f refl
-same_range a b (Freeze s root) e f = rw f refl
-same_range a b (Attach r s) e f = rw f refl
-same_range a b Exit e f = refl
+-- the traces declare as much, in one version
+pub record DeclareAlike (a b : Trace) : Type 0 where
+  pub types : length a.types ≡ length b.types
+  pub shared : a.shared_heaps ≡ b.shared_heaps
+  pub procs : process_count a ≡ process_count b
+  pub limits : length a.limits ≡ length b.limits
+  pub version : a.version ≡ b.version
 
-pub in_range_same : (a b : Trace) (op : Op) → length a.types ≡ length b.types → a.shared_heaps ≡ b.shared_heaps → in_range a op ≡ in_range b op
-in_range_same a b op e f = same_range a b op e f
+pub in_range_same : (a b : Trace) (op : Op) → DeclareAlike a b → in_range a op ≡ in_range b op
+unfolding in_range
+in_range_same a b (New r ty) alike = rw alike.types refl
+in_range_same a b (KNew r ty) alike = rw alike.types refl
+in_range_same a b (SNew r s ty) alike = rw (alike.types, alike.shared) refl
+in_range_same a b (Share s) alike = rw alike.shared refl
+in_range_same a b (Freeze s root) alike = rw alike.shared refl
+in_range_same a b (Attach r s) alike = rw alike.shared refl
+in_range_same a b (Kill q) alike = ap (λ (n : ℕ). ltb q.0 n) alike.procs
+in_range_same a b (Resize m max) alike = rw alike.limits refl
+in_range_same a b _ alike = refl
 
 pub all_same : (p q : Op → Bool) (ops : List Op) → ((op : Op) → p op ≡ q op) → list_all p ops ≡ list_all q ops
 all_same p q [] same = refl

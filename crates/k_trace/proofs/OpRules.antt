@@ -8,9 +8,9 @@ use Rattle.k_types.specs.declared.op.Op.{Op}
 use Rattle.k_types.specs.declared.names.LimitId.{LimitId}
 use Rattle.k_types.specs.Trace.{Trace, operations_of, process_count}
 use Rattle.k_types.specs.Steps.{in_range}
-use Rattle.k_types.specs.TraceRules.{EndsWithExit, AreOperations, is_spelled}
+use Rattle.k_types.specs.TraceRules.{EndsWithExit, AreOperations, is_of_version, is_spelled}
 use Rattle.k_trace.specs.Grown.{has_exit}
-use Rattle.k_trace.proofs.OpLists.{times_push, Adds, in_range_same, all_same, ends_push, ends_nil}
+use Rattle.k_trace.proofs.OpLists.{times_push, Adds, DeclareAlike, in_range_same, all_same, ends_push, ends_nil}
 
 -- no operation of any process
 abbrev pub none_each : List LimitId → List (List Op)
@@ -27,6 +27,7 @@ no_operations trace e f = record {
   each = ap length e ∙ length-map trace.procs (λ p. []);
   in_range = λ p lt. rw (e, none_at trace.procs p) refl;
   spelled = λ p lt. rw (e, none_at trace.procs p) refl;
+  of_version = λ p lt. rw (e, none_at trace.procs p) refl;
   ends = λ p lt. subst EndsWithExit (sym (ap (λ (ops : List (List Op)). get_or ops p []) e ∙ none_at trace.procs p)) ends_nil;
   ordered = rw f refl;
   counted = λ p lt. rw (e, f, none_at trace.procs p) refl;
@@ -61,17 +62,19 @@ below_all order p n all lt = rw (list_all-append (λ q. ltb q n) order (p ∷ []
 
 -- the rules are kept by one operation more
 pub operation_kept : (old new : Trace) (p : ℕ) (op : Op) → AreOperations old → p < process_count old → in_range old op ≡ true → is_spelled op ≡ true
-    → length old.order < 200000 → has_exit (operations_of old p) ≡ false
-    → length old.types ≡ length new.types → old.shared_heaps ≡ new.shared_heaps → process_count old ≡ process_count new
+    → is_of_version old.version op ≡ true → length old.order < 200000 → has_exit (operations_of old p) ≡ false → DeclareAlike old new
     → new.operations ≡ set old.operations p (operations_of old p ++ op ∷ []) → new.order ≡ old.order ++ p ∷ [] → AreOperations new
-operation_kept old new p op kept lt ranged fit room none types shared procs e f =
+operation_kept old new p op kept lt ranged fit has room none alike e f =
+    let procs : process_count old ≡ process_count new = alike.procs in
     let within : p < length old.operations = omega (arith, kept.each) in
     let adds : Adds p op (operations_of old) (operations_of new) = λ q. ap (λ (ops : List (List Op)). get_or ops q []) e ∙ op_added old.operations p op within q in
     record {
       each = ap length e ∙ length-set old.operations p (operations_of old p ++ op ∷ []) ∙ kept.each ∙ procs;
-      in_range = λ q below. sym (all_same (in_range old) (in_range new) (operations_of new q) (λ o. in_range_same old new o types shared))
+      in_range = λ q below. sym (all_same (in_range old) (in_range new) (operations_of new q) (λ o. in_range_same old new o alike))
           ∙ all_added (eqb q p) (in_range old) (operations_of old q) (operations_of new q) op (adds q) (kept.in_range q (rw procs below)) ranged;
       spelled = λ q below. all_added (eqb q p) is_spelled (operations_of old q) (operations_of new q) op (adds q) (kept.spelled q (rw procs below)) fit;
+      of_version = λ q below. ap (λ (v : ℕ). list_all (is_of_version v) (operations_of new q)) (sym alike.version)
+          ∙ all_added (eqb q p) (is_of_version old.version) (operations_of old q) (operations_of new q) op (adds q) (kept.of_version q (rw procs below)) has;
       ends = λ q below. ends_added (eqb q p) (operations_of old q) (operations_of new q) op (adds q) (kept.ends q (rw procs below))
           (λ same. subst (λ (r : ℕ). has_exit (operations_of old r) ≡ false) (sym (eqb-true q p same)) none);
       ordered = subst (λ (n : ℕ). list_all (λ q. ltb q n) new.order ≡ true) procs (rw f (below_all old.order p (process_count old) kept.ordered lt));

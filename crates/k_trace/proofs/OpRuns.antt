@@ -7,7 +7,7 @@ use Rattle.std.specs.List.{list_all}
 use Rattle.k_types.specs.declared.op.Op.{Op}
 use Rattle.k_types.specs.Trace.{Trace, operations_of}
 use Rattle.k_types.specs.Steps.{in_range}
-use Rattle.k_types.specs.TraceRules.{EndsWithExit, is_exit, is_spelled}
+use Rattle.k_types.specs.TraceRules.{EndsWithExit, is_exit, is_of_version, is_spelled}
 use Rattle.k_words.specs.Words.{Text}
 use Rattle.k_words.proofs.Spelled.{both}
 use Rattle.k_trace.specs.declared.place.Place.{Place}
@@ -16,7 +16,7 @@ use Rattle.k_trace.specs.Named.{NamedTrace}
 use Rattle.k_trace.specs.Spelling.{first_line, after_first, operation_lines, line_words}
 use Rattle.k_trace.specs.Grown.{with_op, has_exit}
 use Rattle.k_trace.specs.Judgement.{SoFar, has_process}
-use Rattle.k_trace.proofs.OpLists.{times, times_head, in_range_same}
+use Rattle.k_trace.proofs.OpLists.{times, times_head, DeclareAlike, in_range_same}
 use Rattle.k_trace.proofs.OpRules.{op_added}
 use Rattle.k_trace.proofs.Steps.{at_place, Step, OfOperation, Run}
 
@@ -42,13 +42,13 @@ pub record IsLeft (n : ℕ) (whole : Trace) (t : Trace) (f : ℕ → List Op) (o
   pub below : list_all (λ q. ltb q n) order ≡ true
   pub listed : length t.operations ≡ n
   pub room : length t.order + length order ≤ 200000
-  pub types : length t.types ≡ length whole.types
-  pub shared : t.shared_heaps ≡ whole.shared_heaps
+  pub alike : DeclareAlike t whole
 
 -- the rules of each process's operations
 pub record AreRuled (n : ℕ) (whole : Trace) : Type 0 where
   pub ranged : (q : ℕ) → q < n → list_all (in_range whole) (operations_of whole q) ≡ true
   pub spelled : (q : ℕ) → q < n → list_all is_spelled (operations_of whole q) ≡ true
+  pub of_version : (q : ℕ) → q < n → list_all (is_of_version whole.version) (operations_of whole q) ≡ true
   pub ends : (q : ℕ) → q < n → EndsWithExit (operations_of whole q)
 
 -- a process that stands first in the order has an operation left
@@ -76,8 +76,13 @@ done_one n whole t f p order op ops first lt left = record {
   below = (both (ltb p n) (list_all (λ q. ltb q n) order) left.below).1;
   listed = length-set t.trace.operations p (operations_of t.trace p ++ op ∷ []) ∙ left.listed;
   room = omega (arith, left.room, length-append t.trace.order (p ∷ []));
-  types = left.types;
-  shared = left.shared;
+  alike = record {
+    types = left.alike.types;
+    shared = left.alike.shared;
+    procs = left.alike.procs;
+    limits = left.alike.limits;
+    version = left.alike.version;
+  };
 }
   where
     each : (q : ℕ) → q < n → get_or (with_op t p op).trace.operations q [] ++ after_first p f q ≡ operations_of whole q
@@ -117,8 +122,10 @@ op_step place n whole t f p order op ops late first lt named left ruled =
       op = op;
       at = late;
       declared = omega (arith, named, lt);
-      ranged = in_range_same t.trace whole op left.types left.shared ∙ all_at (in_range whole) (get_or t.trace.operations p []) op ops (operations_of whole p) (ruled.ranged p lt) e;
+      ranged = in_range_same t.trace whole op left.alike ∙ all_at (in_range whole) (get_or t.trace.operations p []) op ops (operations_of whole p) (ruled.ranged p lt) e;
       spelled = all_at is_spelled (get_or t.trace.operations p []) op ops (operations_of whole p) (ruled.spelled p lt) e;
+      of_version = ap (λ (v : ℕ). is_of_version v op) left.alike.version
+          ∙ all_at (is_of_version whole.version) (get_or t.trace.operations p []) op ops (operations_of whole p) (ruled.of_version p lt) e;
       few = omega (arith, left.room);
       lives = no_exit_before (get_or t.trace.operations p []) op ops (subst EndsWithExit (sym e) (ruled.ends p lt));
       words = refl;

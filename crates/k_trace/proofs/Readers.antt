@@ -7,7 +7,7 @@ use Rattle.k_types.specs.declared.names.Field.{Field}
 use Rattle.k_types.specs.Types.{HaveFewFields}
 use Rattle.k_words.specs.Words.{Text, word_at}
 use Rattle.k_trace.specs.Named.{NamedTrace}
-use Rattle.k_trace.specs.Forms.{op_of, register_op, bare_op, sharing_op}
+use Rattle.k_trace.specs.Forms.{op_in, op_of, register_op, bare_op, sharing_op, governing_op}
 use Rattle.k_types.specs.declared.op.Op.{Op}
 use Rattle.k_trace.specs.Demands.{demands}
 use Rattle.k_trace.specs.Judgement.{operation_line, process_line}
@@ -31,15 +31,15 @@ pub ok_is : {A : Type 0} (c d : A) → (let r : Result A Reason = Ok c in r) ≡
 ok_is c d e = cc
 
 -- an operation that isn't one
-pub bad_operation : (t : NamedTrace) (ws rest : List Text) (w : Text) (reason : Reason) → ws ≡ w ∷ rest → Err reason ≡ op_of t.names rest → operation_line t ws ≡ Err reason
+pub bad_operation : (t : NamedTrace) (ws rest : List Text) (w : Text) (reason : Reason) → ws ≡ w ∷ rest → Err reason ≡ op_in t.trace.version t.names rest → operation_line t ws ≡ Err reason
 unfolding operation_line
 bad_operation t ws rest w reason e bad = rw (e, ← bad) refl
 
-pub good_operation : (t : NamedTrace) (ws rest : List Text) (w : Text) (op : Op) → ws ≡ w ∷ rest → Ok op ≡ op_of t.names rest → operation_line t ws ≡ process_line t (word_at ws 0) op
+pub good_operation : (t : NamedTrace) (ws rest : List Text) (w : Text) (op : Op) → ws ≡ w ∷ rest → Ok op ≡ op_in t.trace.version t.names rest → operation_line t ws ≡ process_line t (word_at ws 0) op
 unfolding operation_line
 good_operation t ws rest w op e good = rw (e, ← good) refl
 
 -- a line of one word
 pub no_operation : (t : NamedTrace) (ws : List Text) (w : Text) → ws ≡ w ∷ [] → operation_line t ws ≡ Err NoForm
-unfolding operation_line op_of register_op bare_op sharing_op
+unfolding operation_line op_in op_of register_op bare_op sharing_op governing_op demands
 no_operation t ws w e = rw e refl

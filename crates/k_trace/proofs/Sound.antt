@@ -8,7 +8,7 @@ use Rattle.k_trace.specs.declared.place.Place.{Place}
 use Rattle.k_trace.specs.declared.place.Place.TheVariants.{Version, Kernel, Types, Limits, Procs, Shared, Operations}
 use Rattle.k_trace.specs.Named.{NamedTrace}
 use Rattle.k_trace.specs.Rules.{IsTrace, Spells}
-use Rattle.k_trace.specs.Grown.{blank}
+use Rattle.k_trace.specs.Grown.{blank, with_version}
 use Rattle.k_trace.specs.Judgement.{SoFar, Judged, BadLine, start, judged_line, judged_lines, then_lines, has_process, at_end, judgement}
 use Rattle.k_trace.proofs.Readers.{demands_ok}
 use Rattle.k_trace.proofs.OpForms.{AreNamed}
@@ -16,15 +16,20 @@ use Rattle.k_trace.proofs.Found.{step_found}
 use Rattle.k_trace.proofs.Kept.{Holds, IsSaid}
 use Rattle.k_trace.proofs.Keeps.{IsLate, late, step_keeps}
 
-blank_named : (t : NamedTrace) → t ≡ blank → AreNamed t
-blank_named t e = rw e (record { types = refl; shared = refl })
+blank_named : (t : NamedTrace) (version : ℕ) → t ≡ with_version blank version → AreNamed t
+blank_named t version e = rw e (record { types = refl; limits = refl; procs = refl; shared = refl })
 
 said_named : (t : NamedTrace) (wss : List (List Text)) → IsSaid t wss → AreNamed t
-said_named t wss h = record { types = h.begun.types.named; shared = h.begun.heaps.shared_named }
+said_named t wss h = record {
+  types = h.begun.types.named;
+  limits = h.begun.limits.named;
+  procs = h.begun.heaps.procs_named;
+  shared = h.begun.heaps.shared_named;
+}
 
 named_in : (p : Place) (t : NamedTrace) (wss : List (List Text)) → Holds p t wss → AreNamed t
-named_in Version t wss h = blank_named t h.0
-named_in Kernel t wss h = blank_named t h.0
+named_in Version t wss h = blank_named t 1 h.0
+named_in Kernel t wss h = blank_named t t.trace.version h.0
 named_in Types t wss h = said_named t wss h.0
 named_in Limits t wss h = said_named t wss h.0
 named_in Procs t wss h = said_named t wss h.0

@@ -5,21 +5,21 @@ use Rattle.k_types.specs.declared.setup.LimitRow.{LimitRow}
 use Rattle.k_types.specs.declared.op.Op.{Op}
 use Rattle.k_types.specs.Trace.{operations_of}
 use Rattle.k_types.specs.Steps.{in_range}
-use Rattle.k_types.specs.TraceRules.{is_spelled}
+use Rattle.k_types.specs.TraceRules.{IsBuilt, is_of_version, is_spelled}
 use Rattle.k_words.specs.Words.{Text}
 use Rattle.k_words.specs.Names.{is_name, declares}
 use Rattle.k_trace.specs.declared.place.Place.{Place}
 use Rattle.k_trace.specs.declared.place.Place.TheVariants.{Version, Kernel, Types, Limits, Procs, Shared, Operations}
 use Rattle.k_trace.specs.Named.{NamedTrace}
 use Rattle.k_trace.specs.Spelling.{type_words, limit_words, proc_words, shared_words, line_words}
-use Rattle.k_trace.specs.Grown.{with_kernel, with_type, with_limit, with_proc, with_shared, with_op, has_exit, fits}
+use Rattle.k_trace.specs.Grown.{with_version, with_kernel, with_type, with_limit, with_proc, with_shared, with_op, has_exit, fits}
 use Rattle.k_trace.specs.Judgement.{SoFar, has_process}
 
 abbrev pub at_place : Place → NamedTrace → SoFar
 at_place place said = record { place = place; said = said }
 
-abbrev pub version_words : List Text
-version_words = codes "kaffe" ∷ codes "1" ∷ []
+abbrev pub version_words : ℕ → List Text
+version_words version = codes "kaffe" ∷ decimal version ∷ []
 
 abbrev pub kernel_words : ℕ → ℕ → List Text
 kernel_words ceiling dir_fields = codes "kernel" ∷ decimal ceiling ∷ decimal dir_fields ∷ []
@@ -31,9 +31,11 @@ abbrev pub limit_row : ℕ → Bool → ℕ → LimitRow
 limit_row parent hard max = record { parent = Some (record { 0 = parent }); hard = hard; max = max }
 
 pub record VersionStep (c : SoFar) (ws : List Text) (d : SoFar) : Type 0 where
+  pub version : ℕ
   pub at : c.place ≡ Version
-  pub words : ws ≡ version_words
-  pub after : d ≡ at_place Kernel c.said
+  pub built : IsBuilt version
+  pub words : ws ≡ version_words version
+  pub after : d ≡ at_place Kernel (with_version c.said version)
 
 pub record KernelStep (c : SoFar) (ws : List Text) (d : SoFar) : Type 0 where
   pub ceiling : ℕ
@@ -110,6 +112,7 @@ pub record OperationStep (c : SoFar) (ws : List Text) (d : SoFar) : Type 0 where
   pub declared : process < length c.said.names.procs
   pub ranged : in_range c.said.trace op ≡ true
   pub spelled : is_spelled op ≡ true
+  pub of_version : is_of_version c.said.trace.version op ≡ true
   pub few : length c.said.trace.order < 200000
   pub lives : has_exit (operations_of c.said.trace process) ≡ false
   pub words : ws ≡ line_words c.said.names process op

@@ -6,8 +6,10 @@ use Rattle.std.specs.List.{list_all}
 use Rattle.k_types.specs.declared.names.Field.{Field}
 use Rattle.k_types.specs.declared.names.Field.TheVariants.{Ref, Int}
 use Rattle.k_types.specs.declared.op.Op.{Op}
-use Rattle.k_types.specs.declared.op.Op.TheVariants.{New, KNew, SNew, Store, Load, Move, Clear, Dir, Put, Get, Collect, KCollect, Share, Freeze, Attach, Exit}
+use Rattle.k_types.specs.declared.op.Op.TheVariants.{New, KNew, SNew, Store, Load, Move, Clear, Dir, Put, Get, Collect, KCollect, Share, Freeze, Attach, Exit, Kill, Resize}
 use Rattle.k_types.specs.declared.names.TypeId.{TypeId}
+use Rattle.k_types.specs.declared.names.LimitId.{LimitId}
+use Rattle.k_types.specs.declared.names.Pid.{Pid}
 use Rattle.k_types.specs.declared.names.SharedId.{SharedId}
 use Rattle.k_types.specs.declared.names.Reg.{Reg}
 use Rattle.k_types.specs.Steps.{in_range}
@@ -21,7 +23,7 @@ use Rattle.k_trace.specs.declared.place.Place.TheVariants.{Version, Kernel, Type
 use Rattle.k_trace.specs.Named.{NamedTrace}
 use Rattle.k_trace.specs.Rules.{AreNames}
 use Rattle.k_trace.specs.Spelling.{field_word, op_words}
-use Rattle.k_trace.specs.Grown.{blank}
+use Rattle.k_trace.specs.Grown.{blank, with_version}
 use Rattle.k_trace.specs.Judgement.{SoFar}
 use Rattle.k_trace.proofs.OpForms.{AreNamed}
 use Rattle.k_trace.proofs.Found.{hardness, limit_words_are}
@@ -46,12 +48,17 @@ AreNames_back xs ys all = record {
       (get_or-append-add xs ys i [] ∙ e ∙ sym (get_or-append-add xs ys k []));
 }
 
-blank_tidy : (t : NamedTrace) → t ≡ blank → IsTidy t
-blank_tidy t e = rw e (record { named = record { types = refl; shared = refl }; types = AreNames_nil; limits = AreNames_nil; procs = AreNames_nil; shared = AreNames_nil })
+blank_tidy : (t : NamedTrace) (version : ℕ) → t ≡ with_version blank version → IsTidy t
+blank_tidy t version e = rw e (record { named = record { types = refl; limits = refl; procs = refl; shared = refl }; types = AreNames_nil; limits = AreNames_nil; procs = AreNames_nil; shared = AreNames_nil })
 
 said_tidy : (t : NamedTrace) (wss : List (List Text)) → IsSaid t wss → IsTidy t
 said_tidy t wss h = record {
-  named = record { types = h.begun.types.named; shared = h.begun.heaps.shared_named };
+  named = record {
+    types = h.begun.types.named;
+    limits = h.begun.limits.named;
+    procs = h.begun.heaps.procs_named;
+    shared = h.begun.heaps.shared_named;
+  };
   types = h.begun.types.are_names;
   limits = h.begun.limits.are_names;
   procs = AreNames_front t.names.procs t.names.shared h.begun.heaps.are_names;
@@ -59,8 +66,8 @@ said_tidy t wss h = record {
 }
 
 tidy_in : (p : Place) (t : NamedTrace) (wss : List (List Text)) → Holds p t wss → IsTidy t
-tidy_in Version t wss h = blank_tidy t h.0
-tidy_in Kernel t wss h = blank_tidy t h.0
+tidy_in Version t wss h = blank_tidy t 1 h.0
+tidy_in Kernel t wss h = blank_tidy t t.trace.version h.0
 tidy_in Types t wss h = said_tidy t wss h.0
 tidy_in Limits t wss h = said_tidy t wss h.0
 tidy_in Procs t wss h = said_tidy t wss h.0
@@ -73,7 +80,7 @@ tidy c wss h = tidy_in c.place c.said wss h
 pub orderly : (t : NamedTrace) → IsTidy t → IsOrderly t
 orderly t h = record {
   named = h.named;
-  distinct = record { types = h.types.apart; shared = h.shared.apart };
+  distinct = record { types = h.types.apart; limits = h.limits.apart; procs = h.procs.apart; shared = h.shared.apart };
   limits = h.limits.apart;
   procs = h.procs.apart;
   each = h.procs.each;
@@ -91,6 +98,12 @@ at_name names i all lt = name_word (word_at names i) (all.each i lt)
 
 type_at : (t : NamedTrace) (ty : TypeId) → IsTidy t → ltb ty.0 (length t.trace.types) ≡ true → is_word (word_at t.names.types ty.0) ≡ true
 type_at t ty h lt = at_name t.names.types ty.0 h.types (rw h.named.types (ltb-true _ _ lt))
+
+limit_at : (t : NamedTrace) (m : LimitId) → IsTidy t → ltb m.0 (length t.trace.limits) ≡ true → is_word (word_at t.names.limits m.0) ≡ true
+limit_at t m h lt = at_name t.names.limits m.0 h.limits (rw h.named.limits (ltb-true _ _ lt))
+
+proc_at : (t : NamedTrace) (q : Pid) → IsTidy t → ltb q.0 (length t.trace.procs) ≡ true → is_word (word_at t.names.procs q.0) ≡ true
+proc_at t q h lt = at_name t.names.procs q.0 h.procs (rw h.named.procs (ltb-true _ _ lt))
 
 shared_at : (t : NamedTrace) (s : SharedId) → IsTidy t → ltb s.0 t.trace.shared_heaps ≡ true → is_word (word_at t.names.shared s.0) ≡ true
 shared_at t s h lt = at_name t.names.shared s.0 h.shared (rw h.named.shared (ltb-true _ _ lt))
@@ -144,6 +157,11 @@ op_proper t (Attach r s) d h k =
     let p = both (ltb r.0 16) (ltb s.0 t.trace.shared_heaps) h in
     (rw (reg_at r p.0, shared_at t s d p.1) refl, omega arith)
 op_proper t Exit d h k = (refl, omega arith)
+op_proper t (Kill q) d h k = (rw (proc_at t q d h) refl, omega arith)
+op_proper t (Resize m max) d h k =
+    let p = both (ltb m.0 (length t.trace.limits)) (ltb max (2 ^ 40)) h in
+    let small : max < 2 ^ 40 = ltb-true _ _ p.1 in
+    (rw (limit_at t m d p.0, decimal_word max (omega arith)) refl, omega arith)
 
 hard_word : (hard : Bool) → is_word (hardness hard) ≡ true
 hard_word true = refl
@@ -154,7 +172,9 @@ proper_of ws us e some few each = rw e (record { some = some; few = few; each = 
 
 -- the words of a step make a proper line
 pub step_proper : (c d : SoFar) (ws : List Text) → IsTidy c.said → Step c ws d → IsProper ws
-step_proper c d ws h (OfVersion s) = proper_of ws version_words s.words (omega arith) (omega arith) refl
+step_proper c d ws h (OfVersion s) =
+    let a = decimal_word s.version (omega (arith, s.built.1)) in
+    proper_of ws (version_words s.version) s.words (omega arith) (omega arith) (rw a refl)
 step_proper c d ws h (OfKernel s) =
     let a = decimal_word s.ceiling (omega (arith, s.small)) in
     let b = decimal_word s.dir_fields (omega (arith, s.few)) in

@@ -15,7 +15,7 @@ use Rattle.k_trace.specs.declared.place.Place.TheVariants.{Kernel, Types, Limits
 use Rattle.k_trace.specs.Named.{DeclaredNames, NamedTrace}
 use Rattle.k_trace.specs.Rules.{AreNames, IsTrace, Spells}
 use Rattle.k_trace.specs.Spelling.{declarations, type_words, limit_words, proc_words, shared_words, operation_lines, header_words, words}
-use Rattle.k_trace.specs.Grown.{blank, with_kernel, with_limit}
+use Rattle.k_trace.specs.Grown.{blank, with_version, with_kernel, with_limit}
 use Rattle.k_trace.specs.Judgement.{SoFar, BadLine, start, judged_lines, has_process, at_end, judgement}
 use Rattle.k_trace.proofs.OpRules.{none_at}
 use Rattle.k_trace.proofs.Kept.{limit_at}
@@ -73,7 +73,7 @@ limits_all (n ∷ ns) (row ∷ rows) t full no_names no_rows names some e all fe
 
 -- what was said after each part of the header
 abbrev after_kernel : NamedTrace → NamedTrace
-after_kernel t = with_kernel blank t.trace.ceiling t.trace.dir_fields
+after_kernel t = with_kernel (with_version blank t.trace.version) t.trace.ceiling t.trace.dir_fields
 
 abbrev after_types : NamedTrace → NamedTrace
 after_types t = with_types (after_kernel t) t.names.types t.trace.types
@@ -87,10 +87,10 @@ after_procs t = with_procs (after_limits t) t.names.procs t.trace.procs
 abbrev after_shared : NamedTrace → NamedTrace
 after_shared t = with_shareds (after_procs t) t.names.shared
 
-kernel_part : (t : NamedTrace) → IsTrace t → Run start (version_words ∷ kernel_words t.trace.ceiling t.trace.dir_fields ∷ []) (at_place Types (after_kernel t))
+kernel_part : (t : NamedTrace) → IsTrace t → Run start (version_words t.trace.version ∷ kernel_words t.trace.ceiling t.trace.dir_fields ∷ []) (at_place Types (after_kernel t))
 kernel_part t good = (
-  at_place Kernel blank,
-  OfVersion (record { at = refl; words = refl; after = refl }),
+  at_place Kernel (with_version blank t.trace.version),
+  OfVersion (record { version = t.trace.version; at = refl; built = good.rules.version; words = refl; after = refl }),
   (
     at_place Types (after_kernel t),
     OfKernel (record {
@@ -122,7 +122,7 @@ procs_part t good =
     (omega (arith, good.procs_named, good.rules.processes)) (subst (λ (n : ℕ). AllBelow n t.trace.procs) (sym good.limits_named) (below_each t.trace.procs (length t.trace.limits) good.rules.limits.limited))
 
 abbrev first_two : NamedTrace → List (List Text)
-first_two t = version_words ∷ kernel_words t.trace.ceiling t.trace.dir_fields ∷ []
+first_two t = version_words t.trace.version ∷ kernel_words t.trace.ceiling t.trace.dir_fields ∷ []
 
 abbrev type_lines : NamedTrace → List (List Text)
 type_lines t = declarations type_words t.names.types t.trace.types
@@ -146,7 +146,12 @@ early_late p (inl e) = rw e refl
 early_late p (inr e) = rw e refl
 
 ruled : (t : NamedTrace) → IsTrace t → AreRuled (length t.trace.procs) t.trace
-ruled t good = record { ranged = good.rules.operations.in_range; spelled = good.rules.operations.spelled; ends = good.rules.operations.ends }
+ruled t good = record {
+  ranged = good.rules.operations.in_range;
+  spelled = good.rules.operations.spelled;
+  of_version = good.rules.operations.of_version;
+  ends = good.rules.operations.ends;
+}
 
 all_left : (t : NamedTrace) → IsTrace t → IsLeft (length t.trace.procs) t.trace (after_shared t).trace (operations_of t.trace) t.trace.order
 all_left t good = record {
@@ -155,8 +160,7 @@ all_left t good = record {
   below = good.rules.operations.ordered;
   listed = length-map t.trace.procs (λ p. []);
   room = omega (arith, good.rules.operations.room);
-  types = refl;
-  shared = omega (arith, good.shared_named);
+  alike = record { types = refl; shared = omega (arith, good.shared_named); procs = refl; limits = refl; version = refl };
 }
 
 -- a run from the start over all lines, that says the trace
@@ -186,7 +190,7 @@ end_said t good c wss e r =
     (λ q lt. r.each q (omega (arith, lt, r.listed))) in
     let order : r.end.said.trace.order ≡ t.trace.order = r.order ∙ ap (λ (x : NamedTrace). x.trace.order ++ t.trace.order) e in
     said_is r.end.said t (r.names ∙ ap (λ (x : NamedTrace). x.names) e)
-    (whole ∙ trace_is t 1 (0 + length t.names.shared) r.end.said.trace.operations r.end.said.trace.order (sym good.rules.version) (omega (arith, good.shared_named)) ops order)
+    (whole ∙ trace_is t t.trace.version (0 + length t.names.shared) r.end.said.trace.operations r.end.said.trace.order refl (omega (arith, good.shared_named)) ops order)
 
 -- a trace is a run
 whole : (t : NamedTrace) → IsTrace t → IsWhole t

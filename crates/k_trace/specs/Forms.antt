@@ -1,11 +1,14 @@
 -- The forms of an operation. Its words begin with the verb.
-use Rattle.std.specs.Prelude.{ℕ, ◌^◌, ◌==◌, ◌&&◌, Bool, true, List, length, Result, Ok, Err, if◌then◌else◌, codes}
+use Rattle.std.specs.Prelude.{ℕ, ◌^◌, ◌==◌, ◌&&◌, ◌||◌, not, nat_lt, Bool, true, List, length, Result, Ok, Err, if◌then◌else◌, codes}
 use Rattle.std.specs.Str.{bytes_eq}
 use Rattle.k_types.specs.declared.names.Reg.{Reg}
 use Rattle.k_types.specs.declared.names.TypeId.{TypeId}
+use Rattle.k_types.specs.declared.names.LimitId.{LimitId}
+use Rattle.k_types.specs.declared.names.Pid.{Pid}
 use Rattle.k_types.specs.declared.names.SharedId.{SharedId}
+use Rattle.k_types.specs.Bounds.{maximum_below}
 use Rattle.k_types.specs.declared.op.Op.{Op}
-use Rattle.k_types.specs.declared.op.Op.TheVariants.{New, KNew, SNew, Store, Load, Move, Clear, Dir, Put, Get, Collect, KCollect, Share, Freeze, Attach, Exit}
+use Rattle.k_types.specs.declared.op.Op.TheVariants.{New, KNew, SNew, Store, Load, Move, Clear, Dir, Put, Get, Collect, KCollect, Share, Freeze, Attach, Exit, Kill, Resize}
 use Rattle.k_words.specs.Words.{Text, word_at}
 use Rattle.k_words.specs.Numbers.{is_below, value, is_register, register}
 use Rattle.k_words.specs.Names.{declares, number_of}
@@ -25,6 +28,14 @@ type_of names w = record { 0 = number_of names.types w }
 -- the shared heap of that name
 abbrev pub shared_of : DeclaredNames → Text → SharedId
 shared_of names w = record { 0 = number_of names.shared w }
+
+-- the process of that name
+abbrev pub proc_of : DeclaredNames → Text → Pid
+proc_of names w = record { 0 = number_of names.procs w }
+
+-- the limit of that name
+abbrev pub limit_of : DeclaredNames → Text → LimitId
+limit_of names w = record { 0 = number_of names.limits w }
 
 -- an operation of so many words, whose numbers and registers are in range and whose names are declared
 abbrev pub form : List Text → ℕ → Bool → Bool → Op → Result Op Reason
@@ -104,6 +115,22 @@ bare_form ws op = form ws 1 true true op
 abbrev pub has_verb : List Text → Text → Bool
 has_verb ws verb = bytes_eq (word_at ws 0) verb
 
+-- `kill` and a process
+unfoldable pub kill_form : DeclaredNames → List Text → Result Op Reason
+kill_form names ws = form ws 2 true (declares names.procs (word_at ws 1)) (Kill (proc_of names (word_at ws 1)))
+
+-- `resize`, a limit and a maximum
+unfoldable pub resize_form : DeclaredNames → List Text → Result Op Reason
+resize_form names ws =
+    form ws 3 (is_below maximum_below (word_at ws 2)) (declares names.limits (word_at ws 1)) (Resize (limit_of names (word_at ws 1)) (value (word_at ws 2)))
+
+-- the operations on other processes and on limits
+unfoldable pub governing_op : DeclaredNames → List Text → Result Op Reason
+governing_op names ws =
+    if has_verb ws (codes "kill") then kill_form names ws
+    else if has_verb ws (codes "resize") then resize_form names ws
+    else Err NoForm
+
 -- the operations on shared heaps
 unfoldable pub sharing_op : DeclaredNames → List Text → Result Op Reason
 sharing_op names ws =
@@ -111,7 +138,7 @@ sharing_op names ws =
     else if has_verb ws (codes "share") then share_form names ws
     else if has_verb ws (codes "freeze") then freeze_form names ws
     else if has_verb ws (codes "attach") then attach_form names ws
-    else Err NoForm
+    else governing_op names ws
 
 -- the operations of collections and of the end
 unfoldable pub bare_op : DeclaredNames → List Text → Result Op Reason
@@ -140,3 +167,11 @@ op_of names ws =
     else if has_verb ws (codes "store") then store_form ws
     else if has_verb ws (codes "load") then load_form ws
     else register_op names ws
+
+-- the words do not begin with the verb of an operation that the version doesn't have
+abbrev pub has_operation : ℕ → List Text → Bool
+has_operation version ws = not (has_verb ws (codes "kill") || has_verb ws (codes "resize")) || nat_lt 1 version
+
+-- the operation that the words are in a trace of that version, or the lowest reason why they are none
+unfoldable pub op_in : ℕ → DeclaredNames → List Text → Result Op Reason
+op_in version names ws = demands NoForm (has_operation version ws) (op_of names ws)

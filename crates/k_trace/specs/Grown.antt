@@ -29,6 +29,10 @@ fits_by (Some full) = false
 abbrev pub fits : List LimitRow → ℕ → ℕ → Bool
 fits rows m n = fits_by (full_limit (bare_trace rows) (opening (bare_trace rows)) m n)
 
+-- the trace of that version
+abbrev pub with_version : NamedTrace → ℕ → NamedTrace
+with_version t version = record t { trace = record t.trace { version = version } }
+
 -- the trace with the kernel's ceiling and the fields of its directory
 abbrev pub with_kernel : NamedTrace → ℕ → ℕ → NamedTrace
 with_kernel t ceiling dir_fields = record t { trace = record t.trace { ceiling = ceiling; dir_fields = dir_fields } }

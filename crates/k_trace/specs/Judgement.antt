@@ -16,8 +16,8 @@ use Rattle.k_trace.specs.declared.place.Place.TheVariants.{Version, Kernel, Type
 use Rattle.k_trace.specs.Named.{NamedTrace}
 use Rattle.k_trace.specs.Reasons.{reason_number}
 use Rattle.k_trace.specs.Demands.{demands}
-use Rattle.k_trace.specs.Forms.{op_of}
-use Rattle.k_trace.specs.Grown.{blank, fits, with_kernel, with_type, with_limit, with_proc, with_shared, with_op, has_exit}
+use Rattle.k_trace.specs.Forms.{op_in}
+use Rattle.k_trace.specs.Grown.{blank, fits, with_version, with_kernel, with_type, with_limit, with_proc, with_shared, with_op, has_exit}
 use Rattle.k_trace.specs.declared.reasons.Reason.{Reason}
 use Rattle.k_trace.specs.declared.reasons.Reason.TheVariants.{TooManyBytes, LongLine, Unprintable, NoForm, NoNumber, NoName, NameTaken, Undeclared, TooMany, NoRoom, AfterExit, CutOff}
 
@@ -42,9 +42,18 @@ leads place said = Ok (record { place = place; said = said })
 abbrev pub begins : List Text → ℕ → Text → Bool
 begins ws count keyword = (length ws == count) && bytes_eq (word_at ws 0) keyword
 
+-- the word is a version
+abbrev pub is_version : Text → Bool
+is_version w = bytes_eq w (codes "1") || bytes_eq w (codes "2")
+
+-- the version that the word is
+abbrev pub version_of : Text → ℕ
+version_of w = if bytes_eq w (codes "1") then 1 else 2
+
 -- the first line
 unfoldable pub version_line : NamedTrace → List Text → Judged
-version_line t ws = demands NoForm (begins ws 2 (codes "kaffe") && bytes_eq (word_at ws 1) (codes "1")) (leads Kernel t)
+version_line t ws =
+    demands NoForm (begins ws 2 (codes "kaffe") && is_version (word_at ws 1)) (leads Kernel (with_version t (version_of (word_at ws 1))))
 
 -- the line of the kernel's ceiling and of how many fields its directory has
 unfoldable pub kernel_line : NamedTrace → List Text → Judged
@@ -132,7 +141,7 @@ process_line_of t name (Ok op) = process_line t name op
 
 -- the line of an operation
 unfoldable pub operation_line : NamedTrace → List Text → Judged
-operation_line t ws = process_line_of t (word_at ws 0) (op_of t.names (drop 1 ws))
+operation_line t ws = process_line_of t (word_at ws 0) (op_in t.trace.version t.names (drop 1 ws))
 
 -- after the last process or shared heap
 unfoldable pub later_line : NamedTrace → List Text → Judged

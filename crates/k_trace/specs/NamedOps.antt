@@ -1,10 +1,10 @@
 -- What an operation names.
 use Rattle.std.specs.Prelude.{◌<◌, length}
 use Rattle.k_types.specs.declared.op.Op.{Op}
-use Rattle.k_types.specs.declared.op.Op.TheVariants.{New, KNew, SNew, Store, Load, Move, Clear, Dir, Put, Get, Collect, KCollect, Share, Freeze, Attach, Exit}
+use Rattle.k_types.specs.declared.op.Op.TheVariants.{New, KNew, SNew, Store, Load, Move, Clear, Dir, Put, Get, Collect, KCollect, Share, Freeze, Attach, Exit, Kill, Resize}
 use Rattle.k_trace.specs.Named.{DeclaredNames}
 
--- The types and shared heaps of the operation have names.
+-- What the operation names has a name.
 abbrev pub IsNamedOp : DeclaredNames → Op → Type 0
 IsNamedOp names (New r ty) = ty.0 < length names.types
 IsNamedOp names (KNew r ty) = ty.0 < length names.types
@@ -22,3 +22,5 @@ IsNamedOp names (Share s) = s.0 < length names.shared
 IsNamedOp names (Freeze s root) = s.0 < length names.shared
 IsNamedOp names (Attach r s) = s.0 < length names.shared
 IsNamedOp names Exit = Unit {0}
+IsNamedOp names (Kill q) = q.0 < length names.procs
+IsNamedOp names (Resize m max) = m.0 < length names.limits

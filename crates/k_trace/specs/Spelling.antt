@@ -5,11 +5,11 @@ use Rattle.k_types.specs.declared.names.Field.TheVariants.{Ref, Int}
 use Rattle.k_types.specs.declared.names.LimitId.{LimitId}
 use Rattle.k_types.specs.declared.setup.LimitRow.{LimitRow}
 use Rattle.k_types.specs.declared.op.Op.{Op}
-use Rattle.k_types.specs.declared.op.Op.TheVariants.{New, KNew, SNew, Store, Load, Move, Clear, Dir, Put, Get, Collect, KCollect, Share, Freeze, Attach, Exit}
+use Rattle.k_types.specs.declared.op.Op.TheVariants.{New, KNew, SNew, Store, Load, Move, Clear, Dir, Put, Get, Collect, KCollect, Share, Freeze, Attach, Exit, Kill, Resize}
 use Rattle.k_types.specs.Trace.{operations_of}
 use Rattle.k_words.specs.Words.{Text, word_at, text_of}
 use Rattle.k_words.specs.Numbers.{register_word}
-use Rattle.k_trace.specs.Named.{DeclaredNames, NamedTrace, type_name, limit_name, shared_name}
+use Rattle.k_trace.specs.Named.{DeclaredNames, NamedTrace, type_name, limit_name, proc_name, shared_name}
 
 -- the word of a field's kind
 abbrev pub field_word : Field → Text
@@ -61,6 +61,8 @@ op_words names (Share s) = codes "share" ∷ shared_name names s ∷ []
 op_words names (Freeze s root) = codes "freeze" ∷ shared_name names s ∷ register_word root.0 ∷ []
 op_words names (Attach r s) = codes "attach" ∷ register_word r.0 ∷ shared_name names s ∷ []
 op_words names Exit = codes "exit" ∷ []
+op_words names (Kill q) = codes "kill" ∷ proc_name names q ∷ []
+op_words names (Resize m max) = codes "resize" ∷ limit_name names m ∷ decimal max ∷ []
 
 -- the words of a process's operation
 abbrev pub line_words : DeclaredNames → ℕ → Op → List Text
@@ -84,7 +86,7 @@ operation_lines names operations (p ∷ order) =
 -- the words of the lines before the operations
 abbrev pub header_words : NamedTrace → List (List Text)
 header_words t =
-    (codes "kaffe" ∷ codes "1" ∷ [])
+    (codes "kaffe" ∷ decimal t.trace.version ∷ [])
     ∷ (codes "kernel" ∷ decimal t.trace.ceiling ∷ decimal t.trace.dir_fields ∷ [])
     ∷ declarations type_words t.names.types t.trace.types
     ++ declarations (limit_words t.names) t.names.limits t.trace.limits

@@ -1,11 +1,12 @@
 //! The operation that the words of a line are, or why they are none.
 ghost use Rattle.std.specs.Prelude.{◌≡◌};
 ghost use Rattle.k_words.specs.Words.{words_of};
-ghost use Rattle.k_trace.specs.Forms.{new_form, knew_form, snew_form, store_form, load_form, move_form, drop_form, dir_form, put_form, get_form, share_form, freeze_form, attach_form, bare_form, sharing_op, bare_op, register_op, op_of};
+ghost use Rattle.k_trace.specs.Forms.{new_form, knew_form, snew_form, store_form, load_form, move_form, drop_form, dir_form, put_form, get_form, share_form, freeze_form, attach_form, kill_form, resize_form, bare_form, governing_op, sharing_op, bare_op, register_op, op_of, op_in};
 
 use crate::names::Names;
 use crate::reasons::Reason;
-use k_types::{Op, Reg};
+use crate::version::may_govern;
+use k_types::{MAXIMUM_BELOW, Op, Reg};
 use k_words::{is, number, register, word, word_count};
 
 #[tactic(auto, unfolding(crate::specs::Forms::new_form, crate::specs::Demands::demands))]
@@ -251,6 +252,35 @@ fn attach_form(names: &Names, line: &[u8]) -> Result<Op, Reason>
     })
 }
 
+#[tactic(auto, unfolding(crate::specs::Forms::kill_form, crate::specs::Demands::demands))]
+fn kill_form(names: &Names, line: &[u8]) -> Result<Op, Reason>
+    ensures { result ≡ kill_form names.now (words_of line.now) }
+{
+    if word_count(line) != 2 {
+        return Err(Reason::NoForm);
+    }
+    let Some(target) = names.proc_named(word(line, 1)) else {
+        return Err(Reason::Undeclared);
+    };
+    Ok(Op::Kill { target })
+}
+
+#[tactic(auto, unfolding(crate::specs::Forms::resize_form, crate::specs::Demands::demands))]
+fn resize_form(names: &Names, line: &[u8]) -> Result<Op, Reason>
+    ensures { result ≡ resize_form names.now (words_of line.now) }
+{
+    if word_count(line) != 3 {
+        return Err(Reason::NoForm);
+    }
+    let Some(max) = number(word(line, 2), MAXIMUM_BELOW as u128) else {
+        return Err(Reason::NoNumber);
+    };
+    let Some(limit) = names.limit_named(word(line, 1)) else {
+        return Err(Reason::Undeclared);
+    };
+    Ok(Op::Resize { limit, max })
+}
+
 #[tactic(auto, unfolding(crate::specs::Demands::demands))]
 fn bare_form(line: &[u8], op: Op) -> Result<Op, Reason>
     ensures { result ≡ bare_form (words_of line.now) op }
@@ -259,6 +289,20 @@ fn bare_form(line: &[u8], op: Op) -> Result<Op, Reason>
         return Err(Reason::NoForm);
     }
     Ok(op)
+}
+
+#[tactic(auto, unfolding(crate::specs::Forms::governing_op, crate::specs::Demands::demands))]
+fn governing_op(names: &Names, line: &[u8]) -> Result<Op, Reason>
+    ensures { result ≡ governing_op names.now (words_of line.now) }
+{
+    let verb = word(line, 0);
+    if is(verb, b"kill") {
+        return kill_form(names, line);
+    }
+    if is(verb, b"resize") {
+        return resize_form(names, line);
+    }
+    Err(Reason::NoForm)
 }
 
 #[tactic(auto, unfolding(crate::specs::Forms::sharing_op, crate::specs::Demands::demands))]
@@ -278,7 +322,7 @@ fn sharing_op(names: &Names, line: &[u8]) -> Result<Op, Reason>
     if is(verb, b"attach") {
         return attach_form(names, line);
     }
-    Err(Reason::NoForm)
+    governing_op(names, line)
 }
 
 #[tactic(auto, unfolding(crate::specs::Forms::bare_op, crate::specs::Demands::demands))]
@@ -341,4 +385,18 @@ pub fn read_op(names: &Names, line: &[u8]) -> Result<Op, Reason>
         return load_form(line);
     }
     register_op(names, line)
+}
+
+/// The operation of a line that begins with the verb, in a trace of that version and over these
+/// names; or the lowest reason why it is none.
+#[tactic(auto, unfolding(crate::specs::Forms::op_in, crate::specs::Demands::demands))]
+pub(crate) fn read_op_in(version: u32, names: &Names, line: &[u8]) -> Result<Op, Reason>
+    ensures { result ≡ op_in version names.now (words_of line.now) }
+{
+    let verb = word(line, 0);
+    let governs = is(verb, b"kill") || is(verb, b"resize");
+    if governs && !may_govern(version) {
+        return Err(Reason::NoForm);
+    }
+    read_op(names, line)
 }

@@ -18,6 +18,7 @@ mod reasons;
 mod rooms;
 mod spelling;
 mod trace;
+mod version;
 
 pub use errors::TraceError;
 pub use forms::read_op;
@@ -27,3 +28,4 @@ pub use reading::read_trace;
 pub use reasons::Reason;
 pub use spelling::{push_op, push_register};
 pub use trace::Trace;
+pub use version::{FIRST_VERSION, SECOND_VERSION};

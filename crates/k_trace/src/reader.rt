@@ -9,13 +9,14 @@ ghost use Rattle.k_trace.specs.Outcome.{AreReserved, IsJudged, Finishes};
 ghost use Rattle.k_words.specs.Names.{declares, is_name};
 
 use crate::errors::LineError;
-use crate::forms::read_op;
+use crate::forms::read_op_in;
 use crate::names::Names;
 use crate::operations::Operations;
 use crate::place::Place;
 use crate::reasons::Reason;
 use crate::rooms::has_room;
 use crate::trace::Trace;
+use crate::version::{FIRST_VERSION, is_version, version_of};
 use k_io::{NoMemory, push};
 use k_types::{
     Field, LimitId, LimitRow, MAXIMUM_BELOW, MOST_LIMITS, MOST_LINE_BYTES, MOST_OPERATIONS,
@@ -27,13 +28,11 @@ use k_words::{
 use std::alloc::Global;
 use std::marker::Model;
 
-/// The version that the first line of a trace names.
-const VERSION: u32 = 1;
-
 /// What the lines so far say.
 #[derive(Drop)]
 pub struct Reader {
     place: Place,
+    version: u32,
     ceiling: u64,
     dir_fields: u32,
     types: Vec<Vec<Field>>,
@@ -55,7 +54,7 @@ impl Model for Reader {
       said = record {
         names = r.names;
         trace = record {
-          version = 1;
+          version = r.version;
           ceiling = r.ceiling;
           dir_fields = r.dir_fields;
           types = map (λ row. row.items) r.types.items;
@@ -115,6 +114,7 @@ impl Reader {
     {
         Reader {
             place: Place::Version,
+            version: FIRST_VERSION,
             ceiling: 0,
             dir_fields: 0,
             types: Vec::new(alloc),
@@ -129,9 +129,11 @@ impl Reader {
     fn version_line(&mut self, line: &[u8]) -> Result<(), LineError>
         ensures { IsJudged result self.new (version_line self.old.said (words_of line.now)) }
     {
-        if word_count(line) != 2 || !is(word(line, 0), b"kaffe") || !is(word(line, 1), b"1") {
+        let version = word(line, 1);
+        if word_count(line) != 2 || !is(word(line, 0), b"kaffe") || !is_version(version) {
             return Err(LineError::Bad(Reason::NoForm));
         }
+        self.version = version_of(version);
         self.place = Place::Kernel;
         Ok(())
     }
@@ -339,7 +341,7 @@ impl Reader {
         let Some(rest) = after_word(line) else {
             return Err(LineError::Bad(Reason::NoForm));
         };
-        match read_op(&self.names, rest) {
+        match read_op_in(self.version, &self.names, rest) {
             Ok(op) => self.process_line(word(line, 0), op),
             Err(reason) => Err(LineError::Bad(reason)),
         }
@@ -445,7 +447,7 @@ impl Reader {
         let (ops, order) = self.operations.into_parts();
         Ok(Trace {
             setup: Setup {
-                version: VERSION,
+                version: self.version,
                 ceiling: self.ceiling,
                 dir_fields: self.dir_fields,
                 types,

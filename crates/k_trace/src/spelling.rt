@@ -97,5 +97,10 @@ pub fn push_op(line: &mut LineBuffer, names: &Names, op: &Op)
         }
         Op::Attach { reg, shared } => push_made(line, b"attach", reg, names.shared_name(shared)),
         Op::Exit => line.push_word(b"exit"),
+        Op::Kill { target } => line.push_words(b"kill", names.proc_name(target)),
+        Op::Resize { limit, max } => {
+            line.push_words(b"resize", names.limit_name(limit));
+            line.push_number(max);
+        }
     }
 }

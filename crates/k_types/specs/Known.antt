@@ -4,7 +4,7 @@ use Rattle.k_types.specs.declared.names.Name.{Name}
 use Rattle.k_types.specs.declared.names.Phase.{Phase}
 use Rattle.k_types.specs.declared.names.Phase.TheVariants.{Unmade, Populating, Frozen, Absorbed}
 use Rattle.k_types.specs.declared.event.Fault.{Fault}
-use Rattle.k_types.specs.declared.event.Fault.TheVariants.{Null, Foreign, NotSharer, NoField, WrongKind, Frozen as FrozenFault, Segv, NotPopulating, NotFrozen, Taken, LimitFull, KernelFull}
+use Rattle.k_types.specs.declared.event.Fault.TheVariants.{Null, Foreign, NotSharer, NoField, WrongKind, Frozen as FrozenFault, Segv, NotPopulating, NotFrozen, Taken, LimitFull, KernelFull, ProcNotBelow, LimitNotBelow, InUse}
 use Rattle.k_types.specs.declared.event.Reply.{Reply}
 use Rattle.k_types.specs.declared.event.Reply.TheVariants.{Done as DoneReply, Made, Loaded, Value, Refused}
 use Rattle.k_types.specs.declared.event.Event.{Event}
@@ -16,7 +16,7 @@ use Rattle.k_types.specs.Steps.{in_range}
 abbrev pub IsKnownName : Trace → Name → Type 0
 IsKnownName trace n = n.seg.0 < segment_count trace
 
--- the heap or limit that the fault names is one of the trace's
+-- the heap, limit or process that the fault names is one of the trace's
 abbrev pub IsKnownFault : Trace → Fault → Type 0
 IsKnownFault trace Null = Unit {0}
 IsKnownFault trace Foreign = Unit {0}
@@ -30,6 +30,9 @@ IsKnownFault trace (NotFrozen s) = s.0 < trace.shared_heaps
 IsKnownFault trace (Taken s) = s.0 < trace.shared_heaps
 IsKnownFault trace (LimitFull m) = m.0 < length trace.limits
 IsKnownFault trace KernelFull = Unit {0}
+IsKnownFault trace (ProcNotBelow q) = q.0 < process_count trace
+IsKnownFault trace (LimitNotBelow m) = m.0 < length trace.limits
+IsKnownFault trace (InUse m) = m.0 < length trace.limits
 
 -- what the reply names is the trace's
 abbrev pub IsKnownReply : Trace → Reply → Type 0

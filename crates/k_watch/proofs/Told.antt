@@ -1,5 +1,5 @@
 -- The numbers of a book that agrees with its journal are the machine's.
-use Rattle.std.proofs.Common.{◌≡◌, ◌<◌, ◌+◌, ℕ, refl, sym, ap, ◌∙◌, List, [], ◌∷◌, ◌++◌, length, if◌then◌else◌, Bool, true, false, not, suc, arith}
+use Rattle.std.proofs.Common.{◌≡◌, ◌<◌, ◌+◌, ℕ, refl, sym, ap, ◌∙◌, List, [], ◌∷◌, ◌++◌, length, if◌then◌else◌, Bool, true, false, not, suc, arith, replicate}
 use Rattle.std.proofs.lemmas.Bool.{false≢true}
 use Rattle.k_base.proofs.Lists.{numbers_push}
 use Rattle.k_base.proofs.Sums.{total_push}
@@ -14,6 +14,7 @@ use Rattle.k_types.specs.Trace.{Trace, process_count}
 use Rattle.k_types.specs.TraceRules.{KeepsRules}
 use Rattle.k_agree.specs.Agreement.{BookShows}
 use Rattle.k_limits.specs.Limits.{use_at}
+use Rattle.k_base.proofs.Maxima.{length_in}
 use Rattle.k_book.specs.Books.{BookRecord, book_limits}
 use Rattle.k_book.specs.Machine.{IsBookOf}
 use Rattle.k_book.proofs.Telling.{tells, tells_limits}
@@ -75,4 +76,4 @@ has_ended true r is t = refl
 
 -- a book of a trace has a limit
 pub has_root : (trace : Trace) (b : BookRecord) → KeepsRules trace → IsBookOf trace b → 0 < length b.rows
-has_root trace b rules of_trace = let some = some_limit trace rules in let same = ap length of_trace.rows in omega (arith, some, same)
+has_root trace b rules of_trace = let some = some_limit trace rules in let same = ap length of_trace.rows ∙ length_in trace.limits (replicate (length trace.limits) 0) in omega (arith, some, same)

@@ -146,6 +146,44 @@ static void faults(void) {
     kaffe_free(h);
 }
 
+/* A guest kills what is below its limit, and resizes the limits there. */
+static void below(void) {
+    kaffe_host *h = opened(100, 1000);
+    STATUS(kaffe_kill_by(h, GUEST, PROCESSES), KAFFE_UNKNOWN);
+    STATUS(kaffe_resize(h, HOST, 3, 1), KAFFE_UNKNOWN);
+    STATUS(kaffe_resize(h, HOST, LOW, (uint64_t)1 << 40), KAFFE_UNKNOWN);
+    FAULT(kaffe_new(h, POOR, 0, NODE), KAFFE_DONE);
+    FAULT(kaffe_new(h, POOR, 0, NODE), KAFFE_DONE);
+    FAULT(kaffe_new(h, POOR, 0, NODE), named(KAFFE_LIMIT_FULL, LOW));
+    FAULT(kaffe_resize(h, POOR, LOW, 200), named(KAFFE_LIMIT_NOT_BELOW, LOW)); /* nobody resizes its own limit */
+    FAULT(kaffe_resize(h, HOST, ROOT, 200), named(KAFFE_LIMIT_NOT_BELOW, ROOT));
+    FAULT(kaffe_resize(h, GUEST, LOW, 79), named(KAFFE_IN_USE, LOW));
+    due("the most", kaffe_max(h, LOW), 90);
+    FAULT(kaffe_resize(h, GUEST, LOW, 120), KAFFE_DONE);
+    due("the most", kaffe_max(h, LOW), 120);
+    FAULT(kaffe_new(h, POOR, 0, NODE), KAFFE_DONE);
+    FAULT(kaffe_new(h, HOST, 0, NODE), KAFFE_DONE);
+    FAULT(kaffe_resize(h, HOST, ALL, 1961), named(KAFFE_LIMIT_FULL, ROOT)); /* hard: reserved from the root, which has 40 in use */
+    FAULT(kaffe_resize(h, HOST, ALL, 1960), KAFFE_DONE);
+    due("the use above", kaffe_use(h, ROOT), 2000);
+    FAULT(kaffe_resize(h, HOST, ALL, 120), KAFFE_DONE);
+    due("the use above", kaffe_use(h, ROOT), 160);
+    FAULT(kaffe_kill_by(h, GUEST, GUEST), named(KAFFE_PROC_NOT_BELOW, GUEST)); /* nor does anybody kill itself */
+    FAULT(kaffe_kill_by(h, GUEST, OTHER), named(KAFFE_PROC_NOT_BELOW, OTHER));
+    FAULT(kaffe_kill_by(h, POOR, HOST), named(KAFFE_PROC_NOT_BELOW, HOST));
+    due("whether it lives", (uint64_t)kaffe_lives(h, HOST), 1);
+    FAULT(kaffe_kill_by(h, GUEST, POOR), KAFFE_DONE);
+    due("whether it lives", (uint64_t)kaffe_lives(h, POOR), 0);
+    due("its charge", kaffe_charge(h, POOR), 0);
+    due("the use", kaffe_use(h, LOW), 0);
+    FAULT(kaffe_kill_by(h, GUEST, POOR), KAFFE_DONE); /* it has ended already */
+    STATUS(kaffe_kill_by(h, POOR, GUEST), KAFFE_ENDED);
+    FAULT(kaffe_kill_by(h, HOST, GUEST), KAFFE_DONE);
+    FAULT(kaffe_resize(h, HOST, ALL, 0), KAFFE_DONE);
+    FAULT(kaffe_new(h, OTHER, 0, NODE), named(KAFFE_LIMIT_FULL, ALL));
+    kaffe_free(h);
+}
+
 /* All room for events is used up. Nothing is half done: each call either has room for all its events, or changes nothing. */
 static void fulls(void) {
     kaffe_host *h = opened(100, 10);
@@ -197,6 +235,7 @@ int main(void) {
     openings();
     lacks();
     faults();
+    below();
     fulls();
     greatest();
     if (failures == 0) printf("each code that the functions can give was given where it is due\n");

@@ -11,13 +11,15 @@ import sys
 
 UNKNOWN, ENDED, NO_BODY, ORPHAN, NO_CALL = 1, 3, 6, 7, 8
 NOTHING, NAME, NUMBER, FREED = range(4)
-FAULTS = "Done Null Foreign NotSharer NoField WrongKind Frozen Segv NotPopulating NotFrozen Taken LimitFull KernelFull".split()
+FAULTS = ("Done Null Foreign NotSharer NoField WrongKind Frozen Segv NotPopulating NotFrozen Taken LimitFull KernelFull "
+          "ProcNotBelow LimitNotBelow InUse").split()
 FAULT = {name: number for number, name in enumerate(FAULTS)}
-(NEW, KNEW, SNEW, STORE, LOAD, MOVE, CLEAR, DIR, PUT, GET, SHARE, FREEZE, ATTACH) = range(13)
+(NEW, KNEW, SNEW, STORE, LOAD, MOVE, CLEAR, DIR, PUT, GET, SHARE, FREEZE, ATTACH, KILL_BY, RESIZE) = range(15)
 COLLECT, KCOLLECT, KILL, ABSORB = 16, 17, 18, 19
 LIVES, BYTES, CHARGE, USE, MAX, REGISTER, DONE, EVENTS, BODIES, KERNEL_BYTES, FIRST_ORPHAN = range(32, 43)
 KERNEL = ("kernel", 0)
 REGISTERS = 16
+MAXIMUM_BELOW = 1 << 40
 CALLS_OF_A_HOST = [200, 600, 2000]
 AIMED = 0.6
 
@@ -80,9 +82,18 @@ class Host:
             m = parent
 
     def fits(self, p, size):
-        for m in self.path(self.procs[p]):
+        self.fits_at(self.procs[p], size)
+
+    def fits_at(self, m, size):
+        for m in self.path(m):
             if self.use(m) + size > self.limits[m][2]:
                 raise Refused("LimitFull", m)
+
+    def is_below(self, m, top):
+        m = self.limits[m][0]
+        while m is not None and m != top:
+            m = self.limits[m][0]
+        return m == top
 
     # The parts of operations.
     def legal(self, source, target):
@@ -197,7 +208,26 @@ class Host:
         if q.call == DIR:
             regs[q.reg] = (0, 1)
             return answer(what=NAME, name=(0, 1))
+        if q.call == KILL_BY:
+            if not self.is_below(self.procs[q.at], self.procs[q.pid]):
+                raise Refused("ProcNotBelow", q.at)
+            if q.at not in self.ended:
+                self.kill(q.at)
+            return answer()
+        if q.call == RESIZE:
+            return self.resize(q)
         return self.operate_shared(q, regs)
+
+    def resize(self, q):
+        parent, hard, most = self.limits[q.at]
+        if not self.is_below(q.at, self.procs[q.pid]):
+            raise Refused("LimitNotBelow", q.at)
+        if hard and q.number > most:
+            self.fits_at(parent, q.number - most)
+        if self.use(q.at) > q.number:
+            raise Refused("InUse", q.at)
+        self.limits[q.at] = (parent, hard, q.number)
+        return answer()
 
     def store(self, q):
         name, owner = self.access(q.pid, q.base, q.at)
@@ -260,13 +290,17 @@ class Host:
         if q.pid >= len(self.procs):
             return False
         uses = {NEW: (1, 0), KNEW: (1, 0), SNEW: (1, 0), STORE: (1, 1), LOAD: (1, 1), MOVE: (1, 1), CLEAR: (1, 0), DIR: (1, 0)}
-        reg, base = {**uses, PUT: (0, 1), GET: (0, 1), SHARE: (0, 0), FREEZE: (1, 0), ATTACH: (1, 0)}[q.call]
+        reg, base = {**uses, PUT: (0, 1), GET: (0, 1), SHARE: (0, 0), FREEZE: (1, 0), ATTACH: (1, 0), KILL_BY: (0, 0), RESIZE: (0, 0)}[q.call]
         if (reg and q.reg >= REGISTERS) or (base and q.base >= REGISTERS):
             return False
         if q.call in (NEW, KNEW) and q.at >= len(self.types):
             return False
         if q.call == SNEW and q.to >= len(self.types):
             return False
+        if q.call == KILL_BY:
+            return q.at < len(self.procs)
+        if q.call == RESIZE:
+            return q.at < len(self.limits) and q.number < MAXIMUM_BELOW
         return q.call not in (SNEW, SHARE, FREEZE, ATTACH) or q.at < self.shared_count
 
     def serve_operation(self, q):
@@ -326,7 +360,7 @@ class Host:
         return answer(what=NUMBER, number=found[q.call]())
 
     def serve(self, q):
-        if q.call <= ATTACH:
+        if q.call <= RESIZE:
             return self.serve_operation(q)
         if COLLECT <= q.call <= ABSORB:
             return self.serve_whole(q)
@@ -349,17 +383,27 @@ class Request:
         return struct.pack("<4I4BIQ", self.call, self.pid, self.at, self.to, self.reg, self.base, 0, 0, 0, self.number)
 
 
+def reserves(limits, parent, most):
+    """Whether a hard limit of that maximum fits under the parent, before anything is allocated."""
+    try:
+        Host(0, 0, [], limits, [], 0, 0, 0).fits_at(parent, most)
+        return True
+    except Refused:
+        return False
+
+
 def declaration(rng, events):
     """A random declaration: its text, and the model of it."""
     types = [["ref", "ref", "int"], ["int"], ["ref"] * 3 + ["int"]][: rng.randint(1, 3)]
     procs_count, shared, directory = rng.randint(1, 4), rng.choice([0, 1, 2, 3, 3]), rng.randint(0, 4)
     limits, lines = [(None, True, rng.choice([400, 1500, 4000]))], []
     for number in range(rng.randint(0, 4)):
-        limits.append((rng.randrange(len(limits)), False, rng.choice([200, 600, 2000])))
+        parent, hard, most = rng.randrange(len(limits)), rng.random() < 0.3, rng.choice([200, 600, 2000])
+        limits.append((parent, hard and reserves(limits, parent, most), most))
     ceiling = 16 + 8 * directory + rng.choice([100, 600, 3000])
-    lines += ["kaffe 1", f"kernel {ceiling} {directory}"]
+    lines += [f"kaffe {rng.choice([1, 2])}", f"kernel {ceiling} {directory}"]
     lines += [f"type T{n} " + " ".join(kinds) for n, kinds in enumerate(types)]
-    lines += [f"limit m{n} {most}" if parent is None else f"limit m{n} m{parent} soft {most}"
+    lines += [f"limit m{n} {most}" if parent is None else f"limit m{n} m{parent} {'hard' if hard else 'soft'} {most}"
               for n, (parent, hard, most) in enumerate(limits)]
     procs = [rng.randrange(len(limits)) for _ in range(procs_count)]
     lines += [f"proc p{n} m{at}" for n, at in enumerate(procs)] + [f"shared s{n}" for n in range(shared)]
@@ -373,12 +417,12 @@ def some_call(rng, host):
     """A random request, which mostly names what is declared."""
     odd = rng.random() < 0.02
     call = rng.choices(
-        [NEW, KNEW, SNEW, STORE, LOAD, MOVE, CLEAR, DIR, PUT, GET, SHARE, FREEZE, ATTACH, COLLECT, KCOLLECT, KILL, ABSORB, None],
-        [60, 12, 25, 110, 70, 20, 15, 15, 30, 30, 6, 6, 14, 6, 4, 0.5, 2, 60])[0]
+        [NEW, KNEW, SNEW, STORE, LOAD, MOVE, CLEAR, DIR, PUT, GET, SHARE, FREEZE, ATTACH, KILL_BY, RESIZE, COLLECT, KCOLLECT, KILL, ABSORB, None],
+        [60, 12, 25, 110, 70, 20, 15, 15, 30, 30, 6, 6, 14, 1, 14, 6, 4, 0.5, 2, 60])[0]
     if call is None:
         call = rng.choice([c for c in range(LIVES, FIRST_ORPHAN + 1) if c != EVENTS])
     if odd and rng.random() < 0.2:
-        call = rng.choice([13, 14, 15, 20, 31, 43, 1 << 31])
+        call = rng.choice([15, 20, 31, 43, 1 << 31])
     pid = rng.randrange(len(host.procs) + odd)
     at = rng.randrange(4) if rng.random() < 0.9 else rng.choice([0, 5, 16, (1 << 32) - 1])
     if call in (NEW, KNEW):
@@ -387,7 +431,13 @@ def some_call(rng, host):
         at = rng.randrange(host.shared_count)
     to = rng.choice([host.of_type] * 30 + [0, 1, 3])
     reg, base = (rng.randrange(6) if not odd else rng.choice([15, 16, 255]) for _ in range(2))
-    return Request(call, pid, at, to, reg, base, rng.getrandbits(64))
+    number = rng.getrandbits(64)
+    if call == KILL_BY and not odd:
+        at = rng.randrange(len(host.procs))
+    if call == RESIZE and not odd:
+        at = rng.randrange(len(host.limits))
+        number = rng.choice([0, host.use(at), max(0, host.use(at) - 1), host.limits[at][2] + rng.randrange(200), rng.randrange(4000)])
+    return Request(call, pid, at, to, reg, base, number)
 
 
 def aimed(rng, host, q):
@@ -405,6 +455,9 @@ def aimed(rng, host, q):
     held = [(r, name) for r, name in enumerate(host.registers[q.pid]) if name is not None]
     if q.call == FREEZE:
         q.reg = rng.choice([r for r, name in held if host.owner(name) == ("shared", q.at)] or [q.reg])
+    below = [p for p in living if host.is_below(host.procs[p], host.procs[q.pid])]
+    if q.call == KILL_BY and below:
+        q.at = rng.choice(below)
     if q.call in (STORE, LOAD, MOVE, PUT, GET) and held:
         q.base, name = rng.choice(held)
         kind = "int" if q.call in (PUT, GET) else "ref"

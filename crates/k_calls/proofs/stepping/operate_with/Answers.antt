@@ -1,9 +1,9 @@
 use Rattle.std.proofs.Common.{[], ◌∷◌, ◌<◌, ◌∙◌, refl, sym, ap, subst, length, set, arith, inl, inr}
 use Rattle.std.proofs.lemmas.List.{set-get_or}
 use Rattle.k_process.proofs.Looped.{found_at}
-use Rattle.k_types.specs.declared.names.Heap.TheVariants.{Kernel, Shared}
+use Rattle.k_types.specs.declared.names.Heap.TheVariants.{Kernel, Shared, User}
 use Rattle.k_limits.proofs.Making.{handed_on}
-use Rattle.k_calls.specs.Refusals.{CanNotOperate}
+use Rattle.k_calls.specs.Refusals.{CanNotOperateAlone}
 use Rattle.k_guests.specs.Serving.{basis_of}
 use Rattle.k_calls.proofs.Operated.{alone_operated, can_shared, heap_there, inside_operated, kernel_operated, shared_operated, touched_before}
 use Rattle.k_calls.proofs.stepping.operate_with.Goals as goal
@@ -23,29 +23,29 @@ returns-then-exit_count-terms-clause-same c = (
 
 pub returns-in_err-ready-clause-why : goal.returns-in_err-ready-clause-why
 returns-in_err-ready-clause-why c =
-    handed_on (CanNotOperate (basis_of c.args.terms.now) c.args.kernel.now c.args.shared.now.items c.args.book.now c.args.op.now c.args.guest.now) c.from_residual.result c.in_err-ready.field-0.0 c.from_residual.ensures.1
-    (inl c.in_err-ready.ensures.why)
+    handed_on (CanNotOperateAlone (basis_of c.args.terms.now) c.args.kernel.now c.args.shared.now.items c.args.book.now c.args.op.now c.args.guest.now) c.from_residual.result c.in_err-ready.field-0.0 c.from_residual.ensures.1
+    (inl (inl c.in_err-ready.ensures.why))
 
 pub returns-in_err-room_left-clause-why : goal.returns-in_err-room_left-clause-why
 returns-in_err-room_left-clause-why c =
-    handed_on (CanNotOperate (basis_of c.args.terms.now) c.args.kernel.now c.args.shared.now.items c.args.book.now c.args.op.now c.args.guest.now) c.from_residual-in_err-room_left.result c.in_err-room_left.field-0.0 c.from_residual-in_err-room_left.ensures.1
-    (inr (inl c.in_err-room_left.ensures.why))
+    handed_on (CanNotOperateAlone (basis_of c.args.terms.now) c.args.kernel.now c.args.shared.now.items c.args.book.now c.args.op.now c.args.guest.now) c.from_residual-in_err-room_left.result c.in_err-room_left.field-0.0 c.from_residual-in_err-room_left.ensures.1
+    (inl (inr (inl c.in_err-room_left.ensures.why)))
 
 pub returns-in_err-kernel_ready-in-Kernel-clause-why : goal.returns-in_err-kernel_ready-in-Kernel-clause-why
 returns-in_err-kernel_ready-in-Kernel-clause-why c =
-    handed_on (CanNotOperate (basis_of c.args.terms.now) c.args.kernel.now c.args.shared.now.items c.args.book.now c.args.op.now c.args.guest.now) c.from_residual-in_err-kernel_ready-in-Kernel.result c.in_err-kernel_ready-in-Kernel.field-0.0 c.from_residual-in_err-kernel_ready-in-Kernel.ensures.1
-    (inr (inr (inl (record { touches = touched_before (basis_of c.args.terms.now) c.args.guest.now c.do_inside.new.guest c.args.book.now c.args.op.now c.in_default.ensures.none (Kernel ∷ []) (sym c.in-Kernel.ensures); barred = c.in_err-kernel_ready-in-Kernel.ensures.why }))))
+    handed_on (CanNotOperateAlone (basis_of c.args.terms.now) c.args.kernel.now c.args.shared.now.items c.args.book.now c.args.op.now c.args.guest.now) c.from_residual-in_err-kernel_ready-in-Kernel.result c.in_err-kernel_ready-in-Kernel.field-0.0 c.from_residual-in_err-kernel_ready-in-Kernel.ensures.1
+    (inl (inr (inr (inl (record { touches = touched_before (basis_of c.args.terms.now) c.args.guest.now c.do_inside.new.guest c.args.book.now c.args.op.now c.in_default.ensures.none (Kernel ∷ []) (sym c.in-Kernel.ensures); barred = c.in_err-kernel_ready-in-Kernel.ensures.why })))))
 
 pub returns-then-exit_count-terms-clause-why : goal.returns-then-exit_count-terms-clause-why
 returns-then-exit_count-terms-clause-why c =
-    inr (inr (inr (record {
+    inl (inr (inr (inr (record {
       id = c.in-Shared.id;
       heap = c.index_mut-heap.result.now;
       there = found_at c.args.shared.now.items (length c.args.shared.now.items) c.in-Shared.id.0 c.in-Shared.id.0 c.index_mut-heap.result.now c.index_mut-heap.result.now refl
           (heap_there (basis_of c.args.terms.now) c.args.guest.now c.args.kernel.now c.args.shared.now.items c.args.book.now c.args.op.now c.requires c.in_ok-ready.ensures.ok c.in_ok-room_left.ensures.ok c.do_inside.new.guest c.in_default.ensures.none c.in_default.ensures.outside c.in-Shared.id (sym c.in-Shared.ensures)) refl c.index_mut-heap.ensures.value refl;
       touches = touched_before (basis_of c.args.terms.now) c.args.guest.now c.do_inside.new.guest c.args.book.now c.args.op.now c.in_default.ensures.none (Shared c.in-Shared.id ∷ []) (sym c.in-Shared.ensures);
       barred = record { error_is = refl; fails = λ few. omega (arith, few, c.if-exit_count-terms.true, c.exit_count.ensures.len) };
-    })))
+    }))))
 
 pub do_with_shared-requires : goal.do_with_shared-requires
 do_with_shared-requires c =
@@ -75,3 +75,15 @@ pub returns-in_ok-kernel_ready-in-Kernel-clause-done : goal.returns-in_ok-kernel
 returns-in_ok-kernel_ready-in-Kernel-clause-done c =
     kernel_operated (basis_of c.args.terms.now) c.args.guest.now c.args.kernel.now c.args.shared.now.items c.args.book.now c.args.op.now c.requires c.in_ok-ready.ensures.ok c.in_ok-room_left.ensures.ok c.do_inside.new.guest c.in_default.ensures.none c.in_default.ensures.outside
     c.do_with_kernel.new.guest c.do_with_kernel.new.kernel c.do_with_kernel.new.book c.do_with_kernel.result (sym c.in-Kernel.ensures) c.do_with_kernel.ensures
+
+pub returns-in-End-clause-same : goal.returns-in-End-clause-same
+returns-in-End-clause-same c = (c.in_default.ensures.none, refl, refl, refl)
+
+pub returns-in-End-clause-why : goal.returns-in-End-clause-why
+returns-in-End-clause-why c =
+    inr (record {
+      target = c.in-End.field-0;
+      in_range = c.in_ok-ready.ensures.ok.in_range;
+      touches = touched_before (basis_of c.args.terms.now) c.args.guest.now c.do_inside.new.guest c.args.book.now c.args.op.now c.in_default.ensures.none (User c.in-End.field-0 ∷ Kernel ∷ []) (sym c.in-End.ensures);
+      error_is = refl;
+    })

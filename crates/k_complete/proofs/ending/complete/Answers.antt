@@ -1,38 +1,68 @@
-use Rattle.std.proofs.Common.{refl, sym, ◌∙◌, subst}
+use Rattle.std.proofs.Common.{refl, sym, ◌∙◌, subst, get_or, None}
+use Rattle.std.proofs.lemmas.Option.{slice_get-get_or}
 use Rattle.k_types.specs.Complete.{IsPrefixOf}
+use Rattle.k_process.specs.declared.process.Process.{Process}
+use Rattle.k_process.specs.Standing.{IsNextOf}
 use Rattle.k_operate.specs.Adding.{known_to}
-use Rattle.k_complete.proofs.EndKept.{completed, fewer_left}
 use Rattle.k_complete.proofs.Grown.{prefix_by, prefix_same, prefix_trans}
+use Rattle.k_complete.proofs.PlacedKept.{completed, fewer_at, kept_all, kept_on, only, read_there}
 use Rattle.k_complete.proofs.ending.complete.Goals as goal
 
 pub loop-op-init : goal.loop-op-init
-loop-op-init g c = record { process = c.requires.process; rest = c.requires.rest; pid = refl; grows = prefix_same (known_to c.args.process.now c.args.book.now) }
-
-pub do_next-requires : goal.do_next-requires
-do_next-requires g c = record { process = c.loop-op.invariant.process; rest = c.loop-op.invariant.rest; next = c.in-Some.ensures }
-
-pub loop-op-preserved : goal.loop-op-preserved
-loop-op-preserved g c = record {
-  process = c.do_next.ensures.done.process;
-  rest = c.do_next.ensures.done.rest;
-  pid = c.do_next.ensures.done.done.pid ∙ c.loop-op.invariant.pid;
-  grows = prefix_trans (known_to c.args.process.now c.args.book.now) (known_to c.loop-op.process c.loop-op.book) (known_to c.do_next.new.process c.do_next.new.book) c.loop-op.invariant.grows
-      (prefix_by (known_to c.loop-op.process c.loop-op.book) (known_to c.do_next.new.process c.do_next.new.book) _ c.do_next.ensures.events.new_is);
+loop-op-init g c = record {
+  stand = c.requires.stand;
+  count = refl;
+  others = kept_all g.world'.trace c.args.processes.now.items c.args.at;
+  grows = λ p q one two. subst (λ (x : Process). IsPrefixOf (known_to p c.args.book.now) (known_to x c.args.book.now)) (only (sym one ∙ two)) (prefix_same (known_to p c.args.book.now));
 }
 
+pub next-requires : goal.next-requires
+next-requires g c =
+    let there = read_there c.loop-op.processes.items c.args.processes.now.items c.args.at c.index.result.now c.loop-op.invariant.count c.requires.inside c.index.ensures in
+    c.loop-op.invariant.stand.processes.each c.args.at c.index.result.now there
+
+pub do_at-requires : goal.do_at-requires
+do_at-requires g c =
+    let there = read_there c.loop-op.processes.items c.args.processes.now.items c.args.at c.index.result.now c.loop-op.invariant.count c.requires.inside c.index.ensures in
+    (c.index.result.now, record { stand = c.loop-op.invariant.stand; there = there; next = c.in-Some.ensures })
+
+pub loop-op-preserved : goal.loop-op-preserved
+loop-op-preserved g c =
+    let there = read_there c.loop-op.processes.items c.args.processes.now.items c.args.at c.index.result.now c.loop-op.invariant.count c.requires.inside c.index.ensures in
+    let d = c.do_at.ensures c.index.result.now there in
+    record {
+      stand = d.stand;
+      count = d.stand.processes.count ∙ sym c.requires.stand.processes.count;
+      others = kept_on g.world'.trace c.args.at c.args.processes.now.items c.loop-op.processes.items c.do_at.new.processes.items c.loop-op.invariant.count c.loop-op.invariant.others d.others;
+      grows = λ p q one two.
+          prefix_trans (known_to p c.args.book.now) (known_to c.index.result.now c.loop-op.book) (known_to q c.do_at.new.book) (c.loop-op.invariant.grows p c.index.result.now one there)
+          (subst (λ (x : Process). IsPrefixOf (known_to c.index.result.now c.loop-op.book) (known_to x c.do_at.new.book)) (only (sym d.there ∙ two)) d.grows);
+    }
+
 pub loop-op-smaller : goal.loop-op-smaller
-loop-op-smaller g c = fewer_left g.world' c.in-Some.op c.loop-op.process.cell c.do_next.new.process.cell c.do_next.ensures.done.done
+loop-op-smaller g c =
+    let there = read_there c.loop-op.processes.items c.args.processes.now.items c.args.at c.index.result.now c.loop-op.invariant.count c.requires.inside c.index.ensures in
+    fewer_at g.world' c.loop-op.processes.items c.args.at c.index.result.now c.loop-op.kernel c.loop-op.shared.items c.loop-op.book c.in-Some.op (record { stand = c.loop-op.invariant.stand; there = there; next = c.in-Some.ensures })
+    c.do_at.new.processes.items c.do_at.new.kernel c.do_at.new.shared.items c.do_at.new.book (c.do_at.ensures c.index.result.now there)
 
 pub publish_all-requires : goal.publish_all-requires
-publish_all-requires g c = record { process = c.loop-op.invariant.process; book = c.loop-op.invariant.rest.book }
+publish_all-requires g c =
+    let there = read_there c.loop-op.processes.items c.args.processes.now.items c.args.at c.index_mut.result.now c.loop-op.invariant.count c.requires.inside c.index_mut.ensures.value in
+    record { process = c.loop-op.invariant.stand.processes.each c.args.at c.index_mut.result.now there; book = c.loop-op.invariant.stand.rest.book }
 
 pub returns-clause-done : goal.returns-clause-done
 returns-clause-done g c =
-    completed g.world' c.args.process.now c.loop-op.process c.publish_all.new.process c.loop-op.kernel c.loop-op.shared.items c.loop-op.book c.publish_all.new.book c.loop-op.invariant.process c.loop-op.invariant.rest c.loop-op.invariant.pid
-    c.in_default.ensures c.publish_all.ensures
+    let there = read_there c.loop-op.processes.items c.args.processes.now.items c.args.at c.index_mut.result.now c.loop-op.invariant.count c.requires.inside c.index_mut.ensures.value in
+    let asked = read_there c.loop-op.processes.items c.args.processes.now.items c.args.at c.index.result.now c.loop-op.invariant.count c.requires.inside c.index.ensures in
+    completed g.world' c.args.processes.now.items c.loop-op.processes.items c.args.at c.index_mut.result.now c.publish_all.new.process c.loop-op.kernel c.loop-op.shared.items c.loop-op.book c.publish_all.new.book
+    c.loop-op.invariant.stand there c.loop-op.invariant.count c.loop-op.invariant.others
+    (subst (λ (q : Process). IsNextOf g.world'.trace q.cell None) (only (sym asked ∙ there)) c.in_default.ensures) c.publish_all.ensures
 
 pub returns-clause-grows : goal.returns-clause-grows
 returns-clause-grows g c =
-    prefix_trans c.args.book.now.journal.list (known_to c.args.process.now c.args.book.now) c.publish_all.new.book.journal.list
-    (prefix_by c.args.book.now.journal.list (known_to c.args.process.now c.args.book.now) c.args.process.now.cell.value.tail refl)
-    (subst (IsPrefixOf (known_to c.args.process.now c.args.book.now)) (sym c.publish_all.ensures.journal) c.loop-op.invariant.grows)
+    let there = read_there c.loop-op.processes.items c.args.processes.now.items c.args.at c.index_mut.result.now c.loop-op.invariant.count c.requires.inside c.index_mut.ensures.value in
+    let first = get_or c.args.processes.now.items c.args.at c.index_mut.result.now in
+    let began = slice_get-get_or c.args.processes.now.items c.args.at c.index_mut.result.now c.requires.inside in
+    prefix_trans c.args.book.now.journal.list (known_to first c.args.book.now) c.publish_all.new.book.journal.list
+    (prefix_by c.args.book.now.journal.list (known_to first c.args.book.now) first.cell.value.tail refl)
+    (subst (IsPrefixOf (known_to first c.args.book.now)) (sym c.publish_all.ensures.journal) (c.loop-op.invariant.grows first c.index_mut.result.now began there))

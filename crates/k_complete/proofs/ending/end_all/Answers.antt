@@ -1,4 +1,4 @@
-use Rattle.std.proofs.Common.{sym, ap, subst}
+use Rattle.std.proofs.Common.{sym, subst}
 use Rattle.k_types.specs.Complete.{IsPrefixOf}
 use Rattle.k_book.specs.Books.{BookRecord}
 use Rattle.k_complete.proofs.EndKept.{all_closed, all_met}

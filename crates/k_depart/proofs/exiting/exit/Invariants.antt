@@ -6,5 +6,5 @@ ghost-meet_heap g a = g.trace
 abbrev pub ghost-meet_kernel : goal.ghost-meet_kernel
 ghost-meet_kernel g a = g.trace
 
-abbrev pub ghost-give_up : goal.ghost-give_up
-ghost-give_up g a = g.trace
+abbrev pub ghost-end_process : goal.ghost-end_process
+ghost-end_process g a = g.trace

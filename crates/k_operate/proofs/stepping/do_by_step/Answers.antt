@@ -2,6 +2,7 @@ use Rattle.std.proofs.Common.{◌<◌, ◌∙◌, refl, sym, subst, []}
 use Rattle.k_moves.specs.Shown.{idle_part}
 use Rattle.k_process.proofs.Looped.{found_at}
 use Rattle.k_operate.proofs.HeapsReached.{heap_reached}
+use Rattle.k_operate.proofs.Killed.{reaches_no_end}
 use Rattle.k_operate.proofs.NextKept.{can_kernel, can_reach_then, can_shared, due_then, next_alone, next_kernel, next_shared}
 use Rattle.k_operate.proofs.stepping.do_by_step.Goals as goal
 
@@ -27,6 +28,10 @@ do_with_shared-requires g c =
     (heap_reached g.world'.trace c.args.book.now c.requires.rest.book.stands c.args.process.now.cell.pid.0 c.in-Shared.id (idle_part c.args.process.now.cell.value) c.args.op.now
     (can_reach_then g.world' c.args.process.now c.args.kernel.now c.args.shared.now.items c.args.book.now c.args.op.now c.requires).in_range (sym c.in-Shared.ensures)) refl c.index_mut-heap.ensures.value refl)
     (sym c.in-Shared.ensures)
+
+pub unreachable-requires : goal.unreachable-requires
+unreachable-requires g c =
+    reaches_no_end g.world' c.args.process.now c.args.book.now c.args.op.now c.in-End.field-0 (record { process = c.requires.process; book = c.requires.rest.book }) c.requires.spares c.in-End.ensures
 
 pub returns-in-Own : goal.returns-in-Own
 returns-in-Own g c = record {

@@ -20,3 +20,9 @@ ghost-dir g a = g.before
 
 abbrev pub ghost-refuse : goal.ghost-refuse
 ghost-refuse g a = g.before
+
+abbrev pub ghost-spare : goal.ghost-spare
+ghost-spare g a = g.before
+
+abbrev pub ghost-resize : goal.ghost-resize
+ghost-resize g a = g.before

@@ -1,7 +1,7 @@
 use Rattle.std.proofs.Common.{subst}
 use Rattle.k_types.specs.declared.op.Op.{Op}
 use Rattle.k_steps.specs.Reaching.{CanReach}
-use Rattle.k_steps.proofs.Told.{get_through, load_through, put_through, store_through}
+use Rattle.k_steps.proofs.Told.{get_through, kill_reaches, load_through, put_through, store_through}
 use Rattle.k_steps.proofs.reaching.reach.Goals as goal
 
 pub reach_through-requires : goal.reach_through-requires
@@ -23,3 +23,8 @@ pub reach_through-requires-in-Get : goal.reach_through-requires-in-Get
 reach_through-requires-in-Get g c =
     get_through g.trace c.args.cell.now c.args.book.now c.in-Get.base c.in-Get.field
     (subst (λ (op : Op). CanReach g.trace c.args.cell.now c.args.book.now op) c.in-Get.is c.requires)
+
+pub reach_end-requires : goal.reach_end-requires
+reach_end-requires g c =
+    rw (c.pid.ensures)
+    (kill_reaches g.trace c.args.cell.now c.args.book.now c.in-Kill.target (subst (λ (op : Op). CanReach g.trace c.args.cell.now c.args.book.now op) c.in-Kill.is c.requires))

@@ -1,13 +1,15 @@
-use Rattle.std.proofs.Common.{sym, subst, []}
-use Rattle.k_types.specs.declared.names.Heap.TheVariants.{Kernel, Shared}
+use Rattle.std.proofs.Common.{sym, subst, [], ◌∷◌}
+use Rattle.k_types.specs.declared.names.Heap.TheVariants.{Kernel, Shared, User}
+use Rattle.k_types.specs.Agree.{book_shown_by}
 use Rattle.k_heap.specs.Heaps.{HeapRecord}
 use Rattle.k_steps.specs.declared.reached.Reach.{Reach}
-use Rattle.k_operate.specs.Collecting.{HasSameLeft}
+use Rattle.k_moves.specs.Shown.{idle_part}
+use Rattle.k_moves.proofs.Killing.{ends_by}
 use Rattle.k_operate.specs.Readiness.{IsOutside}
 use Rattle.k_operate.proofs.Since.{can_reach, due, next_since, ready_since}
 use Rattle.k_process.specs.Standing.{HasDone}
 use Rattle.k_run.specs.Running.{IsReadyFor}
-use Rattle.k_run.proofs.Stepped.{done_after, may_be_left, published_left, steps_stay}
+use Rattle.k_run.proofs.Stepped.{done_after, published_left, ready_beside}
 use Rattle.k_run.proofs.Shows.{operation_grows, published_grows}
 use Rattle.k_watch.proofs.ShownOn.{was_shown}
 use Rattle.k_complete.proofs.Grown.{prefix_trans}
@@ -28,27 +30,24 @@ returns-in-Own g c =
 
 pub returns-in-Kernel : goal.returns-in-Kernel
 returns-in-Kernel g c =
-    let before = subst (λ (x : HeapRecord). IsOutside g.W.WorldName.world.trace x c.args.op.now) (sym c.self.view_is) c.requires.outside in
-    let left = published_left g.W.WorldName.world c.self.inside.process c.publish_all.new.process c.book.inside.book c.publish_all.new.book c.publish_all.ensures in
-    subst (λ (r : Reach). IsReadyFor r g.W.WorldName.world c.args.op.now c.args.self.now c.publish_all.new.process.cell) (sym c.in-Kernel.is) (record {
-      ready = ready_since g.W.WorldName.world c.self.inside.process c.publish_all.new.process c.publish_all.new.book c.args.op.now c.publish_all.ensures before.next before.outside;
-      same = subst (λ (x : HeapRecord). HasSameLeft g.W.WorldName.world.trace x c.publish_all.new.process.cell) c.self.view_is left;
-      left = may_be_left g.W.WorldName.world c.publish_all.new.process c.publish_all.new.book c.args.op.now Kernel c.publish_all.ensures.pair
-          (next_since g.W.WorldName.world c.self.inside.process c.publish_all.new.process c.publish_all.new.book c.args.op.now c.publish_all.ensures before.next)
-          (steps_stay c.args.op.now c.requires.steps) c.in-Kernel.ensures;
-    })
+    subst (λ (r : Reach). IsReadyFor r g.W.WorldName.world c.args.op.now c.args.self.now c.publish_all.new.process.cell) (sym c.in-Kernel.is)
+    (ready_beside g.W.WorldName.world c.self.inside.process c.publish_all.new.process c.book.inside.book c.publish_all.new.book c.args.op.now c.args.self.now Kernel [] c.publish_all.ensures c.self.view_is
+    c.requires.outside c.requires.steps c.in-Kernel.ensures)
 
 pub returns-in-Shared : goal.returns-in-Shared
 returns-in-Shared g c =
-    let before = subst (λ (x : HeapRecord). IsOutside g.W.WorldName.world.trace x c.args.op.now) (sym c.self.view_is) c.requires.outside in
-    let left = published_left g.W.WorldName.world c.self.inside.process c.publish_all.new.process c.book.inside.book c.publish_all.new.book c.publish_all.ensures in
-    subst (λ (r : Reach). IsReadyFor r g.W.WorldName.world c.args.op.now c.args.self.now c.publish_all.new.process.cell) (sym c.in-Shared.is) (record {
-      ready = ready_since g.W.WorldName.world c.self.inside.process c.publish_all.new.process c.publish_all.new.book c.args.op.now c.publish_all.ensures before.next before.outside;
-      same = subst (λ (x : HeapRecord). HasSameLeft g.W.WorldName.world.trace x c.publish_all.new.process.cell) c.self.view_is left;
-      left = may_be_left g.W.WorldName.world c.publish_all.new.process c.publish_all.new.book c.args.op.now (Shared c.in-Shared.field-0) c.publish_all.ensures.pair
-          (next_since g.W.WorldName.world c.self.inside.process c.publish_all.new.process c.publish_all.new.book c.args.op.now c.publish_all.ensures before.next)
-          (steps_stay c.args.op.now c.requires.steps) c.in-Shared.ensures;
-    })
+    subst (λ (r : Reach). IsReadyFor r g.W.WorldName.world c.args.op.now c.args.self.now c.publish_all.new.process.cell) (sym c.in-Shared.is)
+    (ready_beside g.W.WorldName.world c.self.inside.process c.publish_all.new.process c.book.inside.book c.publish_all.new.book c.args.op.now c.args.self.now (Shared c.in-Shared.field-0) [] c.publish_all.ensures c.self.view_is
+    c.requires.outside c.requires.steps c.in-Shared.ensures)
+
+pub returns-in-End : goal.returns-in-End
+returns-in-End g c =
+    let t = g.W.WorldName.world.trace in
+    subst (λ (r : Reach). IsReadyFor r g.W.WorldName.world c.args.op.now c.args.self.now c.publish_all.new.process.cell) (sym c.in-End.is) (
+      ready_beside g.W.WorldName.world c.self.inside.process c.publish_all.new.process c.book.inside.book c.publish_all.new.book c.args.op.now c.args.self.now (User c.in-End.field-0) (Kernel ∷ []) c.publish_all.ensures c.self.view_is
+          c.requires.outside c.requires.steps c.in-End.ensures,
+      (ends_by t (book_shown_by c.publish_all.new.book.value) c.publish_all.new.process.cell.pid.0 c.in-End.field-0 (idle_part c.publish_all.new.process.cell.value) c.args.op.now (sym c.in-End.ensures)).0,
+    )
 
 pub do_alone-requires : goal.do_alone-requires
 do_alone-requires g c =
@@ -77,6 +76,15 @@ show-requires-in-Kernel g c = λ κs lives. (
 
 pub show-requires-in-Shared : goal.show-requires-in-Shared
 show-requires-in-Shared g c = λ κs lives. (
+  lives,
+  (
+    c.publish_all.ensures.pair.book.stands,
+    was_shown g.W.WorldName.watched g.W.WorldName.world.trace c.book.inside.book.journal.list c.publish_all.new.book.journal.list c.book.inside.pen c.book.invariant.1 (published_grows g.W.WorldName.world c.self.inside.process c.publish_all.new.process c.book.inside.book c.publish_all.new.book c.publish_all.ensures),
+  ),
+)
+
+pub show-requires-in-End : goal.show-requires-in-End
+show-requires-in-End g c = λ κs lives. (
   lives,
   (
     c.publish_all.ensures.pair.book.stands,

@@ -1,8 +1,8 @@
 use Rattle.std.proofs.Common.{ap, ◌∙◌, sym, subst, [], ◌∷◌, false, true}
-use Rattle.k_types.specs.declared.names.Heap.TheVariants.{Kernel, Shared}
+use Rattle.k_types.specs.declared.names.Heap.TheVariants.{Kernel, Shared, User}
 use Rattle.k_book.specs.Books.{BookRecord}
 use Rattle.k_run.specs.Running.{HasDoneBeside}
-use Rattle.k_run.proofs.Stepped.{none_reached, not_done, shared_not_kernel, was_done}
+use Rattle.k_run.proofs.Stepped.{none_reached, not_done, shared_not_kernel, two_reached, was_done}
 use Rattle.k_heap.specs.Heaps.{HeapRecord}
 use Rattle.k_operate.specs.Readiness.{IsReady}
 use Rattle.k_process.specs.Standing.{ComesNext}
@@ -40,6 +40,12 @@ returns-in-Kernel g c =
     subst (λ (b : BookRecord). HasDoneBeside g.W.WorldName.world.trace c.args.op.now Kernel c.args.self.now c.do_with_kernel.new.process.cell b true) c.book.view_is
     (subst (λ (x : HeapRecord). HasDoneBeside g.W.WorldName.world.trace c.args.op.now Kernel x c.do_with_kernel.new.process.cell c.book.inside.book true) c.self.view_is
     (was_done g.W.WorldName.world.trace c.args.op.now Kernel c.self.inside.process.cell c.book.inside.book c.do_with_kernel.new.process.cell c.do_with_kernel.ensures.done.own.done))
+
+pub returns-in-End : goal.returns-in-End
+returns-in-End g c =
+    subst (λ (b : BookRecord). HasDoneBeside g.W.WorldName.world.trace c.args.op.now (Kernel) c.args.self.now c.args.self.now b false) c.book.view_is
+    (subst (λ (x : HeapRecord). HasDoneBeside g.W.WorldName.world.trace c.args.op.now (Kernel) x x c.book.inside.book false) c.self.view_is
+    (not_done g.W.WorldName.world.trace c.args.op.now (Kernel) c.self.inside.process.cell c.book.inside.book (User c.in-End.field-0 ∷ Kernel ∷ []) c.in-End.ensures (two_reached (User c.in-End.field-0) Kernel (Kernel))))
 
 pub show-requires : goal.show-requires
 show-requires g c = λ κs lives. (

@@ -1,8 +1,8 @@
 use Rattle.std.proofs.Common.{ap, ◌∙◌, sym, subst, [], ◌∷◌, false}
-use Rattle.k_types.specs.declared.names.Heap.TheVariants.{Kernel, Shared}
+use Rattle.k_types.specs.declared.names.Heap.TheVariants.{Kernel, Shared, User}
 use Rattle.k_book.specs.Books.{BookRecord}
 use Rattle.k_run.specs.Running.{HasDoneBeside}
-use Rattle.k_run.proofs.Stepped.{kernel_not_shared, none_reached, not_done}
+use Rattle.k_run.proofs.Stepped.{kernel_not_shared, none_reached, not_done, two_reached}
 use Rattle.k_heap.specs.Heaps.{HeapRecord}
 use Rattle.k_process.specs.Standing.{ComesNext}
 use Rattle.k_operate.proofs.Since.{can_reach}
@@ -26,6 +26,12 @@ returns-in-Kernel g c =
     subst (λ (b : BookRecord). HasDoneBeside g.W.WorldName.world.trace c.args.op.now (Shared c.args.shared.now.id) c.args.self.now c.args.self.now b false) c.book.view_is
     (subst (λ (x : HeapRecord). HasDoneBeside g.W.WorldName.world.trace c.args.op.now (Shared c.args.shared.now.id) x x c.book.inside.book false) c.self.view_is
     (not_done g.W.WorldName.world.trace c.args.op.now (Shared c.args.shared.now.id) c.self.inside.process.cell c.book.inside.book (Kernel ∷ []) c.in-Kernel.ensures (kernel_not_shared c.args.shared.now.id)))
+
+pub returns-in-End : goal.returns-in-End
+returns-in-End g c =
+    subst (λ (b : BookRecord). HasDoneBeside g.W.WorldName.world.trace c.args.op.now (Shared c.args.shared.now.id) c.args.self.now c.args.self.now b false) c.book.view_is
+    (subst (λ (x : HeapRecord). HasDoneBeside g.W.WorldName.world.trace c.args.op.now (Shared c.args.shared.now.id) x x c.book.inside.book false) c.self.view_is
+    (not_done g.W.WorldName.world.trace c.args.op.now (Shared c.args.shared.now.id) c.self.inside.process.cell c.book.inside.book (User c.in-End.field-0 ∷ Kernel ∷ []) c.in-End.ensures (two_reached (User c.in-End.field-0) Kernel (Shared c.args.shared.now.id))))
 
 pub show-requires : goal.show-requires
 show-requires g c = λ κs lives. (

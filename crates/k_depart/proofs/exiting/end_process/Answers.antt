@@ -2,7 +2,6 @@ use Rattle.std.proofs.Common.{◌<◌, ◌≤◌, ◌+◌, ◌-◌, ◌^◌, ◌
 use Rattle.k_types.specs.declared.names.Name.{Name}
 use Rattle.k_types.specs.declared.names.Pid.{Pid}
 use Rattle.k_types.specs.Agree.{CellValue}
-use Rattle.k_types.specs.Cells.{ProcessPart}
 use Rattle.k_types.specs.Counted.{counted}
 use Rattle.k_types.specs.Names.{among, name_among}
 use Rattle.k_types.specs.Owners.{object_bytes}
@@ -11,16 +10,14 @@ use Rattle.k_types.specs.Totals.{total}
 use Rattle.k_agree.specs.Ending.{HasLeft}
 use Rattle.k_book.specs.Books.{BookRecord}
 use Rattle.k_cell.specs.Holdings.{HoldingsValue}
-use Rattle.k_commit.proofs.Fitting.{done_small}
-use Rattle.k_frame.specs.PartUpdates.{done_in}
 use Rattle.k_heap.specs.Heaps.{HeapRecord, holdings_of, own_segment}
 use Rattle.k_depart.specs.Charges.{bytes_shared, limit_in}
 use Rattle.k_depart.specs.Ending.{MarksEnded}
 use Rattle.k_depart.specs.Exits.{AreEntered, HasCut, into_segment}
 use Rattle.k_depart.specs.Segments.{CanGive}
 use Rattle.k_depart.proofs.GivenUp.{credited_book, drained_book, drained_heap, given_up, passed_kernel, same_process}
-use Rattle.k_depart.proofs.Leaver.{before, can_give, charge_fits, direct_small, exit_homed, heap_entered, home_there, kernel_entered, limit_there, lives_on_book, pinned, process_there, shares_known, sixteen, small}
-use Rattle.k_depart.proofs.exiting.give_up.Goals as goal
+use Rattle.k_depart.proofs.Leaver.{can_give, charge_fits, direct_small, exit_homed, heap_entered, home_there, kernel_entered, limit_there, lives_on_book, pinned, process_there, shares_known, sixteen, small}
+use Rattle.k_depart.proofs.exiting.end_process.Goals as goal
 
 pub overflow_add-seg : goal.overflow_add-seg
 overflow_add-seg g c =
@@ -142,12 +139,6 @@ mark_ended-requires-clause-lives g c =
     c.cut_exits.ensures.rest c.pass_exits.ensures.rest in
     subst (λ (p : Pid). IsFalse (among p.0 c.pass_exits.new.book.value.ended)) (sym same.0)
     (subst (λ (x : BookRecord). IsFalse (among c.args.cell.now.pid.0 x.value.ended)) (sym book) (lives_on_book g.trace c.args.cell.now c.args.kernel.now c.args.book.now c.requires))
-
-pub mark_ended-requires-clause-done : goal.mark_ended-requires-clause-done
-mark_ended-requires-clause-done g c =
-    let same = same_process c.args.cell.now c.pass_exits.new.cell c.give_heap.new.cell c.pass_exits.ensures.cell c.pass_exits.ensures.none c.give_heap.ensures.rest in
-    subst (λ (p : Option ProcessPart). done_in p < 2 ^ 32 - 1) (sym same.1)
-    (done_small (before g.trace c.args.cell.now c.args.kernel.now c.args.book.now c.requires) c.requires.have_met.own c.requires.room.events)
 
 pub returns : goal.returns
 returns g c =

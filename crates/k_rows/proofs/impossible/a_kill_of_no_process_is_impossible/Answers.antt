@@ -1,0 +1,5 @@
+use Rattle.k_rows.proofs.ImpossibleEvents.{a_kill_of_no_process_is_not}
+use Rattle.k_rows.proofs.impossible.a_kill_of_no_process_is_impossible.Goals as goal
+
+pub returns : goal.returns
+returns c = a_kill_of_no_process_is_not

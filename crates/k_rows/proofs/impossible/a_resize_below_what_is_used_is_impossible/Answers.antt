@@ -1,0 +1,5 @@
+use Rattle.k_rows.proofs.ImpossibleEvents.{a_resize_below_what_is_used_is_not}
+use Rattle.k_rows.proofs.impossible.a_resize_below_what_is_used_is_impossible.Goals as goal
+
+pub returns : goal.returns
+returns c = a_resize_below_what_is_used_is_not
