@@ -8,6 +8,7 @@ use crate::running::run_file;
 use crate::settling::answer_at_once;
 use crate::status::Status;
 use crate::watching::watch_file;
+use crate::working::work_file;
 use crate::workload::run_workload;
 use k_io::{Gate, Sink, Source};
 use std::alloc::Global;
@@ -46,6 +47,7 @@ pub fn kaffe<S: Source, K: Sink, G: Gate, R: Threads + Wait + Sync>(
         Some(Command::Run) => run_file(rt, alloc, src, out, gate),
         Some(Command::Big(objects)) => run_workload(rt, alloc, objects, out, gate),
         Some(Command::Watch(count)) => watch_file(rt, alloc, src, count, out, gate),
+        Some(Command::Work) => work_file(rt, alloc, src, out, gate),
         Some(Command::Replay) | Some(Command::Check) | None => {
             answer_at_once(alloc, words, src, out)
         }
