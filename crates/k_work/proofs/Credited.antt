@@ -35,11 +35,11 @@ credits_next trace history event =
 
 ends_from : (trace : Trace) (st : State) (who : Option ℕ) (events : List Event) → total (λ c. 1) (credits_from trace st who events) ≡ total ends_in events
 ends_from trace st who [] = refl
-ends_from trace st who (Done pid op reply ∷ events) = ends_from trace (step trace st (Done pid op reply)) (kernel_asker (Done pid op reply) who) events
+ends_from trace st who (Done pid op reply ∷ events) = omega (arith, ends_from trace (step trace st (Done pid op reply)) (kernel_asker (Done pid op reply) who) events)
 ends_from trace st who (Ended h objects bytes exits shares ∷ events) =
-    ap (λ n. 1 + n) (ends_from trace (step trace st (Ended h objects bytes exits shares)) who events)
-ends_from trace st who (Absorbed s ∷ events) = ends_from trace (step trace st (Absorbed s)) who events
-ends_from trace st who (Closing ∷ events) = ends_from trace (step trace st Closing) None events
+    omega (arith, ends_from trace (step trace st (Ended h objects bytes exits shares)) who events)
+ends_from trace st who (Absorbed s ∷ events) = omega (arith, ends_from trace (step trace st (Absorbed s)) who events)
+ends_from trace st who (Closing ∷ events) = omega (arith, ends_from trace (step trace st Closing) None events)
 
 -- there is a credit for each end of a collection
 pub ends_are_credited : (trace : Trace) (history : List Event) → total (λ c. 1) (credits trace history) ≡ total ends_in history

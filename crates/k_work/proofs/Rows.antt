@@ -1,5 +1,6 @@
 -- Rows and tables, one credit more, and their sums.
-use Rattle.std.proofs.Common.{◌≡◌, ◌≢◌, ℕ, zero, suc, ◌+◌, ◌<◌, ◌≤◌, ◌==◌, Bool, true, false, cond, refl, sym, ap, ap₂, ◌∙◌, subst, List, [], ◌∷◌, ◌++◌, Option, Some, None, map, set, get_or, length, arith, ne_eqb, eq-eqb}
+use Rattle.std.proofs.Common.{◌≡◌, ◌≢◌, ℕ, zero, suc, ◌+◌, ◌<◌, ◌≤◌, ◌==◌, Bool, true, false, cond, refl, sym, ap, ap₂, ◌∙◌, subst, List, [], ◌∷◌, ◌++◌, Option, Some, None, map, set, get_or, length, arith, ne_eqb, eq-eqb, append_assoc}
+use Rattle.std.proofs.Math.Path.{fun_ext}
 use Rattle.std.proofs.lemmas.List.{append-nil}
 use Rattle.std.specs.List.{AllByRecursion}
 use Rattle.k_types.specs.Numbers.{numbers_below}
@@ -15,35 +16,39 @@ use Rattle.k_work.proofs.Numbers.{at_below, set_below, total_mapped}
 abbrev row : ℕ → ℕ → WorkRow
 row n w = record { collections = n; work = w }
 
+abbrev table : List WorkRow → WorkRow → Work
+table procs closing = record { procs = procs; closing = closing }
+
 abbrev credit : Option ℕ → ℕ → Credit
 credit to work = record { to = to; work = work }
-
-same_row : {a b c d : ℕ} → a ≡ b → c ≡ d → row a c ≡ row b d
-same_row e f = ap₂ row e f
 
 -- another's row stays
 others_row : (cs : List Credit) (to who : Option ℕ) (work : ℕ) → is_same who to ≡ false → row_of (cs ++ credit to work ∷ []) who ≡ row_of cs who
 others_row cs to who work other =
-    same_row
-    (total_push (one_if_to who) cs (credit to work) ∙ ap (λ b. total (one_if_to who) cs + cond b 1 0) other ∙ omega arith)
-    (total_push (work_if_to who) cs (credit to work) ∙ ap (λ b. total (work_if_to who) cs + cond b work 0) other ∙ omega arith)
+    let none : one_if_to who (credit to work) ≡ 0 = ap (λ (b : Bool). cond b 1 0) other in
+    let nothing : work_if_to who (credit to work) ≡ 0 = ap (λ (b : Bool). cond b work 0) other in
+    let n : total (one_if_to who) (cs ++ credit to work ∷ []) ≡ total (one_if_to who) cs = omega (arith, total_push (one_if_to who) cs (credit to work), none) in
+    let w : total (work_if_to who) (cs ++ credit to work ∷ []) ≡ total (work_if_to who) cs = omega (arith, total_push (work_if_to who) cs (credit to work), nothing) in
+    ap₂ row n w
 
 -- theirs has one more
 their_row : (cs : List Credit) (to : Option ℕ) (work : ℕ) → is_same to to ≡ true → row_of (cs ++ credit to work ∷ []) to ≡ with_work work (row_of cs to)
 their_row cs to work same =
-    same_row
-    (total_push (one_if_to to) cs (credit to work) ∙ ap (λ b. total (one_if_to to) cs + cond b 1 0) same)
-    (total_push (work_if_to to) cs (credit to work) ∙ ap (λ b. total (work_if_to to) cs + cond b work 0) same)
+    let one : one_if_to to (credit to work) ≡ 1 = ap (λ (b : Bool). cond b 1 0) same in
+    let all : work_if_to to (credit to work) ≡ work = ap (λ (b : Bool). cond b work 0) same in
+    let n : total (one_if_to to) (cs ++ credit to work ∷ []) ≡ total (one_if_to to) cs + 1 = omega (arith, total_push (one_if_to to) cs (credit to work), one) in
+    let w : total (work_if_to to) (cs ++ credit to work ∷ []) ≡ total (work_if_to to) cs + work = omega (arith, total_push (work_if_to to) cs (credit to work), all) in
+    ap₂ row n w
 
 -- a table with one credit more
 table_next : (n : ℕ) (cs : List Credit) (to : Option ℕ) (work : ℕ) → IsAmong n to → with_credit to work (table_of n cs) ≡ table_of n (cs ++ credit to work ∷ [])
 table_next n cs None work among =
-    ap₂ (λ (ps : List WorkRow) (c : WorkRow). record { procs = ps; closing = c })
+    ap₂ table
     (ap (λ (f : ℕ → WorkRow). map f (numbers_below n)) (fun_ext (λ p. sym (others_row cs None (Some p) work refl))))
     (sym (their_row cs None work refl))
 table_next n cs (Some q) work among =
     let there : get_or (map (λ p. row_of cs (Some p)) (numbers_below n)) q (row 0 0) ≡ row_of cs (Some q) = at_below (λ p. row_of cs (Some p)) n q (row 0 0) among in
-    ap₂ (λ (ps : List WorkRow) (c : WorkRow). record { procs = ps; closing = c })
+    ap₂ table
     (sym (set_below (λ p. row_of (cs ++ credit (Some q) work ∷ []) (Some p)) (λ p. row_of cs (Some p)) n q
     (with_work work (get_or (map (λ p. row_of cs (Some p)) (numbers_below n)) q (row 0 0)))
     (their_row cs (Some q) work (eq-eqb q q refl) ∙ ap (with_work work) (sym there))
@@ -67,9 +72,11 @@ row_within n cs to among =
     is : (n : ℕ) (cs : List Credit) (to : Option ℕ) → IsAmong n to → row_for (table_of n cs) to ≡ row_of cs to
     is n cs None among = refl
     is n cs (Some p) among = at_below (λ p. row_of cs (Some p)) n p (row 0 0) among
+
     one_low : (b : Bool) → cond b 1 0 ≤ 1
     one_low true = omega arith
     one_low false = omega arith
+
     work_low : (w : ℕ) (b : Bool) → cond b w 0 ≤ w
     work_low w true = omega arith
     work_low w false = omega arith
@@ -80,14 +87,21 @@ abbrev given : (Credit → ℕ) → Option ℕ → Credit → ℕ
 given f to c = cond (is_same to c.to) (f c) 0
 
 one_given : (f : Credit → ℕ) (n : ℕ) (to : Option ℕ) (work : ℕ) → IsAmong n to → total (λ p. given f (Some p) (credit to work)) (numbers_below n) + given f None (credit to work) ≡ f (credit to work)
-one_given f n None work among = let none = zeros (numbers_below n) in omega (arith, none)
-one_given f n (Some q) work among = let one = one_counts (λ p. f (credit (Some q) work)) q 0 n (omega arith) (omega (arith, among)) in omega (arith, one)
+one_given f n None work among =
+    let none : total (λ p. given f (Some p) (credit None work)) (numbers_below n) ≡ 0 = zeros (numbers_below n) in
+    let mine : given f None (credit None work) ≡ f (credit None work) = refl in
+    omega (arith, none, mine)
+one_given f n (Some q) work among =
+    let one : total (λ p. given f (Some p) (credit (Some q) work)) (numbers_below n) ≡ f (credit (Some q) work) = one_counts (λ p. f (credit (Some q) work)) q 0 n (omega arith) (omega (arith, among)) in
+    let none : given f None (credit (Some q) work) ≡ 0 = refl in
+    omega (arith, one, none)
 
 all_given : (f : Credit → ℕ) (n : ℕ) (cs : List Credit) → AllByRecursion (λ (c : Credit). IsAmong n c.to) cs → total (λ p. total (given f (Some p)) cs) (numbers_below n) + total (given f None) cs ≡ total f cs
-all_given f n [] among = let none = zeros (numbers_below n) in omega (arith, none)
+all_given f n [] among = let none : total (λ p. total (given f (Some p)) []) (numbers_below n) ≡ 0 = zeros (numbers_below n) in omega (arith, none)
 all_given f n (c ∷ cs) among =
-    let apart = sum_both (λ p. given f (Some p) c) (λ p. total (given f (Some p)) cs) (numbers_below n) in
-    let here = one_given f n c.to c.work among.0 in
+    let apart : total (λ p. total (given f (Some p)) (c ∷ cs)) (numbers_below n) ≡ total (λ p. given f (Some p) c) (numbers_below n) + total (λ p. total (given f (Some p)) cs) (numbers_below n)
+    = sum_both (λ p. given f (Some p) c) (λ p. total (given f (Some p)) cs) (numbers_below n) in
+    let here : total (λ p. given f (Some p) c) (numbers_below n) + given f None c ≡ f c = one_given f n c.to c.work among.0 in
     let there = all_given f n cs among.1 in
     omega (arith, apart, here, there)
 

@@ -22,33 +22,29 @@ use Rattle.k_work.proofs.Credited.{credits_next, ends_are_credited}
 use Rattle.k_work.proofs.Fields.{work_low}
 use Rattle.k_work.proofs.Rows.{rows_collections, rows_work}
 
--- the most work of one collection, where there are fewer than 2 ^ 29 events: seventeen times 2 ^ 29
-abbrev pub most : ℕ
-most = 9126805504
-
--- the work of one collection
-pub one_small : (trace : Trace) (history : List Event) (h : Heap) → AreSetupRules trace → IsLegalHistory trace history → length history < 2 ^ 29 → work_in trace (state_after trace history) h ≤ most
+-- the work of one collection, where there are fewer than 2 ^ 29 events: at most seventeen times 2 ^ 29
+pub one_small : (trace : Trace) (history : List Event) (h : Heap) → AreSetupRules trace → IsLegalHistory trace history → length history < 2 ^ 29 → work_in trace (state_after trace history) h ≤ 9126805504
 one_small trace history h rules legal few =
     let room = history_room 3758096383 trace history (omega (arith, few)) in
     omega (arith, room.objects, work_low trace (state_after trace history) h rules (legal_sound trace history rules.limits legal))
 
-credit_small : (trace : Trace) (st : State) (who : Option ℕ) (event : Event) → ((h : Heap) → work_in trace st h ≤ most) → total (λ c. c.work) (credit_of trace st who event) ≤ most
+credit_small : (trace : Trace) (st : State) (who : Option ℕ) (event : Event) → ((h : Heap) → work_in trace st h ≤ 9126805504) → total (λ c. c.work) (credit_of trace st who event) ≤ 9126805504
 credit_small trace st who (Done pid op reply) small = omega arith
 credit_small trace st who (Ended h objects bytes exits shares) small = omega (arith, small h)
 credit_small trace st who (Absorbed s) small = omega arith
 credit_small trace st who Closing small = omega arith
 
 -- all work
-pub all_small : (trace : Trace) (history : List Event) → AreSetupRules trace → IsLegalHistory trace history → length history < 2 ^ 29 → total (λ c. c.work) (credits trace history) ≤ most * length history
+pub all_small : (trace : Trace) (history : List Event) → AreSetupRules trace → IsLegalHistory trace history → length history < 2 ^ 29 → total (λ c. c.work) (credits trace history) ≤ 9126805504 * length history
 all_small trace history rules legal few =
-    history_induction trace (λ (h : List Event). length h < 2 ^ 29 → total (λ c. c.work) (credits trace h) ≤ most * length h) (λ small. omega arith)
+    history_induction trace (λ (h : List Event). length h < 2 ^ 29 → total (λ c. c.work) (credits trace h) ≤ 9126805504 * length h) (λ small. omega arith)
     (λ before event legal possible held few.
-      let next : IsLegalHistory trace (before ++ event ∷ []) = legal_append trace (opening trace) before (event ∷ []) legal (possible, tt) in
-      let longer = length_push before event in
-      let more = ap (λ (cs : List Credit). total (λ c. c.work) cs) (credits_next trace before event) in
-      let apart = total_append (λ (c : Credit). c.work) (credits trace before) (credit_of trace (state_after trace (before ++ event ∷ [])) (kernel_after None before) event) in
-      let here = credit_small trace (state_after trace (before ++ event ∷ [])) (kernel_after None before) event (λ h. one_small trace (before ++ event ∷ []) h rules next few) in
-      omega (arith, more, apart, here, longer, held (omega (arith, few, longer))))
+    let next : IsLegalHistory trace (before ++ event ∷ []) = legal_append trace (opening trace) before (event ∷ []) legal (possible, tt) in
+    let longer = length_push before event in
+    let more = ap (λ (cs : List Credit). total (λ c. c.work) cs) (credits_next trace before event) in
+    let apart = total_append (λ (c : Credit). c.work) (credits trace before) (credit_of trace (state_after trace (before ++ event ∷ [])) (kernel_after None before) event) in
+    let here = credit_small trace (state_after trace (before ++ event ∷ [])) (kernel_after None before) event (λ h. one_small trace (before ++ event ∷ []) h rules next few) in
+    omega (arith, more, apart, here, longer, held (omega (arith, few, longer))))
     history legal few
 
 ends_few : (events : List Event) → total ends_in events ≤ length events

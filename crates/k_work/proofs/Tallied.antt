@@ -1,6 +1,6 @@
 -- A table on the way through a journal.
-use Rattle.std.proofs.Common.{◌≡◌, ◌×◌, ℕ, ◌+◌, ◌*◌, ◌<◌, ◌≤◌, ◌^◌, refl, sym, ap, ap₂, ◌∙◌, subst, List, [], ◌∷◌, ◌++◌, Option, Some, None, length, map, take, drop, slice_get, replicate, arith, append_assoc}
-use Rattle.std.proofs.lemmas.List.{take-append-drop, take_more, take_all}
+use Rattle.std.proofs.Common.{◌≡◌, ◌⊎◌, inl, inr, ℕ, ◌+◌, ◌*◌, ◌<◌, ◌≤◌, ◌^◌, refl, sym, ap, ap₂, ◌∙◌, subst, List, [], ◌∷◌, ◌++◌, Option, Some, None, length, map, take, drop, slice_get, replicate, arith, append_assoc}
+use Rattle.std.proofs.lemmas.List.{length-append, take-append-drop, take_more, take_all}
 use Rattle.std.proofs.lemmas.Option.{get_or_from_slice_get, slice_get_within}
 use Rattle.std.specs.List.{AllByRecursion}
 use Rattle.k_types.specs.declared.event.Event.{Event}
@@ -18,9 +18,9 @@ use Rattle.k_known.proofs.Laws.{events_are_known}
 use Rattle.k_solo.proofs.Rooms.{history_room}
 use Rattle.k_state.specs.Machines.{AreSetupRules, Machine}
 use Rattle.k_state.specs.Rooms.{HasRoom}
-use Rattle.k_work.specs.Crediting.{HasRoomForAll, IsAmong, kernel_after, with_credits}
+use Rattle.k_work.specs.Crediting.{HasRoomForAll, IsAmong, kernel_after, row_for, with_credits}
 use Rattle.k_work.specs.Credits.{Credit, asker_of, credit_of, credits, kernel_asker, work_in}
-use Rattle.k_work.specs.Tables.{Work, table_of, work_of}
+use Rattle.k_work.specs.Tables.{Work, row_of, table_of, work_of}
 use Rattle.k_work.proofs.Among.{after_among, credit_among}
 use Rattle.k_work.proofs.Credited.{asker_next, credits_next}
 use Rattle.k_work.proofs.Numbers.{below_length}
@@ -77,9 +77,13 @@ module _ (trace : Trace) (events : List Event) (rules : AreSetupRules trace) (le
 
   all_more : total (λ (c : Credit). c.work) (credits trace before) + total (λ (c : Credit). c.work) new < 2 ^ 64
   all_more =
-      omega (arith, total_append (λ (c : Credit). c.work) (credits trace before) new,
-      ap (λ (cs : List Credit). total (λ (c : Credit). c.work) cs) (credits_next trace before event),
-      all_small trace (before ++ event ∷ []) rules next_legal next_few, next_few)
+      omega (
+        arith,
+        total_append (λ (c : Credit). c.work) (credits trace before) new,
+        ap (λ (cs : List Credit). total (λ (c : Credit). c.work) cs) (credits_next trace before event),
+        all_small trace (before ++ event ∷ []) rules next_legal next_few,
+        next_few,
+      )
 
   room_of : (cs : List Credit) → ((c : Credit) → cs ≡ c ∷ [] → IsAmong (process_count trace) c.to × (total (λ (d : Credit). d.work) (credits trace before) + c.work < 2 ^ 64)) → (cs ≡ []) ⊎ ((c : Credit) × (cs ≡ c ∷ [])) →
       HasRoomForAll (work_of trace before) cs
@@ -88,10 +92,12 @@ module _ (trace : Trace) (events : List Event) (rules : AreSetupRules trace) (le
       let c = one.0 in
       let told = each c one.1 in
       let within = row_within (process_count trace) (credits trace before) c.to told.0 in
+      let count_low : (row_for (work_of trace before) c.to).collections ≤ length (credits trace before) = within.0 in
+      let work_low : (row_for (work_of trace before) c.to).work ≤ total (λ (d : Credit). d.work) (credits trace before) = within.1 in
       let count = below_length (λ p. row_of (credits trace before) (Some p)) (process_count trace) in
       subst (HasRoomForAll (work_of trace before)) (sym one.1) (
         subst (λ n. IsAmong n c.to) (sym count) told.0,
-        (omega (arith, within.0, few_credits trace before, front_few i, few), omega (arith, within.1, told.1)),
+        (omega (arith, count_low, few_credits trace before, front_few i, few), omega (arith, work_low, told.1)),
         tt,
       )
 
@@ -135,8 +141,18 @@ module _ (trace : Trace) (events : List Event) (rules : AreSetupRules trace) (le
       -- and has it then
       pub tallied_next : IsTallied trace (take (i + 1) events) n (kernel_asker event who) (with_credits (credit_of n.setup n.state who event) t)
       tallied_next = subst (λ (es : List Event). IsTallied trace es n (kernel_asker event who) (with_credits (credit_of n.setup n.state who event) t)) (sym next_is) (record {
-            setup = setup ∙ tallied.setup;
-            state = state_is;
-            asker = ap (kernel_asker event) tallied.asker ∙ sym (asker_next None before event);
-            table = ap₂ (λ (cs : List Credit) (w : Work). with_credits cs w) credit_is tallied.table ∙ table_then;
-          })
+        setup = setup ∙ tallied.setup;
+        state = state_is;
+        asker = ap (kernel_asker event) tallied.asker ∙ sym (asker_next None before event);
+        table = ap₂ (λ (cs : List Credit) (w : Work). with_credits cs w) credit_is tallied.table ∙ table_then;
+      })
+
+      -- the same of an asker and a table that are known to be these
+      pub tallied_then : (asked : Option ℕ) (credited : Work) → asked ≡ kernel_asker event who → credited ≡ with_credits (credit_of n.setup n.state who event) t → IsTallied trace (take (i + 1) events) n asked credited
+      tallied_then asked credited same_asker same_table =
+          subst (λ (w : Option ℕ). IsTallied trace (take (i + 1) events) n w credited) (sym same_asker)
+          (subst (λ (u : Work). IsTallied trace (take (i + 1) events) n (kernel_asker event who) u) (sym same_table) tallied_next)
+
+-- all events are tallied
+pub all_tallied : (trace : Trace) (events : List Event) (i : ℕ) (m : Machine) (who : Option ℕ) (t : Work) → length events ≤ i → IsTallied trace (take i events) m who t → t ≡ work_of trace events
+all_tallied trace events i m who t all tallied = tallied.table ∙ ap (λ (es : List Event). work_of trace es) (take_all i events all)
