@@ -1,7 +1,7 @@
 pub mod Numbers
 pub mod Credited
 pub mod Among
-pub mod Rows
+pub mod Summed
 pub mod Fields
 pub mod Small
 pub mod Tallied

@@ -1,5 +1,6 @@
 -- Lists over the numbers below a bound.
-use Rattle.std.proofs.Common.{◌≡◌, ◌≢◌, ℕ, zero, suc, ◌+◌, ◌<◌, refl, sym, ap, ap₂, ◌∙◌, List, [], ◌∷◌, map, set, get_or, length, arith}
+use Rattle.std.proofs.Common.{◌≡◌, ◌≢◌, ℕ, zero, suc, ◌+◌, ◌<◌, ◌≤◌, refl, sym, ap, ap₂, ◌∙◌, List, [], ◌∷◌, map, set, get_or, drop, length, arith}
+use Rattle.std.proofs.lemmas.List.{drop_more, at_drop_all}
 use Rattle.std.proofs.lemmas.List.{length-map}
 use Rattle.k_types.specs.Numbers.{numbers_from, numbers_below}
 use Rattle.k_types.specs.Totals.{total}
@@ -41,3 +42,10 @@ below_length f n = length-map f (numbers_below n) ∙ numbers_length 0 n
 pub total_mapped : {A B : Type 0} (f : A → ℕ) (g : B → A) (xs : List B) → total f (map g xs) ≡ total (λ x. f (g x)) xs
 total_mapped f g [] = refl
 total_mapped f g (x ∷ xs) = ap (λ n. f (g x) + n) (total_mapped f g xs)
+
+-- what is left to add of a list
+pub total_left : {A : Type 0} (f : A → ℕ) (xs : List A) (i : ℕ) (d : A) → i < length xs → total f (drop i xs) ≡ f (get_or xs i d) + total f (drop (i + 1) xs)
+total_left f xs i d inside = ap (λ ys. total f ys) (drop_more xs i d inside)
+
+pub total_over : {A : Type 0} (f : A → ℕ) (xs : List A) (i : ℕ) → length xs ≤ i → total f (drop i xs) ≡ 0
+total_over f xs i past = at_drop_all (λ ys. total f ys) xs i past

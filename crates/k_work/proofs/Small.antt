@@ -20,7 +20,7 @@ use Rattle.k_work.specs.Tables.{ends_in, total_row, work_of}
 use Rattle.k_work.proofs.Among.{credits_among}
 use Rattle.k_work.proofs.Credited.{credits_next, ends_are_credited}
 use Rattle.k_work.proofs.Fields.{work_low}
-use Rattle.k_work.proofs.Rows.{rows_collections, rows_work}
+use Rattle.k_work.proofs.Summed.{rows_collections, rows_work}
 
 -- the work of one collection, where there are fewer than 2 ^ 29 events: at most seventeen times 2 ^ 29
 pub one_small : (trace : Trace) (history : List Event) (h : Heap) → AreSetupRules trace → IsLegalHistory trace history → length history < 2 ^ 29 → work_in trace (state_after trace history) h ≤ 9126805504

@@ -24,7 +24,7 @@ use Rattle.k_work.specs.Tables.{Work, row_of, table_of, work_of}
 use Rattle.k_work.proofs.Among.{after_among, credit_among}
 use Rattle.k_work.proofs.Credited.{asker_next, credits_next}
 use Rattle.k_work.proofs.Numbers.{below_length}
-use Rattle.k_work.proofs.Rows.{row_within, table_more}
+use Rattle.k_work.proofs.Summed.{row_within, table_more}
 use Rattle.k_work.proofs.Small.{all_small, few_credits}
 
 -- the machine has done the events, and the table has their work

@@ -75,17 +75,18 @@ impl WorkTable {
     }
 
     /// The sum of all rows.
+    #[tactic(auto, using(crate::proofs::Numbers::total_left, crate::proofs::Numbers::total_over))]
     pub fn total(&self) -> WorkRow
         requires { AreSmall self.now }
         ensures { result ≡ total_row self.now }
     {
-        let mut sum = WorkRow::none();
+        let mut all = WorkRow::none();
         for row in &self.procs {
-            sum.collections += row.collections;
-            sum.work += row.work;
+            all.collections += row.collections;
+            all.work += row.work;
         }
-        sum.collections += self.closing.collections;
-        sum.work += self.closing.work;
-        sum
+        all.collections += self.closing.collections;
+        all.work += self.closing.work;
+        all
     }
 }
