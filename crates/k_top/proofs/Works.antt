@@ -1,18 +1,14 @@
 -- What is told of a run and of its work.
 use Rattle.std.proofs.Common.{◌≡◌, ◌∙◌, ℕ, ◌<◌, ◌≤◌, ◌^◌, List, ◌++◌, Ok, length, refl, subst, sym, ap, ap₂, arith}
-use Rattle.k_types.specs.declared.event.Event.{Event}
 use Rattle.k_types.specs.Bounds.{most_trace_bytes}
-use Rattle.k_types.specs.State.{State, opening}
-use Rattle.k_types.specs.Steps.{IsLegalHistory}
 use Rattle.k_types.specs.Trace.{Trace}
 use Rattle.k_trace.specs.Named.{DeclaredNames, NamedTrace}
 use Rattle.k_trace.specs.Rules.{IsTrace}
+use Rattle.k_history.specs.Good.{IsBegun}
 use Rattle.k_check.proofs.Rooms.{few_events}
 use Rattle.k_outcome.specs.Ends.{EndValue, journal_of}
 use Rattle.k_run.specs.Runs.{IsRunOf}
-use Rattle.k_solo.proofs.Lines.{setup_rules}
-use Rattle.k_solo.proofs.Unread.{legal_unread}
-use Rattle.k_state.specs.Machines.{AreSetupRules, setup_of}
+use Rattle.k_work.specs.Crediting.{AreSmall}
 use Rattle.k_work.specs.Lines.{work_text}
 use Rattle.k_work.specs.Tables.{Work, work_of}
 use Rattle.k_work.proofs.Numbers.{below_length}
@@ -21,16 +17,24 @@ use Rattle.k_top.specs.declared.status.Status.TheVariants.{Good}
 use Rattle.k_top.specs.Ends.{Input}
 use Rattle.k_top.specs.Parts.{TellsOfBytes, TellsOfSource}
 use Rattle.k_top.specs.Reports.{IsWorkReport}
-use Rattle.k_top.specs.Runs.{CanBeWritten, HasWorkedRun, text_of}
+use Rattle.k_top.specs.Runs.{CanBeWritten, GaveTrace, HasWorkedRun, text_of}
 use Rattle.k_top.proofs.Reports.{named_in_run, report_by_run}
 
 -- The journal of a run has fewer events than a table of its work has room for.
 pub run_few : (t : NamedTrace) (end : EndValue) → IsTrace t → IsRunOf t end → length (journal_of end) < 2 ^ 29
-run_few t end is run = omega (arith, few_events t.trace (journal_of end) is.rules (record { legal = run.legal; in_order = run.complete.in_order }))
+run_few t end is run =
+    let begun : IsBegun t.trace (journal_of end) = record { legal = run.legal; in_order = run.complete.in_order } in
+    omega (arith, few_events t.trace (journal_of end) is.rules begun)
 
 -- The work over the setup of a run is that of its trace.
 pub work_of_run : (t : NamedTrace) (end : EndValue) → IsRunOf t end → work_of end.setup (journal_of end) ≡ work_of t.trace (journal_of end)
 work_of_run t end run = ap (λ (setup : Trace). work_of setup (journal_of end)) run.setup ∙ work_unread t.trace (journal_of end)
+
+-- The table of the work of a run.
+pub worked_run : (input : Input) (t : NamedTrace) (end : EndValue) (setup : Trace) (table : Work) → GaveTrace input t → IsRunOf t end → setup ≡ end.setup → table ≡ work_of setup (journal_of end) → AreSmall table →
+    HasWorkedRun input end table
+worked_run input t end setup table gave run same is small =
+    record { trace = t; gave = gave; run = run; work = is ∙ ap (λ (s : Trace). work_of s (journal_of end)) same ∙ work_of_run t end run; small = small }
 
 -- There are few rows, and each has a name.
 pub can_be_written : (input : Input) (end : EndValue) (table : Work) → HasWorkedRun input end table → CanBeWritten end table
