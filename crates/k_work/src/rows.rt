@@ -1,6 +1,7 @@
 //! The table of work.
 ghost use Rattle.std.specs.Prelude.{◌≡◌, ◌≤◌, [], IfOk, length};
 ghost use Rattle.k_work.specs.Crediting.{AreSmall, HasRoomFor, IsAmong, row_for, with_credit, with_work};
+ghost use Rattle.k_work.specs.Lines.{row_at};
 ghost use Rattle.k_work.specs.Tables.{table_of, total_row};
 
 use k_io::NoMemory;
@@ -40,13 +41,15 @@ impl WorkRow {
         }
     }
 
-    /// One collection more, with that work.
-    fn add(&mut self, work: u64)
-        requires { HasRoomFor work self.old }
-        ensures { self.new ≡ with_work work self.old }
+    /// The row with one collection more, of that work.
+    fn with_work(self, work: u64) -> WorkRow
+        requires { HasRoomFor work self }
+        ensures { result ≡ with_work work self }
     {
-        self.collections += 1;
-        self.work += work;
+        WorkRow {
+            collections: self.collections + 1,
+            work: self.work + work,
+        }
     }
 }
 
@@ -69,9 +72,37 @@ impl WorkTable {
         ensures { self.new ≡ with_credit to work self.old }
     {
         match to {
-            Some(p) => self.procs[p as usize].add(work),
-            None => self.closing.add(work),
+            Some(p) => {
+                let row = self.row(p).with_work(work);
+                self.procs[p as usize] = row;
+            }
+            None => self.closing = self.closing_row().with_work(work),
         }
+    }
+
+    /// How many processes there are rows of.
+    pub(crate) fn processes(&self) -> u32
+        requires { length self.now.procs ≤ 64 }
+        ensures { result ≡ length self.now.procs }
+    {
+        self.procs.len() as u32
+    }
+
+    /// The row of the process of that number; past the last one a row without work.
+    pub(crate) fn row(&self, process: u32) -> WorkRow
+        ensures { result ≡ row_at self.now process }
+    {
+        match self.procs.get(process as usize) {
+            Some(row) => *row,
+            None => WorkRow::none(),
+        }
+    }
+
+    /// The row of the closing.
+    pub(crate) fn closing_row(&self) -> WorkRow
+        ensures { result ≡ self.now.closing }
+    {
+        self.closing
     }
 
     /// The sum of all rows.

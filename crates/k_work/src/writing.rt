@@ -56,7 +56,7 @@ fn put_process<K: Sink>(
     ensures written { Writes (K.Holds out.old) (K.Holds out.new) (K.faults out.old) (K.faults out.new) result (text_of (process_line names.now table.now pid.0 ∷ [])) }
     ensures empty { line.new ≡ [] }
 {
-    let row = table.procs[pid.0 as usize];
+    let row = table.row(pid.0);
     line.push_text(b"process");
     line.push_word(names.proc_name(pid));
     line.push_number(u64::from(row.collections));
@@ -77,7 +77,7 @@ fn put_processes<K: Sink>(
     ensures written { Writes (K.Holds out.old) (K.Holds out.new) (K.faults out.old) (K.faults out.new) result (text_of (map (process_line names.now table.now) (numbers_below (length table.now.procs)))) }
     ensures empty { line.new ≡ [] }
 {
-    for pid in 0..table.procs.len() as u32 {
+    for pid in 0..table.processes() {
         put_process(out, line, names, table, Pid(pid))?;
     }
     Ok(())
@@ -96,7 +96,7 @@ pub fn write_work<K: Sink>(out: &mut K, names: &Names, table: &WorkTable) -> Res
     let mut line = LineBuffer::new();
     put_word(out, &mut line, b"work")?;
     put_processes(out, &mut line, names, table)?;
-    put_row(out, &mut line, b"closing", table.closing)?;
+    put_row(out, &mut line, b"closing", table.closing_row())?;
     put_row(out, &mut line, b"total", table.total())?;
     put_word(out, &mut line, b"end")
 }
