@@ -1,13 +1,15 @@
 -- What is told of a run and of its work.
 use Rattle.std.proofs.Common.{◌≡◌, ◌∙◌, ℕ, ◌<◌, ◌≤◌, ◌^◌, List, ◌++◌, Ok, length, refl, subst, sym, ap, ap₂, arith}
 use Rattle.k_types.specs.Bounds.{most_trace_bytes}
+use Rattle.k_types.specs.Steps.{IsLegalHistory}
 use Rattle.k_types.specs.Trace.{Trace}
 use Rattle.k_trace.specs.Named.{DeclaredNames, NamedTrace}
 use Rattle.k_trace.specs.Rules.{IsTrace}
 use Rattle.k_history.specs.Good.{IsBegun}
 use Rattle.k_check.proofs.Rooms.{few_events}
-use Rattle.k_outcome.specs.Ends.{EndValue, journal_of}
+use Rattle.k_outcome.specs.Ends.{EndValue, IsEnd, journal_of}
 use Rattle.k_run.specs.Runs.{IsRunOf}
+use Rattle.k_state.specs.Machines.{AreSetupRules}
 use Rattle.k_work.specs.Crediting.{AreSmall}
 use Rattle.k_work.specs.Lines.{work_text}
 use Rattle.k_work.specs.Tables.{Work, work_of}
@@ -25,6 +27,13 @@ pub run_few : (t : NamedTrace) (end : EndValue) → IsTrace t → IsRunOf t end 
 run_few t end is run =
     let begun : IsBegun t.trace (journal_of end) = record { legal = run.legal; in_order = run.complete.in_order } in
     omega (arith, few_events t.trace (journal_of end) is.rules begun)
+
+-- The setup that a run shows keeps the rules, and the journal is legal for it.
+pub setup_ruled : (end : EndValue) (setup : Trace) → setup ≡ end.setup → IsEnd end → AreSetupRules setup
+setup_ruled end setup same is = subst AreSetupRules (sym same) is.rules
+
+pub setup_legal : (end : EndValue) (setup : Trace) → setup ≡ end.setup → IsEnd end → IsLegalHistory setup (journal_of end)
+setup_legal end setup same is = subst (λ (s : Trace). IsLegalHistory s (journal_of end)) (sym same) is.legal
 
 -- The work over the setup of a run is that of its trace.
 pub work_of_run : (t : NamedTrace) (end : EndValue) → IsRunOf t end → work_of end.setup (journal_of end) ≡ work_of t.trace (journal_of end)

@@ -34,7 +34,11 @@ fn check_work<R: Abort + Threads + Wait + Sync>(
 ) -> Result<(), NoMemory> {
     let trace = format!(in alloc; "{HEADER}{operations}")?;
     let mut given = Given::make(alloc, "work", &trace, NO_FAULTS)?;
-    assert_eq!(rt; given.answer(rt, alloc, &NoGate), Status::Good, "{operations}");
+    assert_eq!(rt;
+        given.answer(rt, alloc, &NoGate),
+        Status::Good,
+        "{operations}"
+    );
     assert!(rt; given.written().ends_with(lines), "{operations}");
     Ok(())
 }
@@ -83,7 +87,10 @@ fn work_answers_as_the_other_commands_do(rt: HostRuntime) -> Result<(), Fail> {
 fn whole_text<R: Abort + Threads + Wait + Sync>(rt: &R, alloc: Global) -> Result<String, NoMemory> {
     let mut given = Given::make(alloc, "replay", TRACE, NO_FAULTS)?;
     assert_eq!(rt; given.answer(rt, alloc, &NoGate), Status::Good);
-    format!(in alloc; "{}work\nprocess p1 0 0\nclosing 0 0\ntotal 0 0\nend\n", given.written())
+    format!(in alloc;
+        "{}work\nprocess p1 0 0\nclosing 0 0\ntotal 0 0\nend\n",
+        given.written()
+    )
 }
 
 /// Runs the trace as often as its text has lines, and once more. The next line is not taken each time.
@@ -94,10 +101,26 @@ fn each_line_of_work_that_is_not_taken_is_told(rt: HostRuntime) -> Result<(), Fa
     let mut faults = Faults { read: 0, write: 1 };
     for line in text.as_str().split_inclusive('\n') {
         let before = written.as_str();
-        check_faults(&rt, rt.alloc(), "work", TRACE, faults, Status::WriteFault, before)?;
+        check_faults(
+            &rt,
+            rt.alloc(),
+            "work",
+            TRACE,
+            faults,
+            Status::WriteFault,
+            before,
+        )?;
         written.push_str(line)?;
         faults.write = faults.write.saturating_add(1);
     }
-    check_faults(&rt, rt.alloc(), "work", TRACE, faults, Status::Good, text.as_str())?;
+    check_faults(
+        &rt,
+        rt.alloc(),
+        "work",
+        TRACE,
+        faults,
+        Status::Good,
+        text.as_str(),
+    )?;
     Ok(())
 }

@@ -1,20 +1,14 @@
-use Rattle.std.proofs.Common.{subst, sym}
-use Rattle.k_types.specs.Steps.{IsLegalHistory}
-use Rattle.k_types.specs.Trace.{Trace}
-use Rattle.k_outcome.specs.Ends.{journal_of}
-use Rattle.k_state.specs.Machines.{AreSetupRules}
-use Rattle.k_top.proofs.Works.{run_few, worked_run}
+use Rattle.k_top.proofs.Works.{run_few, setup_legal, setup_ruled, worked_run}
 use Rattle.k_top.proofs.working.work_source.Goals as goal
 
 pub run_trace-requires : goal.run_trace-requires
 run_trace-requires g c = (c.type_bounds.sync-G, (c.type_bounds.sync-R, c.in_ok-trace.ensures.ok.spelled.is_trace))
 
 pub work_of-requires-clause-setup : goal.work_of-requires-clause-setup
-work_of-requires-clause-setup g c = subst AreSetupRules (sym c.setup.ensures.setup) c.setup.ensures.end.rules
+work_of-requires-clause-setup g c = setup_ruled _ _ c.setup.ensures.setup c.setup.ensures.end
 
 pub work_of-requires-clause-legal : goal.work_of-requires-clause-legal
-work_of-requires-clause-legal g c =
-    subst (λ (setup : Trace). IsLegalHistory setup (journal_of c.in_ok-outcome.outcome)) (sym c.setup.ensures.setup) c.setup.ensures.end.legal
+work_of-requires-clause-legal g c = setup_legal _ _ c.setup.ensures.setup c.setup.ensures.end
 
 pub work_of-requires-clause-few : goal.work_of-requires-clause-few
 work_of-requires-clause-few g c = run_few _ _ c.in_ok-trace.ensures.ok.spelled.is_trace c.in_ok-outcome.ensures
