@@ -1,5 +1,5 @@
 -- Lists over the numbers below a bound.
-use Rattle.std.proofs.Common.{◌≡◌, ◌≢◌, ℕ, zero, suc, ◌+◌, ◌<◌, ◌≤◌, refl, sym, ap, ap₂, ◌∙◌, List, [], ◌∷◌, map, set, get_or, drop, length, arith}
+use Rattle.std.proofs.Common.{◌≡◌, ◌≢◌, ℕ, zero, suc, ◌+◌, ◌<◌, ◌≤◌, refl, sym, ap, ap₂, ◌∙◌, List, [], ◌∷◌, map, set, get_or, drop, length, replicate, arith}
 use Rattle.std.proofs.lemmas.List.{drop_more, at_drop_all}
 use Rattle.std.proofs.lemmas.List.{length-map}
 use Rattle.k_types.specs.Numbers.{numbers_from, numbers_below}
@@ -33,6 +33,14 @@ at_from f first (suc n) (suc k) d inside = at_from f (suc first) n k d (omega (a
 -- the value at a number
 pub at_below : {A : Type 0} (f : ℕ → A) (n k : ℕ) (d : A) → k < n → get_or (map f (numbers_below n)) k d ≡ f k
 at_below f n k d inside = at_from f 0 n k d inside ∙ ap f (omega arith)
+
+constant_from : {A : Type 0} (x : A) (first n : ℕ) → map (λ (p : ℕ). x) (numbers_from first n) ≡ replicate n x
+constant_from x first zero = refl
+constant_from x first (suc n) = ap (λ xs. x ∷ xs) (constant_from x (suc first) n)
+
+-- the same value at each number
+pub constant_below : {A : Type 0} (x : A) (n : ℕ) → map (λ (p : ℕ). x) (numbers_below n) ≡ replicate n x
+constant_below x n = constant_from x 0 n
 
 -- how many there are
 pub below_length : {A : Type 0} (f : ℕ → A) (n : ℕ) → length (map f (numbers_below n)) ≡ n

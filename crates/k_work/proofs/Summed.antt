@@ -1,5 +1,5 @@
 -- Rows and tables, one credit more, and their sums.
-use Rattle.std.proofs.Common.{◌≡◌, ◌≢◌, ℕ, zero, suc, ◌+◌, ◌<◌, ◌≤◌, ◌==◌, Bool, true, false, cond, refl, sym, ap, ap₂, ◌∙◌, subst, List, [], ◌∷◌, ◌++◌, Option, Some, None, map, set, get_or, length, arith, ne_eqb, eq-eqb, append_assoc}
+use Rattle.std.proofs.Common.{◌≡◌, ◌≢◌, ℕ, zero, suc, ◌+◌, ◌<◌, ◌≤◌, ◌==◌, Bool, true, false, cond, refl, sym, ap, ap₂, ◌∙◌, subst, List, [], ◌∷◌, ◌++◌, Option, Some, None, map, set, get_or, length, replicate, arith, ne_eqb, eq-eqb, append_assoc}
 use Rattle.std.proofs.Math.Path.{fun_ext}
 use Rattle.std.proofs.lemmas.List.{append-nil}
 use Rattle.std.specs.List.{AllByRecursion}
@@ -11,7 +11,7 @@ use Rattle.k_work.specs.Crediting.{IsAmong, row_for, with_credit, with_credits, 
 use Rattle.k_work.specs.Credits.{Credit}
 use Rattle.k_work.specs.Lines.{row_at}
 use Rattle.k_work.specs.Tables.{Work, is_same, one_if_to, row_of, table_of, total_row, work_if_to}
-use Rattle.k_work.proofs.Numbers.{at_below, set_below, total_mapped}
+use Rattle.k_work.proofs.Numbers.{at_below, constant_below, set_below, total_mapped}
 
 abbrev row : ℕ → ℕ → WorkRow
 row n w = record { collections = n; work = w }
@@ -21,6 +21,10 @@ table procs closing = record { procs = procs; closing = closing }
 
 abbrev credit : Option ℕ → ℕ → Credit
 credit to work = record { to = to; work = work }
+
+-- a table without credits
+pub empty_table : (n : ℕ) → table (replicate n (row 0 0)) (row 0 0) ≡ table_of n []
+empty_table n = ap (λ (ps : List WorkRow). table ps (row 0 0)) (sym (constant_below (row 0 0) n))
 
 -- another's row stays
 others_row : (cs : List Credit) (to who : Option ℕ) (work : ℕ) → is_same who to ≡ false → row_of (cs ++ credit to work ∷ []) who ≡ row_of cs who

@@ -32,7 +32,7 @@ impl Model for WorkTable {
 
 impl WorkRow {
     /// A row without work.
-    const fn none() -> WorkRow
+    fn none() -> WorkRow
         ensures { result ≡ record { collections = 0; work = 0 } }
     {
         WorkRow {
@@ -55,6 +55,7 @@ impl WorkRow {
 
 impl WorkTable {
     /// A table without work.
+    #[tactic(auto, using(crate::proofs::Summed::empty_table))]
     pub(crate) fn empty(alloc: Global, processes: usize) -> Result<WorkTable, NoMemory>
         ensures { IfOk result (λ t. t ≡ table_of processes []) }
     {
