@@ -9,7 +9,7 @@ from showing.random_traces import random_trace
 from showing.trace import Trace, read_trace
 from showing.words import Text
 
-from . import samples
+from . import samples, tables
 from .many import Case
 from .program import Program, Wrong
 
@@ -48,3 +48,12 @@ def unwatched(program: Program, case: Case, version: int) -> Counter:
             program.check(text, output)
             reports.add(output)
     return Counter(traces=1, runs=case.runs, events=case.runs * len(replay.events), reports=len(reports), others=len(reports - {wanted}))
+
+
+def worked(program: Program, case: Case, version: int) -> Counter:
+    """Runs the case's trace once. The table after the report has to be the model's for the run's own journal, and the report to be good."""
+    text, trace = _trace(program, case, version)
+    output = program.done(["work"], text)
+    judged, collections = tables.judge(trace, output)
+    program.check(text, judged)
+    return Counter(runs=1, collections=collections, credited=bool(collections))

@@ -17,7 +17,7 @@ from showing.state import State
 from showing.trace import Trace, read_trace
 from showing.words import Text
 
-from . import judges, many, samples
+from . import judges, many, samples, tables
 from .many import TOP, Case
 from .program import Program, Wrong
 
@@ -257,6 +257,39 @@ def of_reports() -> Iterator[str]:
     """What scripts/random-runs does not see of what is planted."""
     yield from of_runs()
     yield from of_programs()
+    yield from of_failures()
+
+
+# The table of an example, worked out by hand, and what is planted there: the line, what it becomes, and why it is refused.
+TABLE = ["work", "process p1 2 9", "process p2 1 3", "closing 0 0", "total 3 12", "end"]
+PLANTED_ROWS = [
+    (1, "process p1 1 3", "line 2 of the table"),
+    (2, "process p2 1 9", "line 3 of the table"),
+    (3, "closing 1 3", "line 4 of the table"),
+    (4, "total 3 9", "line 5 of the table"),
+    (5, "", "line 6 of the table"),
+]
+
+
+def of_tables() -> Iterator[str]:
+    """What scripts/credited-runs does not see of what is planted."""
+    lines, report = ((TOP / f"examples/cycle.{kind}").read_text(encoding="ascii").splitlines() for kind in ("kaffe", "report"))
+    trace = read_trace(Text("cycle", lines))
+
+    def why(table: Sequence[str], last: str = "\n") -> Optional[str]:
+        try:
+            tables.judge(trace, "\n".join([*report, *table]) + last)
+        except Wrong as bad:
+            return str(bad)
+        return None
+
+    if why(TABLE) is not None:
+        yield f"a table that is right is refused because {why(TABLE)}"
+    for at, line, part in PLANTED_ROWS:
+        yield from seen_or_not(line, why([*TABLE[:at], line, *TABLE[at + 1 :]]), part)
+    yield from seen_or_not("a table without its last line", why(TABLE[:-1]), "has 5 lines, and not 6")
+    yield from seen_or_not("no table", why([]), "has 0 lines, and not 6")
+    yield from seen_or_not("an output that is cut off", why(TABLE, ""), "cut off")
     yield from of_failures()
 
 
