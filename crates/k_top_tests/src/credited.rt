@@ -87,10 +87,8 @@ fn work_answers_as_the_other_commands_do(rt: HostRuntime) -> Result<(), Fail> {
 fn whole_text<R: Abort + Threads + Wait + Sync>(rt: &R, alloc: Global) -> Result<String, NoMemory> {
     let mut given = Given::make(alloc, "replay", TRACE, NO_FAULTS)?;
     assert_eq!(rt; given.answer(rt, alloc, &NoGate), Status::Good);
-    format!(in alloc;
-        "{}work\nprocess p1 0 0\nclosing 0 0\ntotal 0 0\nend\n",
-        given.written()
-    )
+    let report = given.written();
+    Ok(format!(in alloc; "{report}work\nprocess p1 0 0\nclosing 0 0\ntotal 0 0\nend\n")?)
 }
 
 /// Runs the trace as often as its text has lines, and once more. The next line is not taken each time.
