@@ -50,7 +50,7 @@ few_kinds trace (Some ty) rules = rules.fields ty
 few_fields : (trace : Trace) (st : State) → AreSetupRules trace → IsSound trace st → AllByRecursion (λ (o : Object). length o.fields ≤ 16) st.objects
 few_fields trace st rules sound =
     all_found (λ (o : Object). length o.fields ≤ 16) st.objects
-    (λ n o at. let typed = sound.shape.typed n o at in omega (arith, length-map field_kind o.fields, ap (λ ks. length ks) typed.kinds, few_kinds trace o.ty rules))
+    (λ n o at. let typed = sound.shape.typed n o at in omega (arith, length-map o.fields field_kind, ap (λ ks. length ks) typed.kinds, few_kinds trace o.ty rules))
     sound.names.ordered
 
 work_within : (keep : Object → Bool) (xs : List Object) → AllByRecursion (λ (o : Object). length o.fields ≤ 16) xs → length (filter keep xs) + total references_in (filter keep xs) ≤ 17 * length xs

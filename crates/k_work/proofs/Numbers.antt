@@ -44,7 +44,7 @@ constant_below x n = constant_from x 0 n
 
 -- how many there are
 pub below_length : {A : Type 0} (f : ℕ → A) (n : ℕ) → length (map f (numbers_below n)) ≡ n
-below_length f n = length-map f (numbers_below n) ∙ numbers_length 0 n
+below_length f n = length-map (numbers_below n) f ∙ numbers_length 0 n
 
 -- the sum over what a function gives
 pub total_mapped : {A B : Type 0} (f : A → ℕ) (g : B → A) (xs : List B) → total f (map g xs) ≡ total (λ x. f (g x)) xs

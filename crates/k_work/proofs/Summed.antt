@@ -26,6 +26,10 @@ credit to work = record { to = to; work = work }
 pub empty_table : (n : ℕ) → table (replicate n (row 0 0)) (row 0 0) ≡ table_of n []
 empty_table n = ap (λ (ps : List WorkRow). table ps (row 0 0)) (sym (constant_below (row 0 0) n))
 
+-- a table of so many rows that are alike
+pub empty_as : (n : ℕ) (items : List WorkRow) (none : WorkRow) → items ≡ replicate n none → none ≡ row 0 0 → table items none ≡ table_of n []
+empty_as n items none all is = ap₂ table (all ∙ ap (λ (r : WorkRow). replicate n r) is) is ∙ empty_table n
+
 -- another's row stays
 others_row : (cs : List Credit) (to who : Option ℕ) (work : ℕ) → is_same who to ≡ false → row_of (cs ++ credit to work ∷ []) who ≡ row_of cs who
 others_row cs to who work other =

@@ -55,7 +55,7 @@ impl WorkRow {
 
 impl WorkTable {
     /// A table without work.
-    #[tactic(auto, using(crate::proofs::Summed::empty_table))]
+    #[tactic(auto, using(crate::proofs::Summed::empty_as))]
     pub(crate) fn empty(alloc: Global, processes: usize) -> Result<WorkTable, NoMemory>
         ensures { IfOk result (λ t. t ≡ table_of processes []) }
     {

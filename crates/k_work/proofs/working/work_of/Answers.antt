@@ -9,24 +9,24 @@ use Rattle.k_work.proofs.working.work_of.Goals as goal
 
 pub take-requires-clause-possible : goal.take-requires-clause-possible
 take-requires-clause-possible g c =
-    may_be_taken (trace_of c.args.setup.now [] []) (g.V.View.events c.args.view.now) c.requires.setup c.requires.legal c.requires.few c.loop-i.i c.event.result.now c.event.ensures.there
+    may_be_taken (trace_of c.args.setup.now [] []) (g.V.View.events c.args.view.now) c.requires.setup c.requires.legal c.requires.few c.loop-i.i c.event-event.result.now c.event-event.ensures.there
     c.loop-i.state c.loop-i.kernel c.loop-i.table c.loop-i.invariant
 
 pub take-requires-clause-room : goal.take-requires-clause-room
 take-requires-clause-room g c =
-    room_to_take (trace_of c.args.setup.now [] []) (g.V.View.events c.args.view.now) c.requires.setup c.requires.legal c.requires.few c.loop-i.i c.event.result.now c.event.ensures.there
+    room_to_take (trace_of c.args.setup.now [] []) (g.V.View.events c.args.view.now) c.requires.setup c.requires.legal c.requires.few c.loop-i.i c.event-event.result.now c.event-event.ensures.there
     c.loop-i.state c.loop-i.kernel c.loop-i.table c.loop-i.invariant
 
 pub credit-requires : goal.credit-requires
 credit-requires g c =
-    room_to_credit (trace_of c.args.setup.now [] []) (g.V.View.events c.args.view.now) c.requires.setup c.requires.legal c.requires.few c.loop-i.i c.event.result.now c.event.ensures.there
+    room_to_credit (trace_of c.args.setup.now [] []) (g.V.View.events c.args.view.now) c.requires.setup c.requires.legal c.requires.few c.loop-i.i c.event-event.result.now c.event-event.ensures.there
     c.loop-i.state c.loop-i.kernel c.loop-i.table c.loop-i.invariant c.take.new.self c.take.ensures.setup c.in_ok-take.ensures.state
 
 pub loop-i-preserved : goal.loop-i-preserved
 loop-i-preserved g c =
-    tallied_then (trace_of c.args.setup.now [] []) (g.V.View.events c.args.view.now) c.requires.setup c.requires.legal c.requires.few c.loop-i.i c.event.result.now c.event.ensures.there
+    tallied_then (trace_of c.args.setup.now [] []) (g.V.View.events c.args.view.now) c.requires.setup c.requires.legal c.requires.few c.loop-i.i c.event-event.result.now c.event-event.ensures.there
     c.loop-i.state c.loop-i.kernel c.loop-i.table c.loop-i.invariant c.take.new.self c.take.ensures.setup c.in_ok-take.ensures.state
-    c.kernel_asker.result c.credit.new.table c.kernel_asker.ensures c.credit.ensures
+    c.kernel_asker-kernel.result c.credit.new.table c.kernel_asker-kernel.ensures c.credit.ensures
 
 pub returns-clause-exact : goal.returns-clause-exact
 returns-clause-exact g c =
