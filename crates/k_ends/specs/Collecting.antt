@@ -1,5 +1,5 @@
 -- What the collections of a host, its absorptions and the ends of its processes ask and leave.
-use Rattle.std.specs.Prelude.{◌≡◌, ◌+◌, ◌<◌, ◌≤◌, IsFalse, IsTrue, List, None, [], ◌∷◌, ◌++◌, length}
+use Rattle.std.specs.Prelude.{◌≡◌, ◌<◌, IsFalse, IsTrue, List, None, [], ◌∷◌, ◌++◌, length}
 use Rattle.k_types.specs.declared.event.Event.{Event}
 use Rattle.k_types.specs.declared.event.Event.TheVariants.{Absorbed, Done}
 use Rattle.k_types.specs.declared.event.Reply.TheVariants.{Done as DoneReply}

@@ -1,5 +1,5 @@
 -- When a call on collections, absorptions or the end of a process is refused, and with which error.
-use Rattle.std.specs.Prelude.{◌≡◌, ◌⊎◌, ◌+◌, ◌<◌, ◌≤◌, IsFalse, Some, None, length}
+use Rattle.std.specs.Prelude.{◌≡◌, ◌⊎◌, ◌<◌, IsFalse, Some, None, length}
 use Rattle.k_types.specs.declared.names.CellPhase.TheVariants.{Begun, Idle, Marked}
 use Rattle.k_types.specs.declared.names.SharedId.{SharedId}
 use Rattle.k_book.specs.Books.{BookRecord}

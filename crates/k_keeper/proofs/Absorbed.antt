@@ -48,7 +48,7 @@ all_absorptions (id ∷ ids) = let rest = all_absorptions ids in omega (arith, r
 pub two_left : (h n : HostValue) (left rest : ℕ) → HaveAbsorbed h n left rest → HostServes n → needed_by_the_kernel h ≤ left → 2 ≤ rest
 two_left h n left rest a serves enough =
     let counted : absorbed_count n.book.journal.list ≡ absorbed_count h.book.journal.list + absorbed_count (map Absorbed a.ids) =
-        ap absorbed_count a.journal ∙ total_append (λ event. one_if (is_absorption event)) h.book.journal.list (map Absorbed a.ids) in
+    ap absorbed_count a.journal ∙ total_append (λ event. one_if (is_absorption event)) h.book.journal.list (map Absorbed a.ids) in
     let each = all_absorptions a.ids in
     let once = heaps_are_absorbed_once-absorbed n.basis.trace n.book.journal.list serves.rest.book.stands.agrees.legal in
     let heaps = serves.rest.heaps.count in
@@ -67,14 +67,14 @@ module _ (h : HostValue) (left : ℕ) (kept : IsKept h left) (id : SharedId) (so
 
   absorb_never : (why : HostError) → CanNotAbsorb h.basis h.kernel h.book id why → ⊥
   absorb_never why (inl orphan) = orphan.fails first
-  absorb_never why (inr (inl open)) = open.fails kept.kernel_idle
+  absorb_never why (inr (inl busy)) = busy.fails kept.kernel_idle
   absorb_never why (inr (inr full)) = full.fails (let room = kept.room in omega (arith, room, some))
 
   not_refused : (why : HostError) → MayRefuseAbsorption h id why → ⊥
   not_refused why refused = absorb_never why (subst (λ o. MatchOption o (why ≡ Unknown) (λ s. CanNotAbsorb h.basis h.kernel h.book id why)) heap.1 refused)
 
-  has_absorbed : (n : HostValue) (event : Event) (rest : ℕ) → HasAbsorbedIn h n id event → left ≡ rest + 1 → HaveAbsorbed h n left rest
-  has_absorbed n event rest d one = record {
+  told_absorbed : (n : HostValue) (event : Event) (rest : ℕ) → HasAbsorbedIn h n id event → left ≡ rest + 1 → HaveAbsorbed h n left rest
+  told_absorbed n event rest d one = record {
     ids = d.before.id ∷ [];
     journal = d.has_absorbed.own.journal ∙ ap (λ e. h.book.journal.list ++ e ∷ []) d.has_absorbed.event_is;
     guests = ap (λ (x : HostValue). x.guests) d.host_is;
@@ -89,7 +89,7 @@ module _ (h : HostValue) (left : ℕ) (kept : IsKept h left) (id : SharedId) (so
   first_kept n rest (Err error) serves done why is = absurd (not_refused error why)
 
   pub first_absorbed : (n : HostValue) (rest : ℕ) (r : Result Event HostError) → IfOk r (λ event. HasAbsorbedIn h n id event) → IfErr r (λ why. MayRefuseAbsorption h id why) → rest ≡ left_after left 1 r → HaveAbsorbed h n left rest
-  first_absorbed n rest (Ok event) done why is = has_absorbed n event rest done (omega (arith, some, is))
+  first_absorbed n rest (Ok event) done why is = told_absorbed n event rest done (omega (arith, some, is))
   first_absorbed n rest (Err error) done why is = absurd (not_refused error why)
 
   pub first_one : (rest : ℕ) (r : Result Event HostError) → IfErr r (λ why. MayRefuseAbsorption h id why) → rest ≡ left_after left 1 r → left ≡ rest + 1

@@ -31,6 +31,9 @@ bit_low false = omega arith
 owed_low : (g : Guest) → owed_by g ≤ length g.cell.value.tail + 1
 owed_low g = let bit = bit_low (has_ended_of g) in omega (arith, bit)
 
+owed_least : (g : Guest) → length g.cell.value.tail ≤ owed_by g
+owed_least g = omega arith
+
 pub owed_settled : (g : Guest) → g.cell.value.tail ≡ [] → owed_by g ≤ 1
 owed_settled g settled = let none : length g.cell.value.tail ≡ 0 = ap length settled in let low = owed_low g in omega (arith, none, low)
 
@@ -43,8 +46,14 @@ owed_ended g settled ended = ap₂ (λ (t : List Event) b. length t + (if b then
 -- a journal behind which a tail and an event are written
 longer : (xs ys zs : List Event) (e : Event) → zs ≡ (xs ++ ys) ++ e ∷ [] → length zs ≡ length xs + length ys + 1
 longer xs ys zs e is =
-    let whole = ap length is ∙ length-append (xs ++ ys) (e ∷ []) in
+    let whole : length zs ≡ length (xs ++ ys) + 1 = ap length is ∙ length-append (xs ++ ys) (e ∷ []) in
     let first = length-append xs ys in
+    omega (arith, whole, first)
+
+longer_by_two : (xs ys zs : List Event) (d e : Event) → zs ≡ ((xs ++ ys) ++ d ∷ []) ++ e ∷ [] → length zs ≡ length xs + length ys + 2
+longer_by_two xs ys zs d e is =
+    let whole : length zs ≡ length ((xs ++ ys) ++ d ∷ []) + 1 = ap length is ∙ length-append ((xs ++ ys) ++ d ∷ []) (e ∷ []) in
+    let first = longer xs ys ((xs ++ ys) ++ d ∷ []) d refl in
     omega (arith, whole, first)
 
 module _ (h : HostValue) (left : ℕ) (kept : IsKept h left) where
@@ -107,27 +116,25 @@ module _ (h : HostValue) (left : ℕ) (kept : IsKept h left) where
   kept_collected n pid event rest alive serves c all =
       kept_pair n pid.0 c.before c.after rest c.there (ap (λ (x : HostValue). x.guests) c.host_is) (ap (λ (x : HostValue). x.basis) c.host_is) serves
       (λ lives. c.way.phase) (ap (λ (x : HostValue). x.kernel.value.collection) c.host_is ∙ kept.kernel_idle)
-      (let whole = ap length c.way.journal ∙ length-append ((h.book.journal.list ++ c.before.cell.value.tail) ++ _ ∷ []) (event ∷ []) in
-      let more = longer h.book.journal.list c.before.cell.value.tail ((h.book.journal.list ++ c.before.cell.value.tail) ++ _ ∷ []) _ refl in
+      (let more = longer_by_two h.book.journal.list c.before.cell.value.tail n.book.journal.list _ event c.way.journal in
       let owes = owed_alive c.before (same_guest pid c.before alive c.there) in
       let low = owed_settled c.after c.way.settled in
-      omega (arith, whole, more, owes, low, all))
+      omega (arith, more, owes, low, all))
 
   pub kept_kernel : (n : HostValue) (pid : Pid) (event : Event) (rest : ℕ) → IsAlive h pid → HostServes n → HasCollectedKernelIn h n pid event → left ≡ rest + 2 → IsKept n rest
   kept_kernel n pid event rest alive serves c all =
       kept_pair n pid.0 c.before c.after rest c.there (ap (λ (x : HostValue). x.guests) c.host_is) (ap (λ (x : HostValue). x.basis) c.host_is) serves
       (λ lives. c.way.idle) c.way.phase
-      (let whole = ap length c.way.journal ∙ length-append ((h.book.journal.list ++ c.before.cell.value.tail) ++ _ ∷ []) (event ∷ []) in
-      let more = longer h.book.journal.list c.before.cell.value.tail ((h.book.journal.list ++ c.before.cell.value.tail) ++ _ ∷ []) _ refl in
+      (let more = longer_by_two h.book.journal.list c.before.cell.value.tail n.book.journal.list _ event c.way.journal in
       let owes = owed_alive c.before (same_guest pid c.before alive c.there) in
       let low = owed_settled c.after c.way.settled in
-      omega (arith, whole, more, owes, low, all))
+      omega (arith, more, owes, low, all))
 
   -- an absorption adds one event
   pub kept_absorbed : (n : HostValue) (id : SharedId) (event : Event) (rest : ℕ) → HostServes n → HasAbsorbedIn h n id event → left ≡ rest + 1 → IsKept n rest
   kept_absorbed n id event rest serves c all =
       kept_rest n rest (ap (λ (x : HostValue). x.guests) c.host_is) (ap (λ (x : HostValue). x.basis) c.host_is) serves c.has_absorbed.own.in_phase
-      (let whole = ap length c.has_absorbed.own.journal ∙ length-append h.book.journal.list (event ∷ []) in
+      (let whole : length n.book.journal.list ≡ length h.book.journal.list + 1 = ap length c.has_absorbed.own.journal ∙ length-append h.book.journal.list (event ∷ []) in
       omega (arith, whole, all))
 
   -- an operation adds one event, whether it is published or not
@@ -147,7 +154,7 @@ module _ (h : HostValue) (left : ℕ) (kept : IsKept h left) where
           kept_pair n pid.0 c.before c.after rest c.there (ap (λ (x : HostValue). x.guests) c.host_is) (ap (λ (x : HostValue). x.basis) c.host_is) serves
           (λ now. idle_inside h.basis op c.before c.after c.way.said inside.inside (kept.idle pid.0 c.before c.there lives)) (ap (λ (x : HoldingsValue). x.value.collection) inside.kernel_is ∙ kept.kernel_idle)
           (let list = ap (λ (x : BookRecord). length x.journal.list) inside.book_is in
-          let grown = ap (λ (x : Guest). length x.cell.value.tail) inside.inside.guest_is ∙ length-append c.before.cell.value.tail (_ ∷ []) in
+          let grown : length c.after.cell.value.tail ≡ length c.before.cell.value.tail + 1 = ap (λ (x : Guest). length x.cell.value.tail) inside.inside.guest_is ∙ length-append c.before.cell.value.tail (_ ∷ []) in
           let owes = owed_alive c.before lives in
           let low = owed_low c.after in
           omega (arith, list, grown, owes, low, all))
@@ -176,9 +183,10 @@ module _ (h : HostValue) (left : ℕ) (kept : IsKept h left) where
         let owes = owed_alive c.before (same_guest pid c.before alive c.there) in
         let low = owed_settled c.after c.way.settled in
         let none = owed_ended c.target_after c.way.target_settled c.way.ended in
+        let least = owed_least c.target_before in
         let before = kept.room in
         let events : n.basis.events ≡ h.basis.events = ap (λ (y : HostValue). y.basis.events) c.host_is in
-        omega (arith, first, second, now, more, both, owes, low, none, before, events, all);
+        omega (arith, first, second, now, more, both, owes, low, none, least, before, events, all);
   }
 
   pub kept_operated : (n : HostValue) (pid : Pid) (op : Op) (event : Event) (rest : ℕ) → IsAlive h pid → HostServes n → HasOperatedIn h n pid op event → left ≡ rest + 1 → IsKept n rest

@@ -20,7 +20,7 @@ fresh_kept basis bodies h left f enough = record {
   kernel_idle = f.kernel;
   room =
       let low = total_low owed_by h.guests (λ k g at. owed_settled g (f.guests k g at).settled) in
-      let none = ap length f.journal in
+      let none : length h.book.journal.list ≡ 0 = ap length f.journal in
       let events = ap (λ (b : Basis). b.events) f.basis_is in
       omega (arith, low, none, events, enough);
 }
@@ -38,5 +38,5 @@ module _ (text : Text) (ty : TypeId) (bodies events : ℕ) (h : HostValue) (read
     error_is = refl;
     host = h;
     read = read;
-    few = let no = decided (needed_to_operate h + length h.guests ≤ events) test decides fails in omega (arith, no);
+    few = decided (needed_to_operate h + length h.guests ≤ events) test decides fails;
   }

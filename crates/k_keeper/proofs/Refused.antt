@@ -86,8 +86,8 @@ module _ (h : HostValue) (left : ℕ) (kept : IsKept h left) where
     -- a process that lives can always be ended
     exit_never : (why : HostError) → CanNotExit h.basis h.kernel h.book alive.guest why → ⊥
     exit_never why (inl (inl ended)) = ended.fails alive.lives
-    exit_never why (inl (inr open)) = open.fails (kept.idle pid.0 alive.guest alive.there alive.lives)
-    exit_never why (inr (inl open)) = open.fails kept.kernel_idle
+    exit_never why (inl (inr busy)) = busy.fails (kept.idle pid.0 alive.guest alive.there alive.lives)
+    exit_never why (inr (inl busy)) = busy.fails kept.kernel_idle
     exit_never why (inr (inr full)) = full.fails (let room = room_of h left kept pid.0 alive.guest alive.there alive.lives in omega (arith, room))
 
     pub exit_why : (r : Result Event HostError) → IfErr r (λ why. MayRefuse h pid (CanNotExit h.basis h.kernel h.book) why) → IfErr r (λ why. IsGone h pid why)
@@ -101,7 +101,7 @@ module _ (h : HostValue) (left : ℕ) (kept : IsKept h left) where
     -- with two events left its heap can be collected
     collect_never : (why : HostError) → 2 ≤ left → CanNotCollect h.basis h.book alive.guest why → ⊥
     collect_never why two (inl (inl ended)) = ended.fails alive.lives
-    collect_never why two (inl (inr open)) = open.fails (kept.idle pid.0 alive.guest alive.there alive.lives)
+    collect_never why two (inl (inr busy)) = busy.fails (kept.idle pid.0 alive.guest alive.there alive.lives)
     collect_never why two (inr full) = full.fails (let room = room_of h left kept pid.0 alive.guest alive.there alive.lives in omega (arith, room, two))
 
     pub collect_why : (P : HostError → Type 0) (r : Result Event HostError) → 2 ≤ left → IfErr r (λ why. MayRefuse h pid (CanNotCollect h.basis h.book) why) → IfErr r P
@@ -115,8 +115,8 @@ module _ (h : HostValue) (left : ℕ) (kept : IsKept h left) where
     -- and the kernel's, where no shared heap is an orphan
     kernel_never : (why : HostError) → 2 ≤ left → HasNoOrphan h → CanNotCollectKernel h.basis h.kernel h.book alive.guest why → ⊥
     kernel_never why two none (inl (inl ended)) = ended.fails alive.lives
-    kernel_never why two none (inl (inr open)) = open.fails (kept.idle pid.0 alive.guest alive.there alive.lives)
-    kernel_never why two none (inr (inl open)) = open.fails kept.kernel_idle
+    kernel_never why two none (inl (inr busy)) = busy.fails (kept.idle pid.0 alive.guest alive.there alive.lives)
+    kernel_never why two none (inr (inl busy)) = busy.fails kept.kernel_idle
     kernel_never why two none (inr (inr (inl orphan))) = orphan.fails none
     kernel_never why two none (inr (inr (inr full))) = full.fails (let room = room_of h left kept pid.0 alive.guest alive.there alive.lives in omega (arith, room, two))
 

@@ -1,5 +1,5 @@
 -- What the calls on a keeper leave, and when they are refused.
-use Rattle.std.specs.Prelude.{◌≡◌, ◌⊎◌, ℕ, ◌+◌, ◌<◌, ◌≤◌, ◌++◌, IsFalse, List, None, Some, length, map, slice_get}
+use Rattle.std.specs.Prelude.{◌≡◌, ◌⊎◌, ℕ, ◌+◌, ◌≤◌, ◌++◌, IsFalse, List, None, Some, length, map, slice_get}
 use Rattle.k_types.specs.declared.event.Event.{Event}
 use Rattle.k_types.specs.declared.event.Event.TheVariants.{Absorbed}
 use Rattle.k_types.specs.declared.names.Pid.{Pid}
@@ -83,7 +83,7 @@ pub record HasFewEvents (bytes : Text) (ty : TypeId) (bodies events : ℕ) (why 
   pub error_is : why ≡ Terms
   pub host : HostValue
   pub read : HasRead bytes ty bodies events host
-  pub few : events < needed_to_operate host + length host.guests
+  pub few : ¬ (needed_to_operate host + length host.guests ≤ events)
 
 -- no keeper is opened
 abbrev pub IsNotOpened : Text → TypeId → ℕ → ℕ → OpenError → Type 0

@@ -128,12 +128,7 @@ impl Keeper {
         ensures same { OnErr result (self.new ≡ self.old) }
         ensures why { IfErr result (λ why. MayRefuseKernel self.old pid why) }
     {
-        ready(
-            &self.host,
-            pid,
-            self.left,
-            needed_by_the_kernel(&self.host),
-        )?;
+        ready(&self.host, pid, self.left, needed_by_the_kernel(&self.host))?;
         let left = absorb_all(&mut self.host, self.left);
         let came = self.host.collect_kernel(pid);
         self.left = left_after(left, 2, &came);
