@@ -1,5 +1,5 @@
 -- Why a call of a keeper is refused, and that nothing else refuses it.
-use Rattle.std.proofs.Common.{◌≡◌, ◌≤◌, ◌<◌, ◌+◌, ℕ, refl, sym, ap, ◌∙◌, subst, false, true, length, Option, Some, None, option_map, slice_get, IsFalse, inl, inr, arith, Result, Ok, Err, IfErr, OnErr, OnOk, ◌⊎◌}
+use Rattle.std.proofs.Common.{◌≡◌, ◌≤◌, ◌<◌, ◌+◌, ℕ, refl, sym, ap, ◌∙◌, subst, Bool, false, true, length, Option, Some, None, option_map, slice_get, IsFalse, inl, inr, arith, Result, Ok, Err, IfErr, OnErr, OnOk, ◌⊎◌}
 use Rattle.std.proofs.lemmas.Bool.{false≢true}
 use Rattle.std.specs.Prelude.{IfOk, MatchOption}
 use Rattle.k_types.specs.declared.event.Event.{Event}
@@ -25,22 +25,22 @@ none_of : (o : Option Guest) → None ≡ option_map has_ended_of o → MatchOpt
 none_of None e = refl
 none_of (Some g) e = absurd (cc e)
 
-ended_of : (o : Option Guest) → Some true ≡ option_map has_ended_of o → MatchOption o (Ended ≡ Unknown) (λ g. Lacks Ended (IsFalse (has_ended_of g)) Ended)
-ended_of None e = absurd (cc e)
-ended_of (Some g) e = let is : true ≡ has_ended_of g = cc e in record { error_is = refl; fails = λ lives. false≢true (sym lives ∙ sym is) }
+ended_of : (ended : Bool) → ended ≡ true → (o : Option Guest) → Some ended ≡ option_map has_ended_of o → MatchOption o (Ended ≡ Unknown) (λ g. Lacks Ended (IsFalse (has_ended_of g)) Ended)
+ended_of ended is None e = absurd (cc e)
+ended_of ended is (Some g) e = let same : ended ≡ has_ended_of g = cc e in record { error_is = refl; fails = λ lives. false≢true (sym lives ∙ sym same ∙ is) }
 
-alive_of : (h : HostValue) (pid : Pid) (o : Option Guest) → o ≡ slice_get h.guests pid.0 → Some false ≡ option_map has_ended_of o → IsAlive h pid
-alive_of h pid None at e = absurd (cc e)
-alive_of h pid (Some g) at e = let is : false ≡ has_ended_of g = cc e in record { guest = g; there = sym at; lives = sym is }
+alive_of : (h : HostValue) (pid : Pid) (ended : Bool) → ended ≡ false → (o : Option Guest) → o ≡ slice_get h.guests pid.0 → Some ended ≡ option_map has_ended_of o → IsAlive h pid
+alive_of h pid ended is None at e = absurd (cc e)
+alive_of h pid ended is (Some g) at e = let same : ended ≡ has_ended_of g = cc e in record { guest = g; there = sym at; lives = sym same ∙ is }
 
 pub gone_unknown : (h : HostValue) (pid : Pid) → None ≡ option_map has_ended_of (slice_get h.guests pid.0) → IsGone h pid Unknown
 gone_unknown h pid told = none_of (slice_get h.guests pid.0) told
 
-pub gone_ended : (h : HostValue) (pid : Pid) → Some true ≡ option_map has_ended_of (slice_get h.guests pid.0) → IsGone h pid Ended
-gone_ended h pid told = ended_of (slice_get h.guests pid.0) told
+pub gone_ended : (h : HostValue) (pid : Pid) (ended : Bool) → ended ≡ true → Some ended ≡ option_map has_ended_of (slice_get h.guests pid.0) → IsGone h pid Ended
+gone_ended h pid ended is told = ended_of ended is (slice_get h.guests pid.0) told
 
-pub told_alive : (h : HostValue) (pid : Pid) → Some false ≡ option_map has_ended_of (slice_get h.guests pid.0) → IsAlive h pid
-told_alive h pid told = alive_of h pid (slice_get h.guests pid.0) refl told
+pub told_alive : (h : HostValue) (pid : Pid) (ended : Bool) → ended ≡ false → Some ended ≡ option_map has_ended_of (slice_get h.guests pid.0) → IsAlive h pid
+told_alive h pid ended is told = alive_of h pid ended is (slice_get h.guests pid.0) refl told
 
 -- a process that is gone does no operation
 gone_by : (h : HostValue) (op : Op) (o : Option Guest) (why : HostError) → MatchOption o (why ≡ Unknown) (λ g. Lacks Ended (IsFalse (has_ended_of g)) why) → MatchOption o (why ≡ Unknown) (λ g. CanNotOperateIn h op g why)
@@ -174,3 +174,12 @@ pub collected_all : (h m n : HostValue) (left between rest : ℕ) (pid : Pid) (r
 collected_all h m n left between rest pid (Ok event) absorbed none two is done =
     record { between = keeper_of m between; absorbed = absorbed; none_left = none; collected = done; spends = omega (arith, two, is) }
 collected_all h m n left between rest pid (Err why) absorbed none two is done = tt
+
+-- two things that are told by two calls
+pub both_on : {T E : Type 0} (P Q : Type 0) (r : Result T E) → P → OnOk r Q → OnOk r (P × Q)
+both_on P Q (Ok x) one other = (one, other)
+both_on P Q (Err why) one other = tt
+
+pub second_of : {T E : Type 0} (P Q : E → Type 0) (r : Result T E) → IfErr r Q → IfErr r (λ why. P why ⊎ Q why)
+second_of P Q (Ok x) why = tt
+second_of P Q (Err error) why = inr why

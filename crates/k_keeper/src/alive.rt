@@ -1,5 +1,5 @@
 //! Whether a call can be done.
-ghost use Rattle.std.specs.Prelude.{◌≤◌, ◌⊎◌, IfErr, OnOk};
+ghost use Rattle.std.specs.Prelude.{◌≤◌, ◌⊎◌, ◌↔◌, IfErr, IsTrue, OnOk};
 ghost use Rattle.k_calls.specs.Refusals.{Lacks};
 ghost use Rattle.k_keeper.specs.Kept.{IsAlive, IsGone};
 
@@ -11,11 +11,20 @@ pub(crate) fn alive(host: &Host, pid: Pid) -> Result<(), HostError>
     ensures ok { OnOk result (IsAlive host.now pid) }
     ensures why { IfErr result (λ why. IsGone host.now pid why) }
 {
-    match host.has_ended(pid) {
-        None => Err(HostError::Unknown),
-        Some(true) => Err(HostError::Ended),
-        Some(false) => Ok(()),
+    let Some(ended) = host.has_ended(pid) else {
+        return Err(HostError::Unknown);
+    };
+    if ended {
+        return Err(HostError::Ended);
     }
+    Ok(())
+}
+
+/// Whether so many events are left.
+fn is_enough(left: u32, needed: u64) -> bool
+    ensures { IsTrue result ↔ (needed ≤ left) }
+{
+    needed <= u64::from(left)
 }
 
 /// Tells that so many events are left.
@@ -23,7 +32,7 @@ pub(crate) fn spared(left: u32, needed: u64) -> Result<(), HostError>
     ensures ok { OnOk result (needed ≤ left) }
     ensures why { IfErr result (λ why. Lacks HostError.Reserved (needed ≤ left) why) }
 {
-    if u64::from(left) < needed {
+    if !is_enough(left, needed) {
         return Err(HostError::Reserved);
     }
     Ok(())
