@@ -81,7 +81,7 @@ module _ (h : HostValue) (left : ℕ) (kept : IsKept h left) where
 
   module _ (pid : Pid) (alive : IsAlive h pid) where
     never : (reason : Guest → HostError → Type 0) (why : HostError) → (reason alive.guest why → ⊥) → MayRefuse h pid reason why → ⊥
-    never reason why no refused = no (subst (λ o. MatchOption o (why ≡ Unknown) (λ g. reason g why)) alive.there refused)
+    never reason why not_so refused = not_so (subst (λ o. MatchOption o (why ≡ Unknown) (λ g. reason g why)) alive.there refused)
 
     -- a process that lives can always be ended
     exit_never : (why : HostError) → CanNotExit h.basis h.kernel h.book alive.guest why → ⊥
