@@ -3,6 +3,7 @@ import filecmp
 import pathlib
 import re
 import shutil
+import statistics
 import subprocess
 import sys
 from typing import NamedTuple
@@ -14,6 +15,7 @@ from measuring.runs import ENDED_BY_TIME, Job, Runner, table
 FORMS = {"each": "the peer, book for each operation", "stretches": "the peer, book for stretches"}
 WORKERS = 4
 USED = ["elapsed, ms", "processor, ms", "peak, MB"]
+SAMPLES = [0, 1, 1000]
 CHECK_SECONDS = 120
 GAP_COLLECTIONS = 20
 GAP_OBJECTS = [10_000, 40_000, 60_000]
@@ -118,6 +120,35 @@ def replay(given):
     rows.insert(2, ["`kaffe replay` by the peer", *(first.ratio(second, field) for field in fields)])
     rows.append(["`kaffe run` by the peer", *(third.ratio(fourth, field) for field in fields)])
     return table([f"trace of `big {count}` to a file", *USED], rows)
+
+
+def threads_alone(series):
+    """The milliseconds of the threads of each run."""
+    return [last_watched(run)[0] for run in series.runs]
+
+
+def sampled_by(name, series, unwatched):
+    """The row of a watched run by that of the unwatched one."""
+    mine, theirs = threads_alone(series), threads_alone(unwatched)
+    ratios = f"{min(mine) / min(theirs):.3f} ({statistics.median(one / other for one, other in zip(mine, theirs)):.3f})"
+    return [f"{name} by `run`", ratios, *(series.ratio(unwatched, field) for field in ("elapsed", "processor", "peak"))]
+
+
+def sampled(given):
+    """`run` of the trace of `big 5000` with four workers, and `watch K` of it: with a cell that is written at each return of the book."""
+    count = 625 if given.quick else 5000
+    source = given.big_trace(count)
+    words = [["run"], *(["watch", samples] for samples in SAMPLES)]
+    environment = given.programs.watched()
+    jobs = [Job([given.programs.kaffe, *each], source, given.folder / "sampled", environment=environment) for each in words]
+    names = [f"`{' '.join(map(str, each))}`" for each in words]
+    rows, all_series = [], given.runner.series(jobs, given.runs)
+    for name, series in zip(names, all_series):
+        times = threads_alone(series)
+        threads = f"{min(times):,.1f} ({statistics.median(times):,.1f})"
+        rows.append([name, threads, *(series.cell(field) for field in ("elapsed", "processor", "peak"))])
+    rows += [sampled_by(name, series, all_series[0]) for name, series in zip(names[1:], all_series[1:])]
+    return table([f"trace of `big {count}`, the report to a file", "the threads alone, ms", *USED], rows)
 
 
 def scaling(given):
@@ -296,4 +327,4 @@ def tables(given):
 
 
 TABLES_IN_ORDER = {function.__name__: function for function in (
-    workers, one, grows, replay, scaling, inside, visits, gaps, greatest, check, reading, tables)}
+    workers, one, grows, replay, sampled, scaling, inside, visits, gaps, greatest, check, reading, tables)}

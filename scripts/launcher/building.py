@@ -67,7 +67,7 @@ def build_proved(program):
     began = time.monotonic()
     crates = subprocess.run([f"{top}/scripts/side-by-side"], stdin=subprocess.DEVNULL, stdout=sys.stderr, check=False)
     if crates.returncode:
-        fail(NO_PROGRAM, "a crate on which the program stands was not proved, so the program is not built")
+        fail(NO_PROGRAM, "a crate that the program needs was not proved, so the program is not built")
     with tempfile.TemporaryFile("w+", errors="replace") as log:
         # rt builds what it runs: with no words the program only writes its usage line.
         subprocess.run(["rt", "run"], cwd=f"{top}/crates/{sources.PROGRAM}", stdin=subprocess.DEVNULL, stdout=log, stderr=subprocess.STDOUT, check=False)

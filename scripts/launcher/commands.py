@@ -22,6 +22,7 @@ COMMANDS = {
     "check": Command("[TRACE [REPORT]]", [], 2, "whether a report is that of a run of its trace: 'good', or 'refused N'"),
     "big": Command("N", [r"[1-9][0-9]{0,2}|[1-4][0-9]{3}|5000"], 0, "a workload of 8 processes that make N objects each, N from 1 to 5000"),
     "watch": Command("K [TRACE]", [r"0|[1-9][0-9]{0,2}|1000"], 1, "a run beside a watcher that takes K samples, K from 0 to 1000"),
+    "work": Command("[TRACE]", [], 1, "a run on threads, and behind its report the work of its collections, by who asked for them"),
 }
 
 # What is run: the words for the program, and the files to join; none means that standard input is left as it is.
@@ -103,7 +104,7 @@ def joined(files):
 
 
 def copied(source, whole):
-    """Copies a file behind what is there, and gives its last byte, or a line feed where it is empty."""
+    """Copies a file after what is there, and gives its last byte, or a line feed where it is empty."""
     last = b"\n"
     for piece in iter(lambda: source.read(1 << 20), b""):
         whole.write(piece)

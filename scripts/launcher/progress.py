@@ -46,7 +46,7 @@ def seconds_left(need, below, seconds, at_once):
 
 
 class Progress:
-    """Tells after each crate how far the build is."""
+    """Says after each crate how far the build is."""
 
     def __init__(self, need, below, times, at_once):
         self.need, self.below, self.at_once = need, below, at_once
@@ -58,10 +58,10 @@ class Progress:
         """The seconds that are left: by the times of the file, and by how fast the build has been against them."""
         left = [it for it in self.need if it not in self.done]
         planned = seconds_left(left, self.below, self.seconds, self.at_once)
-        behind = self.whole - planned
-        if behind <= PACE_FROM * self.whole:
+        planned_so_far = self.whole - planned
+        if planned_so_far <= PACE_FROM * self.whole:
             return planned
-        return planned * min(max(so_far / behind, PACE_LEAST), PACE_MOST)
+        return planned * min(max(so_far / planned_so_far, PACE_LEAST), PACE_MOST)
 
     def after(self, name, so_far):
         """The line that is told when this crate is proved, so many seconds after the build began."""

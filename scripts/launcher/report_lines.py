@@ -128,7 +128,7 @@ def history_detail(report, number, operations):
 
 
 def section_detail(report, number, _operations):
-    """In which section the line stands, and what a line of that section is."""
+    """In which section the line is, and what a line of that section is."""
     at = "graph"
     for line in report.lines[report.graph - 1 : number - 1]:
         at = line if line in SECTIONS else at
@@ -137,5 +137,5 @@ def section_detail(report, number, _operations):
     if number > len(report.lines):
         return [f"The report breaks off in the section `{at}`."]
     if at == "end":
-        return ["Nothing may stand after the line `end`."]
-    return [f"It stands in the section `{at}`, whose lines are each {FORMS[at]}. The history before `graph` leaves something else there, or has more or fewer such lines."]
+        return ["Nothing may come after the line `end`."]
+    return [f"It is in the section `{at}`, whose lines are each {FORMS[at]}. The history before `graph` leaves something else there, or has more or fewer such lines."]

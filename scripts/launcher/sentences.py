@@ -6,7 +6,7 @@ from collections import namedtuple
 
 # The line that the program, and so the launcher, writes where the words are no command: the text is that of
 # crates/k_top/src/texts.rt.
-USAGE = "usage: kaffe run | replay | check | big N | watch K"
+USAGE = "usage: kaffe run | replay | check | big N | watch K | work"
 
 # What an exit status, a reason or a fault means, and what to do about it.
 Meaning = namedtuple("Meaning", "means todo")
@@ -67,7 +67,7 @@ REASONS = {
         "Write the line in ASCII, with single spaces and no tabs, and end it by a line feed alone.",
     ),
     4: Meaning(
-        "The line has none of the forms that may stand in its place.",
+        "The line has none of the forms that are allowed in its place.",
         "Write one of the forms of this place. Words are separated by exactly one space, and there are no empty lines and no comments. `kill` and `resize` have a form only in a trace that begins with `kaffe 2`.",
     ),
     5: Meaning(
@@ -170,10 +170,10 @@ FAULTS = {
 # The rules by which `check` refuses a report, in the order in which they are tried.
 RULES = {
     1: "The first line of the report is not `report 1`.",
-    2: "The line stands before the line `graph`, and is no event line, or its operation is not the next one of its process, or the event is not possible there.",
+    2: "The line comes before the line `graph`, and is no event line, or its operation is not the next one of its process, or the event is not possible there.",
     3: "There is no line `graph`. The number is one past the last line.",
     4: "The history is not complete at the line `graph`: an operation is missing, a collection is open, or the closing is missing though every process has ended.",
-    5: "The line stands after `graph`, and is not that of the report of this history, or is one too many. Where lines are missing, the number is one past the last line.",
+    5: "The line comes after `graph`, and is not that of the report of this history, or is one too many. Where lines are missing, the number is one past the last line.",
 }
 
 

@@ -1,4 +1,4 @@
-"""What a line of a trace lacks: where it stands in the trace, and what would be right there.
+"""What a line of a trace lacks: where it is in the trace, and what would be right there.
 
 The program alone judges a trace. This only looks for what to say of a line that the program has named.
 """
@@ -92,7 +92,7 @@ def form_of(words, before):
 
 
 def fits(place, word):
-    """Whether a word may stand in the place of a number or a register; True for any other place."""
+    """Whether a word is allowed in the place of a number or a register; True for any other place."""
     if place.startswith("r"):
         return re.fullmatch(REGISTER, word) is not None
     most = {"MAX": BYTES_BOUND, "CEILING": BYTES_BOUND, "FIELDS": FIELDS_MOST + 1, "f": FIELDS_MOST, "n": INTEGER_BOUND}.get(place)
@@ -111,7 +111,7 @@ def detail(reason, line, before, size):
         2: lambda: [f"The line has {len(line)} bytes."],
         3: lambda: bad_byte(line),
         4: lambda: no_form(line, words, before),
-        5: lambda: [f"`{word}` stands in the place of {RANGES.get(place, 'a register, r0 to r15')}." for place, word in zip(form, words) if not fits(place, word)][:1],
+        5: lambda: [f"`{word}` is in the place of {RANGES.get(place, 'a register, r0 to r15')}." for place, word in zip(form, words) if not fits(place, word)][:1],
         6: lambda: bad_name(words),
         7: lambda: declared_before(words, before),
         8: lambda: undeclared(form, words, before),
@@ -141,7 +141,7 @@ def bad_byte(line):
 
 
 def no_form(line, words, before):
-    """What keeps a line from having a form, and which forms may stand there."""
+    """What keeps a line from having a form, and which forms are allowed there."""
     found = []
     if not line:
         found.append("The line is empty.")
@@ -156,8 +156,8 @@ def no_form(line, words, before):
     elif len(words) > 1 and "operation" in before.places() and words[0] in before.names["process"]:
         found.append(f"There is no operation `{words[1]}`.")
     elif words[0] in HEADER:
-        found.append(f"A line that begins with `{words[0]}` has another form, or may not stand here.")
-    return found + ["Here may stand " + allowed(before) + "."]
+        found.append(f"A line that begins with `{words[0]}` has another form, or is not allowed here.")
+    return found + ["Allowed here is " + allowed(before) + "."]
 
 
 def bad_name(words):

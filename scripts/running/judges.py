@@ -1,15 +1,16 @@
 """What is run on one random trace, and what has to come of it."""
 from __future__ import annotations
 
+import tempfile
 from collections import Counter
-from typing import Tuple
+from typing import List, Tuple
 
 from showing import history, report
 from showing.random_traces import random_trace
 from showing.trace import Trace, read_trace
 from showing.words import Text
 
-from . import samples
+from . import samples, tables, waits
 from .many import Case
 from .program import Program, Wrong
 
@@ -48,3 +49,40 @@ def unwatched(program: Program, case: Case, version: int) -> Counter:
             program.check(text, output)
             reports.add(output)
     return Counter(traces=1, runs=case.runs, events=case.runs * len(replay.events), reports=len(reports), others=len(reports - {wanted}))
+
+
+def worked(program: Program, case: Case, version: int) -> Counter:
+    """Runs the case's trace once. The table after the report has to be the model's for the run's own journal, and the report to be good."""
+    text, trace = _trace(program, case, version)
+    output = program.done(["work"], text)
+    judged, collections = tables.judge(trace, output)
+    program.check(text, judged)
+    return Counter(runs=1, collections=collections, credited=bool(collections))
+
+
+def _traced(program: Program, words: List[str], text: str) -> Tuple[str, waits.Run]:
+    """What a run wrote, and its threads as strace saw them."""
+    with tempfile.NamedTemporaryFile("r") as log:
+        try:
+            status, output = Program("strace").call(["-f", "-o", log.name, program.path, *words], text)
+        except Wrong:
+            raise Wrong(f"{words[0]} has not ended in time under strace") from None
+        finally:
+            program.texts["strace"] = log.read()
+    program.texts[words[0]] = output
+    if status != 0:
+        raise Wrong(f"{words[0]} ended with status {status} under strace, and wrote '{output[:60].strip()}'")
+    return output, waits.Run(program.texts["strace"].splitlines())
+
+
+def waited(program: Program, case: Case, version: int, count: int, sanitized: bool) -> Counter:
+    """Watches one run of the case's trace under strace. No worker may sleep for the watcher; and each sample has to be on the journal."""
+    text, trace = _trace(program, case, version)
+    _, unwatched = _traced(program, ["run"], text)
+    output, watched = _traced(program, ["watch", str(count)], text)
+    _, events, seen = samples.judge(trace, output, count)
+    counted = waits.count(watched, len(trace.setup.processes), sanitized)
+    if counted.for_watcher:
+        raise Wrong(f"a worker slept {counted.for_watcher} times at an address that the watcher's thread touched")
+    caught = any(0 < sample.events < events for sample in seen)
+    return Counter(counted._asdict(), runs=1, caught=caught, unwatched=sum(thread.yields for thread in unwatched.threads.values()))

@@ -17,7 +17,7 @@ from showing.state import State
 from showing.trace import Trace, read_trace
 from showing.words import Text
 
-from . import judges, many, samples
+from . import judges, many, planted_waits, samples, tables
 from .many import TOP, Case
 from .program import Program, Wrong
 
@@ -200,13 +200,13 @@ def of_watching() -> Iterator[str]:
 
 def of_programs() -> Iterator[str]:
     """Complaints about how a program is started: what comes back, its status, and that it is ended where it hangs."""
-    program = Program(sys.executable, longest=1)
+    program, hasty = Program(sys.executable), Program(sys.executable, longest=1)
     echo = "import sys; sys.stdout.write(sys.stdin.read()); sys.exit(3)"
     for text in ("a long text\n" * 1000, "a short one\n", ""):
         if program.call(["-c", echo], text) != (3, text):
             yield "what a program writes does not come back as it is"
     try:
-        program.call(["-c", "import time; time.sleep(60)"], "")
+        hasty.call(["-c", "import time; time.sleep(60)"], "")
         yield "a program that hangs is waited for"
     except Wrong as bad:
         yield from seen_or_not("a program that hangs", str(bad), "has not ended after 1 s")
@@ -258,6 +258,44 @@ def of_reports() -> Iterator[str]:
     yield from of_runs()
     yield from of_programs()
     yield from of_failures()
+
+
+# The table of an example, worked out by hand, and what is planted there: the line, what it becomes, and why it is refused.
+TABLE = ["work", "process p1 2 9", "process p2 1 3", "closing 0 0", "total 3 12", "end"]
+PLANTED_ROWS = [
+    (1, "process p1 1 3", "line 2 of the table"),
+    (2, "process p2 1 9", "line 3 of the table"),
+    (3, "closing 1 3", "line 4 of the table"),
+    (4, "total 3 9", "line 5 of the table"),
+    (5, "", "line 6 of the table"),
+]
+
+
+def of_tables() -> Iterator[str]:
+    """What scripts/credited-runs does not see of what is planted."""
+    lines, report = ((TOP / f"examples/cycle.{kind}").read_text(encoding="ascii").splitlines() for kind in ("kaffe", "report"))
+    trace = read_trace(Text("cycle", lines))
+
+    def why(table: Sequence[str], last: str = "\n") -> Optional[str]:
+        try:
+            tables.judge(trace, "\n".join([*report, *table]) + last)
+        except Wrong as bad:
+            return str(bad)
+        return None
+
+    if why(TABLE) is not None:
+        yield f"a table that is right is refused because {why(TABLE)}"
+    for at, line, part in PLANTED_ROWS:
+        yield from seen_or_not(line, why([*TABLE[:at], line, *TABLE[at + 1 :]]), part)
+    yield from seen_or_not("a table without its last line", why(TABLE[:-1]), "has 5 lines, and not 6")
+    yield from seen_or_not("no table", why([]), "has 0 lines, and not 6")
+    yield from seen_or_not("an output that is cut off", why(TABLE, ""), "cut off")
+    yield from of_failures()
+
+
+def of_waits() -> Iterator[str]:
+    """What scripts/watched-waits does not see of what is planted."""
+    yield from planted_waits.planted()
 
 
 def ended(name: str, complaints: Iterable[str]) -> int:

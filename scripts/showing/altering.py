@@ -7,7 +7,7 @@ from typing import List
 
 from .trace import Trace
 
-FIRST_EVENT = 1  # the line behind `report 1`, counted from 0
+FIRST_EVENT = 1  # the line after `report 1`, counted from 0
 
 
 def _reply(rng: random.Random, trace: Trace) -> str:
@@ -26,9 +26,9 @@ def _place(rng: random.Random, lines: List[str], graph: int) -> int:
 def altered(rng: random.Random, trace: Trace, report: List[str]) -> List[str]:
     """The lines of the report, of which one is left out, doubled, moved, changed or added."""
     lines, graph = list(report), report.index("graph")
-    behind = rng.randrange(graph + 1, len(lines))
+    after_graph = rng.randrange(graph + 1, len(lines))
     if graph == FIRST_EVENT or rng.random() < 0.2:
-        lines[behind] = re.sub(r"\d+", lambda found: str(int(found[0]) + 1), lines[behind], count=1)
+        lines[after_graph] = re.sub(r"\d+", lambda found: str(int(found[0]) + 1), lines[after_graph], count=1)
         return lines
     at, how = _place(rng, lines, graph), rng.randrange(5)
     if how == 0:

@@ -25,7 +25,8 @@ const seen = EVENTS_WANTED.map((event) => {
   const textOf = (row, part) => row.querySelector(part).textContent;
   const numbers = [...document.querySelectorAll(".row")].map((row) => [textOf(row, "b"), textOf(row, ".number")]);
   const standing = (how) => [...document.querySelectorAll(`#graph .node.${how}`)].map((node) => nameOf(Number(node.dataset.key)));
-  return { count: document.getElementById("count").textContent, line: document.getElementById("line").textContent, numbers,
+  const samples = [document.querySelectorAll(".dot").length, document.querySelectorAll("#samples tbody tr").length];
+  return { samples, count: document.getElementById("count").textContent, line: document.getElementById("line").textContent, numbers,
            live: standing("live"), other: [...standing("kept"), ...standing("garbage")] };
 });
 document.body.dataset.seen = JSON.stringify(seen);

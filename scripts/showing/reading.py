@@ -104,13 +104,15 @@ def _given(paths: Sequence[str]) -> Dict[str, Text]:
 
 
 def _cut_samples(text: Text) -> Tuple[Text, List[Sample]]:
-    """A report without the section of samples that a watched run writes after it, and these samples."""
+    """A report without the section of samples or of work that a run writes after it, and these samples."""
     if "end" not in text.lines or text.lines.index("end") + 1 == len(text.lines):
         return text, []
     first = text.lines.index("end") + 1
     rest = text.lines[first:]
-    if rest[0] != "samples" or rest[-1] != "end":
-        raise text.bad(first + 1, "after the report's end only a section 'samples' may stand, with its own line 'end'")
+    if rest[0] not in ("samples", "work") or rest[-1] != "end":
+        raise text.bad(first + 1, "after the report's end only a section 'samples' or 'work' may come, with its own line 'end'")
+    if rest[0] == "work":
+        return Text(text.source, text.lines[:first]), []
     samples = []
     for at, line in enumerate(rest[1:-1], first + 2):
         parts = line.split(" ")

@@ -163,13 +163,13 @@ class _Reader:
         parts = line.split(" ")
         if parts[0] not in PARTS:
             if not self.setup.processes:
-                raise BadInput(f"'{parts[0]}' begins no line that may stand here")
+                raise BadInput(f"'{parts[0]}' begins no line that is allowed here")
             return False
         place = PARTS.index(parts[0])
         if place < self.place or (place == self.place and place < 2) or (place > 1 and self.place < 1):
-            raise BadInput(f"a line '{parts[0]}' stands out of its place")
+            raise BadInput(f"a line '{parts[0]}' is out of its place")
         if (place > 3 and not self.setup.limits) or (place > 4 and not self.setup.processes):
-            raise BadInput(f"a line '{parts[0]}' stands before what must come first")
+            raise BadInput(f"a line '{parts[0]}' comes before what must come first")
         self.place = place
         getattr(self, "_" + parts[0])(parts[1:])
         return True

@@ -42,13 +42,14 @@ fn a_book_is_charged_and_finds_an_orphan(rt: HostRuntime) -> Result<(), Fail> {
         (book.procs(), book.shared_heaps(), book.ceiling()),
         (2, 1, 50)
     );
+    assert_eq!(rt; book.living(), 2);
+    assert!(rt; book.first_orphan().is_none());
+    book.set_phase(SharedId(0), Phase::Populating(Pid(1)));
+    assert_eq!(rt; book.first_orphan(), Some(SharedId(0)));
     assert_eq!(rt; book.charge(LimitId(0), 60), Ok(()));
     assert_eq!(rt; book.charge(LimitId(0), 60), Err(LimitId(0)));
     assert_eq!(rt; book.use_of(LimitId(0)), 60);
     assert_eq!(rt; book.owner(Seg(2)), Heap::User(Pid(1)));
-    assert!(rt; book.first_orphan().is_none());
-    book.set_phase(SharedId(0), Phase::Populating(Pid(1)));
-    assert_eq!(rt; book.first_orphan(), Some(SharedId(0)));
     Ok(())
 }
 

@@ -1,11 +1,11 @@
 -- What a call of a host is answered, in numbers.
-use Rattle.std.specs.Prelude.{◌≡◌, Option, Some, MatchOption, Result, IfErr, IfOk, OnErr}
+use Rattle.std.specs.Prelude.{◌≡◌, Some, MatchOption, Result, IfErr, IfOk, OnErr}
 use Rattle.k_types.specs.declared.event.Event.{Event}
 use Rattle.k_types.specs.declared.names.Pid.{Pid}
 use Rattle.k_types.specs.declared.op.Op.{Op}
-use Rattle.k_calls.specs.declared.errors.HostError.{HostError}
-use Rattle.k_ends.specs.Refusals.{CanNotExit}
-use Rattle.k_ends.specs.Whole.{CanNotCollect, CanNotCollectKernel}
+use Rattle.k_host.specs.HostError.{HostError}
+use Rattle.k_host.specs.EndsRefusals.{CanNotExit}
+use Rattle.k_host.specs.Whole.{CanNotCollect, CanNotCollectKernel}
 use Rattle.k_host.specs.Calls.{HasAbsorbedIn, HasCollectedIn, HasCollectedKernelIn, HasExitedIn, HasOperatedIn}
 use Rattle.k_host.specs.Hosts.{HostValue}
 use Rattle.k_host.specs.Refusals.{CanNotOperateIn, MayRefuse, MayRefuseAbsorption}

@@ -1,5 +1,5 @@
 -- Collections, absorptions and ends of processes can be done by what serves, which serves afterwards.
-use Rattle.std.proofs.Common.{◌≡◌, ◌↔◌, ◌==◌, ℕ, ◌+◌, ◌<◌, ◌≤◌, refl, sym, ap, ◌∙◌, subst, Bool, true, false, List, [], ◌∷◌, ◌++◌, length, get_or, arith, Option, Some, None, is_some, option_map, IsTrue, eqb-true}
+use Rattle.std.proofs.Common.{◌≡◌, ◌↔◌, ◌==◌, ℕ, ◌<◌, ◌≤◌, refl, sym, ap, ◌∙◌, subst, Bool, true, false, List, [], ◌∷◌, ◌++◌, length, get_or, arith, Option, Some, None, is_some, option_map, IsTrue, eqb-true}
 use Rattle.std.proofs.lemmas.Bool.{eq-eqb, false≢true}
 use Rattle.std.proofs.lemmas.List.{get_or-set_other}
 use Rattle.k_types.specs.declared.event.Event.{Event}
@@ -28,8 +28,8 @@ use Rattle.k_collect.specs.Collecting.{CanBeginHeap, CanBeginKernel as CanBeginK
 use Rattle.k_collect.specs.Ended.{HasEndedHeap, HasEndedKernel}
 use Rattle.k_collect.specs.Marking.{CanMark, HasMarkedOn}
 use Rattle.k_collect.specs.Settling.{CanSettleHeap, CanSettleKernel, HasSettledHeap, HasSettledKernel as HasSettledKernelStep, ends_to_come}
-use Rattle.k_depart.specs.Absorbing.{CanAbsorb, HasAbsorbedHeap}
-use Rattle.k_depart.specs.Exiting.{CanExit, HasExited}
+use Rattle.k_calls.specs.DepartAbsorbing.{CanAbsorb, HasAbsorbedHeap}
+use Rattle.k_calls.specs.Exiting.{CanExit, HasExited}
 use Rattle.k_guests.specs.declared.guest.Guest.{Guest}
 use Rattle.k_calls.specs.declared.errors.HostError.TheVariants.{Orphan}
 use Rattle.k_calls.specs.Refusals.{Lacks}

@@ -14,10 +14,12 @@ struct Count {
     steps: AtomicU32,
 }
 
-/// A gate that counts for each process the operations that are told, and the steps under the book's lock. It holds each step for a while.
+/// A gate that counts for each process the operations that are told, and the steps under the book's lock. It may hold each step for a while.
 #[derive(Drop)]
 pub struct Counts {
     of_each: Vec<Count>,
+    // For how many turns it holds each step.
+    turns: u32,
     // Whether an operation was told twice, left out, or told before an earlier one, or a process that there is not.
     astray: AtomicBool,
     // Whether a thread is at a step.
@@ -25,12 +27,25 @@ pub struct Counts {
 }
 
 impl Counts {
-    /// A gate for so many processes, which was told nothing yet.
+    /// A gate for so many processes, which was told nothing yet, and holds each step for a while.
     ///
     /// # Errors
     ///
     /// `NoMemory` where there is no room for a count of each process.
     pub fn make(alloc: Global, processes: u32) -> Result<Counts, NoMemory> {
+        Counts::holding_for(alloc, processes, TURNS_OF_A_STEP)
+    }
+
+    /// The same for runs of very many steps: it holds none of them.
+    ///
+    /// # Errors
+    ///
+    /// `NoMemory` where there is no room for a count of each process.
+    pub fn make_quick(alloc: Global, processes: u32) -> Result<Counts, NoMemory> {
+        Counts::holding_for(alloc, processes, 0)
+    }
+
+    fn holding_for(alloc: Global, processes: u32, turns: u32) -> Result<Counts, NoMemory> {
         let mut of_each = Vec::new(alloc);
         for _ in 0..processes {
             of_each.push(Count {
@@ -40,6 +55,7 @@ impl Counts {
         }
         Ok(Counts {
             of_each,
+            turns,
             astray: AtomicBool::new(false),
             in_book: AtomicBool::new(false),
         })
@@ -68,7 +84,7 @@ impl Counts {
             self.astray.store(true, Ordering::SeqCst);
         }
         count.steps.fetch_add(1, Ordering::SeqCst);
-        for _ in 0..TURNS_OF_A_STEP {
+        for _ in 0..self.turns {
             spin_loop();
         }
         self.in_book.store(false, Ordering::SeqCst);

@@ -1,5 +1,5 @@
 -- A kill of one process of a host by another, by what the call among all of them answers.
-use Rattle.std.proofs.Common.{◌≡◌, ◌≢◌, ◌<◌, ◌≤◌, ℕ, refl, sym, ap, ◌∙◌, subst, List, [], ◌++◌, append-nil, drop, take, length, length-set, slice_set, arith, Some, OnErr, IfErr, Result}
+use Rattle.std.proofs.Common.{◌≡◌, ◌<◌, ℕ, sym, ap, ◌∙◌, subst, List, [], ◌++◌, append-nil, drop, take, length, length-set, slice_set, arith, Some, OnErr, IfErr, Result}
 use Rattle.std.specs.Prelude.{IfOk}
 use Rattle.std.proofs.lemmas.List.{drop_all, take_all}
 use Rattle.k_types.specs.declared.event.Event.{Event}
@@ -10,7 +10,7 @@ use Rattle.k_cell.specs.Holdings.{HoldingsValue}
 use Rattle.k_shared.specs.SharedHeaps.{SharedRecord}
 use Rattle.k_guests.specs.declared.guest.Guest.{Guest}
 use Rattle.k_guests.specs.Serving.{Basis}
-use Rattle.k_calls.specs.declared.errors.HostError.{HostError}
+use Rattle.k_ends.specs.HostError.{HostError}
 use Rattle.k_host.proofs.Called.{host_of}
 use Rattle.k_host.proofs.Killed.{kill_done, kill_kept, kill_refused, kill_same, killed_some, two_there}
 use Rattle.k_host.specs.Calls.{HasOperatedIn}

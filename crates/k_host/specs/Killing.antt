@@ -1,15 +1,13 @@
 -- A kill among the processes of a host: who is killed, what it leaves, and when it is refused.
-use Rattle.std.specs.Prelude.{◌≡◌, ◌≢◌, ◌⊎◌, ◌&&◌, ◌==◌, ◌∷◌, ℕ, ◌<◌, [], not, nat_lt, IfErr, IfOk, List, Option, Some, None, Result, if◌then◌else◌, length, slice_get, slice_set}
+use Rattle.std.specs.Prelude.{◌≡◌, ◌≢◌, ◌&&◌, ◌==◌, ℕ, not, nat_lt, IfErr, IfOk, List, Option, Some, None, Result, if◌then◌else◌, slice_get, slice_set}
 use Rattle.k_types.specs.declared.event.Event.{Event}
-use Rattle.k_types.specs.declared.names.Heap.TheVariants.{Kernel, User}
-use Rattle.k_types.specs.declared.names.Pid.{Pid}
 use Rattle.k_types.specs.declared.op.Op.{Op}
 use Rattle.k_types.specs.declared.op.Op.TheVariants.{New, KNew, SNew, Store, Load, Move, Clear, Dir, Put, Get, Collect, KCollect, Share, Freeze, Attach, Exit, Kill, Resize}
 use Rattle.k_book.specs.Books.{BookRecord}
 use Rattle.k_cell.specs.Holdings.{HoldingsValue}
 use Rattle.k_guests.specs.declared.guest.Guest.{Guest}
 use Rattle.k_guests.specs.Serving.{Basis}
-use Rattle.k_calls.specs.declared.errors.HostError.{HostError}
+use Rattle.k_ends.specs.HostError.{HostError}
 use Rattle.k_ends.specs.Killing.{CanNotKill, HasTriedToKill}
 
 -- the number of the process that the operation of the process of that number kills, another one of so many

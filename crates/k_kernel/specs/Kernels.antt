@@ -1,11 +1,11 @@
 -- What is seen of the kernel's cell: its holdings, in which no process stands and no event is unpublished.
-use Rattle.std.specs.Prelude.{◌≡◌, ℕ, ◌+◌, ◌==◌, ◌≤◌, List, [], map, length, Option, Some, None, if◌then◌else◌}
+use Rattle.std.specs.Prelude.{ℕ, ◌+◌, ◌==◌, [], map, length, Some, None, if◌then◌else◌}
 use Rattle.k_types.specs.declared.names.Heap.TheVariants.{Kernel}
 use Rattle.k_types.specs.declared.setup.Setup.{Setup}
 use Rattle.k_types.specs.Numbers.{numbers_below}
 use Rattle.k_types.specs.Trace.{trace_of}
 use Rattle.k_tie.specs.Values.{NoteValue}
-use Rattle.k_agree.specs.Opening.{opening_cell}
+use Rattle.k_cell.specs.Opening.{opening_cell}
 use Rattle.k_cell.specs.Holdings.{HoldingsValue}
 
 -- how many segments a setup has: one for the kernel, each process and each shared heap

@@ -9,7 +9,6 @@ use Rattle.k_types.specs.declared.names.Pid.{Pid}
 use Rattle.k_types.specs.declared.op.Op.{Op}
 use Rattle.k_types.specs.declared.op.Op.TheVariants.{New, KNew, SNew, Store, Load, Move, Clear, Dir, Put, Get, Collect, KCollect, Share, Freeze, Attach, Exit, Kill, Resize}
 use Rattle.k_types.specs.Agree.{CellValue}
-use Rattle.k_types.specs.Bounds.{register_count}
 use Rattle.k_types.specs.Cells.{BookPart, Cell, CellPart, book_part, part}
 use Rattle.k_types.specs.Effects.{step}
 use Rattle.k_types.specs.Local.{is_own}
@@ -24,8 +23,8 @@ use Rattle.k_agree.specs.GivingAway.{with_one_done}
 use Rattle.k_agree.specs.Marking.{idle_part}
 use Rattle.k_squares.specs.Answers.{reply_in}
 use Rattle.k_squares.specs.CellAfter.{cell_after, unless_refused}
-use Rattle.k_cell.specs.Changes.{with_field}
-use Rattle.k_cell.specs.Looks.{field_among, field_count_among}
+use Rattle.k_heap.specs.Changes.{with_field}
+use Rattle.k_heap.specs.Looks.{field_among, field_count_among}
 use Rattle.k_heap.specs.Heaps.{with_register_in}
 
 -- the answer to an access to the field of the object, by whether it is of the wanted kind and what is answered if it is; none

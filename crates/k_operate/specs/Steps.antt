@@ -12,7 +12,7 @@ use Rattle.k_book.specs.Books.{BookRecord}
 use Rattle.k_cell.specs.Holdings.{HoldingsValue}
 use Rattle.k_shared.specs.SharedHeaps.{SharedRecord}
 use Rattle.k_types.specs.Cells.{Cell}
-use Rattle.k_locked.specs.Keeping.{BookKeeps, KernelKeeps, SharedKeeps}
+use Rattle.k_process.specs.Keeping.{BookKeeps, KernelKeeps, SharedKeeps}
 use Rattle.k_process.specs.declared.process.Process.{Process}
 use Rattle.k_process.specs.Standing.{ComesNext, HasDone, ProcessStands, RestStands}
 use Rattle.k_process.specs.Worlds.{WorldValue}
@@ -38,11 +38,13 @@ pub record HasDoneInside (world : WorldValue) (op : Op) (old new : Process) (don
   pub events : IsTrue done → AddsOne old.cell.pid op old.cell.value.tail new.cell.value.tail
   pub steps : IsTrue done → IsFalse (begins_or_ends op)
 
--- process and book stand still, what was unpublished is in the journal, and else the cell shows what it showed
+-- process and book stand still, what was unpublished is in the journal, the cell's note knows the whole journal, and else the cell shows what it
+-- showed
 pub record HasPublishedAll (world : WorldValue) (old new : Process) (old_book book : BookRecord) : Type 0 where
   pub pair : PairStands world new book
   pub settled : new.cell.value.tail ≡ []
   pub journal : book.journal.list ≡ known_to old old_book
+  pub met : new.cell.note.list ≡ book.journal.list
   pub cell_is : new.cell ≡ record old.cell { note = new.cell.note; value = record old.cell.value { tail = [] } }
 
 -- process and book stand with nothing unpublished; the operation comes next, is not local, is done by a step, and touches these cells beside the own

@@ -14,14 +14,14 @@ use Rattle.k_squares.specs.Touches.{other_cells_in}
 use Rattle.k_moves.specs.Shown.{idle_part}
 use Rattle.k_book.specs.Books.{BookRecord}
 use Rattle.k_heap.specs.Heaps.{HeapRecord}
-use Rattle.k_locked.specs.Keeping.{operations_left}
+use Rattle.k_process.specs.Keeping.{operations_left}
 use Rattle.k_process.specs.declared.process.Process.{Process}
 use Rattle.k_process.specs.Standing.{ComesNext, HasDone, IsNextOf}
 use Rattle.k_process.specs.Worlds.{WorldValue}
-use Rattle.k_operate.specs.Readiness.{IsOutside, begins_or_ends}
-use Rattle.k_operate.specs.Steps.{HasDoneInside, HasPublishedAll, PairStands}
-use Rattle.k_operate.specs.Collecting.{HasSameLeft, IsNextAndSettled}
-use Rattle.k_operate.proofs.Since.{next_since, ready_since}
+use Rattle.k_complete.specs.Readiness.{IsOutside, begins_or_ends}
+use Rattle.k_complete.specs.Steps.{HasDoneInside, HasPublishedAll, PairStands}
+use Rattle.k_complete.specs.Collecting.{HasSameLeft, IsNextAndSettled}
+use Rattle.k_complete.proofs.Since.{next_since, ready_since}
 use Rattle.k_run.specs.declared.turns.Turn.{Turn}
 use Rattle.k_run.specs.declared.turns.Turn.TheVariants.{Done, Over, Kills}
 use Rattle.k_run.specs.Running.{HasDoneBeside, HasDoneUnless, HasTakenTurn, IsLeft, IsReadyBeside}
@@ -97,13 +97,14 @@ some_touched : (c : Cell) (more : List Cell) → c ∷ more ≡ [] → ⊥
 some_touched c more e = cc
 
 -- an operation that touches another cell, and does not end its process, may be left
-pub may_be_left : (world : WorldValue) (p : Process) (b : BookRecord) (op : Op) (cell : Cell) (more : List Cell) → PairStands world p b → ComesNext world.trace p.cell op → op ≢ Exit →
+pub may_be_left : (world : WorldValue) (p : Process) (b : BookRecord) (op : Op) (cell : Cell) (more : List Cell) → PairStands world p b → p.cell.note.list ≡ b.journal.list → ComesNext world.trace p.cell op → op ≢ Exit →
     cell ∷ more ≡ other_cells_in world.trace (book_shown_by b.value) (idle_part p.cell.value) p.cell.pid.0 op → IsLeft world p.cell op
-may_be_left world p b op cell more pair next stays touched = record {
+may_be_left world p b op cell more pair met next stays touched = record {
   next = next;
   stays = stays;
   book = b;
   keeps = pair.book;
+  met = met;
   touches = λ none. some_touched cell more (touched ∙ none);
 }
 
@@ -115,13 +116,13 @@ ready_beside world q r a b op c cell more t is outside steps touched =
     record {
       ready = ready_since world q r b op t before.next before.outside;
       same = subst (λ (x : HeapRecord). HasSameLeft world.trace x r.cell) is (published_left world q r a b t);
-      left = may_be_left world r b op cell more t.pair (next_since world q r b op t before.next) (steps_stay op steps) touched;
+      left = may_be_left world r b op cell more t.pair t.met (next_since world q r b op t before.next) (steps_stay op steps) touched;
     }
 
 -- so may `kcollect`, which touches the kernel's cell
-pub may_wait : (world : WorldValue) (p : Process) (b : BookRecord) → PairStands world p b → ComesNext world.trace p.cell KCollect → IsLeft world p.cell KCollect
+pub may_wait : (world : WorldValue) (p : Process) (b : BookRecord) → PairStands world p b → p.cell.note.list ≡ b.journal.list → ComesNext world.trace p.cell KCollect → IsLeft world p.cell KCollect
 unfolding other_cells_in
-may_wait world p b pair next = may_be_left world p b KCollect Kernel [] pair next kept refl
+may_wait world p b pair met next = may_be_left world p b KCollect Kernel [] pair met next kept refl
   where
     kept : KCollect ≢ Exit
     kept e = cc

@@ -14,13 +14,13 @@ use Rattle.k_shares.specs.Sharers.{lowest_orphan}
 use Rattle.k_book.specs.Books.{BookRecord}
 use Rattle.k_heap.specs.Heaps.{HeapRecord}
 use Rattle.k_cell.specs.Holdings.{HoldingsValue}
-use Rattle.k_locked.specs.Keeping.{BookKeeps, KernelKeeps}
-use Rattle.k_steps.specs.declared.reached.Reach.{Reach}
-use Rattle.k_steps.specs.declared.reached.Reach.TheVariants.{Own, Kernel, Shared, End}
+use Rattle.k_process.specs.Keeping.{BookKeeps, KernelKeeps}
+use Rattle.k_complete.specs.Reach.{Reach}
+use Rattle.k_complete.specs.Reach.TheVariants.{Own, Kernel, Shared, End}
 use Rattle.k_run.specs.declared.turns.Turn.{Turn}
 use Rattle.k_run.specs.declared.turns.Turn.TheVariants.{Done, Over, Kills}
-use Rattle.k_operate.specs.Readiness.{IsOutside, IsReady}
-use Rattle.k_operate.specs.Collecting.{HasSameLeft, KernelCollects}
+use Rattle.k_complete.specs.Readiness.{IsOutside, IsReady}
+use Rattle.k_complete.specs.Collecting.{HasSameLeft, KernelCollects}
 use Rattle.k_process.specs.Standing.{ComesNext, HasDone}
 use Rattle.k_process.specs.Worlds.{WorldValue}
 
@@ -30,12 +30,14 @@ pub record HasDoneUnless (trace : Trace) (op : Op) (old new : HeapRecord) (answe
   pub same : IsFalse answer → new ≡ old
   pub outside : IsFalse answer → IsOutside trace new op
 
--- the operation still comes next, does not end its process, and touches another cell than the own one, as cell and a book of the run told
+-- the operation still comes next, does not end its process, and touches another cell than the own one, as the cell told and a book of the run
+-- whose whole journal the cell's note knows
 pub record IsLeft (world : WorldValue) (c : HeapRecord) (op : Op) : Type 0 where
   pub next : ComesNext world.trace c op
   pub stays : op ≢ Exit
   pub book : BookRecord
   pub keeps : BookKeeps world.trace world.table book
+  pub met : c.note.list ≡ book.journal.list
   pub touches : other_cells_in world.trace (book_shown_by book.value) (idle_part c.value) c.pid.0 op ≢ []
 
 -- the process has done an operation; or none comes next, or the one that does is left; or what comes next is the kill of that process

@@ -1,26 +1,28 @@
 //! Collections, absorptions and ends of processes under locks. While a heap is marked and swept its lock is held, and the book is free.
 ghost use Rattle.std.specs.Prelude.{IsFalse, IsTrue, ◌≡◌};
-ghost use Rattle.k_locked.specs.Keeping.{KernelKeeps};
-ghost use Rattle.k_operate.specs.Collecting.{Collects, CollectsSwept, HasSameLeft, KernelCollectsSwept};
+ghost use Rattle.k_process.specs.Keeping.{KernelKeeps};
+ghost use Rattle.k_complete.specs.Collecting.{Collects, CollectsSwept, HasSameLeft, KernelCollectsSwept};
 ghost use Rattle.k_process.specs.Standing.{ComesNext, HasDone, ProcessStands};
 ghost use Rattle.k_run.specs.Running.{HasBegunUnless, HasCollectedUnless, IsAbsorbedIfFirst, IsLeft};
 ghost use Rattle.k_types.specs.declared.names.CellPhase.TheVariants.{Begun};
 ghost use Rattle.k_types.specs.declared.op.Op.TheVariants.{Collect, Exit, KCollect, Kill};
 
 use crate::locked::{LockedBook, LockedKernel, LockedProcess, LockedShared};
+use crate::ordering::{
+    HoldsKernel, HoldsProcess, lock_book, lock_kernel, lock_shared, mark_collection,
+    mark_kernel_collection, sweep_collection, sweep_kernel_collection,
+};
 use crate::stepping::tell;
 use crate::stretching::follow;
-use crate::waiting::take;
 use crate::world::Locks;
 use crate::worlds::WorldName;
+use k_complete::{
+    absorb_orphan, begin_collection, begin_kernel_collection, do_exit, do_kill, end_collection,
+    end_kernel_collection, publish_all,
+};
 use k_io::{Gate, GatePlace};
 use k_kernel::KernelCell;
 use k_mark::Swept;
-use k_operate::{
-    absorb_orphan, begin_collection, begin_kernel_collection, do_exit, do_kill, end_collection,
-    end_kernel_collection, mark_collection, mark_kernel_collection, publish_all, sweep_collection,
-    sweep_kernel_collection,
-};
 use k_process::Process;
 use k_types::{Op, SharedId};
 use k_watch::show;
@@ -63,15 +65,27 @@ fn end<W: WorldName>(
 
 impl<W: WorldName> LockedProcess<W> {
     /// Does `collect`. It holds the book where the collection begins and where it ends; the heap is marked and swept in between.
-    pub(crate) fn collect(&mut self, rt: &impl Wait, book: &Mutex<LockedBook<W>>, gate: &impl Gate)
+    pub(crate) fn collect(
+        &mut self,
+        rt: &impl Wait,
+        order: &mut HoldsProcess<'_>,
+        book: &Mutex<LockedBook<W>>,
+        gate: &impl Gate,
+    )
         requires { ComesNext W.world.trace self.old Collect }
         ensures { HasDone W.world.trace Collect self.old self.new }
     {
-        begin(rt, &mut self.process, &mut take(rt, book), gate);
+        begin(rt, &mut self.process, &mut lock_book(rt, order, book), gate);
         tell(&self.process, gate, GatePlace::Marking);
-        mark_collection(&mut self.process);
-        let freed = sweep_collection(&mut self.process);
-        end(rt, &mut self.process, &mut take(rt, book), freed, gate);
+        mark_collection(order, &mut self.process);
+        let freed = sweep_collection(order, &mut self.process);
+        end(
+            rt,
+            &mut self.process,
+            &mut lock_book(rt, order, book),
+            freed,
+            gate,
+        );
     }
 
     /// Goes on under one hold of the book: it does so many operations at most, and begins a collection of the heap if that comes next
@@ -79,12 +93,13 @@ impl<W: WorldName> LockedProcess<W> {
     pub(crate) fn go_on(
         &mut self,
         rt: &impl Wait,
+        order: &mut HoldsProcess<'_>,
         locks: &Locks<W>,
         most: u32,
         gate: &impl Gate,
     ) -> bool {
         {
-            let mut book = take(rt, &locks.book);
+            let mut book = lock_book(rt, order, &locks.book);
             follow(rt, locks, self, &mut book, most, gate);
             match self.next() {
                 Some(Op::Collect) => begin(rt, &mut self.process, &mut book, gate),
@@ -92,12 +107,12 @@ impl<W: WorldName> LockedProcess<W> {
             }
         }
         tell(&self.process, gate, GatePlace::Marking);
-        mark_collection(&mut self.process);
-        let freed = sweep_collection(&mut self.process);
+        mark_collection(order, &mut self.process);
+        let freed = sweep_collection(order, &mut self.process);
         end(
             rt,
             &mut self.process,
-            &mut take(rt, &locks.book),
+            &mut lock_book(rt, order, &locks.book),
             freed,
             gate,
         );
@@ -199,6 +214,7 @@ impl<W: WorldName> LockedKernel<W> {
     fn collect(
         &mut self,
         rt: &impl Wait,
+        order: &mut HoldsKernel<'_>,
         process: &mut LockedProcess<W>,
         book: &Mutex<LockedBook<W>>,
         gate: &impl Gate,
@@ -206,17 +222,23 @@ impl<W: WorldName> LockedKernel<W> {
         requires { ComesNext W.world.trace process.old KCollect }
         ensures { HasCollectedUnless result W.world process.old process.new }
     {
-        let in_the_way = begin_kernel(rt, process, &mut self.kernel, &mut take(rt, book), gate);
+        let in_the_way = begin_kernel(
+            rt,
+            process,
+            &mut self.kernel,
+            &mut lock_book(rt, order, book),
+            gate,
+        );
         match in_the_way {
             Some(orphan) => Some(orphan),
             None => {
-                mark_kernel_collection(&mut self.kernel);
-                let freed = sweep_kernel_collection(&mut self.kernel);
+                mark_kernel_collection(order, &mut self.kernel);
+                let freed = sweep_kernel_collection(order, &mut self.kernel);
                 end_kernel(
                     rt,
                     process,
                     &mut self.kernel,
-                    &mut take(rt, book),
+                    &mut lock_book(rt, order, book),
                     freed,
                     gate,
                 );
@@ -259,6 +281,7 @@ impl<W: WorldName> LockedShared<W> {
 /// heap stands behind an orphan's lock.
 pub(crate) fn collect_kernel<W: WorldName>(
     rt: &impl Wait,
+    order: &mut HoldsProcess<'_>,
     locks: &Locks<W>,
     process: &mut LockedProcess<W>,
     gate: &impl Gate,
@@ -267,19 +290,19 @@ pub(crate) fn collect_kernel<W: WorldName>(
     ensures done { IsTrue result → HasDone W.world.trace KCollect process.old process.new }
     ensures left { IsFalse result → IsLeft W.world process.new KCollect }
 {
-    let mut kernel = take(rt, &locks.kernel);
+    let (mut kernel, mut under_kernel) = lock_kernel(rt, order, &locks.kernel);
     for _ in rt.forever() {
-        let Some(orphan) = kernel.collect(rt, process, &locks.book, gate) else {
+        let Some(orphan) = kernel.collect(rt, &mut under_kernel, process, &locks.book, gate) else {
             return true;
         };
         let Some(lock) = locks.shared.get(orphan.0 as usize) else {
             return false;
         };
-        let mut shared = take(rt, lock);
+        let (mut shared, mut under_shared) = lock_shared(rt, &mut under_kernel, lock);
         if !shared.leave(
             rt,
             &mut kernel,
-            &mut take(rt, &locks.book),
+            &mut lock_book(rt, &mut under_shared, &locks.book),
             orphan,
             process,
             gate,

@@ -9,6 +9,7 @@
 mod collecting;
 mod locked;
 mod opening;
+mod ordering;
 mod placing;
 mod replaying;
 mod reporting;
@@ -19,7 +20,6 @@ mod still;
 mod stretching;
 mod turning;
 mod turns;
-mod waiting;
 mod watching;
 mod whole;
 mod world;

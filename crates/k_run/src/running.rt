@@ -2,6 +2,7 @@
 ghost use Rattle.k_run.specs.Worlds.{AreFree, IsFree};
 ghost use Rattle.std.specs.Prelude.{◌≡◌};
 
+use crate::ordering::HoldsNone;
 use crate::turning::{done_behind, turn_behind};
 use crate::world::{Locks, World};
 use crate::worlds::WorldName;
@@ -87,11 +88,12 @@ fn work<W: WorldName, G: Gate>(rt: &impl Wait, hall: &Hall<W, G>, pass: &mut Tur
     requires { IsFree hall.now pass.old }
     ensures { IsFree hall.now pass.new }
 {
+    let mut order = HoldsNone::of_thread();
     for _ in rt.forever() {
         let Some(pid) = hall.turns.draw(rt, pass) else {
             return;
         };
-        if take_turn(rt, hall, pid) {
+        if take_turn(rt, &mut order, hall, pid) {
             hall.turns.give_back(rt, pass);
         } else {
             hall.turns.retire(pass);
@@ -102,17 +104,23 @@ fn work<W: WorldName, G: Gate>(rt: &impl Wait, hall: &Hall<W, G>, pass: &mut Tur
 
 /// One turn of the process, and whether it may have more to do. Before each operation and the stretch behind it the gate is told with no lock held; how many are
 /// done by then is seen once before the turn, and then under the hold of the operation before.
-fn take_turn<W: WorldName, G: Gate>(rt: &impl Wait, hall: &Hall<W, G>, pid: Pid) -> bool {
+fn take_turn<W: WorldName, G: Gate>(
+    rt: &impl Wait,
+    order: &mut HoldsNone,
+    hall: &Hall<W, G>,
+    pid: Pid,
+) -> bool {
     let Some(lock) = hall.locks.processes.get(pid.0 as usize) else {
         return false;
     };
-    let Some(first) = done_behind(rt, lock, pid) else {
+    let Some(first) = done_behind(rt, order, lock, pid) else {
         return false;
     };
     let mut done = first;
     for _ in 0..STEPS_A_TURN {
         hall.gate.pass(pid.0, done, GatePlace::BeforeOp);
-        let Some(next) = turn_behind(rt, hall.locks, lock, pid, hall.stretch, hall.gate) else {
+        let Some(next) = turn_behind(rt, order, hall.locks, lock, pid, hall.stretch, hall.gate)
+        else {
             return false;
         };
         done = next;

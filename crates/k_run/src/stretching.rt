@@ -1,13 +1,14 @@
 //! Operations that follow one another under one hold of the book.
 ghost use Rattle.std.specs.Prelude.{IsFalse};
-ghost use Rattle.k_operate.specs.Readiness.{begins_or_ends};
+ghost use Rattle.k_complete.specs.Readiness.{begins_or_ends};
 ghost use Rattle.k_process.specs.Standing.{ComesNext};
 
 use crate::locked::{LockedBook, LockedProcess};
+use crate::ordering::try_kernel;
 use crate::world::Locks;
 use crate::worlds::WorldName;
+use k_complete::Reach;
 use k_io::Gate;
-use k_steps::Reach;
 use k_types::Op;
 use std::sync::Wait;
 
@@ -29,7 +30,7 @@ fn follow_step<W: WorldName>(
     }
     match process.do_under_book(rt, book, op, gate) {
         Reach::Own => true,
-        Reach::Kernel => match locks.kernel.try_lock() {
+        Reach::Kernel => match try_kernel(&locks.kernel) {
             Some(mut kernel) => process.do_under_kernel(rt, &mut kernel, book, op, gate),
             None => false,
         },

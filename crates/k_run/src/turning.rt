@@ -1,19 +1,21 @@
 //! The next operation of a process, under the locks that it needs: each takes those of its process's heap, the kernel's, a shared heap's
 //! and the book's in this order, as far as it needs them. A kill takes the locks of two processes' heaps, that of the lower number first.
 ghost use Rattle.std.specs.Prelude.{IsFalse};
-ghost use Rattle.k_operate.specs.Readiness.{begins_or_ends};
+ghost use Rattle.k_complete.specs.Readiness.{begins_or_ends};
 ghost use Rattle.k_process.specs.Standing.{ComesNext};
 ghost use Rattle.k_run.specs.Running.{HasKilledUnless, HasTakenTurn};
 
 use crate::collecting::collect_kernel;
 use crate::locked::LockedProcess;
+use crate::ordering::{
+    HoldsNone, HoldsProcess, lock_book, lock_kernel, lock_process, lock_shared, lock_two,
+};
 use crate::stretching::go_inside;
 use crate::turns::Turn;
-use crate::waiting::take;
 use crate::world::Locks;
 use crate::worlds::WorldName;
+use k_complete::Reach;
 use k_io::Gate;
-use k_steps::Reach;
 use k_types::{Op, Pid};
 use std::sync::{Mutex, Wait};
 
@@ -23,16 +25,19 @@ const STRETCHES: u32 = 4;
 /// How many operations the process has done; none where no other one comes next, or where another process stands behind the lock.
 pub(crate) fn done_behind<W: WorldName>(
     rt: &impl Wait,
+    order: &mut HoldsNone,
     lock: &Mutex<LockedProcess<W>>,
     pid: Pid,
 ) -> Option<u32> {
-    lock.lock(rt).done_before_next(pid)
+    let (process, _) = lock_process(rt, order, lock);
+    process.done_before_next(pid)
 }
 
 /// Does the operation, which neither collects nor ends its process, if its process's lock is the only one of a process that it needs. It is
 /// left for the end where the cell of another shared heap stands behind the lock of the one that it reaches.
 fn operate<W: WorldName>(
     rt: &impl Wait,
+    order: &mut HoldsProcess<'_>,
     locks: &Locks<W>,
     process: &mut LockedProcess<W>,
     op: &Op,
@@ -45,20 +50,26 @@ fn operate<W: WorldName>(
     if process.do_inside(op) {
         return Turn::Done;
     }
-    let reached = process.do_under_book(rt, &mut take(rt, &locks.book), op, gate);
+    let reached = process.do_under_book(rt, &mut lock_book(rt, order, &locks.book), op, gate);
     match reached {
         Reach::Own => Turn::Done,
         Reach::Kernel => {
-            let mut kernel = take(rt, &locks.kernel);
-            Turn::of(process.do_under_kernel(rt, &mut kernel, &mut take(rt, &locks.book), op, gate))
+            let (mut kernel, mut under_kernel) = lock_kernel(rt, order, &locks.kernel);
+            Turn::of(process.do_under_kernel(
+                rt,
+                &mut kernel,
+                &mut lock_book(rt, &mut under_kernel, &locks.book),
+                op,
+                gate,
+            ))
         }
         Reach::Shared(id) => match locks.shared.get(id.0 as usize) {
             Some(lock) => {
-                let mut shared = take(rt, lock);
+                let (mut shared, mut under_shared) = lock_shared(rt, order, lock);
                 Turn::of(process.do_under_shared(
                     rt,
                     &mut shared,
-                    &mut take(rt, &locks.book),
+                    &mut lock_book(rt, &mut under_shared, &locks.book),
                     op,
                     gate,
                 ))
@@ -72,6 +83,7 @@ fn operate<W: WorldName>(
 /// Does the operation, if its process's lock is the only one of a process that it needs.
 fn do_any<W: WorldName>(
     rt: &impl Wait,
+    order: &mut HoldsProcess<'_>,
     locks: &Locks<W>,
     process: &mut LockedProcess<W>,
     op: &Op,
@@ -82,16 +94,21 @@ fn do_any<W: WorldName>(
 {
     match *op {
         Op::Collect => {
-            process.collect(rt, &locks.book, gate);
+            process.collect(rt, order, &locks.book, gate);
             Turn::Done
         }
-        Op::KCollect => Turn::of(collect_kernel(rt, locks, process, gate)),
+        Op::KCollect => Turn::of(collect_kernel(rt, order, locks, process, gate)),
         Op::Exit => {
-            let mut kernel = take(rt, &locks.kernel);
-            process.exit(rt, &mut kernel, &mut take(rt, &locks.book), gate);
+            let (mut kernel, mut under_kernel) = lock_kernel(rt, order, &locks.kernel);
+            process.exit(
+                rt,
+                &mut kernel,
+                &mut lock_book(rt, &mut under_kernel, &locks.book),
+                gate,
+            );
             Turn::Done
         }
-        _ => operate(rt, locks, process, op, gate),
+        _ => operate(rt, order, locks, process, op, gate),
     }
 }
 
@@ -99,6 +116,7 @@ fn do_any<W: WorldName>(
 /// where another one stands behind the lock of that cell than its place says; or it ends another process, whose lock is not held.
 fn turn<W: WorldName>(
     rt: &impl Wait,
+    order: &mut HoldsProcess<'_>,
     locks: &Locks<W>,
     process: &mut LockedProcess<W>,
     gate: &impl Gate,
@@ -106,7 +124,7 @@ fn turn<W: WorldName>(
     ensures { HasTakenTurn W.world process.old process.new result }
 {
     match process.next() {
-        Some(op) => do_any(rt, locks, process, &op, gate),
+        Some(op) => do_any(rt, order, locks, process, &op, gate),
         None => Turn::Over,
     }
 }
@@ -114,6 +132,7 @@ fn turn<W: WorldName>(
 /// Does the kill of the target, if that comes next of the process, and says whether it did. Both locks are held.
 fn kill_both<W: WorldName>(
     rt: &impl Wait,
+    order: &mut HoldsProcess<'_>,
     locks: &Locks<W>,
     process: &mut LockedProcess<W>,
     target: &mut LockedProcess<W>,
@@ -130,12 +149,12 @@ fn kill_both<W: WorldName>(
     if asked != target.pid() {
         return false;
     }
-    let mut kernel = take(rt, &locks.kernel);
+    let (mut kernel, mut under_kernel) = lock_kernel(rt, order, &locks.kernel);
     process.kill(
         rt,
         target,
         &mut kernel,
-        &mut take(rt, &locks.book),
+        &mut lock_book(rt, &mut under_kernel, &locks.book),
         &op,
         gate,
     );
@@ -146,24 +165,26 @@ fn kill_both<W: WorldName>(
 /// lock of the lower number is taken first, and what comes next is asked again: another process may have ended this one meanwhile.
 fn kill_behind<W: WorldName>(
     rt: &impl Wait,
+    order: &mut HoldsNone,
     locks: &Locks<W>,
     pid: Pid,
     target: Pid,
     gate: &impl Gate,
 ) -> bool {
-    let own = locks.processes.get(pid.0 as usize);
-    let other = locks.processes.get(target.0 as usize);
-    let (Some(own), Some(other)) = (own, other) else {
-        return false;
-    };
     if pid.0 < target.0 {
-        let mut process = own.lock(rt);
-        let mut target = other.lock(rt);
-        kill_both(rt, locks, &mut process, &mut target, gate)
+        match lock_two(rt, order, locks, pid, target) {
+            Some((mut process, mut target, mut under_both)) => {
+                kill_both(rt, &mut under_both, locks, &mut process, &mut target, gate)
+            }
+            None => false,
+        }
     } else if target.0 < pid.0 {
-        let mut target = other.lock(rt);
-        let mut process = own.lock(rt);
-        kill_both(rt, locks, &mut process, &mut target, gate)
+        match lock_two(rt, order, locks, target, pid) {
+            Some((mut target, mut process, mut under_both)) => {
+                kill_both(rt, &mut under_both, locks, &mut process, &mut target, gate)
+            }
+            None => false,
+        }
     } else {
         false
     }
@@ -173,13 +194,14 @@ fn kill_behind<W: WorldName>(
 /// and with a collection. The gate is not told before them.
 fn stretch<W: WorldName>(
     rt: &impl Wait,
+    order: &mut HoldsProcess<'_>,
     locks: &Locks<W>,
     process: &mut LockedProcess<W>,
     most: u32,
     gate: &impl Gate,
 ) {
     for _ in 0..STRETCHES {
-        if !go_inside(process, most) || !process.go_on(rt, locks, most, gate) {
+        if !go_inside(process, most) || !process.go_on(rt, order, locks, most, gate) {
             return;
         }
     }
@@ -189,6 +211,7 @@ fn stretch<W: WorldName>(
 /// where no other one comes next, or where another process stands behind the lock.
 pub(crate) fn turn_behind<W: WorldName>(
     rt: &impl Wait,
+    order: &mut HoldsNone,
     locks: &Locks<W>,
     lock: &Mutex<LockedProcess<W>>,
     pid: Pid,
@@ -196,18 +219,18 @@ pub(crate) fn turn_behind<W: WorldName>(
     gate: &impl Gate,
 ) -> Option<u32> {
     let target = {
-        let mut process = lock.lock(rt);
-        match turn(rt, locks, &mut process, gate) {
+        let (mut process, mut under_process) = lock_process(rt, order, lock);
+        match turn(rt, &mut under_process, locks, &mut process, gate) {
             Turn::Done => {
-                stretch(rt, locks, &mut process, most, gate);
+                stretch(rt, &mut under_process, locks, &mut process, most, gate);
                 return process.done_before_next(pid);
             }
             Turn::Over => return None,
             Turn::Kills(target) => target,
         }
     };
-    if !kill_behind(rt, locks, pid, target, gate) {
+    if !kill_behind(rt, order, locks, pid, target, gate) {
         return None;
     }
-    done_behind(rt, lock, pid)
+    done_behind(rt, order, lock, pid)
 }

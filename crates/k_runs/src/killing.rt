@@ -105,6 +105,7 @@ fn who_is_ended_ends_nobody(rt: HostRuntime) -> Result<(), Fail> {
         Stop::at(1, GatePlace::Marking, 3),
         Stop::before(0, 0, Some(0)),
         Stop::before(0, 1, None),
+        Stop::before(0, 0, Some(1)),
     ]);
     let operations = "p2 kill p1\np0 kill p2\np0 drop r0\np1 new r0 Node\np1 collect\np1 drop r0\n";
     let events = "p1 new r0 Node = p1.1

@@ -167,17 +167,51 @@ p2 dir r1\np2 store r1 0 r0\np2 kcollect\np2 exit\n";
     Ok(())
 }
 
-#[test]
-fn four_processes_begin_at_once(rt: HostRuntime) -> Result<(), Fail> {
-    let gate = Stops::of([
+/// Holds the first three processes before they begin until the fourth one does.
+fn four_at_once() -> Stops<4> {
+    Stops::of([
         Stop::before(0, 0, Some(3)),
         Stop::before(1, 0, Some(3)),
         Stop::before(2, 0, Some(3)),
         Stop::before(3, 0, None),
-    ]);
+    ])
+}
+
+#[test]
+fn four_processes_begin_at_once(rt: HostRuntime) -> Result<(), Fail> {
+    let gate = four_at_once();
     let more = "proc p3 b\nproc p4 b\n";
     let operations = "p1 drop r0\np2 drop r0\np3 drop r0\np4 drop r0\n";
     check_stops(&rt, rt.alloc(), more, operations, &gate)
+}
+
+/// The most processes of a trace.
+const MOST_PROCESSES: u32 = 64;
+
+/// Appends the lines that declare all processes but those of the header.
+fn push_processes(more: &mut String) -> Result<(), Fail> {
+    for process in 3..=MOST_PROCESSES {
+        writeln!(more, "proc p{process} b")?;
+    }
+    Ok(())
+}
+
+/// Appends an operation of each process.
+fn push_operations(operations: &mut String) -> Result<(), Fail> {
+    for process in 1..=MOST_PROCESSES {
+        writeln!(operations, "p{process} drop r0")?;
+    }
+    Ok(())
+}
+
+/// A run that has fewer workers where there are many processes is told by this.
+#[test]
+fn four_of_the_most_processes_begin_at_once(rt: HostRuntime) -> Result<(), Fail> {
+    let mut more = String::new(rt.alloc());
+    push_processes(&mut more)?;
+    let mut operations = String::new(rt.alloc());
+    push_operations(&mut operations)?;
+    check_stops(&rt, rt.alloc(), &more, &operations, &four_at_once())
 }
 
 #[test]

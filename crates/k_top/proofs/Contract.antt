@@ -33,10 +33,11 @@ due_of : (words : List Text) (input : Input) (status : Status) (text : Text) →
 due_of words input Good text (inl h) some = inl h
 due_of words input Good text (inr (inl h)) some = inr (inl h)
 due_of words input Good text (inr (inr (inl h))) some = inr (inr (inl h))
-due_of words input Good text (inr (inr (inr h))) some = inr (inr (inr (inl h)))
-due_of words input Refused text h some = inr (inr (inr (inr (inl h))))
-due_of words input BadTrace text h some = inr (inr (inr (inr (inr (inl h)))))
-due_of words input Usage text h some = inr (inr (inr (inr (inr (inr h)))))
+due_of words input Good text (inr (inr (inr (inl h)))) some = inr (inr (inr (inl h)))
+due_of words input Good text (inr (inr (inr (inr h)))) some = inr (inr (inr (inr (inl h))))
+due_of words input Refused text h some = inr (inr (inr (inr (inr (inl h)))))
+due_of words input BadTrace text h some = inr (inr (inr (inr (inr (inr (inl h))))))
+due_of words input Usage text h some = inr (inr (inr (inr (inr (inr (inr h))))))
 due_of words input WantOfMemory text h some = absurd (some tt)
 due_of words input ReadFault text h some = absurd (some tt)
 due_of words input WriteFault text h some = absurd h

@@ -8,4 +8,5 @@ pub mod Meanings
 pub mod Reports
 pub mod Runs
 pub mod Workloads
+pub mod Works
 pub mod Written

@@ -5,12 +5,12 @@ use Rattle.k_words.specs.Numbers.{below_of}
 use Rattle.k_words.specs.Words.{Text}
 use Rattle.k_big.specs.Words.{objects_of}
 use Rattle.k_top.specs.declared.commands.Command.{Command}
-use Rattle.k_top.specs.declared.commands.Command.TheVariants.{Run, Replay, Check, Big, Watch}
+use Rattle.k_top.specs.declared.commands.Command.TheVariants.{Run, Replay, Check, Big, Watch, Work}
 
 -- The command that the word alone names.
 abbrev pub command_named : Text → Option Command
 command_named word =
-    if bytes_eq word (codes "run") then Some Run else if bytes_eq word (codes "replay") then Some Replay else if bytes_eq word (codes "check") then Some Check else None
+    if bytes_eq word (codes "run") then Some Run else if bytes_eq word (codes "replay") then Some Replay else if bytes_eq word (codes "check") then Some Check else if bytes_eq word (codes "work") then Some Work else None
 
 -- The most samples that a watcher is asked for.
 abbrev pub most_samples : ℕ
@@ -47,6 +47,7 @@ abbrev pub ReadsTrace : Command → Type 0
 ReadsTrace Run = Unit {0}
 ReadsTrace Replay = Unit {0}
 ReadsTrace (Watch samples) = Unit {0}
+ReadsTrace Work = Unit {0}
 ReadsTrace _ = ⊥
 
 -- The command reads a trace alone, runs it, and writes its report alone.
@@ -60,6 +61,7 @@ abbrev pub Waits : Command → Type 0
 Waits Run = Unit {0}
 Waits (Big objects) = Unit {0}
 Waits (Watch samples) = Unit {0}
+Waits Work = Unit {0}
 Waits Replay = ⊥
 Waits Check = ⊥
 

@@ -22,6 +22,8 @@ use Rattle.k_watch.specs.declared.sample.Sample.{Sample}
 use Rattle.k_watch.specs.Numbers.{numbers_after}
 use Rattle.k_watch.specs.Samples.{IsLast, IsRising}
 use Rattle.k_watch.specs.Shown.{AllTellOf}
+use Rattle.k_work.specs.Lines.{work_text}
+use Rattle.k_work.specs.Tables.{work_of}
 use Rattle.k_top.specs.Samples.{samples_text}
 
 -- No end of a collection in the history frees an object that a living process's register, the directory or a live shared heap
@@ -70,3 +72,11 @@ pub record IsWatchedReport (count : ℕ) (t : NamedTrace) (text : Text) : Type 0
   pub rising : IsRising samples
   pub last : IsLast (numbers_after t.trace history) samples
   pub says : text ≡ report ++ samples_text samples
+
+-- The text is the report of some history of the trace, and then the lines of its work: for each process and for the closing how many ends of
+-- a collection in the history are credited to it, and their work.
+pub record IsWorkReport (t : NamedTrace) (text : Text) : Type 0 where
+  pub history : List Event
+  pub report : Text
+  pub is_report : IsReportOf t history report
+  pub says : text ≡ report ++ work_text t.names (work_of t.trace history)

@@ -1,5 +1,5 @@
 -- What the parts of a run of a trace give: the trace that was read, the run of it, and why there is none.
-use Rattle.std.specs.Prelude.{◌≡◌, ℕ, List, [], Result, Ok, Err}
+use Rattle.std.specs.Prelude.{◌≡◌, ℕ, ◌≤◌, List, [], length, Result, Ok, Err}
 use Rattle.k_types.specs.Bounds.{most_trace_bytes}
 use Rattle.k_types.specs.FileOrder.{file_order}
 use Rattle.k_words.specs.Words.{Text}
@@ -12,6 +12,8 @@ use Rattle.k_outcome.specs.Ends.{EndValue, journal_of, last_state}
 use Rattle.k_run.specs.Runs.{IsRunOf}
 use Rattle.k_run.specs.Watched.{IsWatchedRunOf}
 use Rattle.k_watch.specs.declared.sample.Sample.{Sample}
+use Rattle.k_work.specs.Crediting.{AreSmall}
+use Rattle.k_work.specs.Tables.{Work, work_of}
 use Rattle.k_top.specs.declared.run_error.RunError.{RunError}
 use Rattle.k_top.specs.declared.run_error.RunError.TheVariants.{NoMemory, Unread, Bad}
 use Rattle.k_top.specs.declared.status.Status.{Status}
@@ -57,9 +59,24 @@ pub record HasWatchedRun (input : Input) (count : ℕ) (end : EndValue) (samples
   pub gave : GaveTrace input trace
   pub watched : IsWatchedRunOf trace count end samples
 
+-- The source gave a trace, and this is the end of a run of it, and the table of its work.
+pub record HasWorkedRun (input : Input) (end : EndValue) (table : Work) : Type 0 where
+  pub trace : NamedTrace
+  pub gave : GaveTrace input trace
+  pub run : IsRunOf trace end
+  pub work : table ≡ work_of trace.trace (journal_of end)
+  pub small : AreSmall table
+
 -- All that the end shows has a name.
 abbrev pub IsNamedEnd : EndValue → Type 0
 IsNamedEnd end = AreNamed end.names end.setup
+
+-- The end and the table can be written: there is a name for each row, and the sums of the rows are small.
+pub record CanBeWritten (end : EndValue) (table : Work) : Type 0 where
+  pub named : IsNamedEnd end
+  pub rows : length table.procs ≡ length end.names.procs
+  pub few : length table.procs ≤ 64
+  pub small : AreSmall table
 
 -- The status that is told of a run that is over, or of why there is none.
 abbrev pub status_of : Result EndValue RunError → Status

@@ -8,6 +8,7 @@ use crate::running::run_file;
 use crate::settling::answer_at_once;
 use crate::status::Status;
 use crate::watching::watch_file;
+use crate::working::work_file;
 use crate::workload::run_workload;
 use k_io::{Gate, Sink, Source};
 use std::alloc::Global;
@@ -20,13 +21,14 @@ use std::thread::Threads;
 /// report checked, and then the text is written. So the source is not read where the words are no command,
 /// nor by `big`, whose trace is made, and nothing is written before the run or the check has ended.
 ///
-/// `run` and `big` have at most four threads do what the processes have to do, and tell the gate where they stand; `replay` does the operations
-/// in the order of the file, on the caller's thread. `run` and `big` wait for the locks of the heaps: they return if they get them. Whatever the
-/// threads and the gate do, the report is that of a legal and complete history. No other command waits, and none calls the gate.
+/// `run`, `big`, `watch` and `work` have at most four threads do what the processes have to do, and tell the gate where they stand; `replay`
+/// does the operations in the order of the file, on the caller's thread. Those four wait for the locks of the heaps: they return if they get
+/// them. Whatever the threads and the gate do, the report is that of a legal and complete history. No other command waits, and none calls the
+/// gate.
 ///
 /// Memory is taken for the bytes of the input and for the trace; then, before the first operation, for all that the operations can come
-/// to need: the journal, the objects, the tables, the locks and the places for the report. Each goes with the input. `check` takes memory
-/// for its machine as it goes. docs/PERFORMANCE.md has what it costs in time.
+/// to need: the journal, the objects, the tables, the locks and the places for the report. Each goes with the input. `check` and
+/// `work` take memory for their machine as it goes. docs/PERFORMANCE.md has what it costs in time.
 pub fn kaffe<S: Source, K: Sink, G: Gate, R: Threads + Wait + Sync>(
     rt: &R,
     alloc: Global,
@@ -46,6 +48,7 @@ pub fn kaffe<S: Source, K: Sink, G: Gate, R: Threads + Wait + Sync>(
         Some(Command::Run) => run_file(rt, alloc, src, out, gate),
         Some(Command::Big(objects)) => run_workload(rt, alloc, objects, out, gate),
         Some(Command::Watch(count)) => watch_file(rt, alloc, src, count, out, gate),
+        Some(Command::Work) => work_file(rt, alloc, src, out, gate),
         Some(Command::Replay) | Some(Command::Check) | None => {
             answer_at_once(alloc, words, src, out)
         }

@@ -21,6 +21,8 @@ pub enum Command {
     Big(u32),
     /// Runs a trace on threads beside a watcher that takes so many samples, and writes its report and the samples.
     Watch(u32),
+    /// Runs a trace on threads, and writes its report and the work of its collections, by who asked for them.
+    Work,
 }
 
 /// The command that the words, those after the program's name, are; `None` where they are none.
@@ -42,6 +44,7 @@ fn command_named(word: &str) -> Option<Command>
         "run" => Some(Command::Run),
         "replay" => Some(Command::Replay),
         "check" => Some(Command::Check),
+        "work" => Some(Command::Work),
         _ => None,
     }
 }

@@ -19,6 +19,7 @@ mod settling;
 mod status;
 mod texts;
 mod watching;
+mod working;
 mod workload;
 
 pub use call::kaffe;

@@ -33,6 +33,7 @@ pub fn answer_at_once<S: Source, K: Sink>(
         Some(Command::Run) => unreachable!(),
         Some(Command::Big(_)) => unreachable!(),
         Some(Command::Watch(_)) => unreachable!(),
+        Some(Command::Work) => unreachable!(),
         None => write_usage(out),
     }
 }

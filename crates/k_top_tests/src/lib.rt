@@ -6,6 +6,8 @@ mod calling;
 #[cfg(test)]
 mod checked;
 #[cfg(test)]
+mod credited;
+#[cfg(test)]
 mod ends;
 #[cfg(test)]
 mod gated;

@@ -160,3 +160,98 @@ fn threads_do_all_of_a_longer_workload(rt: HostRuntime) -> Result<(), Fail> {
     check_counts(&rt, &gate, (457, 144), (456, 143));
     Ok(())
 }
+
+/// The summary for the most objects: 1,000 of them are stored into the directory, and 500 times four go.
+const THE_MOST: &str = "big 5000
+operations 180012
+events 184012
+faults 0
+freed 16000
+kernel 480080
+live 480000
+root 1600000
+";
+
+/// A workload of any number of objects from which on it is done as `replay` does it is told by this.
+#[test]
+fn threads_do_all_of_the_greatest_workload(rt: HostRuntime) -> Result<(), Fail> {
+    let gate = Counts::make_quick(rt.alloc(), 8)?;
+    count_workload(&rt, rt.alloc(), "big 5000", THE_MOST, &gate)?;
+    // a step for `dir`, 5,000 `new`, 1,000 stores into the directory, both ends of 500 collections, and an `exit`
+    check_counts(&rt, &gate, (22_502, 7_002), (22_501, 7_001));
+    Ok(())
+}
+
+/// The most processes of a trace, and the number of the last one.
+const MOST: u32 = 64;
+
+const LAST: u32 = 63;
+
+/// What the header has before the processes where the first one ends all others but the last.
+const ENDING: &str = "kaffe 2
+kernel 1000 0
+type Node ref ref int
+limit root 1099511627775
+limit a root soft 1000
+proc p0 root
+";
+
+/// What the first process does before that: it lets three shared heaps go, which are orphans then, and the kernel absorbs them; and it
+/// changes a maximum to one above 2^32.
+const BEFORE_ENDING: &str = "shared s0
+shared s1
+shared s2
+p0 share s0
+p0 snew r0 s0 Node
+p0 freeze s0 r0
+p0 drop r0
+p0 share s1
+p0 snew r0 s1 Node
+p0 freeze s1 r0
+p0 drop r0
+p0 share s2
+p0 snew r0 s2 Node
+p0 freeze s2 r0
+p0 drop r0
+p0 collect
+p0 kcollect
+p0 resize a 8589934592
+";
+
+/// Appends the lines that declare the other processes.
+fn push_others(trace: &mut String) -> Result<(), NoMemory> {
+    for process in 1..MOST {
+        writeln!(trace, "proc p{process} a")?;
+    }
+    Ok(())
+}
+
+/// Appends the operations that end them, but for the last one.
+fn push_kills(trace: &mut String) -> Result<(), NoMemory> {
+    for process in 1..LAST {
+        writeln!(trace, "p0 kill p{process}")?;
+    }
+    Ok(())
+}
+
+/// The trace in which the first process ends all others but the last, which does an operation inside its heap.
+fn ending_trace(alloc: Global) -> Result<String, NoMemory> {
+    let mut trace = String::from_str(alloc, ENDING)?;
+    push_others(&mut trace)?;
+    trace.push_str(BEFORE_ENDING)?;
+    push_kills(&mut trace)?;
+    push_one(&mut trace, LAST, "drop r0")?;
+    Ok(trace)
+}
+
+/// A run that leaves the work or the end of a process with a high number, the third orphan, or a great maximum to its end is told by this.
+#[test]
+fn threads_end_and_serve_many_processes(rt: HostRuntime) -> Result<(), Fail> {
+    let gate = Counts::make(rt.alloc(), MOST)?;
+    let trace = ending_trace(rt.alloc())?;
+    count_run(&rt, rt.alloc(), &trace, &gate)?;
+    // each operation is a step, both collections have one more, and so has each of three absorptions
+    assert_eq!(rt; gate.of(0), Some((77, 82)));
+    assert_eq!(rt; gate.of(LAST as usize), Some((1, 0)));
+    Ok(())
+}

@@ -1,6 +1,8 @@
 //! Traces at the ends of the ranges of their numbers, counts and lengths.
 use crate::calling::{Given, HEADER, NO_FAULTS, check_call, check_joined};
+use crate::summaries::count_run;
 use crate::worked::check_report;
+use k_gates::Counts;
 use k_io::{NoGate, NoMemory};
 use k_top::Status;
 use std::alloc::Global;
@@ -53,6 +55,17 @@ fn replays_the_most_operations(rt: HostRuntime) -> Result<(), Fail> {
 #[test]
 fn runs_the_most_operations(rt: HostRuntime) -> Result<(), Fail> {
     check_most(&rt, rt.alloc(), "run")?;
+    Ok(())
+}
+
+/// A run that lets a process go after some thousand operations is told by this.
+#[test]
+fn threads_do_many_operations(rt: HostRuntime) -> Result<(), Fail> {
+    let gate = Counts::make(rt.alloc(), 1)?;
+    let many = trace_of(rt.alloc(), 20_000)?;
+    count_run(&rt, rt.alloc(), &many, &gate)?;
+    // what is done inside the heap has no step
+    assert_eq!(rt; gate.of(0), Some((20_000, 0)));
     Ok(())
 }
 

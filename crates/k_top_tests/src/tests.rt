@@ -51,7 +51,7 @@ process p1 80
 end
 ";
 
-pub const USAGE: &str = "usage: kaffe run | replay | check | big N | watch K\n";
+pub const USAGE: &str = "usage: kaffe run | replay | check | big N | watch K | work\n";
 
 #[test]
 fn reports_the_first_trace(rt: HostRuntime) -> Result<(), Fail> {
@@ -70,7 +70,7 @@ fn reports_the_first_trace(rt: HostRuntime) -> Result<(), Fail> {
 fn refuses_other_words(rt: HostRuntime) -> Result<(), Fail> {
     for words in [
         "", "run x", "x run", "runs", "Replay", "checks", "big", "big 0", "big 007", "big 5001",
-        "big 1 1", "Big 10", "10 big",
+        "big 1 1", "Big 10", "10 big", "work 1", "works",
     ] {
         // the source would fail at its first read, and is not read
         let faults = Faults { read: 1, write: 0 };

@@ -1,7 +1,7 @@
 use Rattle.std.proofs.Common.{sym, subst}
 use Rattle.k_types.specs.declared.op.Op.TheVariants.{KCollect}
 use Rattle.k_heap.specs.Heaps.{HeapRecord}
-use Rattle.k_operate.proofs.Since.{next_since}
+use Rattle.k_complete.proofs.Since.{next_since}
 use Rattle.k_process.specs.Standing.{ComesNext, HasDone}
 use Rattle.k_run.specs.Running.{WaitsToCollect}
 use Rattle.k_run.proofs.Stepped.{done_after, may_wait, next_settled, published_left}
@@ -24,7 +24,7 @@ returns-in-Some g c =
     let next = subst (λ (x : HeapRecord). ComesNext g.W.WorldName.world.trace x KCollect) (sym c.process.view_is) c.requires.next in
     let left = published_left g.W.WorldName.world c.process.inside.process c.publish_all.new.process c.book.inside.book c.publish_all.new.book c.publish_all.ensures in (
       subst (λ (x : HeapRecord). WaitsToCollect g.W.WorldName.world x c.publish_all.new.process.cell) c.process.view_is (record {
-        left = may_wait g.W.WorldName.world c.publish_all.new.process c.publish_all.new.book c.publish_all.ensures.pair
+        left = may_wait g.W.WorldName.world c.publish_all.new.process c.publish_all.new.book c.publish_all.ensures.pair c.publish_all.ensures.met
             (next_since g.W.WorldName.world c.process.inside.process c.publish_all.new.process c.publish_all.new.book KCollect c.publish_all.ensures next);
         same = left;
       }),

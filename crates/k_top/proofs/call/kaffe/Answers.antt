@@ -1,11 +1,11 @@
 use Rattle.std.proofs.Common.{rules, sym, ◌∙◌, ap, Some}
 use Rattle.std.specs.Prelude.{map, string_bytes}
 use Rattle.k_top.specs.declared.commands.Command.{Command}
-use Rattle.k_top.specs.declared.commands.Command.TheVariants.{Run, Watch}
+use Rattle.k_top.specs.declared.commands.Command.TheVariants.{Run, Watch, Work}
 use Rattle.k_top.proofs.Answered.{answered_more}
 use Rattle.k_top.proofs.Contract.{contract}
 use Rattle.k_top.proofs.Lists.{few_objects}
-use Rattle.k_top.proofs.Meanings.{big_means, run_means, watch_means}
+use Rattle.k_top.proofs.Meanings.{big_means, run_means, watch_means, work_means}
 use Rattle.k_top.proofs.call.kaffe.Goals as goal
 
 pub returns-in-Some-Run-clause-answered : goal.returns-in-Some-Run-clause-answered
@@ -29,3 +29,10 @@ returns-in-Some-Watch-clause-answered g c =
 
 pub returns-in-Some-Watch-clause-unread : goal.returns-in-Some-Watch-clause-unread
 returns-in-Some-Watch-clause-unread g c none = absurd (none (Watch c.in-Some-Watch.count, sym c.command_of.ensures ∙ c.in-Some-Watch.is ∙ ap (λ (command : Command). Some command) c.in-Some-Watch.field-0-is, tt))
+
+pub returns-in-Some-Work-clause-answered : goal.returns-in-Some-Work-clause-answered
+returns-in-Some-Work-clause-answered g c =
+    contract _ _ _ _ (answered_more _ _ _ _ (work_means _ _ (sym c.command_of.ensures ∙ c.in-Some-Work.is ∙ ap (λ (command : Command). Some command) c.in-Some-Work.field-0-is)) c.work_file.ensures.answered)
+
+pub returns-in-Some-Work-clause-unread : goal.returns-in-Some-Work-clause-unread
+returns-in-Some-Work-clause-unread g c none = absurd (none (Work, sym c.command_of.ensures ∙ c.in-Some-Work.is ∙ ap (λ (command : Command). Some command) c.in-Some-Work.field-0-is, tt))

@@ -1,7 +1,6 @@
-use Rattle.std.proofs.Common.{rules, sym, ◌∙◌, ap, refl, Some}
-use Rattle.std.specs.Prelude.{map, string_bytes}
+use Rattle.std.proofs.Common.{sym, ◌∙◌, ap, refl, Some}
 use Rattle.k_top.specs.declared.commands.Command.{Command}
-use Rattle.k_top.specs.declared.commands.Command.TheVariants.{Run, Replay, Check, Big, Watch}
+use Rattle.k_top.specs.declared.commands.Command.TheVariants.{Run, Replay, Check, Big, Watch, Work}
 use Rattle.k_top.proofs.Answered.{answered_more, answered_written}
 use Rattle.k_top.proofs.Contract.{contract}
 use Rattle.k_top.proofs.Meanings.{check_means, run_means}
@@ -32,3 +31,6 @@ unreachable-requires-in-Some-Big g c = c.requires (Big c.in-Some-Big.field-0-0) 
 
 pub unreachable-requires-in-Some-Watch : goal.unreachable-requires-in-Some-Watch
 unreachable-requires-in-Some-Watch g c = c.requires (Watch c.in-Some-Watch.field-0-0) (sym c.command_of.ensures ∙ c.in-Some-Watch.is ∙ ap (λ (command : Command). Some command) c.in-Some-Watch.field-0-is) tt
+
+pub unreachable-requires-in-Some-Work : goal.unreachable-requires-in-Some-Work
+unreachable-requires-in-Some-Work g c = c.requires Work (sym c.command_of.ensures ∙ c.in-Some-Work.is ∙ ap (λ (command : Command). Some command) c.in-Some-Work.field-0-is) tt

@@ -17,7 +17,7 @@ fn pause(count: u32) {
 
 /// Takes the lock. Where another thread has it, this one looks for it again for a while, at first often and then more seldom, and sleeps
 /// only then: most holds are shorter than it takes to put a thread to sleep and to wake it.
-pub(crate) fn take<'a, T, R: Wait>(rt: &R, lock: &'a Mutex<T>) -> MutexGuard<'a, T> {
+pub(super) fn take<'a, T, R: Wait>(rt: &R, lock: &'a Mutex<T>) -> MutexGuard<'a, T> {
     for look in 0..LOOKS {
         if let Some(guard) = lock.try_lock() {
             return guard;

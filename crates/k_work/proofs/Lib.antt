@@ -1,0 +1,10 @@
+pub mod Numbers
+pub mod Credited
+pub mod Among
+pub mod Summed
+pub mod Fields
+pub mod Small
+pub mod Tallied
+pub mod Worked
+pub mod Unread
+pub mod Parts

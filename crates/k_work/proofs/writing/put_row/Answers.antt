@@ -1,0 +1,8 @@
+use Rattle.std.proofs.Common.{◌∷◌, arith}
+use Rattle.std.proofs.lemmas.Grind.{common_steps}
+use Rattle.k_text.proofs.LineLemmas.{writes_line}
+use Rattle.k_work.specs.Lines.{row_words}
+use Rattle.k_work.proofs.writing.put_row.Goals as goal
+
+pub returns-clause-written : goal.returns-clause-written
+returns-clause-written g c = writes_line _ _ _ _ _ _ (c.args.word.now ∷ row_words c.args.row) (grind (arith, common_steps)) c.write_to.ensures.written
