@@ -7,7 +7,7 @@ ghost use Rattle.k_types.specs.Owners.{phase_of};
 ghost use Rattle.k_types.specs.State.{has_share};
 ghost use Rattle.k_entry.specs.Entries.{AreEntries, home_of};
 ghost use Rattle.k_limits.specs.Limits.{use_at};
-ghost use Rattle.k_shares.specs.Sharers.{heap_number, lowest_orphan};
+ghost use Rattle.k_shares.specs.Sharers.{heap_number, living_of, lowest_orphan};
 ghost use Rattle.k_book.specs.Books.{book_entries, book_limits, book_pins};
 
 use crate::parts::Book;
@@ -29,6 +29,14 @@ impl Book {
     {
         let _processes = &self.of_process;
         self.table.lives(pid)
+    }
+
+    /// The number of processes that have not ended.
+    pub fn living(&self) -> u32
+        ensures { result ≡ living_of self.now.value.ended (length self.now.procs) }
+    {
+        let _processes = &self.of_process;
+        self.table.living()
     }
 
     /// Whether the process shares the heap, and so pays for it.

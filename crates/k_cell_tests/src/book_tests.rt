@@ -39,8 +39,13 @@ fn a_book_is_charged_and_finds_an_orphan(rt: HostRuntime) -> Result<(), Fail> {
     let (tie, seat, _notes) = Tie::make(rt.alloc(), 4)?;
     let mut book = Book::make(rt.alloc(), &setup, 2, 2, tie, seat)?;
     assert_eq!(rt;
-        (book.procs(), book.shared_heaps(), book.ceiling()),
-        (2, 1, 50)
+        (
+            book.procs(),
+            book.living(),
+            book.shared_heaps(),
+            book.ceiling()
+        ),
+        (2, 2, 1, 50)
     );
     assert_eq!(rt; book.charge(LimitId(0), 60), Ok(()));
     assert_eq!(rt; book.charge(LimitId(0), 60), Err(LimitId(0)));

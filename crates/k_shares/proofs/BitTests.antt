@@ -99,13 +99,13 @@ sharer_bit heaps procs bits t inside =
     ∙ ap (λ b. b && list_any (λ p. bit_of heaps bits p t) (numbers_below procs)) (lt-ltb t heaps inside)
 
 -- who lives is in the bits
-ended_test : (living : List Bool) (p : ℕ) → among p (ended_in living) ≡ (nat_lt p (length living) && not (bit_at living p))
+ended_test : (alive : List Bool) (p : ℕ) → among p (ended_in alive) ≡ (nat_lt p (length alive) && not (bit_at alive p))
 unfolding ended_in
-ended_test living p = among_where (λ q. not (bit_at living q)) (length living) p
+ended_test alive p = among_where (λ q. not (bit_at alive q)) (length alive) p
 
-pub living_bit : (living : List Bool) (p : ℕ) → p < length living → not (among p (ended_in living)) ≡ bit_at living p
-living_bit living p inside =
-    ap not (ended_test living p ∙ ap (λ b. b && not (bit_at living p)) (lt-ltb p (length living) inside)) ∙ not-not (bit_at living p)
+pub living_bit : (alive : List Bool) (p : ℕ) → p < length alive → not (among p (ended_in alive)) ≡ bit_at alive p
+living_bit alive p inside =
+    ap not (ended_test alive p ∙ ap (λ b. b && not (bit_at alive p)) (lt-ltb p (length alive) inside)) ∙ not-not (bit_at alive p)
 
 -- one bit is set and no other
 bit_set : (bits : List Bool) (i j : ℕ) (b : Bool) → i < length bits → bit_at (set bits i b) j ≡ cond (i == j) b (bit_at bits j)
@@ -177,11 +177,11 @@ loses heaps procs bits p s size inside there = λ q t.
     ∙ ap (λ b. b && not ((p == q) && (s == t))) (sym (share_test heaps procs bits q t))
 
 -- a process ends with its bit
-pub ends : (living : List Bool) (p : ℕ) → p < length living → GainsEnded (ended_in living) (ended_in (set living p false)) p
-ends living p inside = λ q.
-    ended_test (set living p false) q
-    ∙ ap (λ n. nat_lt q n && not (bit_at (set living p false) q)) (length-set living p false)
-    ∙ ending (nat_lt q (length living)) (bit_at living q) (bit_at (set living p false) q) (p == q)
-    (λ e. ap (λ r. nat_lt r (length living)) (sym (eqb-true p q e)) ∙ lt-ltb p (length living) inside)
-    (bit_set living p q false inside)
-    ∙ ap (λ b. b || (p == q)) (sym (ended_test living q))
+pub ends : (alive : List Bool) (p : ℕ) → p < length alive → GainsEnded (ended_in alive) (ended_in (set alive p false)) p
+ends alive p inside = λ q.
+    ended_test (set alive p false) q
+    ∙ ap (λ n. nat_lt q n && not (bit_at (set alive p false) q)) (length-set alive p false)
+    ∙ ending (nat_lt q (length alive)) (bit_at alive q) (bit_at (set alive p false) q) (p == q)
+    (λ e. ap (λ r. nat_lt r (length alive)) (sym (eqb-true p q e)) ∙ lt-ltb p (length alive) inside)
+    (bit_set alive p q false inside)
+    ∙ ap (λ b. b || (p == q)) (sym (ended_test alive q))

@@ -1,4 +1,5 @@
 pub mod Places
 pub mod BitTests
 pub mod Opened
+pub mod Living
 pub mod Walks

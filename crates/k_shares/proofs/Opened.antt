@@ -46,21 +46,21 @@ opened procs heaps = λ i. record {
 }
 
 -- the lists of a table that was just made are such
-pub record AreFirst (procs heaps : ℕ) (living bits : List Bool) (phases : List Phase) (bytes : List ℕ) : Type 0 where
-  pub all_live : living ≡ replicate procs true
+pub record AreFirst (procs heaps : ℕ) (alive bits : List Bool) (phases : List Phase) (bytes : List ℕ) : Type 0 where
+  pub all_live : alive ≡ replicate procs true
   pub none_shared : bits ≡ replicate (procs * heaps) false
   pub all_unmade : phases ≡ replicate heaps Unmade
   pub all_empty : bytes ≡ replicate heaps 0
 
-pub first_shown : (procs heaps : ℕ) (living bits : List Bool) (phases : List Phase) (bytes : List ℕ) →
-    AreFirst procs heaps living bits phases bytes → shown living bits phases bytes ≡ unshared procs heaps
-first_shown procs heaps living bits phases bytes f =
+pub first_shown : (procs heaps : ℕ) (alive bits : List Bool) (phases : List Phase) (bytes : List ℕ) →
+    AreFirst procs heaps alive bits phases bytes → shown alive bits phases bytes ≡ unshared procs heaps
+first_shown procs heaps alive bits phases bytes f =
     (λ i. shown (f.all_live i) (f.none_shared i) (f.all_unmade i) (f.all_empty i)) ∙ opened procs heaps
 
-pub first_sizes : (procs heaps : ℕ) (living bits : List Bool) (phases : List Phase) (bytes : List ℕ) →
-    AreFirst procs heaps living bits phases bytes → procs < 2 ^ 32 → heaps < 2 ^ 32 → HaveSizes living bits phases bytes
-first_sizes procs heaps living bits phases bytes f few_procs few_heaps =
-    let lives : length living ≡ procs = ap length f.all_live ∙ length-replicate procs true in
+pub first_sizes : (procs heaps : ℕ) (alive bits : List Bool) (phases : List Phase) (bytes : List ℕ) →
+    AreFirst procs heaps alive bits phases bytes → procs < 2 ^ 32 → heaps < 2 ^ 32 → HaveSizes alive bits phases bytes
+first_sizes procs heaps alive bits phases bytes f few_procs few_heaps =
+    let lives : length alive ≡ procs = ap length f.all_live ∙ length-replicate procs true in
     let made : length phases ≡ heaps = ap length f.all_unmade ∙ length-replicate heaps Unmade in
     record {
       pairs = ap length f.none_shared ∙ length-replicate (procs * heaps) false ∙ sym (λ i. lives i * made i);

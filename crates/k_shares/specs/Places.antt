@@ -36,21 +36,21 @@ shares_in heaps procs bits = shares_of_all (bit_of heaps bits) heaps (numbers_be
 
 -- the processes that don't live
 unfoldable pub ended_in : List Bool → List ℕ
-ended_in living = filter (λ p. not (bit_at living p)) (numbers_below (length living))
+ended_in alive = filter (λ p. not (bit_at alive p)) (numbers_below (length alive))
 
 -- what is seen of the lists of the table
 abbrev pub shown : List Bool → List Bool → List Phase → List ℕ → ShareValue
-shown living bits phases bytes = record {
-  procs = length living;
-  ended = ended_in living;
-  shares = shares_in (length phases) (length living) bits;
+shown alive bits phases bytes = record {
+  procs = length alive;
+  ended = ended_in alive;
+  shares = shares_in (length phases) (length alive) bits;
   phases = phases;
   shared_bytes = bytes;
 }
 
 -- the lists have one place for each process, each shared heap, and each pair of both
-pub record HaveSizes (living bits : List Bool) (phases : List Phase) (bytes : List ℕ) : Type 0 where
-  pub pairs : length bits ≡ length living * length phases
+pub record HaveSizes (alive bits : List Bool) (phases : List Phase) (bytes : List ℕ) : Type 0 where
+  pub pairs : length bits ≡ length alive * length phases
   pub heaps : length bytes ≡ length phases
-  pub few_procs : length living < 2 ^ 32
+  pub few_procs : length alive < 2 ^ 32
   pub few_heaps : length phases < 2 ^ 32

@@ -8,6 +8,7 @@ use Rattle.k_types.specs.Numbers.{numbers_below}
 use Rattle.k_types.specs.Owners.{is_absorbed, phase_of}
 use Rattle.k_types.specs.State.{Sharing, has_share}
 use Rattle.k_types.specs.Steps.{has_sharer, is_live}
+use Rattle.k_types.specs.Totals.{total}
 
 -- the number of processes and those that have ended; who shares what; the phase and the bytes of each shared heap
 pub record ShareValue : Type 0 where
@@ -50,6 +51,10 @@ LosesShare old new p s = (q t : ℕ) → has_share new q t ≡ (has_share old q 
 -- the process has ended too, and no other
 abbrev pub GainsEnded : List ℕ → List ℕ → ℕ → Type 0
 GainsEnded old new p = (q : ℕ) → among q new ≡ (among q old || (p == q))
+
+-- how many of so many processes are not among those that have ended
+abbrev pub living_of : List ℕ → ℕ → ℕ
+living_of ended count = total (λ p. if among p ended then 0 else 1) (numbers_below count)
 
 -- the bytes of the shared heaps once that one is in the phase: an absorbed one has none
 abbrev pub bytes_in_phase : List ℕ → ℕ → Phase → List ℕ

@@ -3,7 +3,7 @@ ghost use Rattle.std.specs.Prelude.{◌≡◌, ◌+◌, ◌-◌, ◌*◌, ◌<�
 ghost use Rattle.k_types.specs.Names.{among};
 ghost use Rattle.k_types.specs.Owners.{phase_of};
 ghost use Rattle.k_types.specs.State.{has_share};
-ghost use Rattle.k_shares.specs.Sharers.{unshared, bytes_in_phase, heap_number, is_orphan_by, lowest_orphan, GainsShare, LosesShare, GainsEnded};
+ghost use Rattle.k_shares.specs.Sharers.{unshared, bytes_in_phase, heap_number, is_orphan_by, living_of, lowest_orphan, GainsShare, LosesShare, GainsEnded};
 
 use crate::bits::{is_shared, place_of_pair, take_bytes, was_made};
 use k_io::NoMemory;
@@ -14,7 +14,9 @@ use std::marker::Model;
 /// Which processes live, who shares which shared heap, and the phase and the bytes of each shared heap. Processes and shared
 /// heaps are numbered from 0. Each call but [`ShareTable::make`] and [`ShareTable::first_orphan`] takes constant time.
 pub struct ShareTable {
-    living: Vec<bool>,
+    // Whether each process has not ended, and how many have not.
+    alive: Vec<bool>,
+    living: u32,
     // Whether a process shares a heap: one row of all shared heaps for each process.
     bits: Vec<bool>,
     phases: Vec<Phase>,
@@ -24,6 +26,7 @@ pub struct ShareTable {
 impl Drop for ShareTable {
     fn drop(self) {
         let ShareTable {
+            alive: _,
             living: _,
             bits: _,
             phases: _,
@@ -37,11 +40,13 @@ impl Model for ShareTable {
 
     ghost Value = { ShareValue };
 
-    ghost use Rattle.k_shares.specs.Places.{shown, HaveSizes};
+    ghost use Rattle.std.specs.Prelude.{◌≡◌, length};
+    ghost use Rattle.k_shares.specs.Sharers.{living_of};
+    ghost use Rattle.k_shares.specs.Places.{ended_in, shown, HaveSizes};
 
-    ghost view = { λ t. shown t.living.items t.bits.items t.phases.items t.bytes.items };
+    ghost view = { λ t. shown t.alive.items t.bits.items t.phases.items t.bytes.items };
 
-    ghost invariant = { λ t. HaveSizes t.living.items t.bits.items t.phases.items t.bytes.items };
+    ghost invariant = { λ t. HaveSizes t.alive.items t.bits.items t.phases.items t.bytes.items × (t.living ≡ living_of (ended_in t.alive.items) (length t.alive.items)) };
 }
 
 impl ShareTable {
@@ -51,12 +56,13 @@ impl ShareTable {
         ensures { IfOk result (λ t. t ≡ unshared procs shared) }
     {
         let pairs = procs as usize * shared as usize;
-        let living = vec![in alloc; true; procs as usize]?;
+        let alive = vec![in alloc; true; procs as usize]?;
         let bits = vec![in alloc; false; pairs]?;
         let phases = vec![in alloc; Phase::Unmade; shared as usize]?;
         let bytes = vec![in alloc; 0; shared as usize]?;
         Ok(ShareTable {
-            living,
+            alive,
+            living: procs,
             bits,
             phases,
             bytes,
@@ -67,7 +73,7 @@ impl ShareTable {
     pub fn procs(&self) -> u32
         ensures { result ≡ self.now.procs }
     {
-        self.living.len() as u32
+        self.alive.len() as u32
     }
 
     /// The number of shared heaps.
@@ -77,13 +83,20 @@ impl ShareTable {
         self.phases.len() as u32
     }
 
+    /// The number of processes that have not ended.
+    pub fn living(&self) -> u32
+        ensures { result ≡ living_of self.now.ended self.now.procs }
+    {
+        self.living
+    }
+
     /// Whether the process has not ended.
     #[tactic(auto, using(crate::proofs::BitTests::living_bit))]
     pub fn lives(&self, pid: Pid) -> bool
         requires { pid.0 < self.now.procs }
         ensures { result ≡ not (among pid.0 self.now.ended) }
     {
-        self.living[pid.0 as usize]
+        self.alive[pid.0 as usize]
     }
 
     /// Whether the process shares the heap, and so pays for it.
@@ -119,7 +132,7 @@ impl ShareTable {
     {
         let heaps = self.phases.len();
         let made = was_made(self.phases[shared.0 as usize]);
-        made && !is_shared(&self.bits, self.living.len() as u32, heaps, shared.0)
+        made && !is_shared(&self.bits, self.alive.len() as u32, heaps, shared.0)
     }
 
     /// The shared heap of the lowest number that was made, isn't absorbed and has no sharer. It takes time in the number of
@@ -188,6 +201,7 @@ impl ShareTable {
         ensures ended { GainsEnded self.old.ended self.new.ended pid.0 }
         ensures rest { self.new ≡ record self.old { ended = self.new.ended } }
     {
-        self.living[pid.0 as usize] = false;
+        self.alive[pid.0 as usize] = false;
+        self.living -= 1;
     }
 }

@@ -15,7 +15,9 @@ fn a_heap_without_a_sharer_is_an_orphan(rt: HostRuntime) -> Result<(), Fail> {
     table.add(pid, heap);
     assert!(rt; table.first_orphan().is_none());
     table.remove(pid, heap);
+    assert_eq!(rt; table.living(), 2);
     table.end(pid);
+    assert_eq!(rt; table.living(), 1);
     assert_eq!(rt; table.first_orphan(), Some(heap));
     assert_eq!(rt; table.bytes_of(heap), 40);
     table.set_phase(heap, Phase::Absorbed);

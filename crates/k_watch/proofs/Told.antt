@@ -1,8 +1,5 @@
 -- The numbers of a book that agrees with its journal are the machine's.
-use Rattle.std.proofs.Common.{◌≡◌, ◌<◌, ◌+◌, ℕ, refl, sym, ap, ◌∙◌, List, [], ◌∷◌, ◌++◌, length, if◌then◌else◌, Bool, true, false, not, suc, arith, replicate}
-use Rattle.std.proofs.lemmas.Bool.{false≢true}
-use Rattle.k_base.proofs.Lists.{numbers_push}
-use Rattle.k_base.proofs.Sums.{total_push}
+use Rattle.std.proofs.Common.{◌≡◌, ◌<◌, ℕ, refl, ap, ◌∙◌, List, [], ◌∷◌, length, if◌then◌else◌, Bool, arith, replicate}
 use Rattle.k_types.specs.declared.names.LimitId.{LimitId}
 use Rattle.k_types.specs.Limits.{use_of}
 use Rattle.k_types.specs.Names.{among}
@@ -14,18 +11,19 @@ use Rattle.k_types.specs.Trace.{Trace, process_count}
 use Rattle.k_types.specs.TraceRules.{KeepsRules}
 use Rattle.k_agree.specs.Agreement.{BookShows}
 use Rattle.k_limits.specs.Limits.{use_at}
+use Rattle.k_shares.specs.Sharers.{living_of}
 use Rattle.k_base.proofs.Maxima.{length_in}
 use Rattle.k_book.specs.Books.{BookRecord, book_limits}
 use Rattle.k_book.specs.Machine.{IsBookOf}
 use Rattle.k_book.proofs.Telling.{tells, tells_limits}
 use Rattle.k_commit.specs.Standing.{BookStands}
-use Rattle.k_watch.specs.Numbers.{living_of, numbers_of, numbers_after}
+use Rattle.k_watch.specs.Numbers.{numbers_of, numbers_after}
 use Rattle.k_watch.specs.Samples.{sample}
 
-abbrev pub one_unless : Bool → ℕ
+abbrev one_unless : Bool → ℕ
 one_unless b = if b then 0 else 1
 
-abbrev pub lives_in : List ℕ → ℕ → ℕ
+abbrev lives_in : List ℕ → ℕ → ℕ
 lives_in ended p = one_unless (among p ended)
 
 -- the same are counted where the same are among both lists
@@ -55,24 +53,6 @@ shown_tells trace b rules of_trace shows = λ i. sample (length b.journal.list) 
 
 pub book_tells : (trace : Trace) (b : BookRecord) → BookStands trace b → numbers_of b ≡ numbers_after trace b.journal.list
 book_tells trace b stands = shown_tells trace b stands.keeps stands.of_trace stands.agrees.shows
-
--- one process more
-pub living_more : (ended : List ℕ) (n : ℕ) → living_of ended (n + 1) ≡ living_of ended n + lives_in ended n
-living_more ended n =
-    let next : n + 1 ≡ suc n = omega arith in
-    let last : 0 + n ≡ n = omega arith in
-    ap (λ k. total (lives_in ended) (numbers_below k)) next
-    ∙ ap (total (lives_in ended)) (numbers_push 0 n)
-    ∙ ap (λ (k : ℕ). total (lives_in ended) (numbers_below n ++ k ∷ [])) last
-    ∙ total_push (lives_in ended) (numbers_below n) n
-
-pub lives : (b r : Bool) → r ≡ not b → r ≡ true → one_unless b ≡ 1
-lives false r is t = refl
-lives true r is t = absurd (false≢true (sym is ∙ t))
-
-pub has_ended : (b r : Bool) → r ≡ not b → r ≡ false → one_unless b ≡ 0
-has_ended false r is t = absurd (false≢true (sym t ∙ is))
-has_ended true r is t = refl
 
 -- a book of a trace has a limit
 pub has_root : (trace : Trace) (b : BookRecord) → KeepsRules trace → IsBookOf trace b → 0 < length b.rows

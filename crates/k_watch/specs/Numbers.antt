@@ -1,21 +1,15 @@
 -- The three numbers of a book, and of the machine after a history.
-use Rattle.std.specs.Prelude.{ℕ, if◌then◌else◌, List, length}
+use Rattle.std.specs.Prelude.{ℕ, List, length}
 use Rattle.k_types.specs.declared.event.Event.{Event}
 use Rattle.k_types.specs.Limits.{use_of}
-use Rattle.k_types.specs.Names.{among}
-use Rattle.k_types.specs.Numbers.{numbers_below}
 use Rattle.k_types.specs.State.{State}
 use Rattle.k_types.specs.Steps.{state_after}
-use Rattle.k_types.specs.Totals.{total}
 use Rattle.k_types.specs.Trace.{Trace, process_count}
 use Rattle.k_limits.specs.Limits.{use_at}
+use Rattle.k_shares.specs.Sharers.{living_of}
 use Rattle.k_book.specs.Books.{BookRecord, book_limits}
 use Rattle.k_watch.specs.declared.sample.Sample.{Sample}
 use Rattle.k_watch.specs.Samples.{sample}
-
--- how many of so many processes are not among those that have ended
-abbrev pub living_of : List ℕ → ℕ → ℕ
-living_of ended count = total (λ p. if among p ended then 0 else 1) (numbers_below count)
 
 -- how many processes of the book live
 abbrev pub living_in : BookRecord → ℕ

@@ -3,24 +3,11 @@ ghost use Rattle.std.specs.Prelude.{◌≡◌, ◌<◌, length};
 ghost use Rattle.k_types.specs.Trace.{Trace};
 ghost use Rattle.k_book.specs.Books.{BookRecord};
 ghost use Rattle.k_commit.specs.Standing.{BookStands};
-ghost use Rattle.k_watch.specs.Numbers.{living_in, numbers_after, numbers_of};
+ghost use Rattle.k_watch.specs.Numbers.{numbers_after, numbers_of};
 
 use crate::sample::Sample;
 use k_book::Book;
-use k_types::{LimitId, Pid};
-
-/// How many processes live.
-fn living(book: &Book) -> u32
-    ensures { result ≡ living_in book.now }
-{
-    let mut count = 0;
-    for pid in 0..book.procs() {
-        if book.lives(Pid(pid)) {
-            count += 1;
-        }
-    }
-    count
-}
+use k_types::LimitId;
 
 /// The numbers of the book.
 pub(crate) fn numbers(book: &Book) -> Sample
@@ -30,7 +17,7 @@ pub(crate) fn numbers(book: &Book) -> Sample
     Sample {
         events: book.len(),
         root_use: book.use_of(LimitId(0)),
-        living: living(book),
+        living: book.living(),
     }
 }
 
