@@ -26,9 +26,9 @@ use Rattle.k_commit.specs.Published.{CanPublish, HasPublished}
 use Rattle.k_commit.specs.Rooms.{HasRoomFor}
 use Rattle.k_commit.specs.Standing.{HeapStands}
 use Rattle.k_commit.specs.Stepped.{HasStepped, HasSteppedWithKernel, HasSteppedWithShared}
-use Rattle.k_own.specs.Own.{CanStepOwn}
-use Rattle.k_pair.specs.Operating.{CanStepWithKernel}
-use Rattle.k_sharing.specs.Operating.{CanStepWithShared}
+use Rattle.k_operate.specs.Own.{CanStepOwn}
+use Rattle.k_operate.specs.PairOperating.{CanStepWithKernel}
+use Rattle.k_operate.specs.Operating.{CanStepWithShared}
 use Rattle.k_guests.specs.declared.guest.Guest.{Guest}
 use Rattle.k_calls.specs.Doing.{HasDoneAlone, HasDoneWithKernel, HasDoneWithShared, HasPublishedAll, IsDueWith}
 use Rattle.k_guests.specs.Serving.{Basis, BookServes, GuestServes, KernelServes, SharedServes}

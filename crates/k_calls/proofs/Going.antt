@@ -19,9 +19,9 @@ use Rattle.k_cell.specs.Holdings.{HoldingsValue}
 use Rattle.k_heap.specs.Heaps.{HeapRecord, has_ended_in, own_segment}
 use Rattle.k_shared.specs.SharedHeaps.{SharedRecord}
 use Rattle.k_space.specs.Objects.{BodyValue, new_body}
-use Rattle.k_locked.proofs.CanDo.{owner_shown}
-use Rattle.k_locked.proofs.Kept.{absorbed_stays}
-use Rattle.k_locked.specs.Keeping.{is_absorbed_in}
+use Rattle.k_guests.proofs.CanDo.{owner_shown}
+use Rattle.k_guests.proofs.Kept.{absorbed_stays}
+use Rattle.k_guests.specs.Keeping.{is_absorbed_in}
 use Rattle.k_guests.specs.declared.guest.Guest.{Guest}
 use Rattle.k_guests.specs.Serving.{Basis, BookServes, GivesSerials, GuestServes, KernelServes, SharedServes}
 

@@ -15,7 +15,7 @@ use Rattle.k_moves.specs.Shown.{idle_part}
 use Rattle.k_book.specs.Books.{BookRecord}
 use Rattle.k_cell.specs.Holdings.{HoldingsValue}
 use Rattle.k_shared.specs.SharedHeaps.{SharedRecord}
-use Rattle.k_steps.specs.Reaching.{CanReach}
+use Rattle.k_operate.specs.Reaching.{CanReach}
 use Rattle.k_operate.proofs.HeapsReached.{heap_reached}
 use Rattle.k_guests.specs.declared.guest.Guest.{Guest}
 use Rattle.k_calls.specs.Doing.{CanDoInside, CanDoWithKernel, CanDoWithShared, CanOperate, HasDoneAlone, HasDoneInside, HasDoneWithKernel, HasDoneWithShared, HasEventsLeft, HasOperated, IsDueWith, IsKernelReady, IsReady, LeavesOthers, touched_by}

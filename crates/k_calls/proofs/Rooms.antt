@@ -23,7 +23,7 @@ use Rattle.k_book.specs.Books.{BookRecord, book_entries}
 use Rattle.k_cell.specs.Holdings.{HasSerialLeft, HoldingsValue}
 use Rattle.k_commit.specs.Changed.{bodies_after}
 use Rattle.k_commit.specs.Rooms.{HasBody, HasEventRoom, HasExitRoom, HasTableRoom}
-use Rattle.k_locked.proofs.CanDo.{owner_shown, serial_shown}
+use Rattle.k_guests.proofs.CanDo.{owner_shown, serial_shown}
 use Rattle.k_calls.specs.Doing.{HasItsBody}
 use Rattle.k_guests.specs.Serving.{Basis, BookServes, GivesSerials}
 

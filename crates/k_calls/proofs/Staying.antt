@@ -5,7 +5,7 @@ use Rattle.k_types.specs.declared.names.Pid.{Pid}
 use Rattle.k_types.specs.declared.names.SharedId.{SharedId}
 use Rattle.k_cell.specs.Holdings.{HoldingsValue}
 use Rattle.k_shared.specs.SharedHeaps.{SharedRecord}
-use Rattle.k_process.proofs.Written.{get_set_cases}
+use Rattle.k_operate.proofs.Written.{get_set_cases}
 use Rattle.k_guests.specs.declared.guest.Guest.{Guest}
 use Rattle.k_guests.specs.Serving.{Basis, GuestServes, GuestsServe, HeapsServe, KernelServes, SharedServes}
 

@@ -6,7 +6,7 @@ ghost use Rattle.k_entry.specs.Entries.{AreEntries};
 ghost use Rattle.k_moves.specs.Shown.{idle_part};
 ghost use Rattle.k_squares.specs.Locals.{is_local_in};
 ghost use Rattle.k_squares.specs.Touches.{other_cells_in};
-ghost use Rattle.k_steps.specs.Reaching.{CanReach, cells_of};
+ghost use Rattle.k_operate.specs.Reaching.{CanReach, cells_of};
 ghost use Rattle.k_types.specs.Agree.{book_shown_by};
 ghost use Rattle.k_calls.specs.Doing.{CanDoInside, CanDoWithKernel, CanDoWithShared, HasDoneAlone, HasDoneInside, HasDoneWithKernel, HasDoneWithShared, HasPublishedAll, HasRoomToPublish, IsDueWith};
 ghost use Rattle.k_guests.specs.Serving.{Basis, BookServes, GuestServes};
@@ -15,8 +15,8 @@ use k_book::Book;
 use k_guests::{Guest, Terms};
 use k_kernel::KernelCell;
 use k_local::local;
+use k_operate::{Reach, publish, reach, step_kernel, step_own, step_shared};
 use k_shared::SharedCell;
-use k_steps::{Reach, publish, reach, step_kernel, step_own, step_shared};
 use k_types::{Event, Heap, Op, Reply};
 
 /// Does the operation inside the process's own heap, if it needs that heap alone.

@@ -13,8 +13,8 @@ use crate::readiness::{awake, has_item_room, has_room_to_publish, kernel_ready, 
 use k_book::Book;
 use k_guests::{Guest, Terms};
 use k_kernel::KernelCell;
+use k_operate::Reach;
 use k_shared::SharedCell;
-use k_steps::Reach;
 use k_types::{Event, Op, Reply};
 
 /// Does the operation inside the process's own heap, if it needs that heap alone and there is room.

@@ -5,3 +5,4 @@ pub mod Seen
 pub mod Marks
 pub mod Moved
 pub mod Carried
+pub use Rattle.k_agree.proofs.Openings

@@ -4,3 +4,8 @@ pub mod Changes
 pub mod Looks
 pub mod Placed
 pub mod Lends
+pub use Rattle.k_agree.specs.Marking
+pub use Rattle.k_agree.specs.Ending
+pub use Rattle.k_agree.specs.GivingAway
+pub use Rattle.k_agree.specs.Opening
+pub use Rattle.k_changes.specs.CellChanges

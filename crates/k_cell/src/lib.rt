@@ -9,4 +9,5 @@ mod rooms;
 mod writing;
 
 pub use holding::Holdings;
+pub use k_mark::Swept;
 pub use rooms::HoldingRooms;

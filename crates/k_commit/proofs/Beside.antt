@@ -5,7 +5,7 @@ use Rattle.k_types.specs.declared.names.Heap.TheVariants.{Kernel, Shared}
 use Rattle.k_types.specs.declared.op.Op.{Op}
 use Rattle.k_types.specs.Trace.{Trace}
 use Rattle.k_book.specs.Books.{BookRecord}
-use Rattle.k_cell.specs.Holdings.{HoldingsValue}
+use Rattle.k_heap.specs.Holdings.{HoldingsValue}
 use Rattle.k_heap.specs.Heaps.{HeapRecord}
 use Rattle.k_moves.specs.Moves.{noted}
 use Rattle.k_shared.specs.SharedHeaps.{SharedRecord}

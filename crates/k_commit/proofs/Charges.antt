@@ -13,7 +13,7 @@ use Rattle.k_book.specs.Books.{BookRecord, book_limits}
 use Rattle.k_book.proofs.Telling.{tells_limits}
 use Rattle.k_changes.specs.Told.{full_limit_in}
 use Rattle.k_changes.proofs.ToldBy.{limit_told}
-use Rattle.k_squares.specs.Answers.{size_fault_in}
+use Rattle.k_moves.specs.Answers.{size_fault_in}
 use Rattle.k_commit.specs.Charging.{CanCharge, HasCharged, IsFullFor}
 
 module _ (trace : Trace) (b : BookRecord) (p : ℕ) (can : CanCharge trace b p) where

@@ -26,7 +26,7 @@ use Rattle.k_agree.specs.GivingAway.{with_one_done}
 use Rattle.k_agree.specs.Meeting.{Fits, HasMet}
 use Rattle.k_agree.proofs.Commits.{committed}
 use Rattle.k_book.specs.Books.{BookRecord}
-use Rattle.k_cell.specs.Holdings.{HoldingsValue}
+use Rattle.k_heap.specs.Holdings.{HoldingsValue}
 use Rattle.k_heap.specs.Heaps.{HeapRecord}
 use Rattle.k_lawful.proofs.Laws.{possible_events_are_lawful}
 use Rattle.k_moves.specs.Moves.{CommitsAlone, CommitsBoth, MayAct, noted}

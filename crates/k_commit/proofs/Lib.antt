@@ -8,3 +8,5 @@ pub mod Charges
 pub mod Tails
 pub mod Beside
 pub mod Resizing
+pub use Rattle.k_moves.proofs.Idle
+pub use Rattle.k_book.proofs.Telling

@@ -22,7 +22,7 @@ use Rattle.k_laws.proofs.SoundSteps.{legal_sound}
 use Rattle.k_laws.proofs.SoundStore.{register_holds}
 use Rattle.k_agree.specs.Agreement.{Shows}
 use Rattle.k_agree.proofs.Openings.{home_at}
-use Rattle.k_cell.specs.Looks.{field_among}
+use Rattle.k_heap.specs.Looks.{field_among}
 use Rattle.k_changes.specs.BookChanges.{owner_in}
 use Rattle.k_changes.proofs.Laws.{the_book_tells_the_owners}
 use Rattle.k_changes.proofs.ToldBy.{register_told}

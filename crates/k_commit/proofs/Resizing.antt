@@ -26,7 +26,7 @@ use Rattle.k_limits.specs.declared.error.ResizeRefusal.{ResizeRefusal}
 use Rattle.k_limits.specs.declared.error.ResizeRefusal.TheVariants.{InUse as UsedUp, Full}
 use Rattle.k_limits.specs.Limits.{use_at}
 use Rattle.k_limits.specs.Resizes.{ExplainsResize, full_for_at}
-use Rattle.k_squares.specs.Answers.{answer_in, faults_in, reply_in}
+use Rattle.k_moves.specs.Answers.{answer_in, faults_in, reply_in}
 use Rattle.k_book.specs.Books.{BookRecord, book_limits}
 use Rattle.k_book.specs.Machine.{IsBookOf, TellsTheLimits}
 use Rattle.k_book.proofs.Telling.{tells_limits}

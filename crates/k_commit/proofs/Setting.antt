@@ -26,7 +26,7 @@ use Rattle.k_changes.specs.BookChanges.{owner_in, pins_by, with_pin_moved}
 use Rattle.k_changes.proofs.Laws.{the_book_tells_the_owners}
 use Rattle.k_frame.specs.PartUpdates.{held_in}
 use Rattle.k_heap.specs.Heaps.{HeapRecord, has_ended_in}
-use Rattle.k_squares.proofs.Laws.{what_is_let_go_is_counted-pins}
+use Rattle.k_moves.proofs.Laws.{what_is_let_go_is_counted-pins}
 use Rattle.k_commit.specs.Changed.{CanSetRegister}
 use Rattle.k_commit.specs.Met.{Before, HaveMet}
 use Rattle.k_commit.specs.Owning.{IsOwnBySegment}

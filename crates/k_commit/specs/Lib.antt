@@ -8,3 +8,10 @@ pub mod Beside
 pub mod Charging
 pub mod Published
 pub mod Resizing
+pub use Rattle.k_kernel.specs.Kernels
+pub use Rattle.k_moves.specs.Shown
+pub use Rattle.k_heap.specs.Holdings
+pub use Rattle.k_shared.specs.SharedHeaps
+pub use Rattle.k_heap.specs.Heaps
+pub use Rattle.k_heap.specs.declared.heap.CellRooms
+pub use Rattle.k_book.specs.Books

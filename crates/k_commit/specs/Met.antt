@@ -9,7 +9,7 @@ use Rattle.k_tie.specs.Values.{NoteValue}
 use Rattle.k_agree.specs.Agreement.{Agrees, BookAgrees, Shows}
 use Rattle.k_agree.specs.Meeting.{Fits, HasMet, ShowsTheJournal, met_note}
 use Rattle.k_book.specs.Books.{BookRecord}
-use Rattle.k_cell.specs.Holdings.{HoldingsValue}
+use Rattle.k_heap.specs.Holdings.{HoldingsValue}
 use Rattle.k_heap.specs.Heaps.{HeapRecord}
 use Rattle.k_shared.specs.SharedHeaps.{SharedRecord}
 use Rattle.k_commit.specs.Standing.{BookStands, HeapStands, KernelStands, SharedStands}

@@ -15,8 +15,8 @@ use Rattle.k_book.specs.Machine.{IsBookOf}
 use Rattle.k_changes.specs.BookChanges.{with_max}
 use Rattle.k_limits.specs.declared.error.ResizeRefusal.{ResizeRefusal}
 use Rattle.k_limits.specs.declared.error.ResizeRefusal.TheVariants.{InUse as UsedUp, Full}
-use Rattle.k_squares.specs.Answers.{reply_in}
-use Rattle.k_squares.specs.CellAfter.{unless_refused}
+use Rattle.k_moves.specs.Answers.{reply_in}
+use Rattle.k_moves.specs.CellAfter.{unless_refused}
 use Rattle.k_commit.specs.Standing.{BookStands}
 
 -- the book is of the trace, of which the process and the limit are

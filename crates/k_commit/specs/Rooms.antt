@@ -8,7 +8,7 @@ use Rattle.k_types.specs.Trace.{Trace}
 use Rattle.k_space.specs.Objects.{BodyValue, new_body}
 use Rattle.k_agree.specs.Meeting.{Fits}
 use Rattle.k_book.specs.Books.{BookRecord}
-use Rattle.k_cell.specs.Holdings.{HasSerialLeft, HoldingsValue}
+use Rattle.k_heap.specs.Holdings.{HasSerialLeft, HoldingsValue}
 use Rattle.k_heap.specs.Heaps.{HeapRecord, holdings_of as heap_holdings, own_segment}
 use Rattle.k_shared.specs.SharedHeaps.{SharedRecord, holdings_of as shared_holdings}
 use Rattle.k_commit.specs.Standing.{BookStands, HeapStands, KernelStands, SharedStands}

@@ -7,7 +7,7 @@ use Rattle.k_types.specs.TraceRules.{KeepsRules}
 use Rattle.k_agree.specs.Agreement.{Agrees, BookAgrees}
 use Rattle.k_book.specs.Books.{BookRecord, pin_room_of}
 use Rattle.k_book.specs.Machine.{IsBookOf}
-use Rattle.k_cell.specs.Holdings.{HoldingsValue}
+use Rattle.k_heap.specs.Holdings.{HoldingsValue}
 use Rattle.k_heap.specs.Heaps.{HeapRecord, has_ended_in}
 use Rattle.k_shared.specs.SharedHeaps.{SharedRecord}
 

@@ -11,7 +11,7 @@ use Rattle.k_types.specs.Trace.{Trace}
 use Rattle.k_agree.specs.Agreement.{Agrees, BookAgrees}
 use Rattle.k_agree.specs.Meeting.{Fits, HasMet}
 use Rattle.k_book.specs.Books.{BookRecord}
-use Rattle.k_cell.specs.Holdings.{HoldingsValue}
+use Rattle.k_heap.specs.Holdings.{HoldingsValue}
 use Rattle.k_frame.specs.PartUpdates.{done_in}
 use Rattle.k_heap.specs.Heaps.{HeapRecord}
 use Rattle.k_lawful.specs.Lawful.{IsLawful}

@@ -33,7 +33,7 @@ use Rattle.k_collect.specs.Begun.{HasAppended, HasClosed}
 use Rattle.k_collect.specs.Collecting.{CanClose, CanEndKernel}
 use Rattle.k_collect.specs.Ended.{HasEndedKernel}
 use Rattle.k_collect.proofs.KernelBegins.{none_orphaned}
-use Rattle.k_locked.specs.Keeping.{BookKeeps, CanGive, KernelKeeps}
+use Rattle.k_process.specs.Keeping.{BookKeeps, CanGive, KernelKeeps}
 use Rattle.k_process.specs.Standing.{RestStands}
 use Rattle.k_process.specs.Worlds.{WorldValue}
 use Rattle.k_operate.specs.Absorbing.{HasAbsorbedOrphans}

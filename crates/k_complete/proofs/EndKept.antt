@@ -11,7 +11,7 @@ use Rattle.k_heap.specs.Heaps.{HeapRecord}
 use Rattle.k_shared.specs.SharedHeaps.{SharedRecord}
 use Rattle.k_commit.specs.Met.{HeapHasMet, KernelHasMet, SharedHasMet}
 use Rattle.k_commit.specs.Standing.{BookStands}
-use Rattle.k_locked.specs.Keeping.{operations_left}
+use Rattle.k_process.specs.Keeping.{operations_left}
 use Rattle.k_process.specs.declared.process.Process.{Process}
 use Rattle.k_complete.specs.Closing.{HasClosedAll}
 use Rattle.k_complete.specs.Ended.{AllThrough}

@@ -8,3 +8,4 @@ pub mod ReplayKept
 pub mod Grown
 pub mod Halves
 pub mod KilledAt
+pub use Rattle.k_operate.proofs.Since

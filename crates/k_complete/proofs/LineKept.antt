@@ -21,7 +21,7 @@ use Rattle.k_cell.specs.Holdings.{HoldingsValue}
 use Rattle.k_heap.specs.Heaps.{HeapRecord, has_ended_in}
 use Rattle.k_shared.specs.SharedHeaps.{SharedRecord}
 use Rattle.k_commit.specs.Met.{CanMeet, HeapHasMet}
-use Rattle.k_locked.specs.Keeping.{operations_left}
+use Rattle.k_process.specs.Keeping.{operations_left}
 use Rattle.k_process.specs.declared.process.Process.{Process}
 use Rattle.k_process.specs.Standing.{ArePublished, ComesNext, IsNextOf, ProcessStands, ProcessesStand, RestStands}
 use Rattle.k_process.specs.Worlds.{WorldValue}

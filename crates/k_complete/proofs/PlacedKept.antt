@@ -11,8 +11,8 @@ use Rattle.k_book.specs.Books.{BookRecord}
 use Rattle.k_cell.specs.Holdings.{HoldingsValue}
 use Rattle.k_heap.specs.Heaps.{HeapRecord, has_ended_in}
 use Rattle.k_shared.specs.SharedHeaps.{SharedRecord}
-use Rattle.k_locked.specs.Keeping.{operations_left}
-use Rattle.k_locked.proofs.CanDo.{next_in_range}
+use Rattle.k_process.specs.Keeping.{operations_left}
+use Rattle.k_process.proofs.CanDo.{next_in_range}
 use Rattle.k_process.specs.declared.process.Process.{Process}
 use Rattle.k_process.specs.Standing.{IsNextOf, IsThroughWith, ProcessStands}
 use Rattle.k_process.specs.Worlds.{WorldValue}

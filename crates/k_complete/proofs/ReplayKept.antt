@@ -23,8 +23,8 @@ use Rattle.k_book.specs.Books.{BookRecord}
 use Rattle.k_cell.specs.Holdings.{HoldingsValue}
 use Rattle.k_heap.specs.Heaps.{HeapRecord, has_ended_in}
 use Rattle.k_shared.specs.SharedHeaps.{SharedRecord}
-use Rattle.k_locked.proofs.Kept.{drop_none}
-use Rattle.k_locked.specs.Keeping.{HeapKeeps}
+use Rattle.k_process.proofs.LockedKept.{drop_none}
+use Rattle.k_process.specs.Keeping.{HeapKeeps}
 use Rattle.k_process.specs.declared.process.Process.{Process}
 use Rattle.k_process.specs.Standing.{ArePublished, IsThroughWith, ProcessesStand, RestStands}
 use Rattle.k_process.specs.Worlds.{WorldValue}

@@ -10,7 +10,7 @@ use Rattle.k_book.specs.Books.{BookRecord}
 use Rattle.k_cell.specs.Holdings.{HoldingsValue}
 use Rattle.k_shared.specs.SharedHeaps.{SharedRecord}
 use Rattle.k_shares.specs.Sharers.{lowest_orphan}
-use Rattle.k_locked.specs.Keeping.{BookKeeps, KernelKeeps}
+use Rattle.k_process.specs.Keeping.{BookKeeps, KernelKeeps}
 use Rattle.k_process.specs.Standing.{HeapsStand}
 use Rattle.k_process.specs.Worlds.{WorldValue}
 use Rattle.k_process.specs.Over.{BookEnds}

@@ -9,9 +9,8 @@ ghost use Rattle.k_types.specs.Trace.{Trace};
 
 use k_book::Book;
 use k_kernel::KernelCell;
-use k_operate::{absorb_orphans, mark_kernel_collection};
+use k_operate::{absorb_orphans, close_kernel, end_kernel, mark_kernel_collection};
 use k_shared::SharedCell;
-use k_steps::{close_kernel, end_kernel};
 use k_types::Pid;
 
 /// Whether every process has ended.

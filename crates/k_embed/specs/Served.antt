@@ -3,9 +3,9 @@ use Rattle.std.specs.Prelude.{◌≡◌, Option, Some, MatchOption, Result, IfEr
 use Rattle.k_types.specs.declared.event.Event.{Event}
 use Rattle.k_types.specs.declared.names.Pid.{Pid}
 use Rattle.k_types.specs.declared.op.Op.{Op}
-use Rattle.k_calls.specs.declared.errors.HostError.{HostError}
-use Rattle.k_ends.specs.Refusals.{CanNotExit}
-use Rattle.k_ends.specs.Whole.{CanNotCollect, CanNotCollectKernel}
+use Rattle.k_host.specs.HostError.{HostError}
+use Rattle.k_host.specs.EndsRefusals.{CanNotExit}
+use Rattle.k_host.specs.Whole.{CanNotCollect, CanNotCollectKernel}
 use Rattle.k_host.specs.Calls.{HasAbsorbedIn, HasCollectedIn, HasCollectedKernelIn, HasExitedIn, HasOperatedIn}
 use Rattle.k_host.specs.Hosts.{HostValue}
 use Rattle.k_host.specs.Refusals.{CanNotOperateIn, MayRefuse, MayRefuseAbsorption}

@@ -28,8 +28,8 @@ use Rattle.k_collect.specs.Collecting.{CanBeginHeap, CanBeginKernel as CanBeginK
 use Rattle.k_collect.specs.Ended.{HasEndedHeap, HasEndedKernel}
 use Rattle.k_collect.specs.Marking.{CanMark, HasMarkedOn}
 use Rattle.k_collect.specs.Settling.{CanSettleHeap, CanSettleKernel, HasSettledHeap, HasSettledKernel as HasSettledKernelStep, ends_to_come}
-use Rattle.k_depart.specs.Absorbing.{CanAbsorb, HasAbsorbedHeap}
-use Rattle.k_depart.specs.Exiting.{CanExit, HasExited}
+use Rattle.k_calls.specs.DepartAbsorbing.{CanAbsorb, HasAbsorbedHeap}
+use Rattle.k_calls.specs.Exiting.{CanExit, HasExited}
 use Rattle.k_guests.specs.declared.guest.Guest.{Guest}
 use Rattle.k_calls.specs.declared.errors.HostError.TheVariants.{Orphan}
 use Rattle.k_calls.specs.Refusals.{Lacks}

@@ -20,8 +20,8 @@ use Rattle.k_heap.specs.Heaps.{HeapRecord, has_ended_in, own_segment}
 use Rattle.k_commit.specs.Changed.{bodies_after}
 use Rattle.k_commit.specs.Published.{CanPublish, HasPublished}
 use Rattle.k_commit.specs.Standing.{HeapStands}
-use Rattle.k_depart.specs.Killing.{CanKill, HasKilled, ReachesEnd, kill_of}
-use Rattle.k_steps.specs.Reaching.{CanReach}
+use Rattle.k_calls.specs.DepartKilling.{CanKill, HasKilled, ReachesEnd, kill_of}
+use Rattle.k_calls.specs.Reaching.{CanReach}
 use Rattle.k_guests.specs.declared.guest.Guest.{Guest}
 use Rattle.k_guests.specs.Serving.{Basis, BookServes, GivesSerials, GuestServes, KernelServes}
 use Rattle.k_calls.specs.Doing.{HasEventsLeft, IsDueWith, IsReady, touched_by}

@@ -1,3 +1,4 @@
 pub mod Collected
 pub mod Wholly
 pub mod Killed
+pub use Rattle.k_calls.proofs.Staying

@@ -8,7 +8,7 @@ use Rattle.k_types.specs.declared.op.Op.TheVariants.{Kill}
 use Rattle.k_types.specs.Steps.{IsPossible, state_after}
 use Rattle.k_book.specs.Books.{BookRecord}
 use Rattle.k_cell.specs.Holdings.{HoldingsValue}
-use Rattle.k_depart.specs.Killing.{kill_of}
+use Rattle.k_calls.specs.DepartKilling.{kill_of}
 use Rattle.k_heap.specs.Heaps.{has_ended_in}
 use Rattle.k_guests.specs.declared.guest.Guest.{Guest}
 use Rattle.k_guests.specs.Serving.{Basis, BookServes, GuestServes, KeepsPair, KernelServes}

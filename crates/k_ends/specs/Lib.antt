@@ -2,3 +2,6 @@ pub mod Collecting
 pub mod Refusals
 pub mod Whole
 pub mod Killing
+pub use Rattle.k_calls.specs.Refusals as CallsRefusals
+pub use Rattle.k_calls.specs.Doing
+pub use Rattle.k_calls.specs.declared.errors.HostError

@@ -5,14 +5,14 @@ ghost use Rattle.k_guests.specs.Serving.{Basis, BookServes, KernelServes};
 ghost use Rattle.std.specs.Prelude.{◌<◌, length};
 
 use k_book::Book;
+use k_calls::{
+    absorb, begin_heap, begin_kernel, end_heap, end_kernel, exit, publish, settle_heap,
+    settle_kernel,
+};
 use k_collect::{mark_heap, mark_kernel};
 use k_guests::{Guest, Terms};
 use k_kernel::KernelCell;
 use k_shared::SharedCell;
-use k_steps::{
-    absorb, begin_heap, begin_kernel, end_heap, end_kernel, exit, publish, settle_heap,
-    settle_kernel,
-};
 use k_types::Event;
 
 /// Publishes, and begins the collection of the process's heap.

@@ -6,10 +6,9 @@ ghost use Rattle.k_ends.specs.Killing.{CanKillNow, CanNotKill, HasKilledNow, Has
 
 use crate::starting::can_hand_on;
 use k_book::Book;
-use k_calls::{HostError, do_alone, is_idle, reached, ready, room_left};
+use k_calls::{HostError, Reach, do_alone, is_idle, kill, publish, reached, ready, room_left};
 use k_guests::{Guest, Terms};
 use k_kernel::KernelCell;
-use k_steps::{Reach, kill, publish};
 use k_types::{Event, Op};
 
 /// Whether the journal has room for what both processes have unpublished and one event more.

@@ -4,11 +4,10 @@ ghost use Rattle.k_guests.specs.Serving.{Basis, BookServes, GuestServes, KernelS
 ghost use Rattle.k_ends.specs.Whole.{CanCollect, CanCollectKernel, CanNotCollect, CanNotCollectKernel, HasCollected, HasCollectedKernel, HasRoomToCollect};
 
 use k_book::Book;
-use k_calls::{HostError, awake, is_idle};
+use k_calls::{HostError, awake, begin_heap, begin_kernel, end_heap, end_kernel, is_idle, publish};
 use k_collect::{mark_heap, mark_kernel};
 use k_guests::{Guest, Terms};
 use k_kernel::KernelCell;
-use k_steps::{begin_heap, begin_kernel, end_heap, end_kernel, publish};
 use k_types::Event;
 
 /// Whether the journal has room for what the process has unpublished and for the two events of a collection.

@@ -13,7 +13,7 @@ use Rattle.k_cell.specs.Holdings.{HoldingsValue}
 use Rattle.k_heap.specs.Heaps.{has_ended_in, own_segment}
 use Rattle.k_shared.specs.SharedHeaps.{SharedRecord}
 use Rattle.k_space.specs.Objects.{new_body}
-use Rattle.k_commit.specs.Standing.{BookStands}
+use Rattle.k_locked.specs.Standing.{BookStands}
 use Rattle.k_locked.specs.Keeping.{is_absorbed_in}
 use Rattle.k_guests.specs.declared.guest.Guest.{Guest}
 use Rattle.k_guests.specs.declared.terms.Terms.{Terms}

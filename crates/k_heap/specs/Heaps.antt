@@ -12,10 +12,10 @@ use Rattle.k_types.specs.Names.{name_of}
 use Rattle.k_types.specs.Numbers.{numbers_below}
 use Rattle.k_types.specs.Trace.{trace_of}
 use Rattle.k_frame.specs.PartUpdates.{process_with_register}
-use Rattle.k_changes.specs.CellChanges.{ended_process}
+use Rattle.k_cell.specs.CellChanges.{ended_process}
 use Rattle.k_space.specs.Objects.{BodyValue}
 use Rattle.k_tie.specs.Values.{NoteValue}
-use Rattle.k_agree.specs.Opening.{opening_cell}
+use Rattle.k_cell.specs.Opening.{opening_cell}
 use Rattle.k_cell.specs.Holdings.{HoldingsValue}
 use Rattle.k_heap.specs.declared.heap.CellRooms.{CellRooms}
 

@@ -1,2 +1,5 @@
 pub mod Heaps
 pub mod Lends
+pub use Rattle.k_cell.specs.Looks
+pub use Rattle.k_cell.specs.Changes
+pub use Rattle.k_cell.specs.Holdings

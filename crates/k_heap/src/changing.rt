@@ -8,15 +8,15 @@ ghost use Rattle.k_types.specs.State.{Holds, Refers};
 ghost use Rattle.k_types.specs.Totals.{total};
 ghost use Rattle.k_types.specs.declared.names.CellPhase.TheVariants.{Begun, Idle, Marked};
 ghost use Rattle.k_types.specs.declared.names.Name.{Name as Named};
-ghost use Rattle.k_agree.specs.Marking.{begun};
-ghost use Rattle.k_agree.specs.Ending.{freed_bytes, freed_objects};
+ghost use Rattle.k_cell.specs.Marking.{begun};
+ghost use Rattle.k_cell.specs.Ending.{freed_bytes, freed_objects};
 ghost use Rattle.k_cell.specs.Looks.{field_among, field_count_among};
 ghost use Rattle.k_cell.specs.Changes.{HasDroppedExit, HasItsExits, HasMarked, HasRoot, next_in, with_black_alone, with_body, with_exit_item, with_field};
 ghost use Rattle.k_cell.specs.Holdings.{HasGivenSegment, HasSerialLeft};
 ghost use Rattle.k_heap.specs.Heaps.{holdings_of, own_segment};
 
 use crate::heap::HeapCell;
-use k_mark::Swept;
+use k_cell::Swept;
 use k_space::{Body, Segment};
 use k_types::{Link, Name, Seg};
 

@@ -2,7 +2,7 @@
 ghost use Rattle.std.specs.Prelude.{◌≡◌, ◌<◌, ◌+◌, ◌-◌, ◌^◌, ◌∷◌, [], ◌++◌, length, option_map};
 ghost use Rattle.k_types.specs.Names.{name_of};
 ghost use Rattle.k_frame.specs.PartUpdates.{done_in};
-ghost use Rattle.k_agree.specs.GivingAway.{with_one_done};
+ghost use Rattle.k_cell.specs.GivingAway.{with_one_done};
 ghost use Rattle.k_heap.specs.Heaps.{with_process_ended, with_register_in};
 
 use crate::heap::HeapCell;

@@ -11,8 +11,8 @@ use Rattle.k_cell.specs.Holdings.{HoldingsValue}
 use Rattle.k_shared.specs.SharedHeaps.{SharedRecord}
 use Rattle.k_guests.specs.declared.guest.Guest.{Guest}
 use Rattle.k_guests.specs.Serving.{Basis, BookServes, GuestServes, KeepsPair, KernelServes, SharedServes}
-use Rattle.k_calls.specs.Doing.{CanOperate, HasDoneInside, HasOperated}
-use Rattle.k_calls.proofs.Staying.{guests_set, guests_stay, heaps_set, heaps_stay, kernel_stays}
+use Rattle.k_ends.specs.Doing.{CanOperate, HasDoneInside, HasOperated}
+use Rattle.k_ends.proofs.Staying.{guests_set, guests_stay, heaps_set, heaps_stay, kernel_stays}
 use Rattle.k_ends.specs.Collecting.{HasAbsorbedNow, HasMarkedGuest}
 use Rattle.k_host.proofs.Called.{host_of, pid_of}
 use Rattle.k_host.specs.Calls.{HasOperatedAs}

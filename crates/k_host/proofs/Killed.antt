@@ -20,10 +20,10 @@ use Rattle.k_shared.specs.SharedHeaps.{SharedRecord}
 use Rattle.k_squares.specs.Locals.{is_local_in}
 use Rattle.k_guests.specs.declared.guest.Guest.{Guest}
 use Rattle.k_guests.specs.Serving.{Basis, BookServes, GuestServes, GuestsServe, KernelServes}
-use Rattle.k_calls.specs.declared.errors.HostError.{HostError}
-use Rattle.k_calls.specs.Doing.{HasOperated}
-use Rattle.k_calls.specs.Refusals.{CanNotOperateAlone, EndsAnother}
-use Rattle.k_calls.proofs.Staying.{guests_set, heaps_stay, kernel_stays}
+use Rattle.k_ends.specs.HostError.{HostError}
+use Rattle.k_ends.specs.Doing.{HasOperated}
+use Rattle.k_ends.specs.CallsRefusals.{CanNotOperateAlone, EndsAnother}
+use Rattle.k_ends.proofs.Staying.{guests_set, heaps_stay, kernel_stays}
 use Rattle.k_ends.specs.Killing.{CanNotKill, HasEndedNobody, HasKilledNow, HasTriedToKill}
 use Rattle.k_host.proofs.Called.{host_of, pid_of, set_there}
 use Rattle.k_host.proofs.Refused.{refused}

@@ -5,8 +5,8 @@ use Rattle.k_types.specs.declared.names.Pid.{Pid}
 use Rattle.k_types.specs.declared.names.SharedId.{SharedId}
 use Rattle.k_shared.specs.SharedHeaps.{SharedRecord}
 use Rattle.k_guests.specs.declared.guest.Guest.{Guest}
-use Rattle.k_calls.specs.declared.errors.HostError.{HostError}
-use Rattle.k_calls.specs.declared.errors.HostError.TheVariants.{Unknown}
+use Rattle.k_ends.specs.HostError.{HostError}
+use Rattle.k_ends.specs.HostError.TheVariants.{Unknown}
 use Rattle.k_ends.specs.Refusals.{CanNotAbsorb}
 use Rattle.k_host.specs.Hosts.{HostValue}
 use Rattle.k_host.specs.Refusals.{MayRefuse, MayRefuseAbsorption}

@@ -15,7 +15,7 @@ use Rattle.k_guests.specs.declared.guest.Guest.{Guest}
 use Rattle.k_ends.specs.Collecting.{HasAbsorbedNow, HasBegun, HasBegunKernel, HasEnded, HasExitedNow, HasMarkedGuest, HasMarkedKernel, HasSettled, HasSettledKernel, KernelHasEnded}
 use Rattle.k_ends.specs.Killing.{HasKilledNow}
 use Rattle.k_ends.specs.Whole.{HasCollected, HasCollectedKernel}
-use Rattle.k_calls.specs.Doing.{HasDoneInside, HasOperated, HasPublishedAll}
+use Rattle.k_ends.specs.Doing.{HasDoneInside, HasOperated, HasPublishedAll}
 use Rattle.k_host.specs.Hosts.{HostValue}
 
 -- the process of that number has changed in this way, the kernel and the book are these now, and nothing else has changed

@@ -9,7 +9,7 @@ use Rattle.k_book.specs.Books.{BookRecord}
 use Rattle.k_cell.specs.Holdings.{HoldingsValue}
 use Rattle.k_guests.specs.declared.guest.Guest.{Guest}
 use Rattle.k_guests.specs.Serving.{Basis}
-use Rattle.k_calls.specs.declared.errors.HostError.{HostError}
+use Rattle.k_ends.specs.HostError.{HostError}
 use Rattle.k_ends.specs.Killing.{CanNotKill, HasTriedToKill}
 
 -- the number of the process that the operation of the process of that number kills, another one of so many

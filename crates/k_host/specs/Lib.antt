@@ -5,3 +5,6 @@ pub mod Killing
 pub mod Refusals
 pub mod Twins
 pub mod Asked
+pub use Rattle.k_ends.specs.Refusals as EndsRefusals
+pub use Rattle.k_ends.specs.Whole
+pub use Rattle.k_ends.specs.HostError

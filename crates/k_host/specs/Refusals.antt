@@ -4,9 +4,9 @@ use Rattle.k_types.specs.declared.names.Pid.{Pid}
 use Rattle.k_types.specs.declared.names.SharedId.{SharedId}
 use Rattle.k_types.specs.declared.op.Op.{Op}
 use Rattle.k_guests.specs.declared.guest.Guest.{Guest}
-use Rattle.k_calls.specs.declared.errors.HostError.{HostError}
-use Rattle.k_calls.specs.declared.errors.HostError.TheVariants.{Unknown}
-use Rattle.k_calls.specs.Refusals.{CanNotOperate}
+use Rattle.k_ends.specs.HostError.{HostError}
+use Rattle.k_ends.specs.HostError.TheVariants.{Unknown}
+use Rattle.k_ends.specs.CallsRefusals.{CanNotOperate}
 use Rattle.k_ends.specs.Killing.{IsEndBarred}
 use Rattle.k_ends.specs.Refusals.{CanNotAbsorb}
 use Rattle.k_host.specs.Hosts.{HostValue}

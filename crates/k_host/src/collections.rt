@@ -1,6 +1,6 @@
 //! Collections, absorptions and ends of processes, called on a host, and what a process does inside its heap.
 ghost use Rattle.std.specs.Prelude.{◌≡◌, IfErr, IfOk, MatchOption, OnErr, OnOk};
-ghost use Rattle.k_calls.specs.Refusals.{CanNotDoInside, CanNotPublish};
+ghost use Rattle.k_ends.specs.CallsRefusals.{CanNotDoInside, CanNotPublish};
 ghost use Rattle.k_ends.specs.Refusals.{CanNotBegin, CanNotBeginKernel, CanNotEnd, CanNotEndKernel, CanNotExit, CanNotMark, CanNotMarkKernel, CanNotSettle, CanNotSettleKernel};
 ghost use Rattle.k_ends.specs.Whole.{CanNotCollect, CanNotCollectKernel};
 ghost use Rattle.k_host.specs.Calls.{HasAbsorbedIn, HasBegunIn, HasBegunKernelIn, HasCollectedIn, HasCollectedKernelIn, HasDoneInsideIn, HasEndedIn, HasEndedKernelIn, HasExitedIn, HasLeftOutside, HasMarkedIn, HasMarkedKernelIn, HasPublishedIn, HasSettledIn, HasSettledKernelIn};
@@ -8,10 +8,10 @@ ghost use Rattle.k_host.specs.Refusals.{MayRefuse, MayRefuseAbsorption};
 
 use crate::host::Host;
 use crate::places::place_of;
-use k_calls::{HostError, try_inside, try_publish};
 use k_ends::{
-    try_absorb, try_begin, try_begin_kernel, try_collect, try_collect_kernel, try_end,
-    try_end_kernel, try_exit, try_mark, try_mark_kernel, try_settle, try_settle_kernel,
+    HostError, try_absorb, try_begin, try_begin_kernel, try_collect, try_collect_kernel, try_end,
+    try_end_kernel, try_exit, try_inside, try_mark, try_mark_kernel, try_publish, try_settle,
+    try_settle_kernel,
 };
 use k_types::{Event, Op, Pid, Reply, SharedId};
 

@@ -12,7 +12,7 @@ use crate::errors::OpenError;
 use crate::killing::{kill_among, killed};
 use crate::places::place_of;
 use k_book::Book;
-use k_calls::{HostError, operate_with};
+use k_ends::{HostError, operate_with};
 use k_guests::{Guest, Terms, are_fit, make_parts};
 use k_kernel::KernelCell;
 use k_shared::SharedCell;

@@ -6,8 +6,7 @@ ghost use Rattle.k_guests.specs.Serving.{BookServes, GuestsServe, KernelServes, 
 ghost use Rattle.k_host.specs.Killing.{AreTwoAt, HasKilledAmong, killed_among};
 
 use k_book::Book;
-use k_calls::HostError;
-use k_ends::try_kill;
+use k_ends::{HostError, try_kill};
 use k_guests::{Guest, Terms};
 use k_kernel::KernelCell;
 use k_types::{Event, Op, Pid};

@@ -20,6 +20,6 @@ mod twin;
 
 pub use errors::OpenError;
 pub use host::Host;
-pub use k_calls::HostError;
+pub use k_ends::HostError;
 pub use k_guests::Terms;
 pub use twin::Twin;

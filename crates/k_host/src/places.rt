@@ -1,7 +1,7 @@
 //! Where a process stands among those of a host.
 ghost use Rattle.std.specs.Prelude.{◌≡◌, ◌<◌, IfErr, IfOk, None, length, slice_get};
 
-use k_calls::HostError;
+use k_ends::HostError;
 use k_guests::Guest;
 use k_types::Pid;
 

@@ -5,7 +5,7 @@ use Rattle.k_types.specs.declared.setup.Setup.{Setup}
 use Rattle.k_types.specs.Agree.{CellValue}
 use Rattle.k_types.specs.Numbers.{numbers_below}
 use Rattle.k_types.specs.State.{Object}
-use Rattle.k_changes.specs.CellChanges.{given}
+use Rattle.k_cell.specs.CellChanges.{given}
 use Rattle.k_space.specs.Objects.{BodyValue, new_directory}
 use Rattle.k_tie.specs.Values.{NoteValue}
 use Rattle.k_cell.specs.declared.rooms.HoldingRooms.{HoldingRooms}

@@ -5,7 +5,7 @@ use Rattle.k_types.specs.declared.setup.Setup.{Setup}
 use Rattle.k_types.specs.Numbers.{numbers_below}
 use Rattle.k_types.specs.Trace.{trace_of}
 use Rattle.k_tie.specs.Values.{NoteValue}
-use Rattle.k_agree.specs.Opening.{opening_cell}
+use Rattle.k_cell.specs.Opening.{opening_cell}
 use Rattle.k_cell.specs.Holdings.{HoldingsValue}
 
 -- how many segments a setup has: one for the kernel, each process and each shared heap

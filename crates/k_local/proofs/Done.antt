@@ -20,7 +20,7 @@ use Rattle.k_types.specs.State.{Content}
 use Rattle.k_frame.specs.PartUpdates.{done_in, held_in, process_with_register}
 use Rattle.k_agree.specs.GivingAway.{with_one_done}
 use Rattle.k_squares.specs.CellAfter.{unless_refused}
-use Rattle.k_cell.specs.Looks.{field_among, field_count_among}
+use Rattle.k_heap.specs.Looks.{field_among, field_count_among}
 use Rattle.k_heap.specs.Heaps.{HeapRecord}
 use Rattle.k_local.specs.Locals.{after_local, is_refusal, local_answer, local_change, put_answer, store_answer, written_through}
 

@@ -33,7 +33,7 @@ use Rattle.k_squares.specs.Answers.{access_faults_in, answer_in, faults_in, fiel
 use Rattle.k_squares.specs.CellAfter.{at_cell, cell_after, cells_operated, cells_put, cells_stored, cells_with_register, reference_given, register_in, unless_refused, with_exit_for}
 use Rattle.k_squares.proofs.Laws.{local_operations_are_told}
 use Rattle.k_squares.specs.Locals.{is_local_in, is_local_load_in, is_local_store_in, is_own_field_in}
-use Rattle.k_cell.specs.Looks.{field_among, field_count_among}
+use Rattle.k_heap.specs.Looks.{field_among, field_count_among}
 use Rattle.k_heap.specs.Heaps.{with_register_in}
 use Rattle.k_local.specs.Locals.{IsMachines, LeavesTheBook, ShowOwn, after_local, field_answer, get_answer, load_answer, local_answer, local_change, loaded_through, put_answer, store_answer, written_through}
 

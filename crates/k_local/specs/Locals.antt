@@ -24,8 +24,8 @@ use Rattle.k_agree.specs.GivingAway.{with_one_done}
 use Rattle.k_agree.specs.Marking.{idle_part}
 use Rattle.k_squares.specs.Answers.{reply_in}
 use Rattle.k_squares.specs.CellAfter.{cell_after, unless_refused}
-use Rattle.k_cell.specs.Changes.{with_field}
-use Rattle.k_cell.specs.Looks.{field_among, field_count_among}
+use Rattle.k_heap.specs.Changes.{with_field}
+use Rattle.k_heap.specs.Looks.{field_among, field_count_among}
 use Rattle.k_heap.specs.Heaps.{with_register_in}
 
 -- the answer to an access to the field of the object, by whether it is of the wanted kind and what is answered if it is; none

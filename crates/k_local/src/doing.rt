@@ -14,7 +14,7 @@ ghost use Rattle.k_agree.specs.Marking.{idle_part};
 ghost use Rattle.k_squares.specs.CellAfter.{unless_refused};
 ghost use Rattle.k_squares.specs.Locals.{is_local_in};
 ghost use Rattle.k_space.specs.Objects.{content_of};
-ghost use Rattle.k_cell.specs.Looks.{field_among, field_count_among};
+ghost use Rattle.k_heap.specs.Looks.{field_among, field_count_among};
 ghost use Rattle.k_local.specs.Locals.{HasRegisters, IsMachines, LeavesTheBook, ShowOwn, after_local, field_answer, get_answer, is_refusal, load_answer, loaded_through, local_answer, local_change, put_answer, store_answer, written_through};
 
 use k_heap::HeapCell;

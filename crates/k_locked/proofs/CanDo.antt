@@ -38,10 +38,10 @@ use Rattle.k_entry.specs.Entries.{AreEntries, objects}
 use Rattle.k_entry.proofs.WholeWalks.{all_distinct, few_items}
 use Rattle.k_space.specs.Objects.{BodyValue}
 use Rattle.k_bodies.specs.Bodies.{bodies_of}
-use Rattle.k_book.specs.Books.{BookRecord, book_entries}
-use Rattle.k_cell.specs.Holdings.{HasSerialLeft, HoldingsValue}
-use Rattle.k_heap.specs.Heaps.{HeapRecord, has_ended_in, holdings_of as heap_holdings, own_segment}
-use Rattle.k_shared.specs.SharedHeaps.{SharedRecord, holdings_of as shared_holdings}
+use Rattle.k_commit.specs.Books.{BookRecord, book_entries}
+use Rattle.k_commit.specs.Holdings.{HasSerialLeft, HoldingsValue}
+use Rattle.k_commit.specs.Heaps.{HeapRecord, has_ended_in, holdings_of as heap_holdings, own_segment}
+use Rattle.k_commit.specs.SharedHeaps.{SharedRecord, holdings_of as shared_holdings}
 use Rattle.k_commit.specs.Rooms.{CanOperate, CanOperateWithKernel, CanOperateWithShared, HasExitRoom, HasRoomFor, HasTableRoom}
 use Rattle.k_commit.specs.Standing.{HeapStands}
 use Rattle.k_locked.specs.Keeping.{BookKeeps, CanGive, HeapKeeps, KernelKeeps, SharedKeeps, is_absorbed_in, operations_left}

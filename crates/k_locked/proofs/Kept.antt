@@ -23,10 +23,10 @@ use Rattle.k_agree.specs.Rooms.{IsNext, event_room, exit_room}
 use Rattle.k_agree.proofs.AtTheEnd.{maxima_counted}
 use Rattle.k_agree.proofs.WithinRooms.{follows_after}
 use Rattle.k_bodies.specs.Bodies.{bodies_of}
-use Rattle.k_book.specs.Books.{BookRecord, pin_room_of}
-use Rattle.k_cell.specs.Holdings.{HoldingsValue}
-use Rattle.k_heap.specs.Heaps.{HeapRecord, has_ended_in}
-use Rattle.k_shared.specs.SharedHeaps.{SharedRecord}
+use Rattle.k_commit.specs.Books.{BookRecord, pin_room_of}
+use Rattle.k_commit.specs.Holdings.{HoldingsValue}
+use Rattle.k_commit.specs.Heaps.{HeapRecord, has_ended_in}
+use Rattle.k_commit.specs.SharedHeaps.{SharedRecord}
 use Rattle.k_commit.specs.Changed.{bodies_after}
 use Rattle.k_commit.specs.Stepped.{HasStepped, HasSteppedWithKernel, HasSteppedWithShared}
 use Rattle.k_locked.specs.Rooms.{shared_exit_room}

@@ -34,10 +34,10 @@ use Rattle.k_agree.proofs.AtTheEnd.{cell_sound}
 use Rattle.k_squares.specs.CellAfter.{unless_refused}
 use Rattle.k_squares.specs.Locals.{is_local_in}
 use Rattle.k_squares.proofs.Laws.{local_operations_are_told, replies_are_told, steps_show_in_the_parts-cells}
-use Rattle.k_moves.specs.Shown.{ShowsIdle}
-use Rattle.k_moves.proofs.Idle.{not_open, part_shown, shows_part}
+use Rattle.k_commit.specs.Shown.{ShowsIdle}
+use Rattle.k_commit.proofs.Idle.{not_open, part_shown, shows_part}
 use Rattle.k_tie.specs.Values.{NoteValue}
-use Rattle.k_heap.specs.Heaps.{has_ended_in}
+use Rattle.k_commit.specs.Heaps.{has_ended_in}
 use Rattle.k_local.specs.Locals.{IsMachines, ShowOwn, after_local, local_answer, local_change, written_through}
 use Rattle.k_local.proofs.Told.{local_told, machines}
 use Rattle.k_types.specs.State.{Content}

@@ -16,12 +16,12 @@ use Rattle.k_agree.specs.Rooms.{event_room, exit_room, serial_room}
 use Rattle.k_agree.proofs.Openings.{at_number, opened_cell}
 use Rattle.k_space.specs.Objects.{BodyValue}
 use Rattle.k_bodies.specs.Bodies.{bodies_of}
-use Rattle.k_book.specs.Books.{opened}
-use Rattle.k_book.proofs.Telling.{opened_agrees, opened_of}
-use Rattle.k_heap.specs.declared.heap.CellRooms.{CellRooms}
-use Rattle.k_heap.specs.Heaps.{opened_heap, own_segment}
-use Rattle.k_kernel.specs.Kernels.{opened_kernel}
-use Rattle.k_shared.specs.SharedHeaps.{opened_shared}
+use Rattle.k_commit.specs.Books.{opened}
+use Rattle.k_commit.proofs.Telling.{opened_agrees, opened_of}
+use Rattle.k_commit.specs.CellRooms.{CellRooms}
+use Rattle.k_commit.specs.Heaps.{opened_heap, own_segment}
+use Rattle.k_commit.specs.Kernels.{opened_kernel}
+use Rattle.k_commit.specs.SharedHeaps.{opened_shared}
 use Rattle.k_locked.specs.Keeping.{BookKeeps, CanGive, HeapKeeps, KernelKeeps, SharedKeeps}
 use Rattle.k_locked.specs.Rooms.{shared_exit_room}
 use Rattle.k_locked.proofs.Kept.{drop_none}

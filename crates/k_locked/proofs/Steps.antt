@@ -36,8 +36,8 @@ use Rattle.k_agree.specs.Meeting.{Fits}
 use Rattle.k_agree.specs.Rooms.{AreFirst, FitsTheRooms}
 use Rattle.k_agree.proofs.WithinRooms.{met_follows, tails_have_room}
 use Rattle.k_bodies.specs.Bodies.{bodies_of}
-use Rattle.k_book.specs.Books.{BookRecord}
-use Rattle.k_heap.specs.Heaps.{HeapRecord, has_ended_in}
+use Rattle.k_commit.specs.Books.{BookRecord}
+use Rattle.k_commit.specs.Heaps.{HeapRecord, has_ended_in}
 use Rattle.k_local.specs.Locals.{HasRegisters, after_local, local_answer}
 use Rattle.k_locked.specs.Keeping.{BookKeeps, HeapKeeps, operations_left}
 use Rattle.k_locked.proofs.CanDo.{done_shown, next_in_range, next_known}
@@ -90,7 +90,7 @@ other_keeps trace table c w h is agrees same idle follows done lives = record {
       ∙ ap (bodies_of trace.types) (sym (ap₂ (λ n (p : Pid). drop n (operations_of trace p.0)) done (ap (λ (x : HeapRecord). x.pid) is)));
   rooms = record {
     exits = subst (λ (x : HeapRecord). Rattle.k_bounds.specs.Counts.stores_in (operations_of trace x.pid.0) ≤ x.exit_room) (sym is) h.rooms.exits;
-    serials = λ now. subst (λ (x : HeapRecord). Rattle.k_locked.specs.Keeping.CanGive trace x.serial_rooms (Rattle.k_heap.specs.Heaps.own_segment x.pid)) (sym is) (h.rooms.serials (lives now));
+    serials = λ now. subst (λ (x : HeapRecord). Rattle.k_locked.specs.Keeping.CanGive trace x.serial_rooms (Rattle.k_commit.specs.Heaps.own_segment x.pid)) (sym is) (h.rooms.serials (lives now));
     tail = subst (λ (x : HeapRecord). length (operations_of trace x.pid.0) ≤ x.tail_room) (sym is) h.rooms.tail;
   };
 }

@@ -15,10 +15,10 @@ use Rattle.k_bounds.specs.Counts.{stores_in}
 use Rattle.k_agree.specs.Agreement.{Agrees}
 use Rattle.k_agree.specs.Rooms.{event_room, exit_room, serial_room}
 use Rattle.k_bodies.specs.Bodies.{bodies_of}
-use Rattle.k_book.specs.Books.{BookRecord}
-use Rattle.k_cell.specs.Holdings.{HoldingsValue}
-use Rattle.k_heap.specs.Heaps.{HeapRecord, has_ended_in, own_segment}
-use Rattle.k_shared.specs.SharedHeaps.{SharedRecord}
+use Rattle.k_commit.specs.Books.{BookRecord}
+use Rattle.k_commit.specs.Holdings.{HoldingsValue}
+use Rattle.k_commit.specs.Heaps.{HeapRecord, has_ended_in, own_segment}
+use Rattle.k_commit.specs.SharedHeaps.{SharedRecord}
 use Rattle.k_commit.specs.Standing.{BookStands}
 use Rattle.k_locked.specs.Rooms.{shared_exit_room}
 

@@ -2,14 +2,14 @@
 ghost use Rattle.std.specs.Prelude.{IsFalse, List, Some, [], length, ◌+◌, ◌-◌, ◌<◌, ◌≡◌, ◌≤◌, ◌∷◌, ◌++◌, ◌^◌};
 ghost use Rattle.atomic_table.specs.Seated.{TableId};
 ghost use Rattle.k_agree.specs.Meeting.{Fits};
-ghost use Rattle.k_book.specs.Books.{BookRecord};
-ghost use Rattle.k_cell.specs.Holdings.{HoldingsValue};
+ghost use Rattle.k_commit.specs.Books.{BookRecord};
+ghost use Rattle.k_commit.specs.Holdings.{HoldingsValue};
 ghost use Rattle.k_commit.specs.Stepped.{HasStepped, HasSteppedWithKernel, HasSteppedWithShared};
 ghost use Rattle.k_frame.specs.PartUpdates.{done_in};
-ghost use Rattle.k_heap.specs.Heaps.{HeapRecord, has_ended_in};
+ghost use Rattle.k_commit.specs.Heaps.{HeapRecord, has_ended_in};
 ghost use Rattle.k_local.specs.Locals.{HasRegisters, after_local, local_answer};
 ghost use Rattle.k_locked.specs.Keeping.{BookKeeps, HeapKeeps, KernelKeeps, SharedKeeps, operations_left};
-ghost use Rattle.k_shared.specs.SharedHeaps.{SharedRecord};
+ghost use Rattle.k_commit.specs.SharedHeaps.{SharedRecord};
 ghost use Rattle.k_types.specs.Following.{FollowsTrace};
 ghost use Rattle.k_types.specs.Trace.{Trace};
 ghost use Rattle.k_types.specs.declared.event.Event.{Event};

@@ -2,14 +2,14 @@
 ghost use Rattle.std.specs.Prelude.{IsFalse, IsTrue, List, [], ◌∷◌, ◌≡◌};
 ghost use Rattle.atomic_table.specs.Seated.{TableId};
 ghost use Rattle.k_base.specs.Distinct.{AreDistinctNames};
-ghost use Rattle.k_book.specs.Books.{BookRecord, book_entries};
+ghost use Rattle.k_commit.specs.Books.{BookRecord, book_entries};
 ghost use Rattle.k_bounds.specs.Counts.{allocates_in, is_allocation};
-ghost use Rattle.k_cell.specs.Holdings.{HoldingsValue};
+ghost use Rattle.k_commit.specs.Holdings.{HoldingsValue};
 ghost use Rattle.k_commit.specs.Rooms.{CanOperate, CanOperateWithKernel, CanOperateWithShared};
 ghost use Rattle.k_entry.specs.Entries.{AreEntries};
-ghost use Rattle.k_heap.specs.Heaps.{HeapRecord, has_ended_in, own_segment};
+ghost use Rattle.k_commit.specs.Heaps.{HeapRecord, has_ended_in, own_segment};
 ghost use Rattle.k_locked.specs.Keeping.{BookKeeps, HeapKeeps, KernelKeeps, SharedKeeps, operations_left};
-ghost use Rattle.k_shared.specs.SharedHeaps.{SharedRecord};
+ghost use Rattle.k_commit.specs.SharedHeaps.{SharedRecord};
 ghost use Rattle.k_types.specs.Trace.{Trace};
 ghost use Rattle.k_types.specs.declared.op.Op.{Op};
 

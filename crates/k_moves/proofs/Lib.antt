@@ -6,3 +6,4 @@ pub mod Given
 pub mod Beside
 pub mod Stored
 pub mod Killing
+pub use Rattle.k_squares.proofs.Laws

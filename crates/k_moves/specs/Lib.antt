@@ -1,2 +1,4 @@
 pub mod Shown
 pub mod Moves
+pub use Rattle.k_squares.specs.Answers
+pub use Rattle.k_squares.specs.CellAfter

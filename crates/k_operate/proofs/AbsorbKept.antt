@@ -24,16 +24,16 @@ use Rattle.k_book.proofs.Telling.{tells}
 use Rattle.k_cell.specs.Holdings.{HoldingsValue}
 use Rattle.k_shared.specs.SharedHeaps.{SharedRecord}
 use Rattle.k_shares.specs.Sharers.{is_orphan_by, lowest_orphan}
-use Rattle.k_collect.specs.Begun.{HasAppended}
-use Rattle.k_depart.specs.Absorbing.{CanAbsorb, HasAbsorbedHeap}
-use Rattle.k_commit.specs.Standing.{BookStands}
-use Rattle.k_locked.specs.Keeping.{BookKeeps, CanGive, KernelKeeps, SharedKeeps, is_absorbed_in}
-use Rattle.k_locked.specs.Rooms.{shared_exit_room}
+use Rattle.k_steps.specs.Begun.{HasAppended}
+use Rattle.k_steps.specs.Absorbing.{CanAbsorb, HasAbsorbedHeap}
+use Rattle.k_process.specs.CommitStanding.{BookStands}
+use Rattle.k_process.specs.Keeping.{BookKeeps, CanGive, KernelKeeps, SharedKeeps, is_absorbed_in}
+use Rattle.k_process.specs.Rooms.{shared_exit_room}
 use Rattle.k_process.specs.Standing.{RestStands}
 use Rattle.k_process.specs.Worlds.{WorldValue}
 use Rattle.k_process.proofs.Kept.{shared_set}
 use Rattle.k_operate.specs.Absorbing.{CanAbsorbOrphan, HasAbsorbedOrphan}
-use Rattle.k_locked.proofs.Lists.{found_passes}
+use Rattle.k_process.proofs.Lists.{found_passes}
 use Rattle.k_operate.proofs.AbsorbOrphans.{absorptions_next, found_below, none_to_absorb}
 use Rattle.k_operate.proofs.Appended.{book_keeps_on, gives_else, room_for}
 

@@ -11,7 +11,7 @@ use Rattle.k_types.specs.State.{State}
 use Rattle.k_types.specs.Steps.{has_sharer, is_live, is_orphan}
 use Rattle.k_types.specs.Trace.{Trace}
 use Rattle.k_types.specs.Updates.{keep_exits, set_phase}
-use Rattle.k_locked.proofs.Lists.{found_passes}
+use Rattle.k_process.proofs.Lists.{found_passes}
 
 -- where none is found, none passes
 none_kept : {A : Type 0} (p : A → Bool) (xs : List A) → find p xs ≡ None → filter p xs ≡ []

@@ -33,11 +33,11 @@ use Rattle.k_agree.proofs.WithinRooms.{fits_rooms, follows_after, room_after}
 use Rattle.k_bodies.specs.Bodies.{bodies_of}
 use Rattle.k_book.specs.Books.{BookRecord, pin_room_of}
 use Rattle.k_heap.specs.Heaps.{HeapRecord}
-use Rattle.k_commit.specs.Standing.{BookStands}
-use Rattle.k_collect.specs.Begun.{HasAppended}
-use Rattle.k_locked.specs.Keeping.{BookKeeps, CanGive, HasHeapRooms, HeapKeeps, operations_left}
-use Rattle.k_locked.proofs.CanDo.{done_of}
-use Rattle.k_locked.proofs.Kept.{drop_more}
+use Rattle.k_process.specs.CommitStanding.{BookStands}
+use Rattle.k_steps.specs.Begun.{HasAppended}
+use Rattle.k_process.specs.Keeping.{BookKeeps, CanGive, HasHeapRooms, HeapKeeps, operations_left}
+use Rattle.k_process.proofs.CanDo.{done_of}
+use Rattle.k_process.proofs.LockedKept.{drop_more}
 
 module _ (trace : Trace) (b l : BookRecord) (event : Event) (k : BookStands trace b) (s : HasAppended trace b l event) where
   -- the book stands after any event

@@ -24,14 +24,14 @@ use Rattle.k_bodies.specs.Bodies.{bodies_of}
 use Rattle.k_book.specs.Books.{BookRecord}
 use Rattle.k_cell.specs.Changes.{with_black_alone}
 use Rattle.k_heap.specs.Heaps.{HeapRecord, own_segment}
-use Rattle.k_collect.specs.Begun.{HasAppended, HasBegunHeap}
-use Rattle.k_collect.specs.Collecting.{CanBeginHeap, CanEndHeap}
-use Rattle.k_collect.specs.Ended.{HasEndedHeap}
-use Rattle.k_collect.specs.Marking.{CanMark, HasMarkedOn}
-use Rattle.k_collect.specs.SweptAlone.{CanEndSwept, CanSweepAlone, HasSweptAlone}
-use Rattle.k_collect.proofs.Ends.{ended_since}
-use Rattle.k_locked.specs.Keeping.{BookKeeps, CanGive, HasHeapRooms, operations_left}
-use Rattle.k_locked.proofs.CanDo.{done_of, event_left, heap_stands}
+use Rattle.k_steps.specs.Begun.{HasAppended, HasBegunHeap}
+use Rattle.k_steps.specs.Collecting.{CanBeginHeap, CanEndHeap}
+use Rattle.k_steps.specs.Ended.{HasEndedHeap}
+use Rattle.k_steps.specs.Marking.{CanMark, HasMarkedOn}
+use Rattle.k_steps.specs.SweptAlone.{CanEndSwept, CanSweepAlone, HasSweptAlone}
+use Rattle.k_steps.proofs.Ends.{ended_since}
+use Rattle.k_process.specs.Keeping.{BookKeeps, CanGive, HasHeapRooms, operations_left}
+use Rattle.k_process.proofs.CanDo.{done_of, event_left, heap_stands}
 use Rattle.k_process.specs.declared.process.Process.{Process}
 use Rattle.k_process.specs.Worlds.{WorldValue}
 use Rattle.k_operate.specs.Collecting.{CanEndCollection, Collects, HasBegunCollection, HasEndedCollection, HasMarkedCollection, HasSameLeft, HasSweptCollection, IsNextAndSettled}

@@ -26,10 +26,10 @@ use Rattle.k_bodies.specs.Bodies.{bodies_of}
 use Rattle.k_book.specs.Books.{BookRecord}
 use Rattle.k_cell.specs.Holdings.{HoldingsValue}
 use Rattle.k_heap.specs.Heaps.{HeapRecord, own_segment}
-use Rattle.k_collect.specs.Begun.{HasAppended}
-use Rattle.k_depart.specs.Exiting.{CanExit, HasExited}
-use Rattle.k_locked.specs.Keeping.{BookKeeps, CanGive, HeapKeeps, KernelKeeps, operations_left}
-use Rattle.k_locked.proofs.CanDo.{exits_many, heap_stands}
+use Rattle.k_steps.specs.Begun.{HasAppended}
+use Rattle.k_steps.specs.Exiting.{CanExit, HasExited}
+use Rattle.k_process.specs.Keeping.{BookKeeps, CanGive, HeapKeeps, KernelKeeps, operations_left}
+use Rattle.k_process.proofs.CanDo.{exits_many, heap_stands}
 use Rattle.k_process.specs.declared.process.Process.{Process}
 use Rattle.k_process.specs.Worlds.{WorldValue}
 use Rattle.k_operate.specs.Collecting.{CanExitNow}

@@ -18,7 +18,7 @@ use Rattle.k_agree.proofs.AtTheEnd.{book_sound}
 use Rattle.k_frame.specs.PartUpdates.{held_in}
 use Rattle.k_changes.specs.BookChanges.{owner_in}
 use Rattle.k_book.specs.Books.{BookRecord}
-use Rattle.k_commit.specs.Standing.{BookStands}
+use Rattle.k_process.specs.CommitStanding.{BookStands}
 use Rattle.k_moves.proofs.Killing.{never_one}
 
 below : (a b : ℕ) → nat_lt a b ≡ true → a < b

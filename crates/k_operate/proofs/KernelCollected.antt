@@ -16,14 +16,14 @@ use Rattle.k_book.specs.Books.{BookRecord}
 use Rattle.k_cell.specs.Changes.{with_black_alone}
 use Rattle.k_cell.specs.Holdings.{HoldingsValue}
 use Rattle.k_heap.specs.Heaps.{HeapRecord}
-use Rattle.k_collect.specs.Begun.{HasAppended, HasBegunKernel}
-use Rattle.k_collect.specs.Collecting.{CanBeginKernel, CanEndKernel}
-use Rattle.k_collect.specs.Ended.{HasEndedKernel}
-use Rattle.k_collect.specs.Marking.{CanMark, HasMarkedOn}
-use Rattle.k_collect.specs.SweptAlone.{CanEndSweptKernel, CanSweepAlone}
-use Rattle.k_collect.proofs.Ends.{kernel_ended_since}
-use Rattle.k_locked.specs.Keeping.{BookKeeps, CanGive, HasHeapRooms, operations_left}
-use Rattle.k_locked.proofs.CanDo.{heap_stands}
+use Rattle.k_steps.specs.Begun.{HasAppended, HasBegunKernel}
+use Rattle.k_steps.specs.Collecting.{CanBeginKernel, CanEndKernel}
+use Rattle.k_steps.specs.Ended.{HasEndedKernel}
+use Rattle.k_steps.specs.Marking.{CanMark, HasMarkedOn}
+use Rattle.k_steps.specs.SweptAlone.{CanEndSweptKernel, CanSweepAlone}
+use Rattle.k_steps.proofs.Ends.{kernel_ended_since}
+use Rattle.k_process.specs.Keeping.{BookKeeps, CanGive, HasHeapRooms, operations_left}
+use Rattle.k_process.proofs.CanDo.{heap_stands}
 use Rattle.k_process.specs.declared.process.Process.{Process}
 use Rattle.k_process.specs.Worlds.{WorldValue}
 use Rattle.k_operate.specs.Collecting.{CanBeginKernelCollection, CanEndKernelCollection, HasBegunKernelCollection, HasEndedKernelCollection, KernelCollects}

@@ -18,9 +18,9 @@ use Rattle.k_bodies.specs.Bodies.{bodies_of}
 use Rattle.k_book.specs.Books.{BookRecord}
 use Rattle.k_cell.specs.Holdings.{HoldingsValue}
 use Rattle.k_heap.specs.Heaps.{HeapRecord, has_ended_in, own_segment}
-use Rattle.k_depart.specs.Killing.{CanKill, HasKilled}
-use Rattle.k_locked.specs.Keeping.{BookKeeps, CanGive, HeapKeeps, operations_left}
-use Rattle.k_locked.proofs.CanDo.{event_left, heap_stands}
+use Rattle.k_steps.specs.Killing.{CanKill, HasKilled}
+use Rattle.k_process.specs.Keeping.{BookKeeps, CanGive, HeapKeeps, operations_left}
+use Rattle.k_process.proofs.CanDo.{event_left, heap_stands}
 use Rattle.k_moves.specs.Shown.{idle_part}
 use Rattle.k_moves.proofs.Killing.{ends_by, never_one}
 use Rattle.k_process.specs.declared.process.Process.{Process}

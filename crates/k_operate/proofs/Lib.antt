@@ -11,3 +11,5 @@ pub mod Exited
 pub mod AbsorbOrphans
 pub mod AbsorbKept
 pub mod Killed
+pub use Rattle.k_process.proofs.Written
+pub use Rattle.k_process.proofs.Looped

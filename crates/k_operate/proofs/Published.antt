@@ -10,9 +10,9 @@ use Rattle.k_agree.specs.Rooms.{event_room, exit_room}
 use Rattle.k_book.specs.Books.{BookRecord, pin_room_of}
 use Rattle.k_book.specs.Machine.{IsBookOf}
 use Rattle.k_heap.specs.Heaps.{HeapRecord, has_ended_in}
-use Rattle.k_commit.specs.Published.{CanPublish, HasPublished}
-use Rattle.k_locked.specs.Keeping.{BookKeeps, HeapKeeps}
-use Rattle.k_locked.proofs.Steps.{other_keeps, own_tail_follows, tail_fits, tail_follows}
+use Rattle.k_process.specs.Published.{CanPublish, HasPublished}
+use Rattle.k_process.specs.Keeping.{BookKeeps, HeapKeeps}
+use Rattle.k_process.proofs.Steps.{other_keeps, own_tail_follows, tail_fits, tail_follows}
 use Rattle.k_process.specs.declared.process.Process.{Process}
 use Rattle.k_operate.specs.Steps.{HasPublishedAll, PairStands}
 use Rattle.k_process.specs.Worlds.{WorldValue}

@@ -9,8 +9,8 @@ use Rattle.k_squares.specs.Touches.{other_cells_in}
 use Rattle.k_moves.specs.Shown.{idle_part}
 use Rattle.k_book.specs.Books.{BookRecord}
 use Rattle.k_heap.specs.Heaps.{HeapRecord, has_ended_in}
-use Rattle.k_locked.specs.Keeping.{operations_left}
-use Rattle.k_locked.proofs.CanDo.{next_in_range}
+use Rattle.k_process.specs.Keeping.{operations_left}
+use Rattle.k_process.proofs.CanDo.{next_in_range}
 use Rattle.k_process.specs.declared.process.Process.{Process}
 use Rattle.k_steps.specs.Reaching.{CanReach}
 use Rattle.k_operate.specs.Readiness.{IsReady, begins_or_ends}

@@ -16,14 +16,14 @@ use Rattle.k_cell.specs.Holdings.{HoldingsValue}
 use Rattle.k_heap.specs.Heaps.{HeapRecord}
 use Rattle.k_shared.specs.SharedHeaps.{SharedRecord}
 use Rattle.k_local.specs.Locals.{after_local, local_answer}
-use Rattle.k_commit.specs.Stepped.{HasStepped, HasSteppedWithKernel, HasSteppedWithShared}
-use Rattle.k_own.specs.Own.{CanStepOwn, is_collect}
-use Rattle.k_pair.specs.Operating.{CanStepWithKernel, collects_or_exits}
-use Rattle.k_sharing.specs.Operating.{CanStepWithShared}
+use Rattle.k_process.specs.Stepped.{HasStepped, HasSteppedWithKernel, HasSteppedWithShared}
+use Rattle.k_steps.specs.Own.{CanStepOwn, is_collect}
+use Rattle.k_steps.specs.PairOperating.{CanStepWithKernel, collects_or_exits}
+use Rattle.k_steps.specs.Operating.{CanStepWithShared}
 use Rattle.k_bounds.specs.Counts.{allocates_in}
-use Rattle.k_locked.proofs.CanDo.{can_operate, can_operate_with_kernel, can_operate_with_shared}
-use Rattle.k_locked.proofs.Kept.{book_keeps, heap_keeps, kernel_keeps, left_now, shared_keeps}
-use Rattle.k_locked.proofs.Steps.{alone_allocates, beside_allocates, local_keeps, local_left}
+use Rattle.k_process.proofs.CanDo.{can_operate, can_operate_with_kernel, can_operate_with_shared}
+use Rattle.k_process.proofs.LockedKept.{book_keeps, heap_keeps, kernel_keeps, left_now, shared_keeps}
+use Rattle.k_process.proofs.Steps.{alone_allocates, beside_allocates, local_keeps, local_left}
 use Rattle.k_process.specs.declared.process.Process.{Process}
 use Rattle.k_process.specs.Standing.{ComesNext, HasDone, ProcessStands}
 use Rattle.k_operate.specs.Steps.{CanDoAlone, CanDoInside, CanDoWithKernel, CanDoWithShared, HasDoneAlone, HasDoneInside, HasDoneWithKernel, HasDoneWithShared, PairStands}

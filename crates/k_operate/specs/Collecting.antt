@@ -16,8 +16,8 @@ use Rattle.k_book.specs.Books.{BookRecord}
 use Rattle.k_cell.specs.Holdings.{HoldingsValue}
 use Rattle.k_heap.specs.Heaps.{HeapRecord, own_segment}
 use Rattle.k_shares.specs.Sharers.{lowest_orphan}
-use Rattle.k_collect.specs.SweptAlone.{HasSweptAlone, KernelHasSweptAlone}
-use Rattle.k_locked.specs.Keeping.{BookKeeps, CanGive, KernelKeeps, operations_left}
+use Rattle.k_steps.specs.SweptAlone.{HasSweptAlone, KernelHasSweptAlone}
+use Rattle.k_process.specs.Keeping.{BookKeeps, CanGive, KernelKeeps, operations_left}
 use Rattle.k_process.specs.declared.process.Process.{Process}
 use Rattle.k_process.specs.Standing.{ComesNext, HasDone}
 use Rattle.k_process.specs.Worlds.{WorldValue}

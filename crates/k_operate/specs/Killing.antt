@@ -6,7 +6,7 @@ use Rattle.k_types.specs.declared.op.Op.{Op}
 use Rattle.k_types.specs.declared.op.Op.TheVariants.{Kill}
 use Rattle.k_book.specs.Books.{BookRecord}
 use Rattle.k_cell.specs.Holdings.{HoldingsValue}
-use Rattle.k_locked.specs.Keeping.{KernelKeeps}
+use Rattle.k_process.specs.Keeping.{KernelKeeps}
 use Rattle.k_process.specs.declared.process.Process.{Process}
 use Rattle.k_process.specs.Standing.{ComesNext, IsThroughWith, ProcessStands}
 use Rattle.k_process.specs.Worlds.{WorldValue}

@@ -12,7 +12,7 @@ use Rattle.k_book.specs.Books.{BookRecord}
 use Rattle.k_cell.specs.Holdings.{HoldingsValue}
 use Rattle.k_shared.specs.SharedHeaps.{SharedRecord}
 use Rattle.k_types.specs.Cells.{Cell}
-use Rattle.k_locked.specs.Keeping.{BookKeeps, KernelKeeps, SharedKeeps}
+use Rattle.k_process.specs.Keeping.{BookKeeps, KernelKeeps, SharedKeeps}
 use Rattle.k_process.specs.declared.process.Process.{Process}
 use Rattle.k_process.specs.Standing.{ComesNext, HasDone, ProcessStands, RestStands}
 use Rattle.k_process.specs.Worlds.{WorldValue}

@@ -2,7 +2,7 @@
 //!
 //! Each is made of four pieces. The book is needed for the first and the last; marking and sweeping need their cell alone, and the
 //! events of other processes may come in between.
-ghost use Rattle.k_locked.specs.Keeping.{BookKeeps};
+ghost use Rattle.k_process.specs.Keeping.{BookKeeps};
 ghost use Rattle.k_operate.specs.Adding.{AddsOperation, known_to};
 ghost use Rattle.k_operate.specs.Collecting.{CanBeginKernelCollection, CanEndCollection, CanEndKernelCollection, Collects, HasBegunCollection, HasBegunKernelCollection, HasEndedCollection, HasEndedKernelCollection, HasMarkedCollection, HasSweptCollection, IsNextAndSettled, KernelCollects, KernelCollectsSwept};
 ghost use Rattle.k_operate.specs.Steps.{HasDoneAlone};
@@ -11,11 +11,13 @@ ghost use Rattle.k_types.specs.declared.names.CellPhase.TheVariants.{Begun, Mark
 ghost use Rattle.k_types.specs.declared.op.Op.TheVariants.{Collect};
 
 use k_book::Book;
-use k_collect::{mark_heap, mark_kernel, sweep_heap, sweep_kernel};
 use k_kernel::KernelCell;
 use k_mark::Swept;
 use k_process::Process;
-use k_steps::{begin_heap, begin_kernel, end_swept_heap, end_swept_kernel};
+use k_steps::{
+    begin_heap, begin_kernel, end_swept_heap, end_swept_kernel, mark_heap, mark_kernel, sweep_heap,
+    sweep_kernel,
+};
 
 /// Does the operation `collect`, with which the collection of the process's heap begins. The cost is in proportion to the exit items
 /// of the heap and to its entered and pinned objects.

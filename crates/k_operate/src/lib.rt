@@ -21,5 +21,9 @@ pub use collecting::{
     mark_collection, mark_kernel_collection, sweep_collection, sweep_kernel_collection,
 };
 pub use exiting::do_exit;
+pub use k_steps::{
+    Reach, absorb, begin_heap, begin_kernel, close_kernel, end_heap, end_kernel, exit, kill,
+    publish, reach, settle_heap, settle_kernel, step_kernel, step_own, step_shared,
+};
 pub use killing::do_kill;
 pub use stepping::{do_alone, do_inside, do_next, do_with_kernel, do_with_shared, publish_all};

@@ -23,8 +23,8 @@ use Rattle.k_agree.specs.Rooms.{AreFirst}
 use Rattle.k_agree.proofs.WithinRooms.{fits_rooms}
 use Rattle.k_heap.specs.Heaps.{HeapRecord}
 use Rattle.k_shared.specs.SharedHeaps.{SharedRecord}
-use Rattle.k_locked.proofs.CanDo.{exits_many}
-use Rattle.k_locked.proofs.RoomLeft.{shared_room}
+use Rattle.k_process.proofs.CanDo.{exits_many}
+use Rattle.k_process.proofs.RoomLeft.{shared_room}
 use Rattle.k_trace.specs.Named.{DeclaredNames}
 use Rattle.k_text.specs.Report.{report_text, text_over}
 use Rattle.k_text.proofs.Setups.{setup_alone}

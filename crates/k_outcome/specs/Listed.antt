@@ -16,7 +16,7 @@ use Rattle.k_types.specs.Trace.{IsHeap, Trace, operations_of, segment_count, seg
 use Rattle.k_base.specs.Distinct.{AreDistinctNames}
 use Rattle.k_bounds.specs.Counts.{stores_in}
 use Rattle.k_agree.specs.Rooms.{exit_room}
-use Rattle.k_locked.specs.Rooms.{shared_exit_room}
+use Rattle.k_process.specs.Rooms.{shared_exit_room}
 use Rattle.k_text.specs.Shown.{in_order}
 use Rattle.k_process.specs.Over.{OutcomeValue}
 use Rattle.k_solo.specs.Runs.{heap_at}

@@ -6,11 +6,11 @@ use Rattle.k_types.specs.declared.names.Pid.{Pid}
 use Rattle.k_types.specs.Trace.{Trace}
 use Rattle.k_agree.specs.Meeting.{met_note}
 use Rattle.k_book.specs.Books.{BookRecord}
-use Rattle.k_cell.specs.Holdings.{HoldingsValue}
+use Rattle.k_heap.specs.Holdings.{HoldingsValue}
 use Rattle.k_heap.specs.Heaps.{HeapRecord}
-use Rattle.k_shared.specs.SharedHeaps.{SharedRecord}
-use Rattle.k_commit.specs.Met.{CanMeet, HeapHasMet, KernelHasMet, SharedHasMet}
-use Rattle.k_commit.specs.Standing.{BookStands}
+use Rattle.k_locked.specs.SharedHeaps.{SharedRecord}
+use Rattle.k_locked.specs.Met.{CanMeet, HeapHasMet, KernelHasMet, SharedHasMet}
+use Rattle.k_locked.specs.Standing.{BookStands}
 use Rattle.k_locked.specs.Keeping.{HeapKeeps, KernelKeeps, SharedKeeps}
 use Rattle.k_agree.proofs.WithinRooms.{met_follows}
 use Rattle.k_locked.proofs.Steps.{other_keeps}

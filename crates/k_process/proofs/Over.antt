@@ -14,9 +14,9 @@ use Rattle.k_agree.specs.Agreement.{Agrees, Shows}
 use Rattle.k_agree.specs.Settled.{IsOver, IsSettled, IsThrough}
 use Rattle.k_agree.proofs.AtTheEnd.{book_sound, is_complete}
 use Rattle.k_book.specs.Books.{BookRecord}
-use Rattle.k_cell.specs.Holdings.{HoldingsValue}
+use Rattle.k_heap.specs.Holdings.{HoldingsValue}
 use Rattle.k_heap.specs.Heaps.{has_ended_in}
-use Rattle.k_shared.specs.SharedHeaps.{SharedRecord}
+use Rattle.k_locked.specs.SharedHeaps.{SharedRecord}
 use Rattle.k_locked.proofs.CanDo.{done_at_most}
 use Rattle.k_process.specs.declared.process.Process.{Process}
 use Rattle.k_process.specs.Over.{AllMet, IsOutcome}

@@ -1,3 +1,8 @@
 pub mod Worlds
 pub mod Standing
 pub mod Over
+pub use Rattle.k_locked.specs.Keeping
+pub use Rattle.k_locked.specs.Rooms
+pub use Rattle.k_locked.specs.Standing as CommitStanding
+pub use Rattle.k_locked.specs.Stepped
+pub use Rattle.k_locked.specs.Published

@@ -11,9 +11,9 @@ use Rattle.k_types.specs.Trace.{Trace}
 use Rattle.k_book.specs.Books.{BookRecord}
 use Rattle.k_process.specs.declared.process.Process.{Process}
 use Rattle.k_process.specs.Worlds.{WorldValue}
-use Rattle.k_operate.specs.Adding.{AddsEnd, AddsOne, AddsOperation, known_to}
-use Rattle.k_operate.specs.Killing.{known_to_both}
-use Rattle.k_operate.specs.Steps.{HasPublishedAll}
+use Rattle.k_complete.specs.Adding.{AddsEnd, AddsOne, AddsOperation, known_to}
+use Rattle.k_complete.specs.Killing.{known_to_both}
+use Rattle.k_complete.specs.Steps.{HasPublishedAll}
 use Rattle.k_complete.proofs.Grown.{prefix_by, prefix_trans}
 use Rattle.k_watch.specs.Shown.{WasShown}
 use Rattle.k_watch.specs.Values.{PenValue}

@@ -14,14 +14,14 @@ use Rattle.k_squares.specs.Touches.{other_cells_in}
 use Rattle.k_moves.specs.Shown.{idle_part}
 use Rattle.k_book.specs.Books.{BookRecord}
 use Rattle.k_heap.specs.Heaps.{HeapRecord}
-use Rattle.k_locked.specs.Keeping.{operations_left}
+use Rattle.k_process.specs.Keeping.{operations_left}
 use Rattle.k_process.specs.declared.process.Process.{Process}
 use Rattle.k_process.specs.Standing.{ComesNext, HasDone, IsNextOf}
 use Rattle.k_process.specs.Worlds.{WorldValue}
-use Rattle.k_operate.specs.Readiness.{IsOutside, begins_or_ends}
-use Rattle.k_operate.specs.Steps.{HasDoneInside, HasPublishedAll, PairStands}
-use Rattle.k_operate.specs.Collecting.{HasSameLeft, IsNextAndSettled}
-use Rattle.k_operate.proofs.Since.{next_since, ready_since}
+use Rattle.k_complete.specs.Readiness.{IsOutside, begins_or_ends}
+use Rattle.k_complete.specs.Steps.{HasDoneInside, HasPublishedAll, PairStands}
+use Rattle.k_complete.specs.Collecting.{HasSameLeft, IsNextAndSettled}
+use Rattle.k_complete.proofs.Since.{next_since, ready_since}
 use Rattle.k_run.specs.declared.turns.Turn.{Turn}
 use Rattle.k_run.specs.declared.turns.Turn.TheVariants.{Done, Over, Kills}
 use Rattle.k_run.specs.Running.{HasDoneBeside, HasDoneUnless, HasTakenTurn, IsLeft, IsReadyBeside}

@@ -14,13 +14,13 @@ use Rattle.k_shares.specs.Sharers.{lowest_orphan}
 use Rattle.k_book.specs.Books.{BookRecord}
 use Rattle.k_heap.specs.Heaps.{HeapRecord}
 use Rattle.k_cell.specs.Holdings.{HoldingsValue}
-use Rattle.k_locked.specs.Keeping.{BookKeeps, KernelKeeps}
-use Rattle.k_steps.specs.declared.reached.Reach.{Reach}
-use Rattle.k_steps.specs.declared.reached.Reach.TheVariants.{Own, Kernel, Shared, End}
+use Rattle.k_process.specs.Keeping.{BookKeeps, KernelKeeps}
+use Rattle.k_complete.specs.Reach.{Reach}
+use Rattle.k_complete.specs.Reach.TheVariants.{Own, Kernel, Shared, End}
 use Rattle.k_run.specs.declared.turns.Turn.{Turn}
 use Rattle.k_run.specs.declared.turns.Turn.TheVariants.{Done, Over, Kills}
-use Rattle.k_operate.specs.Readiness.{IsOutside, IsReady}
-use Rattle.k_operate.specs.Collecting.{HasSameLeft, KernelCollects}
+use Rattle.k_complete.specs.Readiness.{IsOutside, IsReady}
+use Rattle.k_complete.specs.Collecting.{HasSameLeft, KernelCollects}
 use Rattle.k_process.specs.Standing.{ComesNext, HasDone}
 use Rattle.k_process.specs.Worlds.{WorldValue}
 

@@ -1,7 +1,7 @@
 //! Collections, absorptions and ends of processes under locks. While a heap is marked and swept its lock is held, and the book is free.
 ghost use Rattle.std.specs.Prelude.{IsFalse, IsTrue, ◌≡◌};
-ghost use Rattle.k_locked.specs.Keeping.{KernelKeeps};
-ghost use Rattle.k_operate.specs.Collecting.{Collects, CollectsSwept, HasSameLeft, KernelCollectsSwept};
+ghost use Rattle.k_process.specs.Keeping.{KernelKeeps};
+ghost use Rattle.k_complete.specs.Collecting.{Collects, CollectsSwept, HasSameLeft, KernelCollectsSwept};
 ghost use Rattle.k_process.specs.Standing.{ComesNext, HasDone, ProcessStands};
 ghost use Rattle.k_run.specs.Running.{HasBegunUnless, HasCollectedUnless, IsAbsorbedIfFirst, IsLeft};
 ghost use Rattle.k_types.specs.declared.names.CellPhase.TheVariants.{Begun};
@@ -13,14 +13,14 @@ use crate::stretching::follow;
 use crate::waiting::take;
 use crate::world::Locks;
 use crate::worlds::WorldName;
-use k_io::{Gate, GatePlace};
-use k_kernel::KernelCell;
-use k_mark::Swept;
-use k_operate::{
+use k_complete::{
     absorb_orphan, begin_collection, begin_kernel_collection, do_exit, do_kill, end_collection,
     end_kernel_collection, mark_collection, mark_kernel_collection, publish_all, sweep_collection,
     sweep_kernel_collection,
 };
+use k_io::{Gate, GatePlace};
+use k_kernel::KernelCell;
+use k_mark::Swept;
 use k_process::Process;
 use k_types::{Op, SharedId};
 use k_watch::show;

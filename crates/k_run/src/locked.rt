@@ -1,6 +1,6 @@
 //! The values behind the locks.
 ghost use Rattle.std.specs.Prelude.{◌≡◌};
-ghost use Rattle.k_locked.specs.Keeping.{BookKeeps, KernelKeeps, SharedKeeps};
+ghost use Rattle.k_process.specs.Keeping.{BookKeeps, KernelKeeps, SharedKeeps};
 ghost use Rattle.k_process.specs.Standing.{ProcessStands};
 ghost use Rattle.k_watch.specs.Shown.{IsShown};
 
@@ -71,7 +71,7 @@ impl<W: WorldName> Model for LockedKernel<W> {
 
     ghost Value = { HoldingsValue };
 
-    ghost use Rattle.k_locked.specs.Keeping.{KernelKeeps};
+    ghost use Rattle.k_process.specs.Keeping.{KernelKeeps};
 
     ghost view = { λ l. l.kernel };
 
@@ -110,7 +110,7 @@ impl<W: WorldName> Model for LockedShared<W> {
 
     ghost Value = { SharedRecord };
 
-    ghost use Rattle.k_locked.specs.Keeping.{SharedKeeps};
+    ghost use Rattle.k_process.specs.Keeping.{SharedKeeps};
 
     ghost view = { λ l. l.shared };
 
@@ -151,7 +151,7 @@ impl<W: WorldName> Model for LockedBook<W> {
 
     ghost Value = { BookRecord };
 
-    ghost use Rattle.k_locked.specs.Keeping.{BookKeeps};
+    ghost use Rattle.k_process.specs.Keeping.{BookKeeps};
     ghost use Rattle.k_watch.specs.Shown.{IsShown};
 
     ghost view = { λ l. l.book };

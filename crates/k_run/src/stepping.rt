@@ -2,17 +2,16 @@
 ghost use Rattle.std.specs.Prelude.{IfNone, IfSome, IsFalse, None, ◌<◌, ◌≡◌};
 ghost use Rattle.k_frame.specs.PartUpdates.{done_in};
 ghost use Rattle.k_process.specs.Standing.{ComesNext, IsNextOf};
-ghost use Rattle.k_operate.specs.Readiness.{IsOutside, IsReady, begins_or_ends};
+ghost use Rattle.k_complete.specs.Readiness.{IsOutside, IsReady, begins_or_ends};
 ghost use Rattle.k_run.specs.Running.{HasDoneBeside, HasDoneUnless, IsReadyFor};
 ghost use Rattle.k_types.specs.Trace.{process_count};
 ghost use Rattle.k_types.specs.declared.names.Heap.TheVariants.{Kernel, Shared};
 
 use crate::locked::{LockedBook, LockedKernel, LockedProcess, LockedShared};
 use crate::worlds::WorldName;
+use k_complete::{Reach, do_alone, do_inside, do_with_kernel, do_with_shared, publish_all, reach};
 use k_io::{Gate, GatePlace};
-use k_operate::{do_alone, do_inside, do_with_kernel, do_with_shared, publish_all};
 use k_process::{Process, next};
-use k_steps::{Reach, reach};
 use k_types::{Op, Pid};
 use k_watch::show;
 use std::sync::Wait;

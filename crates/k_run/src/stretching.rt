@@ -1,13 +1,13 @@
 //! Operations that follow one another under one hold of the book.
 ghost use Rattle.std.specs.Prelude.{IsFalse};
-ghost use Rattle.k_operate.specs.Readiness.{begins_or_ends};
+ghost use Rattle.k_complete.specs.Readiness.{begins_or_ends};
 ghost use Rattle.k_process.specs.Standing.{ComesNext};
 
 use crate::locked::{LockedBook, LockedProcess};
 use crate::world::Locks;
 use crate::worlds::WorldName;
+use k_complete::Reach;
 use k_io::Gate;
-use k_steps::Reach;
 use k_types::Op;
 use std::sync::Wait;
 

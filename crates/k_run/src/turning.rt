@@ -1,7 +1,7 @@
 //! The next operation of a process, under the locks that it needs: each takes those of its process's heap, the kernel's, a shared heap's
 //! and the book's in this order, as far as it needs them. A kill takes the locks of two processes' heaps, that of the lower number first.
 ghost use Rattle.std.specs.Prelude.{IsFalse};
-ghost use Rattle.k_operate.specs.Readiness.{begins_or_ends};
+ghost use Rattle.k_complete.specs.Readiness.{begins_or_ends};
 ghost use Rattle.k_process.specs.Standing.{ComesNext};
 ghost use Rattle.k_run.specs.Running.{HasKilledUnless, HasTakenTurn};
 
@@ -12,8 +12,8 @@ use crate::turns::Turn;
 use crate::waiting::take;
 use crate::world::Locks;
 use crate::worlds::WorldName;
+use k_complete::Reach;
 use k_io::Gate;
-use k_steps::Reach;
 use k_types::{Op, Pid};
 use std::sync::{Mutex, Wait};
 

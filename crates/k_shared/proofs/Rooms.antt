@@ -5,7 +5,7 @@ use Rattle.k_types.specs.declared.setup.Setup.{Setup}
 use Rattle.k_types.specs.Numbers.{numbers_below}
 use Rattle.k_types.specs.Trace.{segment_count, trace_of}
 use Rattle.k_tie.specs.Values.{NoteValue}
-use Rattle.k_agree.proofs.Openings.{at_number}
+use Rattle.k_cell.proofs.Openings.{at_number}
 use Rattle.k_cell.specs.Holdings.{HasSerialLeft}
 use Rattle.k_shared.specs.SharedHeaps.{holdings_of, opened_shared, shared_segment}
 

@@ -9,7 +9,7 @@ use Rattle.k_types.specs.Agree.{CellValue}
 use Rattle.k_types.specs.Numbers.{numbers_below}
 use Rattle.k_types.specs.Trace.{segment_count, segment_of, trace_of}
 use Rattle.k_tie.specs.Values.{NoteValue}
-use Rattle.k_agree.specs.Opening.{opening_cell}
+use Rattle.k_cell.specs.Opening.{opening_cell}
 use Rattle.k_cell.specs.Holdings.{HoldingsValue}
 
 -- a shared heap's cell: the heap, the segment with which it begins, its note, what it shows of the state, and the rooms: how many

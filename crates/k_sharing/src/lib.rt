@@ -16,4 +16,5 @@ mod remembering;
 mod sharing;
 mod storing;
 
+pub use k_pair::step_kernel;
 pub use operating::step_shared;

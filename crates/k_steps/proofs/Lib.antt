@@ -1,2 +1,3 @@
 pub mod Told
 pub mod Once
+pub use Rattle.k_collect.proofs.Ends

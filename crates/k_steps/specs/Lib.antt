@@ -1,1 +1,12 @@
 pub mod Reaching
+pub use Rattle.k_sharing.specs.Operating
+pub use Rattle.k_sharing.specs.PairOperating
+pub use Rattle.k_own.specs.Own
+pub use Rattle.k_depart.specs.Absorbing
+pub use Rattle.k_depart.specs.Exiting
+pub use Rattle.k_depart.specs.Killing
+pub use Rattle.k_collect.specs.SweptAlone
+pub use Rattle.k_collect.specs.Begun
+pub use Rattle.k_collect.specs.Collecting
+pub use Rattle.k_collect.specs.Marking
+pub use Rattle.k_collect.specs.Ended

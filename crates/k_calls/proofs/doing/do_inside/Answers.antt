@@ -1,4 +1,4 @@
-use Rattle.k_locked.proofs.Steps.{registers_there}
+use Rattle.k_guests.proofs.Steps.{registers_there}
 use Rattle.k_calls.proofs.Inside.{done_inside, not_inside, tail_left}
 use Rattle.k_calls.proofs.doing.do_inside.Goals as goal
 

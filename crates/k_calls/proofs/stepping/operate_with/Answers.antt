@@ -1,6 +1,6 @@
 use Rattle.std.proofs.Common.{[], ◌∷◌, ◌<◌, ◌∙◌, refl, sym, ap, subst, length, set, arith, inl, inr}
 use Rattle.std.proofs.lemmas.List.{set-get_or}
-use Rattle.k_process.proofs.Looped.{found_at}
+use Rattle.k_operate.proofs.Looped.{found_at}
 use Rattle.k_types.specs.declared.names.Heap.TheVariants.{Kernel, Shared, User}
 use Rattle.k_limits.proofs.Making.{handed_on}
 use Rattle.k_calls.specs.Refusals.{CanNotOperateAlone}

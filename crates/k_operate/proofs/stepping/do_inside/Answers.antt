@@ -1,6 +1,6 @@
 use Rattle.std.proofs.Common.{sym, subst}
-use Rattle.k_locked.proofs.CanDo.{next_in_range}
-use Rattle.k_locked.proofs.Steps.{done_small, registers_there, tail_room_left}
+use Rattle.k_process.proofs.CanDo.{next_in_range}
+use Rattle.k_process.proofs.Steps.{done_small, registers_there, tail_room_left}
 use Rattle.k_operate.specs.Steps.{HasDoneInside}
 use Rattle.k_operate.proofs.StepsKept.{done_inside}
 use Rattle.k_operate.proofs.stepping.do_inside.Goals as goal

@@ -1,7 +1,7 @@
 use Rattle.std.proofs.Common.{ap, length, arith}
 use Rattle.std.proofs.lemmas.List.{length_push}
 use Rattle.k_shared.specs.SharedHeaps.{SharedRecord}
-use Rattle.k_locked.specs.Keeping.{SharedKeeps}
+use Rattle.k_process.specs.Keeping.{SharedKeeps}
 use Rattle.k_still.proofs.FromTheEnd.{each_last, each_popped}
 use Rattle.k_run.proofs.opening.lock_shared.Goals as goal
 

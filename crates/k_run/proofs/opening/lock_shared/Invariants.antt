@@ -1,6 +1,6 @@
 use Rattle.std.proofs.Common.{◌≡◌, ◌≤◌, ◌+◌, length, Some, ℕ, slice_get, vec_capacity}
 use Rattle.k_shared.specs.SharedHeaps.{SharedRecord}
-use Rattle.k_locked.specs.Keeping.{SharedKeeps}
+use Rattle.k_process.specs.Keeping.{SharedKeeps}
 use Rattle.k_run.proofs.opening.lock_shared.Given as goal
 
 abbrev pub invariant-loop-cell : goal.invariant-loop-cell

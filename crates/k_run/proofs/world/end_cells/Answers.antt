@@ -1,7 +1,7 @@
 use Rattle.std.proofs.Common.{refl, sym, ◌∙◌, subst}
 use Rattle.k_types.specs.Complete.{IsPrefixOf}
 use Rattle.k_book.specs.Books.{BookRecord}
-use Rattle.k_locked.specs.Keeping.{BookKeeps}
+use Rattle.k_process.specs.Keeping.{BookKeeps}
 use Rattle.k_state.specs.Machines.{setup_of}
 use Rattle.k_outcome.proofs.OverByMeeting.{met_ends}
 use Rattle.k_watch.proofs.ShownOn.{was_shown}

@@ -2,7 +2,7 @@ use Rattle.std.proofs.Common.{◌≡◌, refl, subst, length, arith, Some, slice
 use Rattle.std.specs.Prelude.{IfErr, IfOk}
 use Rattle.std.proofs.lemmas.Option.{slice_get_past}
 use Rattle.k_process.proofs.Looped.{found_at}
-use Rattle.k_calls.specs.declared.errors.HostError.TheVariants.{Unknown}
+use Rattle.k_ends.specs.HostError.TheVariants.{Unknown}
 use Rattle.k_host.specs.Calls.{HasAbsorbedIn}
 use Rattle.k_host.specs.Refusals.{MayRefuseAbsorption}
 use Rattle.k_guests.specs.Serving.{basis_of}

@@ -2,7 +2,7 @@ use Rattle.std.proofs.Common.{◌≡◌, ◌∙◌, sym, ap, subst, Some, slice_
 use Rattle.std.specs.Prelude.{IfErr, IfOk, MatchOption}
 use Rattle.k_limits.proofs.Making.{handed_on}
 use Rattle.k_host.specs.Calls.{HasDoneInsideIn, HasLeftOutside}
-use Rattle.k_calls.specs.Refusals.{CanNotDoInside}
+use Rattle.k_ends.specs.CallsRefusals.{CanNotDoInside}
 use Rattle.k_host.specs.Refusals.{MayRefuse}
 use Rattle.k_guests.specs.Serving.{basis_of}
 use Rattle.k_host.proofs.Called.{local_answered, found_here, found_there, host_of}

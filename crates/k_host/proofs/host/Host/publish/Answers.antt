@@ -2,8 +2,8 @@ use Rattle.std.proofs.Common.{◌≡◌, ◌∙◌, sym, ap, subst, Some, slice_
 use Rattle.std.specs.Prelude.{IfErr, OnOk}
 use Rattle.k_limits.proofs.Making.{handed_on}
 use Rattle.k_host.specs.Calls.{HasPublishedIn}
-use Rattle.k_calls.specs.Doing.{HasPublishedAll}
-use Rattle.k_calls.specs.Refusals.{CanNotPublish}
+use Rattle.k_ends.specs.Doing.{HasPublishedAll}
+use Rattle.k_ends.specs.CallsRefusals.{CanNotPublish}
 use Rattle.k_host.specs.Refusals.{MayRefuse}
 use Rattle.k_guests.specs.Serving.{basis_of}
 use Rattle.k_host.proofs.Called.{changed_on, found_here, found_there, host_of}

@@ -2,11 +2,11 @@ use Rattle.std.proofs.Common.{sym, subst, [], ◌∷◌}
 use Rattle.k_types.specs.declared.names.Heap.TheVariants.{Kernel, Shared, User}
 use Rattle.k_types.specs.Agree.{book_shown_by}
 use Rattle.k_heap.specs.Heaps.{HeapRecord}
-use Rattle.k_steps.specs.declared.reached.Reach.{Reach}
+use Rattle.k_complete.specs.Reach.{Reach}
 use Rattle.k_moves.specs.Shown.{idle_part}
 use Rattle.k_moves.proofs.Killing.{ends_by}
-use Rattle.k_operate.specs.Readiness.{IsOutside}
-use Rattle.k_operate.proofs.Since.{can_reach, due, next_since, ready_since}
+use Rattle.k_complete.specs.Readiness.{IsOutside}
+use Rattle.k_complete.proofs.Since.{can_reach, due, next_since, ready_since}
 use Rattle.k_process.specs.Standing.{HasDone}
 use Rattle.k_run.specs.Running.{IsReadyFor}
 use Rattle.k_run.proofs.Stepped.{done_after, published_left, ready_beside}

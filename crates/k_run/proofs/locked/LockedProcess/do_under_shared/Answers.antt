@@ -5,7 +5,7 @@ use Rattle.k_run.specs.Running.{HasDoneBeside}
 use Rattle.k_run.proofs.Stepped.{kernel_not_shared, none_reached, not_done, two_reached}
 use Rattle.k_heap.specs.Heaps.{HeapRecord}
 use Rattle.k_process.specs.Standing.{ComesNext}
-use Rattle.k_operate.proofs.Since.{can_reach}
+use Rattle.k_complete.proofs.Since.{can_reach}
 use Rattle.k_run.proofs.Shows.{operation_grows}
 use Rattle.k_watch.proofs.ShownOn.{was_shown}
 use Rattle.k_run.proofs.locked.LockedProcess.do_under_shared.Goals as goal
