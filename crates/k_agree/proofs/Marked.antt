@@ -1,5 +1,5 @@
 -- A cell whose objects are marked.
-use Rattle.std.proofs.Common.{◌≡◌, ℕ, ◌&&◌, not, Bool, true, false, cond, refl, sym, ap, ◌∙◌, subst, List, [], ◌∷◌, ◌++◌, length, filter, get_or, Some, None, is_some}
+use Rattle.std.proofs.Common.{◌≡◌, ℕ, ◌&&◌, not, Bool, true, false, cond, refl, sym, ap, ◌∙◌, subst, List, ◌++◌, length, filter, get_or, Some, None, is_some}
 use Rattle.std.specs.List.{list_any}
 use Rattle.std.proofs.Math.Path.{fun_ext}
 use Rattle.k_types.specs.declared.names.CellPhase.TheVariants.{Begun, Marked}

@@ -14,7 +14,7 @@ use Rattle.k_types.specs.Numbers.{numbers_below}
 use Rattle.k_types.specs.Owners.{owner_of, user, shared, phase_of}
 use Rattle.k_types.specs.Replies.{is_populating}
 use Rattle.k_types.specs.Sound.{IsSound}
-use Rattle.k_types.specs.State.{State, ExitItem, Sharing, has_exit, has_share, refers, scan_of}
+use Rattle.k_types.specs.State.{State, ExitItem, Sharing, has_exit, has_share, refers}
 use Rattle.k_types.specs.Steps.{MayEnd}
 use Rattle.k_types.specs.Totals.{total}
 use Rattle.k_types.specs.Trace.{Trace}

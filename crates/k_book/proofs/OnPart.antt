@@ -1,13 +1,13 @@
 -- What the calls change, as changes of the book's part and as steps of drains.
-use Rattle.std.proofs.Common.{◌≡◌, ℕ, ◌+◌, ◌-◌, ◌==◌, ◌&&◌, ◌||◌, not, Bool, true, false, cond, List, [], ◌∷◌, Option, Some, None, refl, sym, ap, ◌∙◌, arith, eqb-true, eq-eqb, IsTrue, IsFalse}
+use Rattle.std.proofs.Common.{◌≡◌, ℕ, ◌+◌, ◌-◌, ◌==◌, ◌&&◌, ◌||◌, not, Bool, true, false, cond, [], ◌∷◌, Option, Some, None, refl, sym, ap, ◌∙◌, arith, eqb-true, eq-eqb, IsTrue, IsFalse}
 use Rattle.std.proofs.Math.Bool.{or-false}
 use Rattle.std.proofs.Math.Path.{fun_ext}
 use Rattle.k_types.specs.declared.names.Heap.{Heap}
 use Rattle.k_types.specs.declared.names.Name.{Name}
 use Rattle.k_types.specs.Agree.{BookValue, book_shown_by}
-use Rattle.k_types.specs.Cells.{BookPart, pins_of}
+use Rattle.k_types.specs.Cells.{BookPart}
 use Rattle.k_types.specs.Counted.{counted}
-use Rattle.k_types.specs.Names.{among, heap_eq, leads_to, name_among, name_eq}
+use Rattle.k_types.specs.Names.{heap_eq, name_eq}
 use Rattle.k_types.specs.Owners.{user}
 use Rattle.k_types.specs.State.{has_share}
 use Rattle.k_base.proofs.NameTests.{name_eq-true}

@@ -1,5 +1,5 @@
 -- Sums over distinct names.
-use Rattle.std.proofs.Common.{◌≡◌, ℕ, zero, suc, ◌+◌, ◌*◌, ◌≤◌, ◌&&◌, ◌||◌, Bool, true, false, cond, refl, ap, ap₂, sym, ◌∙◌, inl, inr, List, [], ◌∷◌, length, Option, Some, None, arith, IsTrue, get_or, zero-le}
+use Rattle.std.proofs.Common.{◌≡◌, ℕ, zero, suc, ◌+◌, ◌*◌, ◌≤◌, Bool, true, false, cond, refl, ap, ap₂, sym, ◌∙◌, inl, inr, List, [], ◌∷◌, length, Option, Some, None, arith, IsTrue, get_or, zero-le}
 use Rattle.std.proofs.lemmas.Bool.{false≢true, cases_lt, cases_Bool, false_from_ne_true, and_from, or_left, or_right}
 use Rattle.k_types.specs.declared.names.Name.{Name}
 use Rattle.k_types.specs.declared.names.Heap.{Heap}

@@ -1,18 +1,17 @@
 -- Areas that change in one segment, or in marks alone, by number.
-use Rattle.std.proofs.Common.{◌≡◌, ◌≢◌, ℕ, zero, suc, ◌+◌, ◌-◌, ◌<◌, ◌≤◌, refl, sym, ap, ap₂, subst, ◌∙◌, inl, inr, List, [], ◌∷◌, ◌++◌, length, map, get_or, set, slice_set, Option, Some, None, option_map, unwrap_or, arith}
+use Rattle.std.proofs.Common.{◌≡◌, ◌≢◌, ℕ, zero, suc, ◌+◌, ◌-◌, ◌<◌, ◌≤◌, refl, sym, ap, ap₂, subst, ◌∙◌, inl, inr, List, [], ◌∷◌, ◌++◌, length, map, get_or, set, Option, Some, None, option_map, arith}
 use Rattle.std.proofs.Math.Path.{fun_ext}
 use Rattle.std.proofs.lemmas.Bool.{cases_eq}
-use Rattle.std.proofs.lemmas.List.{length-append, length-map, length-set}
-use Rattle.k_types.specs.declared.names.Name.{Name}
+use Rattle.std.proofs.lemmas.List.{length-append, length-map}
 use Rattle.k_types.specs.Numbers.{numbers_from, numbers_below}
 use Rattle.k_changes.specs.CellChanges.{given}
 use Rattle.k_space.specs.Objects.{BodyValue}
-use Rattle.k_space.specs.Segments.{IsSegment, LiesAt, Row, SegmentValue, made, new_row, placed, row_at, with_row, unmarked_row, unmarked_segment}
-use Rattle.k_space.specs.Areas.{AreaValue, HasDistinct, place_of, row_of_name, segment_at, with_segment, with_row_of, unmarked}
-use Rattle.k_space.proofs.AreaRows.{Found, found, number_found, changed_is}
+use Rattle.k_space.specs.Segments.{IsSegment, LiesAt, Row, SegmentValue, made, new_row, placed, row_at, unmarked_row, unmarked_segment}
+use Rattle.k_space.specs.Areas.{AreaValue, place_of, segment_at, unmarked}
+use Rattle.k_space.proofs.AreaRows.{number_found}
 use Rattle.k_areas.specs.Shown.{area_objects, HasNoneFrom, AreNumberedBelow}
 use Rattle.k_areas.specs.Lists.{made_list}
-use Rattle.k_areas.proofs.Found.{at_map, at_set_same, at_set_other, set_number, same_numbered, unmarked_numbers, map_number}
+use Rattle.k_areas.proofs.Found.{at_map, at_set_same, at_set_other, set_number, same_numbered, unmarked_numbers}
 use Rattle.k_areas.proofs.Changed.{same_area}
 use Rattle.k_areas.proofs.Named.{made_listed}
 use Rattle.k_cell.specs.Holdings.{serial_rooms_of, AreBegun}

@@ -1,12 +1,11 @@
 -- An object among those of an area, by its name.
-use Rattle.std.proofs.Common.{◌≡◌, ◌≢◌, ◌⊎◌, ℕ, zero, suc, ◌+◌, ◌<◌, ◌≤◌, Bool, true, false, cond, refl, sym, ap, ap₂, ◌∙◌, inl, inr, List, [], ◌∷◌, ◌++◌, length, get_or, find, Option, Some, None, option_map, arith}
+use Rattle.std.proofs.Common.{◌≡◌, ◌≢◌, ◌⊎◌, ℕ, zero, suc, ◌+◌, ◌<◌, ◌≤◌, false, cond, refl, sym, ap, ap₂, ◌∙◌, inl, inr, List, [], ◌∷◌, get_or, find, Option, Some, None, option_map, arith}
 use Rattle.std.specs.Option.{option_or}
 use Rattle.std.proofs.lemmas.Bool.{cases_eq, cases_lt, false_from_ne_true}
 use Rattle.std.proofs.lemmas.List.Folds.{find-append}
 use Rattle.k_types.specs.declared.names.Name.{Name}
-use Rattle.k_types.specs.declared.names.TypeId.{TypeId}
 use Rattle.k_types.specs.Names.{name_eq}
-use Rattle.k_types.specs.State.{Content, Object, Holds, fields_of, object_at}
+use Rattle.k_types.specs.State.{Object, fields_of, object_at}
 use Rattle.k_base.proofs.NameTests.{name_eq-true, name_eq-same}
 use Rattle.k_space.specs.Segments.{Row, SegmentValue, object_of, objects_from, segment_objects, row_at}
 use Rattle.k_space.specs.Areas.{segment_at, row_in_segment, row_of_name}

@@ -1,5 +1,5 @@
 -- Segments that join holdings or leave them.
-use Rattle.std.proofs.Common.{◌≡◌, ◌≢◌, ◌==◌, not, filter, ℕ, zero, suc, ◌+◌, ◌-◌, ◌<◌, ◌≤◌, cond, refl, sym, ap, ap₂, subst, ◌∙◌, inl, inr, List, [], ◌∷◌, ◌++◌, length, map, get_or, set, slice_set, Option, Some, None, option_map, eq-eqb, ne_eqb, arith}
+use Rattle.std.proofs.Common.{◌≡◌, ◌≢◌, ◌==◌, not, filter, ℕ, zero, suc, ◌+◌, ◌<◌, ◌≤◌, cond, refl, sym, ap, ap₂, subst, ◌∙◌, inl, inr, List, [], ◌∷◌, ◌++◌, length, map, get_or, set, Option, Some, None, option_map, eq-eqb, ne_eqb, arith}
 use Rattle.std.proofs.lemmas.Bool.{cases_eq}
 use Rattle.k_types.specs.declared.names.CellPhase.{CellPhase}
 use Rattle.k_types.specs.declared.names.CellPhase.TheVariants.{Idle}
@@ -20,7 +20,7 @@ use Rattle.k_areas.proofs.Joined.{alone_area, joined_area, left_area, parted_are
 use Rattle.k_areas.proofs.Named.{made_listed}
 use Rattle.k_areas.proofs.Sums.{segments_fewer}
 use Rattle.k_cell.specs.declared.rooms.HoldingRooms.{HoldingRooms}
-use Rattle.k_cell.specs.Holdings.{HoldingsValue, AreBegun, AreHoldings, AreMarksKept, HasGivenSegment, cell_seen, fresh_holdings, holdings_seen, serial_rooms_of, with_segment_added}
+use Rattle.k_cell.specs.Holdings.{AreBegun, AreHoldings, HasGivenSegment, fresh_holdings, holdings_seen, serial_rooms_of, with_segment_added}
 use Rattle.k_cell.proofs.Areas.{one_segment, rooms_listed, same_below, set_below}
 use Rattle.k_cell.proofs.Lists.{total_joined}
 use Rattle.k_cell.proofs.Seen.{same_cell, same_holdings}

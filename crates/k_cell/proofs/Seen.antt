@@ -1,26 +1,25 @@
 -- What holdings show after each change of their tables.
-use Rattle.std.proofs.Common.{◌≡◌, ◌&&◌, ◌||◌, not, ℕ, ◌+◌, ◌<◌, ◌≤◌, Bool, true, false, cond, refl, sym, ap, ap₂, subst, ◌∙◌, List, [], ◌∷◌, ◌++◌, length, map, filter, get_or, set, slice_set, Option, Some, None, is_some, option_map, arith}
-use Rattle.std.specs.List.{list_any}
+use Rattle.std.proofs.Common.{◌≡◌, ℕ, ◌+◌, ◌<◌, true, false, refl, sym, ap, ap₂, subst, ◌∙◌, List, [], length, map, get_or, set, slice_set, Option, Some, None, option_map, arith}
 use Rattle.std.proofs.lemmas.Bool.{false≢true}
 use Rattle.std.proofs.lemmas.List.{length-set}
 use Rattle.k_types.specs.declared.names.Name.{Name}
 use Rattle.k_types.specs.declared.names.Link.{Link}
 use Rattle.k_types.specs.declared.names.CellPhase.{CellPhase}
-use Rattle.k_types.specs.declared.names.CellPhase.TheVariants.{Idle, Begun, Marked}
+use Rattle.k_types.specs.declared.names.CellPhase.TheVariants.{Idle}
 use Rattle.k_types.specs.Agree.{CellValue}
-use Rattle.k_types.specs.Names.{name_among, name_eq, name_of}
+use Rattle.k_types.specs.Names.{name_of}
 use Rattle.k_types.specs.Owners.{object_bytes}
 use Rattle.k_types.specs.Replies.{is_ref}
-use Rattle.k_types.specs.State.{Content, Object, Refers, Holds, fields_of, has, object_at}
+use Rattle.k_types.specs.State.{Content, Object, Holds, fields_of, object_at}
 use Rattle.k_types.specs.Totals.{total}
 use Rattle.k_types.specs.Types.{object_size}
 use Rattle.k_types.specs.Updates.{object_after_write, with_object}
 use Rattle.k_changes.specs.CellChanges.{given}
 use Rattle.k_space.specs.Objects.{BodyValue}
-use Rattle.k_space.specs.Segments.{Row, SegmentValue, made, new_row, placed, with_row}
-use Rattle.k_space.specs.Areas.{AreaValue, place_of, row_of_name, segment_at, with_segment, with_row_in, with_row_of}
-use Rattle.k_space.proofs.AreaRows.{Found, found, number_found, changed_is}
-use Rattle.k_exit.specs.Exits.{ExitList, ExitRow, targets, with_target}
+use Rattle.k_space.specs.Segments.{Row, SegmentValue, made, placed, with_row}
+use Rattle.k_space.specs.Areas.{AreaValue, place_of, row_of_name, segment_at, with_row_in}
+use Rattle.k_space.proofs.AreaRows.{found, number_found, changed_is}
+use Rattle.k_exit.specs.Exits.{ExitList, ExitRow, with_target}
 use Rattle.k_tie.specs.Values.{NoteValue}
 use Rattle.k_areas.specs.Shown.{area_objects, AreNumberedBelow, HasNoneFrom}
 use Rattle.k_areas.specs.Lists.{made_list}
@@ -31,7 +30,7 @@ use Rattle.k_cell.specs.Changes.{next_in, with_body, with_exit_item, with_field}
 use Rattle.k_cell.specs.Holdings.{HoldingsValue, AreBegun, AreHoldings, AreMarksKept, HasSerialLeft, cell_seen, holdings_seen, serial_rooms_of}
 use Rattle.k_cell.specs.Looks.{field_among, field_count_among, row_fields}
 use Rattle.k_cell.specs.Placed.{CanPlace, IsIntAt, IsPlacedIn, IsRefAt, IsWrittenIn}
-use Rattle.k_cell.proofs.Areas.{next_serial, placed_begun, placed_made, rooms_listed, same_below, set_begun, set_made_same, set_numbered, set_rooms}
+use Rattle.k_cell.proofs.Areas.{next_serial, placed_begun, placed_made, rooms_listed, set_begun, set_made_same, set_numbered, set_rooms}
 use Rattle.k_cell.proofs.Found.{fields_found}
 use Rattle.k_cell.proofs.Lists.{added_room, added_targets, int_field, ref_field, total_placed, total_written}
 

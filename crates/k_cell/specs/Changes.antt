@@ -1,10 +1,9 @@
 -- What calls change of a cell, as functions of its value.
-use Rattle.std.specs.Prelude.{◌≡◌, ℕ, ◌+◌, ◌-◌, ◌==◌, ◌<◌, ◌&&◌, ◌||◌, not, List, [], ◌∷◌, ◌++◌, map, filter, length, slice_index_or, slice_set, Option, Some, None, IsTrue, if◌then◌else◌}
-use Rattle.std.specs.List.Sorted.{IsPermutation}
+use Rattle.std.specs.Prelude.{◌≡◌, ℕ, ◌+◌, ◌==◌, ◌&&◌, ◌||◌, not, [], ◌∷◌, ◌++◌, map, filter, length, slice_index_or, slice_set, Some, None, IsTrue, if◌then◌else◌}
 use Rattle.k_types.specs.declared.names.Name.{Name}
 use Rattle.k_types.specs.Agree.{CellValue}
 use Rattle.k_types.specs.Names.{name_eq, name_among}
-use Rattle.k_types.specs.State.{Content, Object, has, refers_in}
+use Rattle.k_types.specs.State.{Content, has, refers_in}
 use Rattle.k_types.specs.Updates.{object_after_write, with_object}
 use Rattle.k_base.specs.Distinct.{AreDistinctNames}
 use Rattle.k_space.specs.Objects.{BodyValue}

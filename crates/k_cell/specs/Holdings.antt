@@ -1,5 +1,5 @@
 -- What is seen of the holdings of a cell, and how the tables show it.
-use Rattle.std.specs.Prelude.{◌≡◌, ◌<◌, ◌≤◌, ◌==◌, if◌then◌else◌, slice_set, ℕ, List, [], map, length, slice_index_or, Option, Some, None, option_map, IsFalse}
+use Rattle.std.specs.Prelude.{◌≡◌, ◌<◌, ◌==◌, if◌then◌else◌, slice_set, ℕ, List, [], map, length, slice_index_or, Option, Some, None, option_map, IsFalse}
 use Rattle.k_types.specs.declared.names.Name.{Name}
 use Rattle.k_types.specs.declared.names.CellPhase.{CellPhase}
 use Rattle.k_types.specs.declared.names.CellPhase.TheVariants.{Idle, Begun, Marked}

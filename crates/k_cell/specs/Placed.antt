@@ -1,8 +1,7 @@
 -- What changes of one segment make of an area.
-use Rattle.std.specs.Prelude.{◌≡◌, ℕ, ◌+◌, ◌<◌, List, length, slice_set, Some}
+use Rattle.std.specs.Prelude.{◌≡◌, ℕ, ◌<◌, List, length, slice_set, Some}
 use Rattle.k_types.specs.declared.names.Name.{Name}
 use Rattle.k_types.specs.declared.names.Link.{Link}
-use Rattle.k_types.specs.Names.{name_of}
 use Rattle.k_types.specs.State.{Content}
 use Rattle.k_space.specs.Objects.{BodyValue, HasInt, HasRef}
 use Rattle.k_space.specs.Segments.{Row, SegmentValue, made, placed}

@@ -1,5 +1,5 @@
 -- What an object that is made changes in the book's part.
-use Rattle.std.proofs.Common.{◌≡◌, ℕ, ◌+◌, ◌*◌, ◌<◌, ◌==◌, Bool, false, refl, ap, ap₂, ◌∙◌, map, length, arith, IsFalse}
+use Rattle.std.proofs.Common.{◌≡◌, ℕ, ◌+◌, ◌*◌, ◌<◌, Bool, false, refl, ap, ap₂, ◌∙◌, map, length, arith, IsFalse}
 use Rattle.std.proofs.Math.Path.{fun_ext}
 use Rattle.k_types.specs.declared.names.Pid.{Pid}
 use Rattle.k_types.specs.declared.names.TypeId.{TypeId}

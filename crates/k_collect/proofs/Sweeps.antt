@@ -15,7 +15,7 @@ use Rattle.k_base.specs.Distinct.{AreDistinctNames}
 use Rattle.k_mark.specs.declared.sweeping.Swept.{Swept}
 use Rattle.k_tie.specs.Values.{NoteValue}
 use Rattle.k_agree.specs.Committing.{journal_after, note_after}
-use Rattle.k_agree.specs.Ending.{HasLeft, bytes_unshared, dropped, dropped_exits, dropped_shares, freed_bytes, freed_objects, keeps_way, swept}
+use Rattle.k_agree.specs.Ending.{HasLeft, bytes_unshared, dropped, dropped_exits, dropped_shares, freed_bytes, keeps_way, swept}
 use Rattle.k_agree.specs.Meeting.{Fits, met_note}
 use Rattle.k_agree.proofs.Swept.{among_kept}
 use Rattle.k_book.specs.Books.{BookRecord}

@@ -1,5 +1,5 @@
 -- What a call of a host is answered, in numbers.
-use Rattle.std.specs.Prelude.{◌≡◌, Option, Some, MatchOption, Result, IfErr, IfOk, OnErr}
+use Rattle.std.specs.Prelude.{◌≡◌, Some, MatchOption, Result, IfErr, IfOk, OnErr}
 use Rattle.k_types.specs.declared.event.Event.{Event}
 use Rattle.k_types.specs.declared.names.Pid.{Pid}
 use Rattle.k_types.specs.declared.op.Op.{Op}

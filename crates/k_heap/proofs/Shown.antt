@@ -1,5 +1,5 @@
 -- What the cell of a process shows at first, and once a register is set.
-use Rattle.std.proofs.Common.{◌≡◌, ℕ, Bool, false, refl, ap, ap₂, ◌∙◌, List, [], map, replicate, set, Option, Some, None, option_map}
+use Rattle.std.proofs.Common.{◌≡◌, ℕ, Bool, false, ap, ap₂, ◌∙◌, List, [], replicate, set, Option, Some, None, option_map}
 use Rattle.std.proofs.lemmas.List.{map-set}
 use Rattle.k_types.specs.declared.event.Event.{Event}
 use Rattle.k_types.specs.declared.names.Link.{Link}

@@ -1,5 +1,5 @@
 -- A kill among the processes of a host: who is killed, and what it leaves of the host.
-use Rattle.std.proofs.Common.{◌≡◌, ◌≢◌, ◌⊎◌, ◌==◌, ◌&&◌, ◌<◌, ℕ, zero, suc, refl, sym, ap, ◌∙◌, subst, Bool, true, false, cond, not, nat_lt, List, [], ◌∷◌, length, set, Option, Some, None, slice_get, slice_set, IfErr, OnErr, Result, Ok, Err, arith, inl, inr, eqb-true}
+use Rattle.std.proofs.Common.{◌≡◌, ◌≢◌, ◌⊎◌, ◌==◌, ◌&&◌, ◌<◌, ℕ, zero, suc, refl, sym, ap, ◌∙◌, subst, Bool, true, false, cond, not, nat_lt, List, [], ◌∷◌, length, set, Some, None, slice_get, slice_set, IfErr, OnErr, Result, Ok, Err, arith, inl, inr, eqb-true}
 use Rattle.std.specs.Prelude.{IfOk}
 use Rattle.std.proofs.lemmas.Bool.{and_parts, eq-eqb, false≢true}
 use Rattle.std.proofs.lemmas.Bool.Decides.{nat_tests}
@@ -10,7 +10,7 @@ use Rattle.k_types.specs.declared.op.Op.TheVariants.{Kill}
 use Rattle.k_types.specs.Agree.{book_shown_by}
 use Rattle.k_types.specs.Limits.{is_above}
 use Rattle.k_types.specs.Steps.{in_range}
-use Rattle.k_types.specs.Trace.{Trace, process_count}
+use Rattle.k_types.specs.Trace.{process_count}
 use Rattle.k_base.proofs.Ancestors.{above_another}
 use Rattle.k_book.specs.Books.{BookRecord}
 use Rattle.k_cell.specs.Holdings.{HoldingsValue}
@@ -19,11 +19,11 @@ use Rattle.k_moves.specs.Shown.{idle_part}
 use Rattle.k_shared.specs.SharedHeaps.{SharedRecord}
 use Rattle.k_squares.specs.Locals.{is_local_in}
 use Rattle.k_guests.specs.declared.guest.Guest.{Guest}
-use Rattle.k_guests.specs.Serving.{Basis, BookServes, GuestServes, GuestsServe, KernelServes}
+use Rattle.k_guests.specs.Serving.{Basis, BookServes, GuestServes, KernelServes}
 use Rattle.k_ends.specs.HostError.{HostError}
 use Rattle.k_ends.specs.Doing.{HasOperated}
 use Rattle.k_ends.specs.CallsRefusals.{CanNotOperateAlone, EndsAnother}
-use Rattle.k_ends.proofs.Staying.{guests_set, heaps_stay, kernel_stays}
+use Rattle.k_ends.proofs.Staying.{guests_set, heaps_stay}
 use Rattle.k_ends.specs.Killing.{CanNotKill, HasEndedNobody, HasKilledNow, HasTriedToKill}
 use Rattle.k_host.proofs.Called.{host_of, pid_of, set_there}
 use Rattle.k_host.proofs.Refused.{refused}

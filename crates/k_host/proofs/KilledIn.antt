@@ -1,5 +1,5 @@
 -- A kill of one process of a host by another, by what the call among all of them answers.
-use Rattle.std.proofs.Common.{◌≡◌, ◌≢◌, ◌<◌, ◌≤◌, ℕ, refl, sym, ap, ◌∙◌, subst, List, [], ◌++◌, append-nil, drop, take, length, length-set, slice_set, arith, Some, OnErr, IfErr, Result}
+use Rattle.std.proofs.Common.{◌≡◌, ◌<◌, ℕ, sym, ap, ◌∙◌, subst, List, [], ◌++◌, append-nil, drop, take, length, length-set, slice_set, arith, Some, OnErr, IfErr, Result}
 use Rattle.std.specs.Prelude.{IfOk}
 use Rattle.std.proofs.lemmas.List.{drop_all, take_all}
 use Rattle.k_types.specs.declared.event.Event.{Event}

@@ -1,5 +1,5 @@
 -- Two places of a list that is split between them.
-use Rattle.std.proofs.Common.{◌≡◌, ◌≢◌, ◌<◌, ℕ, zero, suc, refl, sym, ap, ap₂, ◌∙◌, subst, List, [], ◌∷◌, ◌++◌, length, get_or, set, Some, slice_get, arith}
+use Rattle.std.proofs.Common.{◌≡◌, ◌<◌, ℕ, zero, suc, refl, sym, ap, ap₂, ◌∙◌, List, [], ◌∷◌, ◌++◌, length, get_or, set, Some, slice_get, arith}
 use Rattle.std.proofs.lemmas.List.{set_comm}
 
 get_front : {A : Type 0} (front back : List A) (i : ℕ) (x : A) → i < length front → x ≡ get_or front i x → slice_get (front ++ back) i ≡ Some x

@@ -1,8 +1,6 @@
 -- A kill among the processes of a host: who is killed, what it leaves, and when it is refused.
-use Rattle.std.specs.Prelude.{◌≡◌, ◌≢◌, ◌⊎◌, ◌&&◌, ◌==◌, ◌∷◌, ℕ, ◌<◌, [], not, nat_lt, IfErr, IfOk, List, Option, Some, None, Result, if◌then◌else◌, length, slice_get, slice_set}
+use Rattle.std.specs.Prelude.{◌≡◌, ◌≢◌, ◌&&◌, ◌==◌, ℕ, not, nat_lt, IfErr, IfOk, List, Option, Some, None, Result, if◌then◌else◌, slice_get, slice_set}
 use Rattle.k_types.specs.declared.event.Event.{Event}
-use Rattle.k_types.specs.declared.names.Heap.TheVariants.{Kernel, User}
-use Rattle.k_types.specs.declared.names.Pid.{Pid}
 use Rattle.k_types.specs.declared.op.Op.{Op}
 use Rattle.k_types.specs.declared.op.Op.TheVariants.{New, KNew, SNew, Store, Load, Move, Clear, Dir, Put, Get, Collect, KCollect, Share, Freeze, Attach, Exit, Kill, Resize}
 use Rattle.k_book.specs.Books.{BookRecord}

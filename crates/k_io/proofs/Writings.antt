@@ -1,5 +1,5 @@
 -- Calls that write a text, one after the other and in a loop.
-use Rattle.std.proofs.Common.{◌≡◌, ℕ, ◌<◌, ◌≤◌, List, [], ◌++◌, refl, ◌∙◌, subst, arith, Result, Ok, Err}
+use Rattle.std.proofs.Common.{◌≡◌, ℕ, ◌≤◌, List, [], ◌++◌, refl, ◌∙◌, subst, arith, Result, Ok, Err}
 use Rattle.k_io.specs.Causes.{RoseOrLast}
 use Rattle.k_io.specs.Writing.{Writes}
 use Rattle.k_io.proofs.Takings.{takes_nothing, takes_then, takes_front_then}

@@ -1,16 +1,13 @@
 -- What the kernel's cell shows at first.
-use Rattle.std.proofs.Common.{◌≡◌, ◌≢◌, ◌==◌, ℕ, zero, suc, ◌+◌, ◌<◌, ◌≤◌, cond, refl, sym, ap, ap₂, ◌∙◌, List, [], ◌∷◌, map, get_or, set, Option, Some, None, ne_eqb, arith}
-use Rattle.k_types.specs.declared.names.CellPhase.TheVariants.{Idle}
+use Rattle.std.proofs.Common.{◌≡◌, ◌==◌, ℕ, zero, suc, ◌+◌, ◌<◌, ◌≤◌, cond, refl, sym, ap, ◌∙◌, List, [], ◌∷◌, map, get_or, set, Option, Some, None, ne_eqb, arith}
 use Rattle.k_types.specs.declared.setup.Setup.{Setup}
-use Rattle.k_types.specs.Agree.{CellValue}
 use Rattle.k_types.specs.Numbers.{numbers_below}
-use Rattle.k_types.specs.State.{Object}
 use Rattle.k_cell.specs.CellChanges.{given}
-use Rattle.k_space.specs.Objects.{BodyValue, new_directory}
+use Rattle.k_space.specs.Objects.{new_directory}
 use Rattle.k_tie.specs.Values.{NoteValue}
 use Rattle.k_cell.specs.declared.rooms.HoldingRooms.{HoldingRooms}
 use Rattle.k_cell.specs.Changes.{with_body}
-use Rattle.k_cell.specs.Holdings.{HoldingsValue, HasSerialLeft, fresh_cell, fresh_holdings}
+use Rattle.k_cell.specs.Holdings.{HasSerialLeft, fresh_cell, fresh_holdings}
 use Rattle.k_cell.proofs.Areas.{set_below}
 use Rattle.k_kernel.specs.Kernels.{opened_kernel, segments_of}
 

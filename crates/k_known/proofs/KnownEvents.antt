@@ -1,5 +1,5 @@
 -- Each event of a run from a sound state names what the trace declares, and a tail has operations alone.
-use Rattle.std.proofs.Common.{◌≡◌, ℕ, sym, subst, ◌∙◌, List, [], ◌∷◌}
+use Rattle.std.proofs.Common.{sym, subst, List, [], ◌∷◌}
 use Rattle.k_types.specs.declared.event.Event.{Event}
 use Rattle.k_types.specs.declared.event.Event.TheVariants.{Done, Ended, Absorbed, Closing}
 use Rattle.k_types.specs.Trace.{Trace}

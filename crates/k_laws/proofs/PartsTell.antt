@@ -16,7 +16,6 @@ use Rattle.k_types.specs.Sound.{IsSound, IsOrdered, IsOrderedFrom}
 use Rattle.k_laws.specs.Parts.{SameParts, SameState}
 use Rattle.k_base.proofs.NameTests.{name_eq_refl, heap_eq-true, heap_eq_refl, name_lt_trans}
 use Rattle.k_frame.proofs.OwnerOf.{owner_known}
-use Rattle.k_laws.proofs.SoundStore.{get_or_above}
 use Rattle.k_base.proofs.Lists.{some_one}
 use Rattle.k_base.proofs.Tests.{same_test}
 use Rattle.k_base.proofs.Ordered.{ordered_tail}

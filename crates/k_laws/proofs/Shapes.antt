@@ -9,7 +9,6 @@ use Rattle.k_types.specs.declared.names.Phase.TheVariants.{Unmade, Populating}
 use Rattle.k_types.specs.Names.{name_eq}
 use Rattle.k_types.specs.Trace.{Trace, process_count}
 use Rattle.k_types.specs.State.{Object, Content, Holds, object_at, has, fields_of, field_kind, fresh}
-use Rattle.k_types.specs.Owners.{phase_of}
 use Rattle.k_types.specs.Updates.{with_object, object_after_write}
 use Rattle.k_types.specs.Sound.{IsTyped, AreTyped, AreDeclared}
 use Rattle.k_base.proofs.NameTests.{name_eq-true}

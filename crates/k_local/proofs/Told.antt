@@ -1,17 +1,14 @@
 -- Local operations as the machine has them.
-use Rattle.std.proofs.Common.{◌≡◌, ℕ, ◌+◌, ◌==◌, ◌&&◌, ◌||◌, ◌++◌, not, nat_le, Bool, true, false, cond, refl, sym, ap, ap₂, ◌∙◌, subst, List, [], ◌∷◌, Option, Some, None, is_some, eq-eqb, eqb-true, arith}
-use Rattle.std.proofs.lemmas.Bool.{and_parts, false≢true}
+use Rattle.std.proofs.Common.{◌≡◌, ℕ, ◌+◌, ◌==◌, ◌&&◌, ◌||◌, not, nat_le, Bool, true, false, cond, refl, sym, ap, ap₂, ◌∙◌, subst, [], ◌∷◌, Option, Some, None, is_some, eq-eqb, eqb-true}
+use Rattle.std.proofs.lemmas.Bool.{false≢true}
 use Rattle.k_types.specs.declared.event.Event.TheVariants.{Done as DoneEvent}
-use Rattle.k_types.specs.declared.event.Fault.{Fault}
 use Rattle.k_types.specs.declared.event.Fault.TheVariants.{Null, Foreign, NoField, WrongKind, Frozen, Segv}
 use Rattle.k_types.specs.declared.event.Reply.{Reply}
 use Rattle.k_types.specs.declared.event.Reply.TheVariants.{Done, Made, Loaded, Value, Refused}
-use Rattle.k_types.specs.declared.names.Heap.{Heap}
-use Rattle.k_types.specs.declared.names.Heap.TheVariants.{User}
 use Rattle.k_types.specs.declared.names.Name.{Name}
 use Rattle.k_types.specs.declared.names.Pid.{Pid}
 use Rattle.k_types.specs.declared.op.Op.{Op}
-use Rattle.k_types.specs.declared.op.Op.TheVariants.{New, KNew, SNew, Store, Load, Move, Clear, Dir, Put, Get, Collect, KCollect, Share, Freeze, Attach, Exit, Kill, Resize}
+use Rattle.k_types.specs.declared.op.Op.TheVariants.{Store, Load, Move, Clear, Put, Get}
 use Rattle.k_types.specs.Agree.{CellValue}
 use Rattle.k_types.specs.Barrier.{legal_store}
 use Rattle.k_types.specs.Cells.{BookPart, Cell, CellPart}
@@ -20,19 +17,18 @@ use Rattle.k_types.specs.Local.{is_own}
 use Rattle.k_types.specs.Names.{heap_eq, kind_of}
 use Rattle.k_types.specs.Owners.{user}
 use Rattle.k_types.specs.Replies.{at_base, fault_where, first_fault, is_foreign, is_ref, number_in, reference, refused_or}
-use Rattle.k_types.specs.State.{Content, Holds, Refers}
+use Rattle.k_types.specs.State.{Holds, Refers}
 use Rattle.k_types.specs.Trace.{Trace}
 use Rattle.k_base.proofs.NameTests.{heap_eq_refl}
 use Rattle.k_frame.proofs.Laws.{local_operations_go_by_their_cell-book}
 use Rattle.k_frame.specs.PartUpdates.{held_in, with_done, with_register, with_written}
 use Rattle.k_changes.specs.BookChanges.{owner_in}
 use Rattle.k_changes.specs.CellChanges.{with_exit_to}
-use Rattle.k_agree.specs.GivingAway.{with_one_done}
 use Rattle.k_agree.specs.Marking.{idle_part}
-use Rattle.k_squares.specs.Answers.{access_faults_in, answer_in, faults_in, field_in, is_frozen_in, load_faults_in, number_faults_in, number_from_in, passes_barrier_in, reference_from_in, reply_in, store_faults_in}
+use Rattle.k_squares.specs.Answers.{access_faults_in, answer_in, faults_in, field_in, load_faults_in, number_faults_in, number_from_in, passes_barrier_in, reference_from_in, reply_in, store_faults_in}
 use Rattle.k_squares.specs.CellAfter.{at_cell, cell_after, cells_operated, cells_put, cells_stored, cells_with_register, reference_given, register_in, unless_refused, with_exit_for}
 use Rattle.k_squares.proofs.Laws.{local_operations_are_told}
-use Rattle.k_squares.specs.Locals.{is_local_in, is_local_load_in, is_local_store_in, is_own_field_in}
+use Rattle.k_squares.specs.Locals.{is_local_in, is_local_load_in, is_local_store_in}
 use Rattle.k_heap.specs.Looks.{field_among, field_count_among}
 use Rattle.k_heap.specs.Heaps.{with_register_in}
 use Rattle.k_local.specs.Locals.{IsMachines, LeavesTheBook, ShowOwn, after_local, field_answer, get_answer, load_answer, local_answer, local_change, loaded_through, put_answer, store_answer, written_through}

@@ -9,7 +9,6 @@ use Rattle.k_types.specs.declared.names.Pid.{Pid}
 use Rattle.k_types.specs.declared.op.Op.{Op}
 use Rattle.k_types.specs.declared.op.Op.TheVariants.{New, KNew, SNew, Store, Load, Move, Clear, Dir, Put, Get, Collect, KCollect, Share, Freeze, Attach, Exit, Kill, Resize}
 use Rattle.k_types.specs.Agree.{CellValue}
-use Rattle.k_types.specs.Bounds.{register_count}
 use Rattle.k_types.specs.Cells.{BookPart, Cell, CellPart, book_part, part}
 use Rattle.k_types.specs.Effects.{step}
 use Rattle.k_types.specs.Local.{is_own}

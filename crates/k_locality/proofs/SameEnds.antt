@@ -1,5 +1,5 @@
 -- The end of a collection has the same numbers in two sound states where the heap's cell and the book have the same parts.
-use Rattle.std.proofs.Common.{◌≡◌, ℕ, ◌+◌, ◌==◌, ◌&&◌, ◌||◌, not, true, false, cond, refl, sym, ap, ap₂, ◌∙◌, List, [], ◌∷◌, map, filter, length, count_by, Option, Some, None, is_some, IsTrue}
+use Rattle.std.proofs.Common.{◌≡◌, ℕ, ◌==◌, ◌&&◌, ◌||◌, not, true, false, cond, refl, sym, ap, ap₂, ◌∙◌, List, [], ◌∷◌, map, filter, length, count_by, Option, Some, None, is_some, IsTrue}
 use Rattle.std.specs.List.{list_any}
 use Rattle.std.proofs.lemmas.Bool.{false≢true}
 use Rattle.k_types.specs.declared.names.Name.{Name}

@@ -5,7 +5,7 @@ use Rattle.k_types.specs.declared.event.Fault.{Fault}
 use Rattle.k_types.specs.declared.event.Fault.TheVariants.{Null}
 use Rattle.k_types.specs.declared.event.Reply.TheVariants.{Done as DoneReply, Loaded, Made, Refused}
 use Rattle.k_types.specs.declared.names.Heap.{Heap}
-use Rattle.k_types.specs.declared.names.Heap.TheVariants.{Kernel, User}
+use Rattle.k_types.specs.declared.names.Heap.TheVariants.{User}
 use Rattle.k_types.specs.declared.names.Name.{Name}
 use Rattle.k_types.specs.declared.names.Pid.{Pid}
 use Rattle.k_types.specs.declared.names.Reg.{Reg}
@@ -15,7 +15,7 @@ use Rattle.k_types.specs.declared.op.Op.TheVariants.{Clear, Dir, Move, New, Stor
 use Rattle.k_types.specs.Cells.{BookPart, Cell, CellPart}
 use Rattle.k_types.specs.Names.{directory, heap_eq}
 use Rattle.k_types.specs.Owners.{user}
-use Rattle.k_types.specs.Replies.{at_base, first_fault, refused_or}
+use Rattle.k_types.specs.Replies.{first_fault, refused_or}
 use Rattle.k_types.specs.State.{Refers}
 use Rattle.k_types.specs.Trace.{Trace, kinds_of, limit_of, segment_of, size_of_type}
 use Rattle.k_base.proofs.NameTests.{heap_eq_refl}
@@ -24,10 +24,10 @@ use Rattle.k_changes.specs.BookChanges.{owner_in, with_charge, with_pin_moved}
 use Rattle.k_changes.specs.CellChanges.{next_name_in, with_created}
 use Rattle.k_squares.specs.Answers.{answer_in, faults_in, reply_in, size_fault_in, store_faults_in}
 use Rattle.k_squares.specs.BookAfter.{book_after, book_operated, book_stored}
-use Rattle.k_squares.specs.CellAfter.{at_cell, cell_after, cells_operated, cells_stored, register_in, with_exit_for}
+use Rattle.k_squares.specs.CellAfter.{at_cell, cell_after, cells_operated, cells_stored, with_exit_for}
 use Rattle.k_squares.specs.Touches.{other_cells_in}
-use Rattle.k_moves.specs.Moves.{GivesAlone, GivesBoth}
-use Rattle.k_moves.specs.Shown.{part_alone, two_parts}
+use Rattle.k_moves.specs.Moves.{GivesAlone}
+use Rattle.k_moves.specs.Shown.{part_alone}
 
 module _ (trace : Trace) (b : BookPart) (v : CellPart) (pid : Pid) where
   own : heap_eq (User pid) (User pid) ≡ true

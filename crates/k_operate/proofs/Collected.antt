@@ -1,5 +1,5 @@
 -- The pieces of a collection of a process's heap keep what the locks ask.
-use Rattle.std.proofs.Common.{◌≡◌, ◌<◌, ◌+◌, ◌-◌, ◌^◌, ◌≤◌, ◌++◌, refl, sym, ap, ap₂, ◌∙◌, subst, List, [], ◌∷◌, length, append-nil, arith}
+use Rattle.std.proofs.Common.{◌≡◌, ◌<◌, ◌-◌, ◌^◌, ◌≤◌, ◌++◌, refl, sym, ap, ap₂, ◌∙◌, subst, List, [], ◌∷◌, length, append-nil, arith}
 use Rattle.k_types.specs.declared.event.Event.{Event}
 use Rattle.k_types.specs.declared.event.Event.TheVariants.{Done, Ended}
 use Rattle.k_types.specs.declared.event.Reply.TheVariants.{Done as DoneReply}

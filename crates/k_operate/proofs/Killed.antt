@@ -1,5 +1,5 @@
 -- The end of a process by another's operation keeps what the locks ask.
-use Rattle.std.proofs.Common.{◌≡◌, ◌≢◌, ◌<◌, ◌≤◌, ◌++◌, ap₂, drop, length, not, false, true, sym, ap, ◌∙◌, subst, List, [], ◌∷◌, append-nil, arith}
+use Rattle.std.proofs.Common.{◌≡◌, ◌≢◌, ◌<◌, ◌≤◌, ◌++◌, ap₂, drop, length, not, false, sym, ap, ◌∙◌, subst, List, [], ◌∷◌, append-nil, arith}
 use Rattle.std.proofs.lemmas.Bool.{and_parts, false≢true}
 use Rattle.k_types.specs.declared.event.Event.{Event}
 use Rattle.k_types.specs.declared.names.Heap.TheVariants.{Kernel, User}

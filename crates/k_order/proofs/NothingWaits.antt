@@ -1,5 +1,5 @@
 -- What is possible where nothing waits.
-use Rattle.std.proofs.Common.{◌≡◌, ℕ, ◌<◌, ◌||◌, not, true, refl, sym, ap, ◌∙◌, List, [], ◌∷◌, Some, None, is_some, option_map, cond, find, IsTrue, IsFalse}
+use Rattle.std.proofs.Common.{◌≡◌, ◌<◌, ◌||◌, not, refl, sym, ap, ◌∙◌, List, [], ◌∷◌, Some, None, is_some, option_map, cond, find, IsTrue, IsFalse}
 use Rattle.std.specs.List.{list_all, list_any}
 use Rattle.std.proofs.lemmas.Bool.{and_from, false≢true, or_left, or_right}
 use Rattle.k_types.specs.declared.names.Heap.{Heap}

@@ -23,7 +23,6 @@ use Rattle.k_bounds.specs.Counts.{one_if, exit_count}
 use Rattle.k_frame.proofs.Exact.{same_below}
 use Rattle.k_base.proofs.NameTests.{heap_eq_refl, name_eq_refl}
 use Rattle.k_frame.proofs.OwnerOf.{owner_lives, owner_stands, owner_known}
-use Rattle.k_laws.proofs.SoundStore.{get_or_above}
 use Rattle.k_base.proofs.Numbered.{all_at_below}
 use Rattle.k_base.proofs.Sums.{zeros}
 

@@ -82,8 +82,8 @@ impl Outcome {
         &self.cells
     }
 
-    // What the trace says before its operations.
-    pub(crate) fn setup(&self) -> &Setup
+    /// What the trace says before its operations.
+    pub fn setup(&self) -> &Setup
         ensures setup { trace_of result.now [] [] ≡ self.now.setup }
         ensures end { IsEnd self.now }
     {

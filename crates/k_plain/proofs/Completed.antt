@@ -1,11 +1,11 @@
 -- What makes a history complete, as it is asked of the state to which it led.
-use Rattle.std.proofs.Common.{◌≡◌, ℕ, ◌<◌, ◌&&◌, Bool, List, [], length, get_or, ap, subst, sym, ◌∙◌}
+use Rattle.std.proofs.Common.{◌≡◌, ℕ, ◌<◌, List, [], length, get_or, ap, subst, sym, ◌∙◌}
 use Rattle.std.specs.Prelude.{IsFalse, IsTrue}
 use Rattle.k_types.specs.declared.event.Event.{Event}
 use Rattle.k_types.specs.declared.op.Op.{Op}
 use Rattle.k_types.specs.Complete.{EndsWithClosing, IsComplete, IsPrefixOf, all_ended}
 use Rattle.k_types.specs.Names.{among}
-use Rattle.k_types.specs.State.{Scan, State}
+use Rattle.k_types.specs.State.{State}
 use Rattle.k_types.specs.Steps.{done_by, no_orphan, state_after}
 use Rattle.k_types.specs.Trace.{Trace, process_count}
 use Rattle.k_state.specs.Machines.{Machine, setup_of}

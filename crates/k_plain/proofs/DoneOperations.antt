@@ -1,7 +1,7 @@
 -- Operations that events have done, compared with those of a list.
 use Rattle.std.specs.Prelude.{IsFalse, IsTrue}
-use Rattle.std.proofs.Common.{◌≡◌, not, ℕ, zero, suc, ◌+◌, ◌<◌, ◌≤◌, Bool, true, false, refl, sym, ap, subst, ◌∙◌, List, [], ◌∷◌, ◌++◌, length, take, drop, get_or, slice_get, Option, Some, None, arith}
-use Rattle.std.proofs.lemmas.List.{append-nil, append_assoc, drop_more}
+use Rattle.std.proofs.Common.{◌≡◌, not, ℕ, zero, suc, ◌+◌, ◌<◌, ◌≤◌, Bool, true, false, refl, sym, ap, subst, ◌∙◌, List, [], ◌∷◌, ◌++◌, length, take, drop, get_or, slice_get, Some, arith}
+use Rattle.std.proofs.lemmas.List.{drop_more}
 use Rattle.k_types.specs.declared.event.Event.{Event}
 use Rattle.k_types.specs.declared.op.Op.{Op}
 use Rattle.k_types.specs.Complete.{IsPrefixOf}

@@ -1,5 +1,5 @@
 -- The end of a collection is possible with the numbers that it has, and no others.
-use Rattle.std.proofs.Common.{◌≡◌, ◌↔◌, ℕ, Bool, refl, sym, subst, Result, Ok, Err}
+use Rattle.std.proofs.Common.{◌≡◌, ◌↔◌, ℕ, Bool, sym, subst, Result, Ok, Err}
 use Rattle.std.specs.Prelude.{IfOk, IsTrue}
 use Rattle.k_io.specs.declared.errors.NoMemory.{NoMemory}
 use Rattle.k_types.specs.declared.names.Heap.{Heap}

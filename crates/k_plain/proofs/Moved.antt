@@ -8,7 +8,6 @@ use Rattle.k_types.specs.declared.event.Reply.{Reply}
 use Rattle.k_types.specs.declared.event.Event.{Event}
 use Rattle.k_types.specs.declared.event.Event.TheVariants.{Done}
 use Rattle.k_types.specs.Trace.{Trace}
-use Rattle.k_types.specs.State.{State}
 use Rattle.k_types.specs.TraceRules.{AreLimits}
 use Rattle.k_types.specs.Sound.{IsSound}
 use Rattle.k_types.specs.Replies.{reply_to}

@@ -1,5 +1,5 @@
 -- How many of a list are kept.
-use Rattle.std.proofs.Common.{◌≡◌, ℕ, ◌+◌, ◌<◌, ◌≤◌, cond, Bool, true, false, refl, ap, ◌∙◌, List, ◌∷◌, length, filter, get_or, drop, arith}
+use Rattle.std.proofs.Common.{◌≡◌, ℕ, ◌+◌, ◌<◌, ◌≤◌, cond, Bool, true, false, ap, ◌∙◌, List, ◌∷◌, length, filter, get_or, drop, arith}
 use Rattle.std.proofs.lemmas.List.{drop_more, at_drop_all}
 
 -- what one element adds

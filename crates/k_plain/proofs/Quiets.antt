@@ -1,5 +1,5 @@
 -- Where no heap is scanned there is no open collection, and the last events of a history.
-use Rattle.std.proofs.Common.{◌≡◌, ℕ, zero, suc, ◌+◌, ◌-◌, ◌<◌, ◌≤◌, not, Bool, true, false, refl, sym, ap, ◌∙◌, List, [], ◌∷◌, ◌++◌, length, get_or, is_some, Option, None, arith}
+use Rattle.std.proofs.Common.{◌≡◌, ℕ, zero, suc, ◌-◌, ◌<◌, ◌≤◌, not, Bool, true, false, refl, sym, ap, ◌∙◌, List, [], ◌∷◌, length, get_or, is_some, Option, arith}
 use Rattle.k_types.specs.declared.event.Event.{Event}
 use Rattle.k_types.specs.declared.event.Event.TheVariants.{Closing, Ended}
 use Rattle.k_types.specs.declared.names.Heap.{Heap}

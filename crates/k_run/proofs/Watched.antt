@@ -1,12 +1,11 @@
 -- Samples that are taken one after the other, and the end of a watched run.
-use Rattle.std.proofs.Common.{◌≡◌, ℕ, ◌+◌, ◌≤◌, List, [], ◌∷◌, ◌++◌, length, refl, sym, ap, ◌∙◌, subst, arith}
+use Rattle.std.proofs.Common.{◌≡◌, ℕ, ◌+◌, ◌≤◌, List, [], ◌∷◌, ◌++◌, length, sym, ap, ◌∙◌, subst, arith}
 use Rattle.std.proofs.lemmas.List.{length_push}
 use Rattle.atomic_table.specs.Seated.{TableId}
 use Rattle.k_trace.specs.Named.{NamedTrace}
 use Rattle.k_outcome.specs.Ends.{EndValue, journal_of}
 use Rattle.k_watch.specs.declared.sample.Sample.{Sample}
-use Rattle.k_watch.specs.Numbers.{numbers_after}
-use Rattle.k_watch.specs.Samples.{AllBelow, IsLast, IsRising}
+use Rattle.k_watch.specs.Samples.{AllBelow, IsRising}
 use Rattle.k_watch.specs.Shown.{AllTellOf, HasWatched}
 use Rattle.k_watch.specs.Values.{WatcherValue}
 use Rattle.k_watch.proofs.SampleLists.{rising_one_more}

@@ -1,10 +1,9 @@
 -- What a run that was opened for a trace asks and gives, told of the trace.
-use Rattle.std.proofs.Common.{◌≡◌, Result, sym, subst}
+use Rattle.std.proofs.Common.{Result, sym, subst}
 use Rattle.std.specs.Prelude.{IfOk}
 use Rattle.k_types.specs.Trace.{Trace}
 use Rattle.k_process.specs.Worlds.{WorldValue}
-use Rattle.k_still.specs.declared.first.FirstCells.{FirstCells}
-use Rattle.k_still.specs.Opening.{FirstCellsStand, IsOpened, IsSetupOf}
+use Rattle.k_still.specs.Opening.{FirstCellsStand, IsSetupOf}
 use Rattle.k_outcome.specs.Ends.{EndValue}
 use Rattle.k_outcome.specs.Listed.{AreRoomsFor}
 use Rattle.k_trace.specs.Named.{NamedTrace}

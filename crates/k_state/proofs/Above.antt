@@ -6,7 +6,7 @@ use Rattle.k_types.specs.declared.setup.LimitRow.{LimitRow}
 use Rattle.k_types.specs.declared.names.LimitId.{LimitId}
 use Rattle.k_types.specs.Names.{among}
 use Rattle.k_types.specs.Trace.{row_of}
-use Rattle.k_types.specs.Limits.{ancestors_above, ancestors_within, full_above, full_for, limits_in, max_of}
+use Rattle.k_types.specs.Limits.{ancestors_above, ancestors_within, full_above, full_for, limits_in}
 use Rattle.k_state.specs.Machines.{Machine}
 use Rattle.k_state.proofs.Rows.{hard_kept, parent_kept}
 

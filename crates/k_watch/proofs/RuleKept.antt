@@ -1,17 +1,16 @@
 -- Each step keeps the rule.
-use Rattle.std.proofs.Common.{◌≡◌, ◌≢◌, ℕ, zero, suc, ◌+◌, ◌<◌, ◌≤◌, ◌⊎◌, List, [], ◌∷◌, ◌++◌, slice_index, set, refl, sym, ap, ◌∙◌, subst, ⊎_elim, inl, inr, arith, le_refl}
+use Rattle.std.proofs.Common.{◌≡◌, ◌≢◌, ℕ, zero, suc, ◌+◌, ◌≤◌, List, [], ◌∷◌, ◌++◌, slice_index, set, refl, sym, ap, ◌∙◌, subst, ⊎_elim, inl, inr, arith, le_refl}
 use mathlib.Core.Option.{some, some-injective, some-ne-none}
 use lib.ListN.{get_elem?}
 use Rattle.crossbeam_utils.specs.Register.{Turns, Forks, Merges}
 use Rattle.atomic_table.proofs.Lists.{at_set, at_snoc}
-use Rattle.k_types.specs.Totals.{total}
 use Rattle.k_watch.specs.declared.sample.Sample.{Sample}
 use Rattle.k_watch.specs.declared.view.Taken.{Taken}
 use Rattle.k_watch.specs.declared.view.View.{View}
 use Rattle.k_watch.specs.declared.view.View.TheVariants.{Opening, Pen, Watching, Spent}
-use Rattle.k_watch.specs.Samples.{sample_in, words_of, newest_of, AllBelow, AllAmong, IsLast, IsRising, IsSmall}
+use Rattle.k_watch.specs.Samples.{sample_in, words_of, newest_of, IsLast, IsRising, IsSmall}
 use Rattle.k_watch.specs.Rule.{TakenFits, AllTakenFit, ViewFits, one_if_pen, KeepsSamples, IsOpening, KeepsRule}
-use Rattle.k_watch.specs.Steps.{taken, newcomer, Opens, Publishes, Takes, Looks, IsToldOf, after_take, after_give, watcher_given}
+use Rattle.k_watch.specs.Steps.{taken, newcomer, Opens, Publishes, Takes, Looks, after_take, after_give, watcher_given}
 use Rattle.k_watch.proofs.ViewSums.{total_set, total_snoc, total_two}
 use Rattle.k_watch.proofs.SampleLists.{newest_snoc, newest_last, last_snoc, rising_below, rising_one_more, all_among_longer, among_last, all_among_one_more, all_among_below, below_more}
 

@@ -1,5 +1,5 @@
 -- The last sample of a run that is over.
-use Rattle.std.proofs.Common.{◌≡◌, ◌≤◌, ℕ, refl, sym, ap, ◌∙◌, subst, List, [], ◌∷◌, ◌++◌, length, take, Some, inl, inr, ⊎_elim, arith}
+use Rattle.std.proofs.Common.{◌≡◌, ◌≤◌, sym, ap, ◌∙◌, subst, List, [], ◌∷◌, ◌++◌, length, ⊎_elim, arith}
 use Rattle.std.proofs.lemmas.List.{take_all}
 use Rattle.k_types.specs.declared.event.Event.{Event}
 use Rattle.k_types.specs.Trace.{Trace}

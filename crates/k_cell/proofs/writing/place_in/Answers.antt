@@ -1,4 +1,4 @@
-use Rattle.std.proofs.Common.{◌≡◌, ◌<◌, Some, length, sym, ap, ◌∙◌, arith}
+use Rattle.std.proofs.Common.{◌≡◌, Some, sym, ap, ◌∙◌, arith}
 use Rattle.k_space.specs.Areas.{segment_at, with_segment}
 use Rattle.k_space.proofs.AreaRows.{number_found}
 use Rattle.k_cell.proofs.writing.place_in.Goals as goal

@@ -1,4 +1,4 @@
-use Rattle.std.proofs.Common.{◌≤◌, ◌++◌, ◌∷◌, [], List, length, ap, sym, subst, arith}
+use Rattle.std.proofs.Common.{◌≤◌, List, length, ap, sym, subst, arith}
 use Rattle.k_watch.specs.declared.sample.Sample.{Sample}
 use Rattle.k_watch.specs.Numbers.{numbers_of}
 use Rattle.k_watch.specs.Samples.{newest_of}

@@ -1,4 +1,4 @@
-use Rattle.std.proofs.Common.{refl, sym, inl, inr, []}
+use Rattle.std.proofs.Common.{refl, sym, inl, inr}
 use Rattle.k_types.specs.declared.names.Heap.TheVariants.{Kernel, Shared}
 use Rattle.k_limits.proofs.Making.{handed_on}
 use Rattle.k_guests.specs.Serving.{basis_of}

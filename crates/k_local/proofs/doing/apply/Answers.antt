@@ -1,4 +1,4 @@
-use Rattle.std.proofs.Common.{◌≡◌, sym, ap, ◌∙◌}
+use Rattle.std.proofs.Common.{sym, ap, ◌∙◌}
 use Rattle.k_local.specs.Locals.{local_answer}
 use Rattle.k_local.proofs.Done.{put_kind, put_there, store_kind}
 use Rattle.k_local.proofs.doing.apply.Goals as goal

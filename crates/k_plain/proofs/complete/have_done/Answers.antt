@@ -1,4 +1,4 @@
-use Rattle.std.proofs.Common.{◌≡◌, ℕ, ◌<◌, [], List, map, get_or, length, ap, subst, sym, ◌∙◌, refl, below_more, arith, Vec, Global}
+use Rattle.std.proofs.Common.{◌≡◌, List, length, ap, subst, refl, below_more, arith}
 use Rattle.std.specs.Prelude.{IsFalse}
 use Rattle.k_types.specs.declared.op.Op.{Op}
 use Rattle.k_types.specs.Complete.{IsPrefixOf}

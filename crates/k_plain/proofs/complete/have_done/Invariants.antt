@@ -1,9 +1,8 @@
-use Rattle.std.proofs.Common.{◌≡◌, ℕ, ◌<◌, [], map, get_or, length}
+use Rattle.std.proofs.Common.{◌≡◌, ℕ, ◌<◌, [], map, get_or}
 use Rattle.std.specs.Prelude.{IsFalse}
 use Rattle.k_types.specs.Complete.{IsPrefixOf}
 use Rattle.k_types.specs.Names.{among}
 use Rattle.k_types.specs.Steps.{done_by}
-use Rattle.k_types.specs.Trace.{process_count}
 use Rattle.k_plain.proofs.complete.have_done.Given as goal
 
 abbrev pub invariant-loop-p : goal.invariant-loop-p

@@ -1,4 +1,4 @@
-use Rattle.std.proofs.Common.{◌≡◌, List, map, ap, sym, ◌∙◌, Vec, Global}
+use Rattle.std.proofs.Common.{List, map, ap, sym, ◌∙◌, Vec, Global}
 use Rattle.std.proofs.lemmas.Bool.{false≢true}
 use Rattle.k_types.specs.declared.op.Op.{Op}
 use Rattle.k_state.specs.Machines.{Machine}

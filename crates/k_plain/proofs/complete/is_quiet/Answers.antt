@@ -1,5 +1,5 @@
-use Rattle.std.proofs.Common.{◌≡◌, ◌<◌, ℕ, List, not, true, false, Bool, ap, sym, subst, ◌∙◌, length, arith}
-use Rattle.k_types.specs.Trace.{Trace, process_count}
+use Rattle.std.proofs.Common.{List, not, ap, sym, ◌∙◌, length, arith}
+use Rattle.k_types.specs.Trace.{Trace}
 use Rattle.k_types.specs.State.{Scan, is_scanned}
 use Rattle.k_types.specs.declared.names.Heap.TheVariants.{Kernel}
 use Rattle.k_plain.proofs.Quiets.{off_not, quiet_all}

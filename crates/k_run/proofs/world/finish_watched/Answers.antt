@@ -1,4 +1,4 @@
-use Rattle.std.proofs.Common.{◌≡◌, [], Some, Option, ap, sym, ◌∙◌, subst}
+use Rattle.std.proofs.Common.{◌≡◌, [], Some, Option, ap, sym, subst}
 use Rattle.atomic_table.specs.Seated.{TableId}
 use Rattle.k_types.specs.Trace.{trace_of}
 use Rattle.k_trace.specs.Named.{NamedTrace}

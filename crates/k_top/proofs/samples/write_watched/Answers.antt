@@ -1,4 +1,4 @@
-use Rattle.std.proofs.Common.{Ok, Result, ap, subst, sym}
+use Rattle.std.proofs.Common.{ap, subst, sym}
 use Rattle.k_text.specs.Named.{AreNamed}
 use Rattle.k_text.specs.Report.{text_over}
 use Rattle.k_io.proofs.Writings.{writes_same, writes_then}

@@ -1,5 +1,4 @@
-use Rattle.std.proofs.Common.{rules, sym, ◌∙◌, ap, refl, Some}
-use Rattle.std.specs.Prelude.{map, string_bytes}
+use Rattle.std.proofs.Common.{sym, ◌∙◌, ap, refl, Some}
 use Rattle.k_top.specs.declared.commands.Command.{Command}
 use Rattle.k_top.specs.declared.commands.Command.TheVariants.{Run, Replay, Check, Big, Watch}
 use Rattle.k_top.proofs.Answered.{answered_more, answered_written}

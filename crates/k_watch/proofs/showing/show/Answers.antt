@@ -1,7 +1,7 @@
 use Rattle.std.proofs.Common.{subst, Option}
 use Rattle.k_watch.specs.Shown.{CanShow}
 use Rattle.k_watch.specs.Values.{PenValue}
-use Rattle.k_watch.proofs.ShownOn.{none_newer, none_shown, shown_on}
+use Rattle.k_watch.proofs.ShownOn.{none_newer, shown_on}
 use Rattle.k_watch.proofs.Told.{has_root}
 use Rattle.k_watch.proofs.showing.show.Goals as goal
 

@@ -1,4 +1,3 @@
-use Rattle.std.proofs.Common.{Some}
 use Rattle.k_watch.proofs.ShownEnd.{watched_through}
 use Rattle.k_watch.proofs.Told.{has_root}
 use Rattle.k_watch.proofs.showing.show_end.Goals as goal

@@ -1,5 +1,4 @@
-use Rattle.std.proofs.Common.{◌≡◌}
-use Rattle.k_cell.proofs.Marks.{dropped, dropped_kept}
+use Rattle.k_cell.proofs.Marks.{dropped}
 use Rattle.k_cell.proofs.holding.Holdings.take_first.Goals.{in-Some, in-None}
 use Rattle.k_cell.proofs.holding.Holdings.take_first.Goals as goal
 

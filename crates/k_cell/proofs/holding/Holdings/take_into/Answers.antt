@@ -1,4 +1,4 @@
-use Rattle.std.proofs.Common.{◌≡◌, ◌==◌, sym, ap, ◌∙◌}
+use Rattle.std.proofs.Common.{◌==◌, sym, ap, ◌∙◌}
 use Rattle.k_types.specs.declared.names.Name.{Name}
 use Rattle.k_cell.proofs.Lists.{targets_lead}
 use Rattle.k_cell.proofs.Marks.{dropped}

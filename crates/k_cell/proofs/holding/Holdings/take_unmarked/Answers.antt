@@ -1,4 +1,4 @@
-use Rattle.std.proofs.Common.{◌≡◌, sym, ap, ◌∙◌}
+use Rattle.std.proofs.Common.{◌≡◌, ap, ◌∙◌}
 use Rattle.k_types.specs.declared.names.CellPhase.TheVariants.{Marked}
 use Rattle.k_cell.specs.Holdings.{HoldingsValue}
 use Rattle.k_cell.proofs.Marks.{all_black, dropped, was_unmarked}

@@ -1,7 +1,7 @@
 use Rattle.std.proofs.Common.{◌≡◌, ◌+◌, length, ap, ◌∙◌, arith}
 use Rattle.std.specs.VecDeque.{deque_capacity}
 use Rattle.k_cell.specs.Holdings.{fresh_holdings}
-use Rattle.k_heap.specs.Heaps.{own_segment, segments_of}
+use Rattle.k_heap.specs.Heaps.{own_segment}
 use Rattle.k_heap.proofs.Shown.{opened_seen}
 use Rattle.k_heap.proofs.heap.HeapCell.make.Goals as goal
 

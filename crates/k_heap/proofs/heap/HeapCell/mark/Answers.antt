@@ -1,4 +1,4 @@
-use Rattle.std.proofs.Common.{◌≡◌, sym, subst}
+use Rattle.std.proofs.Common.{sym, subst}
 use Rattle.k_cell.specs.Changes.{HasItsExits}
 use Rattle.k_heap.specs.Heaps.{HeapRecord}
 use Rattle.k_heap.proofs.heap.HeapCell.mark.Goals as goal

@@ -1,4 +1,3 @@
-use Rattle.std.proofs.Common.{◌≡◌}
 use Rattle.std.specs.VecDeque.{deque_capacity}
 use Rattle.k_heap.proofs.Shown.{set_seen}
 use Rattle.k_heap.proofs.heap.HeapCell.set_reg.Goals as goal

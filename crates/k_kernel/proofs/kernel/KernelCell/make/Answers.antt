@@ -2,7 +2,7 @@ use Rattle.std.proofs.Common.{◌≡◌, ◌+◌, length, sym, ap, ap₂, subst,
 use Rattle.k_space.specs.Objects.{BodyValue, new_directory}
 use Rattle.k_cell.specs.Changes.{with_body}
 use Rattle.k_cell.specs.Holdings.{HoldingsValue, HasSerialLeft, fresh_holdings}
-use Rattle.k_kernel.proofs.Shown.{opened_seen, rooms_of, serial_left}
+use Rattle.k_kernel.proofs.Shown.{opened_seen, serial_left}
 use Rattle.k_kernel.proofs.kernel.KernelCell.make.Goals as goal
 
 pub place-requires-clause-left : goal.place-requires-clause-left

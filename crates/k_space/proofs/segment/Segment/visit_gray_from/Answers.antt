@@ -4,7 +4,6 @@ use Rattle.k_space.specs.declared.marks.Place.TheVariants.{Empty, At}
 use Rattle.k_space.specs.declared.marks.Mark.TheVariants.{White as MarkWhite, Gray as MarkGray, Black as MarkBlack}
 use Rattle.k_space.specs.Segments.{SegmentValue, row_at, some_gray}
 use Rattle.k_space.specs.Places.{IsGrayList, is_gray_place}
-use Rattle.k_space.specs.Visiting.{AreHeld}
 use Rattle.k_space.proofs.GrayQueue.{last_set}
 use Rattle.k_space.proofs.ListedLemmas.{listed_set}
 use Rattle.k_space.proofs.Bytes.{bytes_recolored}

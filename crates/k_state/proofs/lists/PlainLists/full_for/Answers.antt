@@ -1,4 +1,4 @@
-use Rattle.std.proofs.Common.{◌<◌, Some, None, sym, ◌∙◌, arith}
+use Rattle.std.proofs.Common.{Some, None, sym, ◌∙◌, arith}
 use Rattle.std.proofs.lemmas.Bool.{not-true, not-false}
 use Rattle.k_state.proofs.Above.{full_kept, full_more, full_soft}
 use Rattle.k_state.proofs.Paths.{parent_known}

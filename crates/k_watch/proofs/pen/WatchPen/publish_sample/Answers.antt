@@ -1,4 +1,4 @@
-use Rattle.std.proofs.Common.{rules, ◌≤◌, sym, ap, ◌∙◌, subst}
+use Rattle.std.proofs.Common.{rules, ◌≤◌, sym, subst}
 use Rattle.k_watch.specs.Samples.{newest_of}
 use Rattle.k_watch.specs.Values.{PenValue}
 use Rattle.k_watch.proofs.RuleKept.{publishes_with}

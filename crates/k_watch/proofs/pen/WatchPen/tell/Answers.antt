@@ -1,8 +1,4 @@
-use Rattle.std.proofs.Common.{rules, sym, ap, ◌∙◌, [], ◌∷◌}
-use Rattle.crossbeam_utils.specs.Seq.{cell_view}
-use Rattle.k_watch.specs.declared.view.View.{View}
-use Rattle.k_watch.specs.declared.view.View.TheVariants.{Pen, Watching}
-use Rattle.k_watch.specs.Steps.{after_take, published_in, taken_in}
+use Rattle.std.proofs.Common.{rules, sym, ap, ◌∙◌, []}
 use Rattle.k_watch.specs.Values.{PenValue, WatcherValue}
 use Rattle.k_watch.proofs.RuleKept.{hands_over, takes_in, looks, gives, joined}
 use Rattle.k_watch.proofs.pen.WatchPen.tell.Goals as goal
