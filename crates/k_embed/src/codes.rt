@@ -115,6 +115,7 @@ pub(crate) fn lacking(why: HostError) -> Answer
         HostError::Full => 5,
         HostError::NoBody => 6,
         HostError::Orphan => 7,
+        HostError::Reserved => 10,
     };
     plain(status, 0, 0)
 }

@@ -1,3 +1,4 @@
+pub mod Handed
 pub mod Collected
 pub mod Wholly
 pub mod Killed
