@@ -7,7 +7,7 @@ ghost use Rattle.std.specs.Ptr.{lies_at, room_at};
 ghost use Rattle.k_embed.specs.contracts.serving.Slot.{the_row};
 ghost use Rattle.k_embed.specs.declared.serving.Slot.{Slot};
 ghost use Rattle.k_embed.specs.Served.{IsServed};
-ghost use Rattle.k_keeper.specs.Kept.{HasOpened};
+ghost use Rattle.k_embed.specs.Kept.{HasOpened};
 
 use k_embed::{Answer, Request, Slot, opened, serve};
 use std::alloc::Global;

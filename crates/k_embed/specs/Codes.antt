@@ -7,8 +7,8 @@ use Rattle.k_types.specs.declared.event.Fault.TheVariants.{Null, Foreign, NotSha
 use Rattle.k_types.specs.declared.event.Reply.{Reply}
 use Rattle.k_types.specs.declared.event.Reply.TheVariants.{Done, Made, Loaded, Value, Refused}
 use Rattle.k_types.specs.declared.names.Name.{Name}
-use Rattle.k_calls.specs.declared.errors.HostError.{HostError}
-use Rattle.k_calls.specs.declared.errors.HostError.TheVariants.{Unknown, OwnCall, Ended as HasEnded, Phase, Full, NoBody, Orphan, Reserved}
+use Rattle.k_host.specs.HostError.{HostError}
+use Rattle.k_host.specs.HostError.TheVariants.{Unknown, OwnCall, Ended as HasEnded, Phase, Full, NoBody, Orphan, Reserved}
 use Rattle.k_embed.specs.declared.messages.Answer.{Answer}
 
 -- only this is said

@@ -3,7 +3,7 @@ use Rattle.std.specs.Prelude.{◌≡◌, Some, MatchOption, Result, IfErr, IfOk,
 use Rattle.k_types.specs.declared.event.Event.{Event}
 use Rattle.k_types.specs.declared.names.Pid.{Pid}
 use Rattle.k_types.specs.declared.op.Op.{Op}
-use Rattle.k_calls.specs.declared.errors.HostError.{HostError}
+use Rattle.k_host.specs.HostError.{HostError}
 use Rattle.k_host.specs.Calls.{HasAbsorbedIn, HasCollectedIn, HasExitedIn, HasOperatedIn}
 use Rattle.k_keeper.specs.Keeping.{KeeperValue}
 use Rattle.k_keeper.specs.Kept.{HasCollectedAll, IsGone, MayRefuseCollection, MayRefuseKernel, MayRefuseOperation, MayRefuseToAbsorb}

@@ -33,7 +33,7 @@ use Rattle.std.proofs.raw_atomic.Walks.{proved}
 use Rattle.std.specs.contracts.alloc.Global.{the_row as Global}
 use Rattle.std.proofs.alloc.Global.TheLaws.{the_told as GT, the_row_laws as GL}
 use Rattle.std.specs.Prelude.{IfSome}
-use Rattle.k_keeper.specs.Kept.{HasOpened}
+use Rattle.k_embed.specs.Kept.{HasOpened}
 use Rattle.k_embed.specs.contracts.serving.Slot.{the_row as R}
 use Rattle.k_embed.specs.declared.serving.Slot.{Slot}
 use Rattle.k_embed.proofs.serving.Slot.TheLaws.{the_row_laws as RL}
