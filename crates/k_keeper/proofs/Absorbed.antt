@@ -12,9 +12,9 @@ use Rattle.k_bounds.proofs.Laws.{heaps_are_absorbed_once-absorbed}
 use Rattle.k_operate.proofs.AbsorbKept.{heap_known}
 use Rattle.k_shared.specs.SharedHeaps.{SharedRecord}
 use Rattle.k_shares.specs.Sharers.{lowest_orphan}
-use Rattle.k_calls.specs.declared.errors.HostError.{HostError}
-use Rattle.k_calls.specs.declared.errors.HostError.TheVariants.{Unknown}
-use Rattle.k_ends.specs.Refusals.{CanNotAbsorb}
+use Rattle.k_host.specs.HostError.{HostError}
+use Rattle.k_host.specs.HostError.TheVariants.{Unknown}
+use Rattle.k_host.specs.EndsRefusals.{CanNotAbsorb}
 use Rattle.k_host.specs.Calls.{HasAbsorbedIn}
 use Rattle.k_host.specs.Hosts.{HostServes, HostValue}
 use Rattle.k_host.specs.Refusals.{MayRefuseAbsorption}

@@ -14,7 +14,7 @@ use Rattle.k_squares.specs.CellAfter.{unless_refused}
 use Rattle.k_local.specs.Locals.{local_change, written_through}
 use Rattle.k_guests.specs.declared.guest.Guest.{Guest}
 use Rattle.k_guests.specs.Serving.{Basis}
-use Rattle.k_calls.specs.Doing.{HasDoneInside}
+use Rattle.k_host.specs.Doing.{HasDoneInside}
 
 written_phase : (b : Option Name) (i : ℕ) (content : Content) (v : CellValue) → (written_through b i content v).collection ≡ v.collection
 written_phase None i content v = refl

@@ -14,7 +14,7 @@ use Rattle.k_cell.specs.Holdings.{HoldingsValue}
 use Rattle.k_shared.specs.SharedHeaps.{SharedRecord}
 use Rattle.k_guests.specs.declared.guest.Guest.{Guest}
 use Rattle.k_guests.specs.Serving.{Basis}
-use Rattle.k_calls.specs.Doing.{HasOperated, IsKept as IsKeptInside, IsRecorded, LeavesOthers}
+use Rattle.k_host.specs.Doing.{HasOperated, IsKept as IsKeptInside, IsRecorded, LeavesOthers}
 use Rattle.k_host.specs.Asked.{has_ended_of}
 use Rattle.k_host.specs.Calls.{HasAbsorbedIn, HasCollectedIn, HasCollectedKernelIn, HasExitedIn, HasKilledIn, HasOperatedAs, HasOperatedIn}
 use Rattle.k_host.specs.Hosts.{HostServes, HostValue}

@@ -7,11 +7,11 @@ use Rattle.k_types.specs.declared.names.Pid.{Pid}
 use Rattle.k_types.specs.declared.names.SharedId.{SharedId}
 use Rattle.k_types.specs.declared.op.Op.{Op}
 use Rattle.k_guests.specs.declared.guest.Guest.{Guest}
-use Rattle.k_calls.specs.declared.errors.HostError.{HostError}
-use Rattle.k_calls.specs.declared.errors.HostError.TheVariants.{Ended, Reserved, Unknown}
-use Rattle.k_calls.specs.Refusals.{Lacks}
-use Rattle.k_ends.specs.Refusals.{CanNotExit}
-use Rattle.k_ends.specs.Whole.{CanNotCollect, CanNotCollectKernel}
+use Rattle.k_host.specs.HostError.{HostError}
+use Rattle.k_host.specs.HostError.TheVariants.{Ended, Reserved, Unknown}
+use Rattle.k_host.specs.CallsRefusals.{Lacks}
+use Rattle.k_host.specs.EndsRefusals.{CanNotExit}
+use Rattle.k_host.specs.Whole.{CanNotCollect, CanNotCollectKernel}
 use Rattle.k_host.specs.Asked.{has_ended_of}
 use Rattle.k_host.specs.Calls.{HasCollectedIn, HasCollectedKernelIn, HasExitedIn, HasOperatedIn}
 use Rattle.k_host.specs.Hosts.{HostServes, HostValue}

@@ -4,7 +4,7 @@ use Rattle.k_types.specs.declared.names.CellPhase.TheVariants.{Idle}
 use Rattle.k_types.specs.declared.event.Event.{Event}
 use Rattle.k_types.specs.Totals.{total}
 use Rattle.k_guests.specs.declared.guest.Guest.{Guest}
-use Rattle.k_calls.specs.declared.errors.HostError.{HostError}
+use Rattle.k_host.specs.HostError.{HostError}
 use Rattle.k_host.specs.Asked.{has_ended_of}
 use Rattle.k_host.specs.Hosts.{HostServes, HostValue}
 

@@ -9,9 +9,9 @@ use Rattle.k_types.specs.declared.op.Op.{Op}
 use Rattle.k_shares.specs.Sharers.{lowest_orphan}
 use Rattle.k_words.specs.Words.{Text}
 use Rattle.k_guests.specs.declared.guest.Guest.{Guest}
-use Rattle.k_calls.specs.declared.errors.HostError.{HostError}
-use Rattle.k_calls.specs.declared.errors.HostError.TheVariants.{Ended, Reserved}
-use Rattle.k_calls.specs.Refusals.{Lacks}
+use Rattle.k_host.specs.HostError.{HostError}
+use Rattle.k_host.specs.HostError.TheVariants.{Ended, Reserved}
+use Rattle.k_host.specs.CallsRefusals.{Lacks}
 use Rattle.k_host.specs.declared.errors.OpenError.{OpenError}
 use Rattle.k_host.specs.declared.errors.OpenError.TheVariants.{Terms}
 use Rattle.k_host.specs.Asked.{has_ended_of}

@@ -1,6 +1,6 @@
 //! Whether a call can be done.
 ghost use Rattle.std.specs.Prelude.{◌≤◌, ◌⊎◌, ◌↔◌, IfErr, IsTrue, OnOk};
-ghost use Rattle.k_calls.specs.Refusals.{Lacks};
+ghost use Rattle.k_host.specs.CallsRefusals.{Lacks};
 ghost use Rattle.k_keeper.specs.Kept.{IsAlive, IsGone};
 
 use k_host::{Host, HostError};

@@ -2,8 +2,8 @@ use Rattle.std.proofs.Common.{◌≡◌, ◌≤◌, sym, arith}
 use Rattle.k_keeper.proofs.Absorbed.{absorbed_none, absorbed_then, two_left}
 use Rattle.k_keeper.proofs.absorbing.absorb_all.Goals as goal
 
-pub loop-id-entered : goal.loop-id-entered
-loop-id-entered c = record { kept = c.requires.kept; absorbed = absorbed_none c.args.host.now c.args.left }
+pub loop-id-init : goal.loop-id-init
+loop-id-init c = record { kept = c.requires.kept; absorbed = absorbed_none c.args.host.now c.args.left }
 
 pub absorb_first-requires-clause-kept : goal.absorb_first-requires-clause-kept
 absorb_first-requires-clause-kept c = c.loop-id.invariant.kept

@@ -1,7 +1,7 @@
 use Rattle.std.proofs.Common.{◌≤◌, ◌⊎◌, inl}
 use Rattle.k_limits.proofs.Making.{handed_on}
-use Rattle.k_calls.specs.declared.errors.HostError.TheVariants.{Reserved}
-use Rattle.k_calls.specs.Refusals.{Lacks}
+use Rattle.k_host.specs.HostError.TheVariants.{Reserved}
+use Rattle.k_host.specs.CallsRefusals.{Lacks}
 use Rattle.k_keeper.specs.Kept.{IsAlive, IsGone}
 use Rattle.k_keeper.proofs.Refused.{both_on, second_of}
 use Rattle.k_keeper.proofs.alive.ready.Goals as goal
