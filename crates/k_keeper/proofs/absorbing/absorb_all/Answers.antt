@@ -5,25 +5,25 @@ use Rattle.k_keeper.proofs.absorbing.absorb_all.Goals as goal
 pub loop-id-init : goal.loop-id-init
 loop-id-init c = record { kept = c.requires.kept; absorbed = absorbed_none c.args.host.now c.args.left }
 
-pub absorb_first-requires-clause-kept : goal.absorb_first-requires-clause-kept
-absorb_first-requires-clause-kept c = c.loop-id.invariant.kept
+pub absorb_first-rest-requires-clause-kept : goal.absorb_first-rest-requires-clause-kept
+absorb_first-rest-requires-clause-kept c = c.loop-id.invariant.kept
 
-pub absorb_first-requires-clause-some : goal.absorb_first-requires-clause-some
-absorb_first-requires-clause-some c =
+pub absorb_first-rest-requires-clause-some : goal.absorb_first-rest-requires-clause-some
+absorb_first-rest-requires-clause-some c =
     let two = two_left c.args.host.now c.loop-id.host c.args.left c.loop-id.rest c.loop-id.invariant.absorbed c.loop-id.invariant.kept.serves c.requires.enough in
     omega (arith, two)
 
-pub absorb_first-requires-clause-first : goal.absorb_first-requires-clause-first
-absorb_first-requires-clause-first c = sym c.in-Some.ensures
+pub absorb_first-rest-requires-clause-first : goal.absorb_first-rest-requires-clause-first
+absorb_first-rest-requires-clause-first c = sym c.in-Some.ensures
 
 pub loop-id-preserved : goal.loop-id-preserved
 loop-id-preserved c = record {
-  kept = c.absorb_first.ensures.kept;
-  absorbed = absorbed_then c.args.host.now c.loop-id.host c.absorb_first.new.host c.args.left c.loop-id.rest c.absorb_first.result c.loop-id.invariant.absorbed c.absorb_first.ensures.absorbed;
+  kept = c.absorb_first-rest.ensures.kept;
+  absorbed = absorbed_then c.args.host.now c.loop-id.host c.absorb_first-rest.new.host c.args.left c.loop-id.rest c.absorb_first-rest.result c.loop-id.invariant.absorbed c.absorb_first-rest.ensures.absorbed;
 }
 
 pub loop-id-smaller : goal.loop-id-smaller
-loop-id-smaller c = let one = c.absorb_first.ensures.one in omega (arith, one)
+loop-id-smaller c = let one = c.absorb_first-rest.ensures.one in omega (arith, one)
 
 pub returns-clause-kept : goal.returns-clause-kept
 returns-clause-kept c = c.loop-id.invariant.kept

@@ -20,17 +20,17 @@ absorb_all-left-requires-clause-enough c = let enough = c.in_ok-ready.ensures.ok
 
 pub invariant_of-self : goal.invariant_of-self
 invariant_of-self c =
-    kernel_kept c.absorb_all-left.new.host c.absorb_all-left.result c.absorb_all-left.ensures.kept c.args.pid (alive_still c.self.inside.host c.absorb_all-left.new.host c.args.pid c.absorb_all-left.ensures.absorbed.guests c.in_ok-ready.ensures.ok.0) c.collect_kernel-came.new.self c.left_after.result c.collect_kernel-came.result c.serves.ensures c.collect_kernel-came.ensures.done c.collect_kernel-came.ensures.same
-    c.absorb_all-left.ensures.enough c.left_after.ensures
+    kernel_kept c.absorb_all-left.new.host c.absorb_all-left.result c.absorb_all-left.ensures.kept c.args.pid (alive_still c.self.inside.host c.absorb_all-left.new.host c.args.pid c.absorb_all-left.ensures.absorbed.guests c.in_ok-ready.ensures.ok.0) c.collect_kernel-came.new.self c.left_after-self-inside.result c.collect_kernel-came.result c.serves.ensures c.collect_kernel-came.ensures.done c.collect_kernel-came.ensures.same
+    c.absorb_all-left.ensures.enough c.left_after-self-inside.ensures
 
 pub returns-clause-done : goal.returns-clause-done
 returns-clause-done c =
-    subst (λ (old : KeeperValue). IfOk c.collect_kernel-came.result (λ event. HasCollectedAll old (keeper_of c.collect_kernel-came.new.self c.left_after.result) c.args.pid event)) c.self.view_is
-    (collected_all c.self.inside.host c.absorb_all-left.new.host c.collect_kernel-came.new.self c.self.inside.left c.absorb_all-left.result c.left_after.result c.args.pid c.collect_kernel-came.result c.absorb_all-left.ensures.absorbed c.absorb_all-left.ensures.none_left c.absorb_all-left.ensures.enough c.left_after.ensures c.collect_kernel-came.ensures.done)
+    subst (λ (old : KeeperValue). IfOk c.collect_kernel-came.result (λ event. HasCollectedAll old (keeper_of c.collect_kernel-came.new.self c.left_after-self-inside.result) c.args.pid event)) c.self.view_is
+    (collected_all c.self.inside.host c.absorb_all-left.new.host c.collect_kernel-came.new.self c.self.inside.left c.absorb_all-left.result c.left_after-self-inside.result c.args.pid c.collect_kernel-came.result c.absorb_all-left.ensures.absorbed c.absorb_all-left.ensures.none_left c.absorb_all-left.ensures.enough c.left_after-self-inside.ensures c.collect_kernel-came.ensures.done)
 
 pub returns-clause-same : goal.returns-clause-same
 returns-clause-same c =
-    kernel_same c.absorb_all-left.new.host c.absorb_all-left.result c.absorb_all-left.ensures.kept c.args.pid (alive_still c.self.inside.host c.absorb_all-left.new.host c.args.pid c.absorb_all-left.ensures.absorbed.guests c.in_ok-ready.ensures.ok.0) (keeper_of c.collect_kernel-came.new.self c.left_after.result ≡ c.args.self.now) c.collect_kernel-came.result c.absorb_all-left.ensures.enough c.absorb_all-left.ensures.none_left c.collect_kernel-came.ensures.why
+    kernel_same c.absorb_all-left.new.host c.absorb_all-left.result c.absorb_all-left.ensures.kept c.args.pid (alive_still c.self.inside.host c.absorb_all-left.new.host c.args.pid c.absorb_all-left.ensures.absorbed.guests c.in_ok-ready.ensures.ok.0) (keeper_of c.collect_kernel-came.new.self c.left_after-self-inside.result ≡ c.args.self.now) c.collect_kernel-came.result c.absorb_all-left.ensures.enough c.absorb_all-left.ensures.none_left c.collect_kernel-came.ensures.why
 
 pub returns-clause-why : goal.returns-clause-why
 returns-clause-why c =

@@ -12,6 +12,9 @@ returns-in_err-host-clause-why c = handed_on (IsNotOpened c.args.text.now c.args
 pub returns-then-not-fits-clause-why : goal.returns-then-not-fits-clause-why
 returns-then-not-fits-clause-why c = inr (few_events c.args.text.now c.args.ty c.args.bodies c.args.events c.in_ok-host.host c.in_ok-host.ensures.read c.fits.result c.fits.ensures c.if-not-fits.true)
 
+pub overflow_sub-left : goal.overflow_sub-left
+overflow_sub-left c = let enough = c.fits.ensures.0 c.if-not-fits.false in let counted = c.processes.ensures in omega (arith, enough, counted)
+
 pub invariant_of-result : goal.invariant_of-result
 invariant_of-result c = read_kept c.args.text.now c.args.ty c.args.bodies c.args.events c.in_ok-host.host c.in_ok-host.ensures.read (c.fits.ensures.0 c.if-not-fits.false) c.processes.result c.processes.ensures
 
