@@ -12,8 +12,8 @@ use Rattle.k_work.specs.Credits.{Credit}
 use Rattle.k_work.specs.Tables.{Work, is_same, one_if_to, row_of, table_of, total_row, work_if_to}
 use Rattle.k_work.proofs.Numbers.{at_below, constant_below, set_below, total_mapped}
 
-abbrev row : ℕ → ℕ → WorkRow
-row n w = record { collections = n; work = w }
+abbrev work_row : ℕ → ℕ → WorkRow
+work_row n w = record { collections = n; work = w }
 
 abbrev table : List WorkRow → WorkRow → Work
 table procs closing = record { procs = procs; closing = closing }
@@ -22,11 +22,11 @@ abbrev credit : Option ℕ → ℕ → Credit
 credit to work = record { to = to; work = work }
 
 -- a table without credits
-pub empty_table : (n : ℕ) → table (replicate n (row 0 0)) (row 0 0) ≡ table_of n []
-empty_table n = ap (λ (ps : List WorkRow). table ps (row 0 0)) (sym (constant_below (row 0 0) n))
+pub empty_table : (n : ℕ) → table (replicate n (work_row 0 0)) (work_row 0 0) ≡ table_of n []
+empty_table n = ap (λ (ps : List WorkRow). table ps (work_row 0 0)) (sym (constant_below (work_row 0 0) n))
 
 -- a table of so many rows that are alike
-pub empty_as : (n : ℕ) (items : List WorkRow) (none : WorkRow) → items ≡ replicate n none → none ≡ row 0 0 → table items none ≡ table_of n []
+pub empty_as : (n : ℕ) (items : List WorkRow) (none : WorkRow) → items ≡ replicate n none → none ≡ work_row 0 0 → table items none ≡ table_of n []
 empty_as n items none all is = ap₂ table (all ∙ ap (λ (r : WorkRow). replicate n r) is) is ∙ empty_table n
 
 -- another's row stays
@@ -36,7 +36,7 @@ others_row cs to who work other =
     let nothing : work_if_to who (credit to work) ≡ 0 = ap (λ (b : Bool). cond b work 0) other in
     let n : total (one_if_to who) (cs ++ credit to work ∷ []) ≡ total (one_if_to who) cs = omega (arith, total_push (one_if_to who) cs (credit to work), none) in
     let w : total (work_if_to who) (cs ++ credit to work ∷ []) ≡ total (work_if_to who) cs = omega (arith, total_push (work_if_to who) cs (credit to work), nothing) in
-    ap₂ row n w
+    ap₂ work_row n w
 
 -- theirs has one more
 their_row : (cs : List Credit) (to : Option ℕ) (work : ℕ) → is_same to to ≡ true → row_of (cs ++ credit to work ∷ []) to ≡ with_work work (row_of cs to)
@@ -45,7 +45,7 @@ their_row cs to work same =
     let all : work_if_to to (credit to work) ≡ work = ap (λ (b : Bool). cond b work 0) same in
     let n : total (one_if_to to) (cs ++ credit to work ∷ []) ≡ total (one_if_to to) cs + 1 = omega (arith, total_push (one_if_to to) cs (credit to work), one) in
     let w : total (work_if_to to) (cs ++ credit to work ∷ []) ≡ total (work_if_to to) cs + work = omega (arith, total_push (work_if_to to) cs (credit to work), all) in
-    ap₂ row n w
+    ap₂ work_row n w
 
 -- a table with one credit more
 table_next : (n : ℕ) (cs : List Credit) (to : Option ℕ) (work : ℕ) → IsAmong n to → with_credit to work (table_of n cs) ≡ table_of n (cs ++ credit to work ∷ [])
@@ -54,10 +54,10 @@ table_next n cs None work among =
     (ap (λ (f : ℕ → WorkRow). map f (numbers_below n)) (fun_ext (λ p. sym (others_row cs None (Some p) work refl))))
     (sym (their_row cs None work refl))
 table_next n cs (Some q) work among =
-    let there : get_or (map (λ p. row_of cs (Some p)) (numbers_below n)) q (row 0 0) ≡ row_of cs (Some q) = at_below (λ p. row_of cs (Some p)) n q (row 0 0) among in
+    let there : get_or (map (λ p. row_of cs (Some p)) (numbers_below n)) q (work_row 0 0) ≡ row_of cs (Some q) = at_below (λ p. row_of cs (Some p)) n q (work_row 0 0) among in
     ap₂ table
     (sym (set_below (λ p. row_of (cs ++ credit (Some q) work ∷ []) (Some p)) (λ p. row_of cs (Some p)) n q
-    (with_work work (get_or (map (λ p. row_of cs (Some p)) (numbers_below n)) q (row 0 0)))
+    (with_work work (get_or (map (λ p. row_of cs (Some p)) (numbers_below n)) q (work_row 0 0)))
     (their_row cs (Some q) work (eq-eqb q q refl) ∙ ap (with_work work) (sym there))
     (λ p ne. others_row cs (Some q) (Some p) work (ne_eqb p q ne))))
     (sym (others_row cs (Some q) None work refl))
@@ -78,7 +78,7 @@ row_within n cs to among =
   where
     is : (n : ℕ) (cs : List Credit) (to : Option ℕ) → IsAmong n to → row_for (table_of n cs) to ≡ row_of cs to
     is n cs None among = refl
-    is n cs (Some p) among = at_below (λ p. row_of cs (Some p)) n p (row 0 0) among
+    is n cs (Some p) among = at_below (λ p. row_of cs (Some p)) n p (work_row 0 0) among
 
     one_low : (b : Bool) → cond b 1 0 ≤ 1
     one_low true = omega arith
