@@ -1,5 +1,5 @@
 //! The text of a run that was watched: its report, and the samples that the watcher took.
-ghost use Rattle.std.specs.Prelude.{◌≡◌, ◌<◌, ◌++◌, ◌∷◌, [], length, map};
+ghost use Rattle.std.specs.Prelude.{◌≡◌, ◌++◌, ◌∷◌, [], map};
 ghost use Rattle.k_io.specs.Writing.{Writes};
 ghost use Rattle.k_outcome.specs.Ends.{journal_of, last_state};
 ghost use Rattle.k_text.specs.Report.{text_over};
@@ -12,17 +12,7 @@ use k_outcome::Outcome;
 use k_text::report;
 use k_watch::Sample;
 use k_words::LineBuffer;
-
-/// Writes a line of one word.
-fn put_word<K: Sink>(out: &mut K, line: &mut LineBuffer, word: &[u8]) -> Result<(), WriteFailed>
-    requires empty { line.old ≡ [] }
-    requires room { length word.now < 1024 }
-    ensures written { Writes (K.Holds out.old) (K.Holds out.new) (K.faults out.old) (K.faults out.new) result (text_of ((word.now ∷ []) ∷ [])) }
-    ensures empty { line.new ≡ [] }
-{
-    line.push_text(word);
-    line.write_to(out)
-}
+use k_work::put_word;
 
 /// Writes the line of a sample.
 fn put_sample<K: Sink>(
@@ -67,7 +57,7 @@ fn write_samples<K: Sink>(out: &mut K, samples: &[Sample]) -> Result<(), WriteFa
     put_word(out, &mut line, b"end")
 }
 
-/// Writes the report of the run that is over, and the samples behind it.
+/// Writes the report of the run that is over, and then the samples.
 pub fn write_watched<K: Sink>(
     out: &mut K,
     outcome: &Outcome,

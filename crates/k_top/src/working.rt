@@ -60,7 +60,7 @@ fn work_source<S: Source, G: Gate, R: Threads + Wait + Sync>(
     Ok((outcome, table))
 }
 
-/// Writes the report of the run that is over, and the lines of its work behind it.
+/// Writes the report of the run that is over, and then the lines of its work.
 fn write_worked<K: Sink>(
     out: &mut K,
     outcome: &Outcome,

@@ -16,4 +16,4 @@ pub use laws::{
 };
 pub use rows::{WorkRow, WorkTable};
 pub use working::work_of;
-pub use writing::write_work;
+pub use writing::{put_word, write_work};

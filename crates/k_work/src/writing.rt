@@ -12,8 +12,10 @@ use k_trace::Names;
 use k_types::Pid;
 use k_words::LineBuffer;
 
-/// Writes a line of one word.
-fn put_word<K: Sink>(out: &mut K, line: &mut LineBuffer, word: &[u8]) -> Result<(), WriteFailed>
+/// Writes a line of one word, from an empty buffer, and leaves it empty.
+///
+/// `WriteFailed` comes where the sink does not take it.
+pub fn put_word<K: Sink>(out: &mut K, line: &mut LineBuffer, word: &[u8]) -> Result<(), WriteFailed>
     requires empty { line.old ≡ [] }
     requires room { length word.now < 1024 }
     ensures written { Writes (K.Holds out.old) (K.Holds out.new) (K.faults out.old) (K.faults out.new) result (text_of ((word.now ∷ []) ∷ [])) }
@@ -23,7 +25,7 @@ fn put_word<K: Sink>(out: &mut K, line: &mut LineBuffer, word: &[u8]) -> Result<
     line.write_to(out)
 }
 
-/// Writes the line of a row behind a word.
+/// Writes the line of a word and a row.
 fn put_row<K: Sink>(
     out: &mut K,
     line: &mut LineBuffer,
