@@ -188,7 +188,7 @@ what_a_new_maximum_changes-cells = set_max_elsewhere
 pub what_a_new_maximum_changes-book : (trace : Trace) (st : State) (m max : ℕ) → book_part trace (set_max m max st) ≡ with_max m max (book_part trace st)
 what_a_new_maximum_changes-book = set_max_on_book
 
--- the closing shows in the book alone, but for the collection that it begins
+-- the closing shows in the book alone, except for the collection that it begins
 pub what_closing_changes-cells : (trace : Trace) (st : State) (c : Cell) → part trace (close st) c ≡ part trace st c
 what_closing_changes-cells = close_elsewhere
 

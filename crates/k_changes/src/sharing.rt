@@ -41,7 +41,7 @@ pub fn what_a_new_maximum_changes()
         book_part trace (set_max m max st) ≡ with_max m max (book_part trace st) }
 {}
 
-/// The closing shows in the book alone, but for the collection that it begins.
+/// The closing shows in the book alone, except for the collection that it begins.
 pub fn what_closing_changes()
     ensures cells { (trace : Trace) (st : State) (c : Cell) → part trace (close st) c ≡ part trace st c }
     ensures book { (trace : Trace) (st : State) → book_part trace (close st) ≡ when_closed (book_part trace st) }

@@ -14,7 +14,7 @@ abbrev pub onto : Event → Result (List Event) ℕ → Result (List Event) ℕ
 onto event (Ok events) = Ok (event ∷ events)
 onto event (Err line) = Err line
 
--- The event that a line is, before those of the lines behind it, or the line's number where it is none.
+-- The event that a line is, before those of the lines after it, or the line's number where it is none.
 abbrev pub then_events : ℕ → Option Event → Result (List Event) ℕ → Result (List Event) ℕ
 then_events line None rest = Err line
 then_events line (Some event) rest = onto event rest
@@ -26,7 +26,7 @@ events_of_lines names line [] = Err line
 events_of_lines names line (l ∷ ls) =
     if bytes_eq l (codes "graph") then Ok [] else then_events line (event_of names (words_of l)) (events_of_lines names (line + 1) ls)
 
--- The same behind the first line, which is `report 1`.
+-- The same after the first line, which is `report 1`.
 abbrev pub events_behind : DeclaredNames → List Text → Result (List Event) ℕ
 events_behind names [] = Err 1
 events_behind names (l ∷ ls) = if bytes_eq l (codes "report 1") then events_of_lines names 2 ls else Err 1

@@ -79,11 +79,11 @@ fault_of names ws =
     else if length ws == 2 then fault_at names (word_at ws 0) (word_at ws 1)
     else None
 
--- A name as reply: the object made behind an operation that makes one, and one that was loaded behind any other.
+-- A name as reply: the object made after an operation that makes one, and one that was loaded after any other.
 abbrev pub reply_with : Op → Name → Reply
 reply_with op n = if makes op then Made n else Loaded (Some n)
 
--- The reply that one word is, behind the operation.
+-- The reply that one word is, after the operation.
 unfoldable pub word_reply : DeclaredNames → Op → Text → Option Reply
 word_reply names op w =
     if bytes_eq w (codes "ok") then Some DoneReply
@@ -91,7 +91,7 @@ word_reply names op w =
     else if is_below (2 ^ 64) w then Some (Value (value w))
     else option_map (reply_with op) (name_of_word names w)
 
--- The reply that the words are, behind the operation.
+-- The reply that the words are, after the operation.
 unfoldable pub reply_of : DeclaredNames → Op → List Text → Option Reply
 reply_of names op ws =
     if bytes_eq (word_at ws 0) (codes "fault") then option_map Refused (fault_of names (drop 1 ws))

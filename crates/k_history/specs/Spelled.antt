@@ -50,8 +50,8 @@ makes (KNew r ty) = true
 makes (SNew r s ty) = true
 makes _ = false
 
--- The reply can stand behind the operation: a name is that of an object made behind an operation that makes one, and one
--- that was loaded behind any other.
+-- The reply can stand after the operation: a name is that of an object made after an operation that makes one, and one
+-- that was loaded after any other.
 abbrev pub IsSpelledReply : DeclaredNames → Op → Reply → Type 0
 IsSpelledReply names op DoneReply = Unit {0}
 IsSpelledReply names op (Made n) = IsTrue (makes op) × IsSpelledName names n
@@ -68,8 +68,8 @@ IsSpelledEvent names (Ended h objects bytes exits shares) =
 IsSpelledEvent names (Absorbed s) = s.0 < length names.shared
 IsSpelledEvent names Closing = Unit {0}
 
--- The reply's numbers are in range, and a name is that of an object made behind an operation that makes one, and one that was
--- loaded behind any other.
+-- The reply's numbers are in range, and a name is that of an object made after an operation that makes one, and one that was
+-- loaded after any other.
 abbrev pub IsReplyInRange : Op → Reply → Type 0
 IsReplyInRange op DoneReply = Unit {0}
 IsReplyInRange op (Made n) = IsTrue (makes op) × (n.serial.0 < 2 ^ 32)

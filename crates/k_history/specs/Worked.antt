@@ -51,7 +51,7 @@ of_first op reply = Some (Done (record { 0 = 0 }) op reply)
 abbrev pub refused : Fault → Option Event
 refused fault = Some (Done (record { 0 = 1 }) (Load (r 0) (r 1) 2) (Refused fault))
 
--- A name is an object made behind an operation that makes one, and one that was loaded behind any other, whatever its
+-- A name is an object made after an operation that makes one, and one that was loaded after any other, whatever its
 -- segment; a serial may be 0.
 pub record NamesAreRead : Type 0 where
   pub made : read (codes "p1 new r0 Node = p1.1") ≡ of_first (New (r 0) node) (Made (name 1 1))

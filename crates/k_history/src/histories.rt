@@ -34,7 +34,7 @@ fn read_events(alloc: Global, names: &Names, bytes: &[u8]) -> Result<Vec<Event>,
     Err(HistoryError::Bad(number))
 }
 
-/// The history that a report's bytes are, over the names of its trace: the events of its lines behind the first one and
+/// The history that a report's bytes are, over the names of its trace: the events of its lines after the first one and
 /// before the line `graph`. Time and memory are in proportion to the bytes.
 ///
 /// # Errors

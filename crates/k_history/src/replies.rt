@@ -1,4 +1,4 @@
-//! The reply that stands behind the equals sign of a line.
+//! The reply that stands after the equals sign of a line.
 ghost use Rattle.std.specs.Prelude.{◌≡◌};
 ghost use Rattle.k_words.specs.Words.{words_of};
 ghost use Rattle.k_history.specs.Spelled.{makes};
@@ -45,7 +45,7 @@ fn makes(op: Op) -> bool
     matches!(op, Op::New { .. } | Op::KNew { .. } | Op::SNew { .. })
 }
 
-/// A name as reply behind the operation.
+/// A name as reply after the operation.
 fn reply_with(op: Op, name: Name) -> Reply
     ensures { result ≡ reply_with op name }
 {
@@ -56,7 +56,7 @@ fn reply_with(op: Op, name: Name) -> Reply
     }
 }
 
-/// The reply that one word is, behind the operation.
+/// The reply that one word is, after the operation.
 #[tactic(auto, unfolding(crate::specs::Reading::word_reply))]
 fn word_reply(names: &Names, op: Op, word: &[u8]) -> Option<Reply>
     ensures { result ≡ word_reply names.now op word.now }
@@ -73,7 +73,7 @@ fn word_reply(names: &Names, op: Op, word: &[u8]) -> Option<Reply>
     Some(reply_with(op, read_name(names, word)?))
 }
 
-/// The reply that the words are, behind the operation.
+/// The reply that the words are, after the operation.
 #[tactic(auto, unfolding(crate::specs::Reading::reply_of))]
 pub fn read_reply(names: &Names, op: Op, words: &[u8]) -> Option<Reply>
     ensures { result ≡ reply_of names.now op (words_of words.now) }

@@ -1,7 +1,7 @@
 //! Lines and reports that are read by the definitions, computed.
 ghost use Rattle.k_history.specs.Worked.{NamesAreRead, FaultsAreRead, OtherEventsAreRead, OtherLinesAreNone, HistoriesAreRead};
 
-/// In sample lines, a name is an object made behind an operation that makes one, and one that was loaded behind any other.
+/// In sample lines, a name is an object made after an operation that makes one, and one that was loaded after any other.
 pub fn names_are_read()
     ensures { NamesAreRead }
 {}

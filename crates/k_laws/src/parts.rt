@@ -7,7 +7,7 @@ ghost use Rattle.k_types.specs.Sound.{IsSound};
 ghost use Rattle.k_types.specs.State.{State};
 ghost use Rattle.k_types.specs.Trace.{Trace};
 
-/// The parts of all cells and of the book determine a sound state, but for the order of the lists of exit items, shares, ended
+/// The parts of all cells and of the book determine a sound state, except for the order of the lists of exit items, shares, ended
 /// processes and scans. The book's part alone tells the use of each limit.
 pub fn parts_determine_the_state()
     ensures uses { (trace : Trace) (st : State) (m : ℕ) → m < length trace.limits → use_shown trace (book_part trace st) m ≡ use_of trace st m }
