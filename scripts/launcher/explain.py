@@ -20,7 +20,7 @@ from launcher.commands import fail, opened
 from launcher.sentences import FAULTS, REASONS, RULES, STATUSES, USAGE, fault_word
 
 NOTHING = 2
-# No answer but a report or a summary is longer, and of these only the faults are explained.
+# No answer but a report, a snapshot or a summary is longer, and of these only the faults are explained.
 ANSWER_BYTES, PIECE_BYTES, LINE_SHOWN = 256, 1 << 16, 200
 SILENT_STATUSES = (3, 4, 5)
 BAD_TRACE, REFUSED = re.compile(r"bad trace: line (\d+) reason (\d+)\n?"), re.compile(r"refused (\d+)\n?")
@@ -105,6 +105,8 @@ def of_answer(answer, trace, report):
         return meaning("status 2", STATUSES[2])
     if answer == "good\n":
         return ["good: the report is that of a legal and complete run of its trace."]
+    if answer.startswith("snapshot 1\n"):
+        return ["This is the snapshot of the state that a trace leaves; docs/FORMATS.md says what each line is."]
     if re.match(r"big \d+\noperations \d+\n", answer):
         return ["This is the summary of the workload; docs/BIG.md says what each line counts."]
     if not answer:

@@ -6,7 +6,7 @@ from collections import namedtuple
 
 # The line that the program, and so the launcher, writes where the words are no command: the text is that of
 # crates/k_top/src/texts.rt.
-USAGE = "usage: kaffe run | replay | check | big N | watch K | work"
+USAGE = "usage: kaffe run | replay | check | big N | watch K | work | snap"
 
 # What an exit status, a reason or a fault means, and what to do about it.
 Meaning = namedtuple("Meaning", "means todo")

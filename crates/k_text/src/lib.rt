@@ -2,7 +2,7 @@
 //!
 //! A [`View`] shows the trace, the history and the last state of a run. [`report`] writes the text
 //! that the definitions give for what the view shows: all of it, or, after a fault of the sink, a
-//! front of it. Neither takes memory.
+//! front of it. Neither takes memory. The parts of a report that show a state are in [`parts`].
 //!
 //! Below stand `k_types` with the machine, `k_words` and `k_trace` with the words and names of the
 //! texts, and `k_io` with sinks.
@@ -15,6 +15,7 @@ mod faults;
 mod graph;
 mod heading;
 mod laws;
+pub mod parts;
 mod reporting;
 mod roots;
 mod shares;

@@ -11,7 +11,7 @@ use k_types::{Heap, Name, Pid, Reg, Seg, SharedId, TypeId};
 use k_words::LineBuffer;
 
 /// The name of a segment.
-fn segment_name<'a, V: View>(names: &'a Names, view: &V, seg: Seg) -> &'a [u8]
+pub fn segment_name<'a, V: View>(names: &'a Names, view: &V, seg: Seg) -> &'a [u8]
     requires named { AreNamed names.now (V.trace view.now) }
     requires known { seg.0 < segment_count (V.trace view.now) }
     ensures name { result.now ≡ word_at (segment_names names.now) seg.0 }

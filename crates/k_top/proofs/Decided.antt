@@ -10,10 +10,10 @@ use Rattle.k_trace.proofs.Exact.{apart, one}
 use Rattle.k_history.specs.Good.{IsGoodReport, IsRefusedAt}
 use Rattle.k_check.proofs.Splits.{one_split}
 use Rattle.k_top.specs.declared.commands.Command.{Command}
-use Rattle.k_top.specs.declared.commands.Command.TheVariants.{Run, Replay, Check, Big, Watch, Work}
+use Rattle.k_top.specs.declared.commands.Command.TheVariants.{Run, Replay, Check, Big, Watch, Work, Snap}
 use Rattle.k_top.specs.declared.status.Status.{Status}
 use Rattle.k_top.specs.declared.status.Status.TheVariants.{Good, BadTrace, Usage, WantOfMemory, ReadFault, WriteFault, Refused}
-use Rattle.k_top.specs.Answers.{IsBadInput, IsChecked, IsDone, IsRefusedReport, IsSampled, IsSummed, IsWorked, WasRead}
+use Rattle.k_top.specs.Answers.{IsBadInput, IsChecked, IsDone, IsRefusedReport, IsSampled, IsSnapped, IsSummed, IsWorked, WasRead}
 use Rattle.k_top.specs.Commands.{command_of, IsNoCommand, ReadsSource, ReadsTrace, RunsTrace}
 use Rattle.k_top.specs.Ends.{Input, SourceFailed}
 use Rattle.k_top.specs.Inputs.{most_bytes, AreParts, AreTraceAndReport, IsBadFor}
@@ -37,6 +37,7 @@ runs_read Check runs = absurd runs
 runs_read (Big objects) runs = absurd runs
 runs_read (Watch count) runs = absurd runs
 runs_read Work runs = absurd runs
+runs_read Snap runs = absurd runs
 
 -- The command that checks reads more than a trace.
 runs_not : (words : List Text) (command : Command) → command_of words ≡ Some command → ReadsTrace command → command_of words ≡ Some Check → ⊥
@@ -54,6 +55,7 @@ reads_bad Check bytes line reason bad = tt
 reads_bad (Big objects) bytes line reason bad = absurd bad
 reads_bad (Watch count) bytes line reason bad = tt
 reads_bad Work bytes line reason bad = tt
+reads_bad Snap bytes line reason bad = tt
 
 -- ---- bytes
 
@@ -85,6 +87,7 @@ few_for Check bytes t runs spells = absurd runs
 few_for (Big objects) bytes t runs spells = absurd runs
 few_for (Watch count) bytes t runs spells = spells.few
 few_for Work bytes t runs spells = spells.few
+few_for Snap bytes t runs spells = spells.few
 
 -- ---- what is a trace is no bad input
 
@@ -95,6 +98,7 @@ spelled_not_bad Check bytes t line reason runs spells bad = absurd runs
 spelled_not_bad (Big objects) bytes t line reason runs spells bad = absurd runs
 spelled_not_bad (Watch count) bytes t line reason runs spells bad = apart bytes t line reason spells bad
 spelled_not_bad Work bytes t line reason runs spells bad = apart bytes t line reason spells bad
+spelled_not_bad Snap bytes t line reason runs spells bad = apart bytes t line reason spells bad
 
 -- The bytes have one trace part and one report.
 same_front : (bytes front report other behind : Text) → AreParts bytes front report → AreParts bytes other behind → (front ≡ other) × (report ≡ behind)
@@ -118,19 +122,21 @@ same_parts bytes t u report behind parts more =
 by_status : (wanted : Status → Type 0) (words : List Text) (input : Input) (command : Command) → command_of words ≡ Some command → ¬ SourceFailed input → wanted WantOfMemory
     → ((text : Text) → IsDone words input text → wanted Good) → ((text : Text) → IsChecked words input text → wanted Good) → ((text : Text) → IsSummed words text → wanted Good)
     → ((text : Text) → IsSampled words input text → wanted Good) → ((text : Text) → IsWorked words input text → wanted Good)
+    → ((text : Text) → IsSnapped words input text → wanted Good)
     → ((text : Text) → IsRefusedReport words input text → wanted Refused) → ((text : Text) → IsBadInput words input text → wanted BadTrace)
     → (status : Status) (text : Text) → Means words input status text → wanted status
-by_status wanted words input command said steady memory done checked summed sampled worked refused bad Good text (inl h) = done text h
-by_status wanted words input command said steady memory done checked summed sampled worked refused bad Good text (inr (inl h)) = checked text h
-by_status wanted words input command said steady memory done checked summed sampled worked refused bad Good text (inr (inr (inl h))) = summed text h
-by_status wanted words input command said steady memory done checked summed sampled worked refused bad Good text (inr (inr (inr (inl h)))) = sampled text h
-by_status wanted words input command said steady memory done checked summed sampled worked refused bad Good text (inr (inr (inr (inr h)))) = worked text h
-by_status wanted words input command said steady memory done checked summed sampled worked refused bad Refused text h = refused text h
-by_status wanted words input command said steady memory done checked summed sampled worked refused bad BadTrace text h = bad text h
-by_status wanted words input command said steady memory done checked summed sampled worked refused bad WantOfMemory text h = memory
-by_status wanted words input command said steady memory done checked summed sampled worked refused bad ReadFault text h = absurd (steady h.1)
-by_status wanted words input command said steady memory done checked summed sampled worked refused bad Usage text h = absurd (is_command words command said h.no_command)
-by_status wanted words input command said steady memory done checked summed sampled worked refused bad WriteFault text h = absurd h
+by_status wanted words input command said steady memory done checked summed sampled worked snapped refused bad Good text (inl h) = done text h
+by_status wanted words input command said steady memory done checked summed sampled worked snapped refused bad Good text (inr (inl h)) = checked text h
+by_status wanted words input command said steady memory done checked summed sampled worked snapped refused bad Good text (inr (inr (inl h))) = summed text h
+by_status wanted words input command said steady memory done checked summed sampled worked snapped refused bad Good text (inr (inr (inr (inl h)))) = sampled text h
+by_status wanted words input command said steady memory done checked summed sampled worked snapped refused bad Good text (inr (inr (inr (inr (inl h))))) = worked text h
+by_status wanted words input command said steady memory done checked summed sampled worked snapped refused bad Good text (inr (inr (inr (inr (inr h))))) = snapped text h
+by_status wanted words input command said steady memory done checked summed sampled worked snapped refused bad Refused text h = refused text h
+by_status wanted words input command said steady memory done checked summed sampled worked snapped refused bad BadTrace text h = bad text h
+by_status wanted words input command said steady memory done checked summed sampled worked snapped refused bad WantOfMemory text h = memory
+by_status wanted words input command said steady memory done checked summed sampled worked snapped refused bad ReadFault text h = absurd (steady h.1)
+by_status wanted words input command said steady memory done checked summed sampled worked snapped refused bad Usage text h = absurd (is_command words command said h.no_command)
+by_status wanted words input command said steady memory done checked summed sampled worked snapped refused bad WriteFault text h = absurd h
 
 pub of_no_command : (words : List Text) (input : Input) → IsNoCommand words → (status : Status) (text : Text) → Means words input status text → status ≡ Usage
 of_no_command words input none Usage text h = refl
@@ -138,7 +144,8 @@ of_no_command words input none Good text (inl h) = absurd (is_command words h.co
 of_no_command words input none Good text (inr (inl h)) = absurd (is_command words Check h.said none)
 of_no_command words input none Good text (inr (inr (inl h))) = absurd (is_command words (Big h.objects) h.said none)
 of_no_command words input none Good text (inr (inr (inr (inl h)))) = absurd (is_command words (Watch h.count) h.said none)
-of_no_command words input none Good text (inr (inr (inr (inr h)))) = absurd (is_command words Work h.said none)
+of_no_command words input none Good text (inr (inr (inr (inr (inl h))))) = absurd (is_command words Work h.said none)
+of_no_command words input none Good text (inr (inr (inr (inr (inr h))))) = absurd (is_command words Snap h.said none)
 of_no_command words input none Refused text h = absurd (is_command words Check h.said none)
 of_no_command words input none BadTrace text h = absurd (is_command words h.command h.said none)
 of_no_command words input none WantOfMemory text h = absurd (is_command words h.0.0 h.0.1 none)
@@ -157,6 +164,7 @@ pub of_trace : (words : List Text) (input : Input) (command : Command) (bytes : 
     → (status : Status) (text : Text) → Means words input status text → (status ≡ Good) ⊎ (status ≡ WantOfMemory)
 of_trace words input command bytes t said runs known spells steady =
     by_status (λ (s : Status). (s ≡ Good) ⊎ (s ≡ WantOfMemory)) words input command said steady (inr refl)
+    (λ text h. inl refl)
     (λ text h. inl refl)
     (λ text h. inl refl)
     (λ text h. inl refl)
@@ -192,6 +200,7 @@ of_good_report words input bytes t report said known parts good steady =
     (λ text h. inl refl)
     (λ text h. inl refl)
     (λ text h. inl refl)
+    (λ text h. inl refl)
     (λ text h. absurd (good_not_refused words input bytes t report text known parts good h))
     (λ text h. absurd (report_not_bad words input bytes t report text said known parts h))
 
@@ -210,6 +219,7 @@ of_wrong_report words input bytes t report n said known parts refused steady =
     (λ text h. absurd (big_not words Check h.objects said tt h.said))
     (λ text h. absurd (runs_not words (Watch h.count) h.said tt said))
     (λ text h. absurd (runs_not words Work h.said tt said))
+    (λ text h. absurd (runs_not words Snap h.said tt said))
     (λ text h. inl refl)
     (λ text h. absurd (report_not_bad words input bytes t report text said known parts h))
 
@@ -236,6 +246,7 @@ of_bad_input words input command bytes line reason said known bad steady =
     (λ text h. absurd (big_not words command h.objects said (reads_bad command bytes line reason bad) h.said))
     (λ text h. absurd (bad_not_spelled words input command (Watch h.count) bytes h.bytes line reason h.trace said known bad h.said tt h.read h.spelled))
     (λ text h. absurd (bad_not_spelled words input command Work bytes h.bytes line reason h.trace said known bad h.said tt h.read h.spelled))
+    (λ text h. absurd (bad_not_spelled words input command Snap bytes h.bytes line reason h.trace said known bad h.said tt h.read h.spelled))
     (λ text h. absurd (bad_not_parts words input command bytes h.bytes line reason h.trace h.report said known bad h.said h.read h.parts))
     (λ text h. inl refl)
 

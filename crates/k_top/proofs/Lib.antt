@@ -7,6 +7,7 @@ pub mod Lists
 pub mod Meanings
 pub mod Reports
 pub mod Runs
+pub mod Snaps
 pub mod Workloads
 pub mod Works
 pub mod Written

@@ -9,13 +9,13 @@ use Rattle.k_trace.specs.Rules.{Spells}
 use Rattle.k_history.specs.Good.{IsGoodReport, IsRefusedAt}
 use Rattle.k_reports.specs.Verdicts.{IsRefused}
 use Rattle.k_top.specs.declared.commands.Command.{Command}
-use Rattle.k_top.specs.declared.commands.Command.TheVariants.{Replay, Check, Big, Watch, Work}
+use Rattle.k_top.specs.declared.commands.Command.TheVariants.{Replay, Check, Big, Watch, Work, Snap}
 use Rattle.k_top.specs.declared.status.Status.{Status}
 use Rattle.k_top.specs.declared.status.Status.TheVariants.{Good, BadTrace, Usage, WantOfMemory, ReadFault, WriteFault, Refused}
 use Rattle.k_top.specs.Commands.{command_of, IsCommand, IsNoCommand, IsReading, ReadsTrace, RunsTrace}
 use Rattle.k_top.specs.Ends.{Input, Output, SourceFailed, SinkFailed, Took, TookFront, TookNothing}
 use Rattle.k_top.specs.Inputs.{most_bytes, AreTraceAndReport, IsBadFor}
-use Rattle.k_top.specs.Reports.{IsReportOf, IsSummaryOf, IsWatchedReport, IsWorkReport}
+use Rattle.k_top.specs.Reports.{IsFileSnapshot, IsReportOf, IsSummaryOf, IsWatchedReport, IsWorkReport}
 use Rattle.k_top.specs.Texts.{usage_text, bad_trace_text, good_text, refused_text}
 
 -- The source gave these bytes: all to the end of input, or one more than the limit where there are more.
@@ -75,6 +75,15 @@ pub record IsWorked (words : List Text) (input : Input) (text : Text) : Type 0 w
   pub spelled : Spells bytes trace
   pub worked : IsWorkReport trace text
 
+-- By `snap` a trace was read and its operations were done in the order of the file, and the text is the snapshot of the state that they left.
+pub record IsSnapped (words : List Text) (input : Input) (text : Text) : Type 0 where
+  pub said : command_of words ≡ Some Snap
+  pub bytes : Text
+  pub read : WasRead (most_bytes Snap) input bytes
+  pub trace : NamedTrace
+  pub spelled : Spells bytes trace
+  pub snapshot : IsFileSnapshot trace text
+
 -- By `check` a trace and a report were read, the report is refused, and the text tells its first wrong line.
 pub record IsRefusedReport (words : List Text) (input : Input) (text : Text) : Type 0 where
   pub said : command_of words ≡ Some Check
@@ -106,7 +115,7 @@ pub record IsMisused (words : List Text) (text : Text) : Type 0 where
 -- The text is what a call without a fault of the sink would have written.
 abbrev pub IsDue : List Text → Input → Text → Type 0
 IsDue words input text =
-    IsDone words input text ⊎ IsChecked words input text ⊎ IsSummed words text ⊎ IsSampled words input text ⊎ IsWorked words input text ⊎ IsRefusedReport words input text ⊎ IsBadInput words input text ⊎ IsMisused words text
+    IsDone words input text ⊎ IsChecked words input text ⊎ IsSummed words text ⊎ IsSampled words input text ⊎ IsWorked words input text ⊎ IsSnapped words input text ⊎ IsRefusedReport words input text ⊎ IsBadInput words input text ⊎ IsMisused words text
 
 -- Where neither source nor sink fails, the words and the bytes decide the answer, up to want of memory. `big` and words that are no command
 -- do not go by the source.
@@ -124,7 +133,7 @@ pub record IsDecided (words : List Text) (input : Input) (output : Output) (answ
 
 -- What each status means where it is the answer, and which answer comes.
 pub record IsAnswered (words : List Text) (input : Input) (output : Output) (answer : Status) : Type 0 where
-  pub good : answer ≡ Good → (text : Text) × (IsDone words input text ⊎ IsChecked words input text ⊎ IsSummed words text ⊎ IsSampled words input text ⊎ IsWorked words input text) × Took output text
+  pub good : answer ≡ Good → (text : Text) × (IsDone words input text ⊎ IsChecked words input text ⊎ IsSummed words text ⊎ IsSampled words input text ⊎ IsWorked words input text ⊎ IsSnapped words input text) × Took output text
   pub bad_trace : answer ≡ BadTrace → (text : Text) × IsBadInput words input text × Took output text
   pub usage : answer ≡ Usage → IsNoCommand words × Took output usage_text
   pub want_of_memory : answer ≡ WantOfMemory → IsCommand words × TookNothing output

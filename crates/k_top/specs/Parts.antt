@@ -9,7 +9,7 @@ use Rattle.k_reports.specs.Verdicts.{IsAccepted, IsRefused}
 use Rattle.k_top.specs.declared.commands.Command.TheVariants.{Check}
 use Rattle.k_top.specs.declared.status.Status.{Status}
 use Rattle.k_top.specs.declared.status.Status.TheVariants.{Good, BadTrace, Usage, WantOfMemory, ReadFault, WriteFault, Refused}
-use Rattle.k_top.specs.Answers.{IsBadInput, IsChecked, IsDone, IsMisused, IsRefusedReport, IsSampled, IsSummed, IsUnwritten, IsWorked, WasRead}
+use Rattle.k_top.specs.Answers.{IsBadInput, IsChecked, IsDone, IsMisused, IsRefusedReport, IsSampled, IsSnapped, IsSummed, IsUnwritten, IsWorked, WasRead}
 use Rattle.k_top.specs.Commands.{IsCommand, IsReading}
 use Rattle.k_top.specs.Ends.{Input, Output, SourceFailed, Took, TookFront}
 use Rattle.k_top.specs.Inputs.{AreTraceAndReport, IsBadFor}
@@ -69,7 +69,7 @@ TellsOfBig objects _ text = ⊥
 
 -- What each status means of the words and the source, and of the text to be written.
 abbrev pub Means : List Text → Input → Status → Text → Type 0
-Means words input Good text = IsDone words input text ⊎ IsChecked words input text ⊎ IsSummed words text ⊎ IsSampled words input text ⊎ IsWorked words input text
+Means words input Good text = IsDone words input text ⊎ IsChecked words input text ⊎ IsSummed words text ⊎ IsSampled words input text ⊎ IsWorked words input text ⊎ IsSnapped words input text
 Means words input BadTrace text = IsBadInput words input text
 Means words input Usage text = IsMisused words text
 Means words input WantOfMemory text = IsCommand words × (text ≡ [])

@@ -4,7 +4,7 @@ use Rattle.k_words.specs.Words.{Text}
 
 -- What is written where the words are no command.
 unfoldable pub usage_text : Text
-usage_text = codes "usage: kaffe run | replay | check | big N | watch K | work" ++ 10 ∷ []
+usage_text = codes "usage: kaffe run | replay | check | big N | watch K | work | snap" ++ 10 ∷ []
 
 -- What is written where the input is no trace: the first bad line, and the reason.
 unfoldable pub bad_trace_text : ℕ → ℕ → Text

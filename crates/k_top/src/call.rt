@@ -22,7 +22,7 @@ use std::thread::Threads;
 /// nor by `big`, whose trace is made, and nothing is written before the run or the check has ended.
 ///
 /// `run`, `big`, `watch` and `work` have at most four threads do what the processes have to do, and tell the gate where they stand; `replay`
-/// does the operations in the order of the file, on the caller's thread. Those four wait for the locks of the heaps: they return if they get
+/// and `snap` do the operations in the order of the file, on the caller's thread. Those four wait for the locks of the heaps: they return if they get
 /// them. Whatever the threads and the gate do, the report is that of a legal and complete history. No other command waits, and none calls the
 /// gate.
 ///
@@ -49,7 +49,7 @@ pub fn kaffe<S: Source, K: Sink, G: Gate, R: Threads + Wait + Sync>(
         Some(Command::Big(objects)) => run_workload(rt, alloc, objects, out, gate),
         Some(Command::Watch(count)) => watch_file(rt, alloc, src, count, out, gate),
         Some(Command::Work) => work_file(rt, alloc, src, out, gate),
-        Some(Command::Replay) | Some(Command::Check) | None => {
+        Some(Command::Replay) | Some(Command::Check) | Some(Command::Snap) | None => {
             answer_at_once(alloc, words, src, out)
         }
     }

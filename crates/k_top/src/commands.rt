@@ -23,6 +23,8 @@ pub enum Command {
     Watch(u32),
     /// Runs a trace on threads, and writes its report and the work of its collections, by who asked for them.
     Work,
+    /// Does the operations in the order of the file, and writes the snapshot of the state that they leave.
+    Snap,
 }
 
 /// The command that the words, those after the program's name, are; `None` where they are none.
@@ -45,6 +47,7 @@ fn command_named(word: &str) -> Option<Command>
         "replay" => Some(Command::Replay),
         "check" => Some(Command::Check),
         "work" => Some(Command::Work),
+        "snap" => Some(Command::Snap),
         _ => None,
     }
 }

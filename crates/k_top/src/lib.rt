@@ -16,6 +16,7 @@ mod run_error;
 mod running;
 mod samples;
 mod settling;
+mod snapping;
 mod status;
 mod texts;
 mod watching;

@@ -69,7 +69,7 @@ fn run_source<G: Gate, R: Threads + Wait + Sync, S: Source>(
 }
 
 /// Runs the trace that the source gives, in the order of the file.
-fn replay_source<S: Source>(alloc: Global, src: &mut S) -> Result<Outcome, RunError>
+pub(crate) fn replay_source<S: Source>(alloc: Global, src: &mut S) -> Result<Outcome, RunError>
     ensures ok { IfOk result (λ end. HasReplayed (record { left = S.left src.old; rest = S.left src.new; failed_before = S.faults src.old; failed_after = S.faults src.new }) end) }
     ensures err { IfErr result (λ error. HasCause (record { left = S.left src.old; rest = S.left src.new; failed_before = S.faults src.old; failed_after = S.faults src.new }) error) }
 {

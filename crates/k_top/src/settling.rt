@@ -6,12 +6,13 @@ ghost use Rattle.k_top.specs.Commands.{IsReading, WaitsForNobody};
 use crate::checking::check_file;
 use crate::commands::{Command, command_of};
 use crate::running::replay_file;
+use crate::snapping::snap_file;
 use crate::status::Status;
 use crate::texts::write_usage;
 use k_io::{Sink, Source};
 use std::alloc::Global;
 
-/// Does what the words say where they are `replay`, `check`, or no command. It waits for nobody, so it returns, whatever the source and
+/// Does what the words say where they are `replay`, `check`, `snap`, or no command. It waits for nobody, so it returns, whatever the source and
 /// the sink do.
 pub fn answer_at_once<S: Source, K: Sink>(
     alloc: Global,
@@ -30,6 +31,7 @@ pub fn answer_at_once<S: Source, K: Sink>(
     match command_of(words) {
         Some(Command::Replay) => replay_file(alloc, src, out),
         Some(Command::Check) => check_file(alloc, src, out),
+        Some(Command::Snap) => snap_file(alloc, src, out),
         Some(Command::Run) => unreachable!(),
         Some(Command::Big(_)) => unreachable!(),
         Some(Command::Watch(_)) => unreachable!(),

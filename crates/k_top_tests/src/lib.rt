@@ -20,6 +20,8 @@ mod refused_governing;
 #[cfg(test)]
 mod server;
 #[cfg(test)]
+mod snapshots;
+#[cfg(test)]
 mod summaries;
 #[cfg(test)]
 mod tests;

@@ -51,7 +51,7 @@ process p1 80
 end
 ";
 
-pub const USAGE: &str = "usage: kaffe run | replay | check | big N | watch K | work\n";
+pub const USAGE: &str = "usage: kaffe run | replay | check | big N | watch K | work | snap\n";
 
 #[test]
 fn reports_the_first_trace(rt: HostRuntime) -> Result<(), Fail> {

@@ -1,0 +1,17 @@
+use Rattle.std.proofs.Common.{◌∷◌, [], map, codes}
+use Rattle.k_types.specs.Numbers.{numbers_below}
+use Rattle.k_types.specs.Trace.{segment_count}
+use Rattle.k_text.proofs.LineLemmas.{part_first, part_last, part_failed_first, part_missing}
+use Rattle.k_audit.specs.Snapshots.{made_line, made_lines}
+use Rattle.k_audit.proofs.writing.made.Goals as goal
+
+pub returns-in_err-heading-clause-written : goal.returns-in_err-heading-clause-written
+unfolding made_lines
+returns-in_err-heading-clause-written g c =
+    part_missing _ _ _ _ c.from_residual.result ((codes "made" ∷ []) ∷ []) (map (made_line c.args.names.now (g.V.View.state c.args.view.now)) (numbers_below (segment_count (g.V.View.trace c.args.view.now)))) c.from_residual.ensures.0
+    (part_failed_first _ _ _ _ c.from_residual.result _ ((codes "made" ∷ []) ∷ []) c.from_residual.ensures.0 c.in_err-heading.ensures.written)
+
+pub returns-clause-written : goal.returns-clause-written
+unfolding made_lines
+returns-clause-written g c =
+    part_last _ _ _ _ _ _ _ ((codes "made" ∷ []) ∷ []) (map (made_line c.args.names.now (g.V.View.state c.args.view.now)) (numbers_below (segment_count (g.V.View.trace c.args.view.now)))) (part_first _ _ _ _ _ ((codes "made" ∷ []) ∷ []) c.in_ok-heading.ensures.written) c.all_made.ensures.written
