@@ -8,3 +8,6 @@ pub mod Tallied
 pub mod Worked
 pub mod Unread
 pub mod Parts
+pub mod Scanned
+pub mod Begun
+pub mod OneBeginning

@@ -1,4 +1,5 @@
 pub mod Credits
+pub mod Beginnings
 pub mod Tables
 pub mod Lines
 pub mod Crediting

@@ -12,7 +12,8 @@ mod working;
 mod writing;
 
 pub use laws::{
-    each_collection_is_in_one_row, ended_and_closed_row, kernel_collections_row, own_collection_row,
+    each_collection_is_in_one_row, ended_and_closed_row, ends_are_credited_to_who_began,
+    kernel_collections_row, own_collection_row,
 };
 pub use rows::{WorkRow, WorkTable};
 pub use working::work_of;
