@@ -26,11 +26,12 @@ enum kaffe_status {
     KAFFE_OWN_CALL = 2, /* the operation has a call of its own: no function of this header answers it */
     KAFFE_ENDED = 3,    /* the process has ended */
     KAFFE_PHASE = 4,    /* a collection of a heap that is touched is open: the functions of this header leave none open */
-    KAFFE_FULL = 5,     /* the room for events may be too small for what the call adds */
+    KAFFE_FULL = 5,     /* a table of exit items may be full, or the process has done 2^32 - 1 operations */
     KAFFE_NO_BODY = 6,  /* the process has no body left, or the type is not that of the host's objects */
-    KAFFE_ORPHAN = 7,   /* a shared heap has to be absorbed first, or the one to be absorbed is not the first orphan */
+    KAFFE_ORPHAN = 7,   /* the shared heap to be absorbed is not the first orphan */
     KAFFE_NO_CALL = 8,  /* the request names no call */
-    KAFFE_NO_HOST = 9   /* no host could be made: see kaffe_make */
+    KAFFE_NO_HOST = 9,  /* no host could be made: see kaffe_make */
+    KAFFE_RESERVED = 10 /* no more events are left than are kept for collections; kaffe_kill asks for none of them */
 };
 
 /* Why an operation is refused. It counts as done, and has changed no heap, register or charge. */
@@ -111,7 +112,8 @@ enum kaffe_call_number {
     KAFFE_ASK_EVENTS = 39,
     KAFFE_ASK_BODIES = 40,
     KAFFE_ASK_KERNEL_BYTES = 41,
-    KAFFE_ASK_ORPHAN = 42
+    KAFFE_ASK_ORPHAN = 42,
+    KAFFE_ASK_LEFT = 43
 };
 
 /* The four functions that are linked. The caller gives kaffe_size() bytes, aligned as malloc aligns, and has them back after kaffe_close.
@@ -207,7 +209,8 @@ static inline kaffe_answer kaffe_collect(kaffe_host *h, uint32_t pid) {
     return kaffe_request_call(h, KAFFE_CALL_COLLECT, pid, 0, 0, 0, 0, 0);
 }
 
-/* Ends the process, whoever asks: from here on its charge is 0, and its heap is the kernel's. */
+/* Ends the process, whoever asks: from here on its charge is 0, and its heap is the kernel's. A process that lives can always be ended,
+   however many events are left. */
 static inline kaffe_answer kaffe_kill(kaffe_host *h, uint32_t pid) {
     return kaffe_request_call(h, KAFFE_CALL_KILL, pid, 0, 0, 0, 0, 0);
 }
@@ -217,19 +220,14 @@ static inline kaffe_answer kaffe_absorb(kaffe_host *h, uint32_t shared) {
     return kaffe_request_call(h, KAFFE_CALL_ABSORB, 0, shared, 0, 0, 0, 0);
 }
 
-/* Asks a question, KAFFE_ASK_LIVES to KAFFE_ASK_ORPHAN, of the process, limit or register. It changes nothing. */
+/* Asks a question, KAFFE_ASK_LIVES to KAFFE_ASK_LEFT, of the process, limit or register. It changes nothing. */
 static inline kaffe_answer kaffe_ask(kaffe_host *h, uint32_t question, uint32_t pid, uint32_t at) {
     return kaffe_request_call(h, question, pid, at, 0, (uint8_t)(at < 16 ? at : 255), 0, 0);
 }
 
-/* Absorbs every orphan, each by a call of its own, and collects the kernel heap whole, as the process. Answers what was freed. */
+/* Absorbs every orphan, and collects the kernel heap whole, as the process. Answers what was freed. */
 static inline kaffe_answer kaffe_kcollect(kaffe_host *h, uint32_t pid) {
-    for (;;) {
-        kaffe_answer a = kaffe_request_call(h, KAFFE_CALL_KCOLLECT, pid, 0, 0, 0, 0, 0);
-        if (a.status != KAFFE_ORPHAN) return a;
-        a = kaffe_absorb(h, (uint32_t)kaffe_ask(h, KAFFE_ASK_ORPHAN, 0, 0).number);
-        if (a.status != KAFFE_OK) return a;
-    }
+    return kaffe_request_call(h, KAFFE_CALL_KCOLLECT, pid, 0, 0, 0, 0, 0);
 }
 
 /* The bytes that the process is charged: its heap, and each shared heap that it shares in full. 0 once it has ended. */
@@ -239,13 +237,15 @@ static inline uint64_t kaffe_use(kaffe_host *h, uint32_t limit) { return kaffe_a
 static inline uint64_t kaffe_max(kaffe_host *h, uint32_t limit) { return kaffe_ask(h, KAFFE_ASK_MAX, 0, limit).number; }
 /* Whether the process lives. */
 static inline int kaffe_lives(kaffe_host *h, uint32_t pid) { return kaffe_ask(h, KAFFE_ASK_LIVES, pid, 0).number == 1; }
+/* How many events are left for operations and collections: what the ends of all processes will add is kept beside them. */
+static inline uint64_t kaffe_left(kaffe_host *h) { return kaffe_ask(h, KAFFE_ASK_LEFT, 0, 0).number; }
 /* The bytes of the kernel heap. */
 static inline uint64_t kaffe_kernel_bytes(kaffe_host *h) { return kaffe_ask(h, KAFFE_ASK_KERNEL_BYTES, 0, 0).number; }
 
 /* A host in memory of malloc, of what the text declares. Each of its objects is of the one type; each process can do that many
    allocations (bodies), refused ones too; and all calls together can add that many events. NULL where there is none, and then `why` says:
    seg is the first bad line and at the reason of docs/FORMATS.md; or seg is 0, and at is 1 where memory ran out, 2 where the type is
-   not declared or the events are 2^30 or more. */
+   not declared, the events are 2^30 or more, or they are fewer than three for each process, one for each shared heap and three. */
 static inline kaffe_host *kaffe_make(const char *text, uint32_t type, uint32_t bodies, uint32_t events, kaffe_answer *why) {
     kaffe_answer none = {KAFFE_NO_HOST, 0, 1, 0, 0, 0, 0};
     kaffe_host *h = (kaffe_host *)malloc(kaffe_size());

@@ -81,6 +81,7 @@ mod call {
     pub const BODIES: u32 = 40;
     pub const KERNEL_BYTES: u32 = 41;
     pub const ORPHAN: u32 = 42;
+    pub const LEFT: u32 = 43;
 }
 
 /// The number of a process, from 0 in order of declaration.
@@ -126,12 +127,14 @@ pub enum Lack {
     Ended,
     /// A collection of a heap that is touched is open. The methods leave none open.
     Phase,
-    /// The room for events may be too small for what the call adds.
+    /// A table of exit items may be full, or the process has done 2^32 - 1 operations.
     Full,
     /// The process has no body left, or the type is not that of the host's objects.
     NoBody,
-    /// A shared heap has to be absorbed first, or the one to be absorbed is not the first orphan.
+    /// The shared heap to be absorbed is not the first orphan.
     Orphan,
+    /// No more events are left than are kept for collections. `kill` asks for none of them.
+    Reserved,
     /// The library is of another version than this module: it has no such call, or answers a number that this module has not.
     NoCall,
 }
@@ -216,6 +219,7 @@ fn lack_of(status: u32) -> Lack {
         5 => Lack::Full,
         6 => Lack::NoBody,
         7 => Lack::Orphan,
+        10 => Lack::Reserved,
         _ => Lack::NoCall,
     }
 }
@@ -375,20 +379,23 @@ impl Host {
         self.call(Request { call: call::COLLECT, pid, ..Request::default() }).map(freed)
     }
 
-    /// Absorbs every orphan, each by a call of its own, and collects the kernel heap whole, as the process.
+    /// Absorbs every orphan, and collects the kernel heap whole, as the process.
     pub fn kcollect(&mut self, Pid(pid): Pid) -> Result<Freed, Refusal> {
-        loop {
-            match self.call(Request { call: call::KCOLLECT, pid, ..Request::default() }) {
-                Err(Refusal::Lack(Lack::Orphan)) => {
-                    let at = self.number(call::ORPHAN, 0, 0).unwrap_or(0) as u32;
-                    self.call(Request { call: call::ABSORB, at, ..Request::default() })?;
-                }
-                came => return came.map(freed),
-            }
-        }
+        self.call(Request { call: call::KCOLLECT, pid, ..Request::default() }).map(freed)
     }
 
-    /// Ends the process, whoever asks: from here on its charge is 0, and its heap is the kernel's.
+    /// Absorbs the shared heap, which must be the first orphan.
+    pub fn absorb(&mut self, SharedId(at): SharedId) -> Result<(), Refusal> {
+        self.call(Request { call: call::ABSORB, at, ..Request::default() }).map(|_| ())
+    }
+
+    /// The first shared heap that was made and that nobody shares any more.
+    pub fn orphan(&mut self) -> Option<SharedId> {
+        self.number(call::ORPHAN, 0, 0).map(|n| SharedId(n as u32))
+    }
+
+    /// Ends the process, whoever asks: from here on its charge is 0, and its heap is the kernel's. A process that lives can always be
+    /// ended, however many events are left.
     pub fn kill(&mut self, Pid(pid): Pid) -> Result<(), Refusal> {
         self.call(Request { call: call::KILL, pid, ..Request::default() }).map(|_| ())
     }
@@ -431,6 +438,11 @@ impl Host {
     /// How many allocations the process can do yet.
     pub fn bodies_left(&mut self, Pid(pid): Pid) -> Option<u64> {
         self.number(call::BODIES, pid, 0)
+    }
+
+    /// How many events are left for operations and collections: what the ends of all processes will add is kept beside them.
+    pub fn left(&mut self) -> Option<u64> {
+        self.number(call::LEFT, 0, 0)
     }
 
     /// How many events the journal has.

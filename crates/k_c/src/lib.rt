@@ -7,7 +7,7 @@ ghost use Rattle.std.specs.Ptr.{lies_at, room_at};
 ghost use Rattle.k_embed.specs.contracts.serving.Slot.{the_row};
 ghost use Rattle.k_embed.specs.declared.serving.Slot.{Slot};
 ghost use Rattle.k_embed.specs.Served.{IsServed};
-ghost use Rattle.k_embed.specs.Opening.{HasRead};
+ghost use Rattle.k_embed.specs.Kept.{HasOpened};
 
 use k_embed::{Answer, Request, Slot, opened, serve};
 use std::alloc::Global;
@@ -35,7 +35,7 @@ pub unsafe extern "C" fn kaffe_open(
     at: *mut KaffeHost,
 )
     requires* { sem 𝓛 (room_at the_row at) }
-    ensures* { ∃ₛ (λ (w : Slot). sem 𝓛 (lies_at the_row full_share at w) ∗ ⌜ IfSome w.host (λ host. HasRead text.now (record { 0 = ty }) bodies events host) ⌝) }
+    ensures* { ∃ₛ (λ (w : Slot). sem 𝓛 (lies_at the_row full_share at w) ∗ ⌜ IfSome w.host (λ host. HasOpened text.now (record { 0 = ty }) bodies events host) ⌝) }
 {
     std::ptr::write(at as *mut Slot, opened(alloc, text, ty, bodies, events));
 }

@@ -5,3 +5,4 @@ pub mod Inside
 pub mod Staying
 pub mod Operated
 pub mod Refused
+pub use Rattle.k_operate.proofs.AbsorbKept

@@ -17,4 +17,6 @@ pub enum HostError {
     NoBody,
     /// A shared heap is an orphan, or the one to be absorbed is none.
     Orphan,
+    /// No more events are left than those that are kept for collections.
+    Reserved,
 }

@@ -7,8 +7,8 @@ use Rattle.k_types.specs.declared.event.Fault.TheVariants.{Null, Foreign, NotSha
 use Rattle.k_types.specs.declared.event.Reply.{Reply}
 use Rattle.k_types.specs.declared.event.Reply.TheVariants.{Done, Made, Loaded, Value, Refused}
 use Rattle.k_types.specs.declared.names.Name.{Name}
-use Rattle.k_host.specs.HostError.{HostError}
-use Rattle.k_host.specs.HostError.TheVariants.{Unknown, OwnCall, Ended as HasEnded, Phase, Full, NoBody, Orphan}
+use Rattle.k_keeper.specs.HostError.{HostError}
+use Rattle.k_keeper.specs.HostError.TheVariants.{Unknown, OwnCall, Ended as HasEnded, Phase, Full, NoBody, Orphan, Reserved}
 use Rattle.k_embed.specs.declared.messages.Answer.{Answer}
 
 -- only this is said
@@ -37,6 +37,7 @@ of_error Phase = plain 4 0 0
 of_error Full = plain 5 0 0
 of_error NoBody = plain 6 0 0
 of_error Orphan = plain 7 0 0
+of_error Reserved = plain 10 0 0
 
 -- the fault, with the limit, process or shared heap that it names
 abbrev pub of_fault : Fault → Answer

@@ -1,4 +1,4 @@
 pub mod Codes
 pub mod Asked
 pub mod Served
-pub use Rattle.k_host.specs.Opening
+pub use Rattle.k_keeper.specs.Kept

@@ -3,12 +3,10 @@ use Rattle.std.specs.Prelude.{◌≡◌, Some, MatchOption, Result, IfErr, IfOk,
 use Rattle.k_types.specs.declared.event.Event.{Event}
 use Rattle.k_types.specs.declared.names.Pid.{Pid}
 use Rattle.k_types.specs.declared.op.Op.{Op}
-use Rattle.k_host.specs.HostError.{HostError}
-use Rattle.k_host.specs.EndsRefusals.{CanNotExit}
-use Rattle.k_host.specs.Whole.{CanNotCollect, CanNotCollectKernel}
-use Rattle.k_host.specs.Calls.{HasAbsorbedIn, HasCollectedIn, HasCollectedKernelIn, HasExitedIn, HasOperatedIn}
-use Rattle.k_host.specs.Hosts.{HostValue}
-use Rattle.k_host.specs.Refusals.{CanNotOperateIn, MayRefuse, MayRefuseAbsorption}
+use Rattle.k_keeper.specs.HostError.{HostError}
+use Rattle.k_keeper.specs.Calls.{HasAbsorbedIn, HasCollectedIn, HasExitedIn, HasOperatedIn}
+use Rattle.k_keeper.specs.Keeping.{KeeperValue}
+use Rattle.k_keeper.specs.Kept.{HasCollectedAll, IsGone, MayRefuseCollection, MayRefuseKernel, MayRefuseOperation, MayRefuseToAbsorb}
 use Rattle.k_embed.specs.declared.doing.Whole.{Whole}
 use Rattle.k_embed.specs.declared.doing.Whole.TheVariants.{Absorb, Collect, CollectKernel, Kill}
 use Rattle.k_embed.specs.declared.messages.Answer.{Answer}
@@ -18,50 +16,50 @@ use Rattle.k_embed.specs.Asked.{operation_of, pid_of, whole_of}
 use Rattle.k_embed.specs.Codes.{of_result}
 
 -- the answer is that of the machine's event, with its reply, or of what is lacking; and then nothing has changed
-pub record IsActed (old new : HostValue) (pid : Pid) (op : Op) (answer : Answer) : Type 0 where
+pub record IsActed (old new : KeeperValue) (pid : Pid) (op : Op) (answer : Answer) : Type 0 where
   pub came : Result Event HostError
   pub shown : answer ≡ of_result came
-  pub done : IfOk came (λ event. HasOperatedIn old new pid op event)
+  pub done : IfOk came (λ event. HasOperatedIn old.host new.host pid op event)
   pub same : OnErr came (new ≡ old)
-  pub why : IfErr came (λ e. MayRefuse old pid (CanNotOperateIn old op) e)
+  pub why : IfErr came (λ e. MayRefuseOperation old pid op e)
 
 -- what the whole call leaves of the host, where it is done
-abbrev pub HasDoneWhole : HostValue → HostValue → Pid → Whole → Event → Type 0
-HasDoneWhole old new pid Collect event = HasCollectedIn old new pid event
-HasDoneWhole old new pid CollectKernel event = HasCollectedKernelIn old new pid event
-HasDoneWhole old new pid Kill event = HasExitedIn old new pid event
-HasDoneWhole old new pid (Absorb s) event = HasAbsorbedIn old new s event
+abbrev pub HasDoneWhole : KeeperValue → KeeperValue → Pid → Whole → Event → Type 0
+HasDoneWhole old new pid Collect event = HasCollectedIn old.host new.host pid event
+HasDoneWhole old new pid CollectKernel event = HasCollectedAll old new pid event
+HasDoneWhole old new pid Kill event = HasExitedIn old.host new.host pid event
+HasDoneWhole old new pid (Absorb s) event = HasAbsorbedIn old.host new.host s event
 
--- why it is refused
-abbrev pub MayRefuseWhole : HostValue → Pid → Whole → HostError → Type 0
-MayRefuseWhole old pid Collect e = MayRefuse old pid (CanNotCollect old.basis old.book) e
-MayRefuseWhole old pid CollectKernel e = MayRefuse old pid (CanNotCollectKernel old.basis old.kernel old.book) e
-MayRefuseWhole old pid Kill e = MayRefuse old pid (CanNotExit old.basis old.kernel old.book) e
-MayRefuseWhole old pid (Absorb s) e = MayRefuseAbsorption old s e
+-- why it is refused: an end for no other reason than that there is no such process or that it has ended
+abbrev pub MayRefuseWhole : KeeperValue → Pid → Whole → HostError → Type 0
+MayRefuseWhole old pid Collect e = MayRefuseCollection old pid e
+MayRefuseWhole old pid CollectKernel e = MayRefuseKernel old pid e
+MayRefuseWhole old pid Kill e = IsGone old.host pid e
+MayRefuseWhole old pid (Absorb s) e = MayRefuseToAbsorb old s e
 
 -- what came of a whole call: it is done, or nothing has changed and what is lacking is named
-pub record HasCome (old new : HostValue) (pid : Pid) (whole : Whole) (came : Result Event HostError) : Type 0 where
+pub record HasCome (old new : KeeperValue) (pid : Pid) (whole : Whole) (came : Result Event HostError) : Type 0 where
   pub done : IfOk came (λ event. HasDoneWhole old new pid whole event)
   pub same : OnErr came (new ≡ old)
   pub why : IfErr came (λ e. MayRefuseWhole old pid whole e)
 
 -- the answer is that of what came of it
-pub record IsDoneWhole (old new : HostValue) (pid : Pid) (whole : Whole) (answer : Answer) : Type 0 where
+pub record IsDoneWhole (old new : KeeperValue) (pid : Pid) (whole : Whole) (answer : Answer) : Type 0 where
   pub came : Result Event HostError
   pub shown : answer ≡ of_result came
   pub has_come : HasCome old new pid whole came
 
 -- where the request asks for a collection, an end or an absorption, that is what was done on the host, and else nothing has changed
-abbrev pub IsServedElse : HostValue → HostValue → Request → Answer → Type 0
+abbrev pub IsServedElse : KeeperValue → KeeperValue → Request → Answer → Type 0
 IsServedElse old new q answer = MatchOption (whole_of q) (new ≡ old) (λ whole. IsDoneWhole old new (pid_of q) whole answer)
 
 -- where the request asks for an operation, that is what was done on the host
-abbrev pub IsServedOn : HostValue → HostValue → Request → Answer → Type 0
+abbrev pub IsServedOn : KeeperValue → KeeperValue → Request → Answer → Type 0
 IsServedOn old new q answer = MatchOption (operation_of q) (IsServedElse old new q answer) (λ op. IsActed old new (pid_of q) op answer)
 
 -- there is a host in the place still, on which the request was served
-pub record IsServedIn (old : HostValue) (place : Slot) (q : Request) (answer : Answer) : Type 0 where
-  pub now : HostValue
+pub record IsServedIn (old : KeeperValue) (place : Slot) (q : Request) (answer : Answer) : Type 0 where
+  pub now : KeeperValue
   pub there : place.host ≡ Some now
   pub served : IsServedOn old now q answer
 

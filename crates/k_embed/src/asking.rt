@@ -1,7 +1,7 @@
 //! Questions, which change nothing.
 use crate::codes::{number, of_number, referred, unknown};
 use crate::messages::{Answer, Request};
-use k_host::Host;
+use k_keeper::{Host, Keeper};
 use k_types::{LimitId, Pid, Reg};
 
 fn register(host: &Host, pid: Pid, reg: Reg) -> Answer {
@@ -33,7 +33,8 @@ fn orphan(host: &Host) -> Answer {
 }
 
 /// The answer to a question; none where the request asks none.
-pub(crate) fn ask(host: &Host, request: &Request) -> Option<Answer> {
+pub(crate) fn ask(keeper: &Keeper, request: &Request) -> Option<Answer> {
+    let host = keeper.host();
     let pid = Pid(request.pid);
     let limit = LimitId(request.at);
     match request.call {
@@ -48,6 +49,7 @@ pub(crate) fn ask(host: &Host, request: &Request) -> Option<Answer> {
         40 => Some(small(host.bodies_left(pid))),
         41 => Some(number(host.kernel_bytes())),
         42 => Some(orphan(host)),
+        43 => Some(number(u64::from(keeper.left()))),
         _ => None,
     }
 }

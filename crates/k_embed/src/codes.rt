@@ -3,7 +3,7 @@ ghost use Rattle.std.specs.Prelude.{◌≡◌};
 ghost use Rattle.k_embed.specs.Codes.{of_error, of_event, of_fault, of_name, of_number, of_reply, of_result, of_target, plain};
 
 use crate::messages::Answer;
-use k_host::HostError;
+use k_keeper::HostError;
 use k_types::{Event, Fault, Name, Reply};
 
 /// An answer that says only this.
@@ -115,6 +115,7 @@ pub(crate) fn lacking(why: HostError) -> Answer
         HostError::Full => 5,
         HostError::NoBody => 6,
         HostError::Orphan => 7,
+        HostError::Reserved => 10,
     };
     plain(status, 0, 0)
 }

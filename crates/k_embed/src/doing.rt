@@ -4,7 +4,7 @@ ghost use Rattle.k_embed.specs.Asked.{operation_of, whole_of};
 ghost use Rattle.k_embed.specs.Served.{HasCome};
 
 use crate::messages::Request;
-use k_host::{Host, HostError};
+use k_keeper::{HostError, Keeper};
 use k_types::{Event, LimitId, Op, Pid, Reg, SharedId, TypeId};
 
 /// A call that is no operation, and changes a host.
@@ -12,7 +12,7 @@ use k_types::{Event, LimitId, Op, Pid, Reg, SharedId, TypeId};
 pub enum Whole {
     /// Collects the process's heap.
     Collect,
-    /// Collects the kernel's heap, as the process.
+    /// Absorbs every orphan, and collects the kernel's heap, as the process.
     CollectKernel,
     /// Ends the process, whoever asks.
     Kill,
@@ -94,13 +94,13 @@ pub(crate) fn whole_asked(request: &Request) -> Option<Whole>
 }
 
 /// Does it, as the process.
-pub(crate) fn do_whole(host: &mut Host, pid: Pid, whole: Whole) -> Result<Event, HostError>
+pub(crate) fn do_whole(host: &mut Keeper, pid: Pid, whole: Whole) -> Result<Event, HostError>
     ensures { HasCome host.old host.new pid whole result }
 {
     match whole {
         Whole::Collect => host.collect(pid),
         Whole::CollectKernel => host.collect_kernel(pid),
-        Whole::Kill => host.exit(pid),
+        Whole::Kill => host.kill(pid),
         Whole::Absorb(id) => host.absorb(id),
     }
 }

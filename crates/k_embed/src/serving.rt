@@ -1,13 +1,13 @@
 //! One call for everything that a host does.
 ghost use Rattle.std.specs.Prelude.{◌≡◌, IfSome, None};
-ghost use Rattle.k_host.specs.Opening.{HasRead};
+ghost use Rattle.k_keeper.specs.Kept.{HasOpened};
 ghost use Rattle.k_embed.specs.Served.{IsActed, IsDoneWhole, IsServed, IsServedOn};
 
 use crate::asking::ask;
 use crate::codes::{lacking_host, no_call, of_event};
 use crate::doing::{Whole, do_whole, operation, whole_asked};
 use crate::messages::{Answer, Request};
-use k_host::{Host, OpenError};
+use k_keeper::{Keeper, OpenError};
 use k_types::{Op, Pid, TypeId};
 use std::alloc::Global;
 
@@ -15,7 +15,7 @@ use std::alloc::Global;
 /// number of its reason; or line 0, and 1 where memory ran out and 2 where the terms are not fit.
 #[derive(Drop)]
 pub struct Slot {
-    pub host: Option<Host>,
+    pub host: Option<Keeper>,
     pub line: u32,
     pub reason: u32,
 }
@@ -33,9 +33,9 @@ fn empty(line: u32, reason: u32) -> Slot
 
 /// A host of what the text declares, if it can be made.
 pub fn opened(alloc: Global, text: &[u8], ty: u32, bodies: u32, events: u32) -> Slot
-    ensures { IfSome result.host (λ host. HasRead text.now (record { 0 = ty }) bodies events host) }
+    ensures { IfSome result.host (λ host. HasOpened text.now (record { 0 = ty }) bodies events host) }
 {
-    match Host::read(alloc, text, TypeId(ty), bodies, events) {
+    match Keeper::read(alloc, text, TypeId(ty), bodies, events) {
         Ok(host) => Slot {
             host: Some(host),
             line: 0,
@@ -48,7 +48,7 @@ pub fn opened(alloc: Global, text: &[u8], ty: u32, bodies: u32, events: u32) -> 
 }
 
 /// Does the operation of the process, and answers in numbers.
-pub fn act(host: &mut Host, pid: Pid, op: &Op) -> Answer
+pub fn act(host: &mut Keeper, pid: Pid, op: &Op) -> Answer
     ensures { IsActed host.old host.new pid op.now result }
 {
     of_event(host.operate(pid, op))
@@ -65,14 +65,14 @@ pub fn serve(slot: &mut Slot, request: &Request) -> Answer
 }
 
 /// Does the collection, end or absorption, and answers in numbers.
-pub fn act_whole(host: &mut Host, pid: Pid, whole: Whole) -> Answer
+pub fn act_whole(host: &mut Keeper, pid: Pid, whole: Whole) -> Answer
     ensures { IsDoneWhole host.old host.new pid whole result }
 {
     of_event(do_whole(host, pid, whole))
 }
 
 /// Answers a question, or that there is no such call.
-fn answered(host: &Host, request: &Request) -> Answer {
+fn answered(host: &Keeper, request: &Request) -> Answer {
     match ask(host, request) {
         Some(answer) => answer,
         None => no_call(),
@@ -80,7 +80,7 @@ fn answered(host: &Host, request: &Request) -> Answer {
 }
 
 /// Does what the request asks, and answers what came of it.
-fn serve_host(host: &mut Host, request: &Request) -> Answer
+fn serve_host(host: &mut Keeper, request: &Request) -> Answer
     ensures { IsServedOn host.old host.new request.now result }
 {
     let pid = Pid(request.pid);

@@ -34,6 +34,8 @@ use Rattle.k_guests.specs.declared.guest.Guest.{Guest}
 use Rattle.k_calls.specs.declared.errors.HostError.TheVariants.{Orphan}
 use Rattle.k_calls.specs.Refusals.{Lacks}
 use Rattle.k_locked.proofs.Lists.{found_passes}
+use Rattle.k_base.specs.Distinct.{AreDistinctNames}
+use Rattle.k_ends.proofs.Handed.{exits_fit}
 use Rattle.k_ends.specs.Collecting.{CanAbsorbNow, CanBeginKernel, CanExitNow, CanGoOn, CanMarkGuest, CanMarkKernel, HasAbsorbedNow, HasBegun, HasBegunKernel, HasEnded, HasExitedNow, HasGoneOn, HasMarkedGuest, HasMarkedKernel, HasSettled, HasSettledKernel, KernelHasEnded}
 use Rattle.k_guests.specs.Serving.{Basis, BookServes, GivesSerials, GuestServes, KernelServes}
 use Rattle.k_calls.proofs.Due.{book_published, can_publish, guest_published, longer_published}
@@ -121,8 +123,8 @@ module _ (basis : Basis) (g : Guest) (b : BookRecord) (can : CanGoOn basis g b) 
       room = λ fits kernel_fits. event_left basis l book_now left_now;
     }
 
-    pub can_exit : (k : HoldingsValue) → CanExitNow basis g k b → CanExit basis.trace w k l
-    can_exit k both = record {
+    pub can_exit : (k : HoldingsValue) → CanExitNow basis g k b → AreDistinctNames w.value.exits → AreDistinctNames k.value.exits → CanExit basis.trace w k l
+    can_exit k both distinct kernel_distinct = record {
       book_stands = book_now.stands;
       heap_stands = heap_stands both.own.idle;
       kernel_stands = record { agrees = both.kernel.agrees; table = both.kernel.table ∙ sym s.same_table; idle = both.idle };
@@ -130,10 +132,7 @@ module _ (basis : Basis) (g : Guest) (b : BookRecord) (can : CanGoOn basis g b) 
       room = λ fits kernel_fits. record {
         events = event_left basis l book_now left_now;
         exits =
-            let same = ap (λ (c : HeapRecord). length c.value.exits) s.cell_is in
-            let few = both.exits in
-            let room = both.kernel.exits in
-            omega (arith, same, few, room);
+            exits_fit basis w k l guest_now.agrees (ap (λ (c : HeapRecord). c.value.tail) s.cell_is) both.kernel.agrees both.kernel.exits book_now left_now distinct kernel_distinct fits kernel_fits;
       };
     }
 

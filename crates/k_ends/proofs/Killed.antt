@@ -29,6 +29,8 @@ use Rattle.k_calls.proofs.Due.{book_published, can_publish, guest_published, lon
 use Rattle.k_calls.proofs.Going.{book_goes_on, guest_goes_on}
 use Rattle.k_calls.proofs.Rooms.{event_left}
 use Rattle.k_squares.specs.Locals.{is_local_in}
+use Rattle.k_base.specs.Distinct.{AreDistinctNames}
+use Rattle.k_ends.proofs.Handed.{exits_fit}
 use Rattle.k_ends.specs.Killing.{CanKillNow, EndsThis, HasKilledNow}
 
 module _ (basis : Basis) (g t : Guest) (k : HoldingsValue) (b : BookRecord) (op : Op) (n : CanKillNow basis g t k b op) where
@@ -88,8 +90,8 @@ module _ (basis : Basis) (g t : Guest) (k : HoldingsValue) (b : BookRecord) (op 
           ∙ ap (λ (c : HeapRecord). other_cells_in basis.trace (book_shown_by b.value) (idle_part c.value) c.pid.0 op) s.cell_is
           ∙ n.touches ∙ ap (λ (q : Pid). User q ∷ Kernel ∷ []) (sym same_target)
 
-      pub can_kill : CanKill basis.trace w u k m op
-      can_kill = record {
+      pub can_kill : AreDistinctNames u.value.exits → AreDistinctNames k.value.exits → CanKill basis.trace w u k m op
+      can_kill distinct kernel_distinct = record {
         book_stands = book_now.stands;
         heap_stands = heap_stands;
         target_stands = record {
@@ -105,10 +107,7 @@ module _ (basis : Basis) (g t : Guest) (k : HoldingsValue) (b : BookRecord) (op 
         room = λ fits target_fits kernel_fits. record {
           events = event_left basis m book_now left_now;
           exits =
-              let same = ap (λ (c : HeapRecord). length c.value.exits) r.cell_is in
-              let few = n.can.exits in
-              let room = n.kernel.exits in
-              omega (arith, same, few, room);
+              exits_fit basis u k m target_now.agrees (ap (λ (c : HeapRecord). c.value.tail) r.cell_is) n.kernel.agrees n.kernel.exits book_now left_now distinct kernel_distinct target_fits kernel_fits;
         };
       }
 

@@ -1,5 +1,5 @@
 -- What the collections of a host, its absorptions and the ends of its processes ask and leave.
-use Rattle.std.specs.Prelude.{◌≡◌, ◌+◌, ◌<◌, ◌≤◌, IsFalse, IsTrue, List, None, [], ◌∷◌, ◌++◌, length}
+use Rattle.std.specs.Prelude.{◌≡◌, ◌<◌, IsFalse, IsTrue, List, None, [], ◌∷◌, ◌++◌, length}
 use Rattle.k_types.specs.declared.event.Event.{Event}
 use Rattle.k_types.specs.declared.event.Event.TheVariants.{Absorbed, Done}
 use Rattle.k_types.specs.declared.event.Reply.TheVariants.{Done as DoneReply}
@@ -131,12 +131,11 @@ pub record HasSettledKernel (basis : Basis) (old k : HoldingsValue) (old_b b : B
   pub ends : AreEnds Kernel old.value.collection last
   pub journal : b.journal.list ≡ old_b.journal.list ++ last
 
--- the kernel is not collected, and can take the exit items of the process's heap beside its own
+-- the kernel is not collected. It can take the exit items of the process's heap beside its own, since no history has more than events
 pub record CanExitNow (basis : Basis) (g : Guest) (k : HoldingsValue) (b : BookRecord) : Type 0 where
   pub own : CanBegin basis g b
   pub kernel : KernelServes basis b.journal.table k
   pub idle : k.value.collection ≡ Idle
-  pub exits : length g.cell.value.exits + length k.value.exits ≤ basis.events
 
 -- the process has ended, and no collection of the kernel's heap is open
 pub record HasExitedNow (basis : Basis) (old g : Guest) (k : HoldingsValue) (old_b b : BookRecord) (event : Event) : Type 0 where

@@ -1,5 +1,5 @@
 -- What an operation that may end another process asks and leaves, and when it is refused.
-use Rattle.std.specs.Prelude.{◌≡◌, ◌⊎◌, ◌+◌, ◌<◌, ◌≤◌, IsTrue, [], ◌∷◌, ◌++◌, length}
+use Rattle.std.specs.Prelude.{◌≡◌, ◌⊎◌, ◌+◌, ◌<◌, IsTrue, [], ◌∷◌, ◌++◌, length}
 use Rattle.k_types.specs.declared.event.Event.{Event}
 use Rattle.k_types.specs.declared.names.CellPhase.TheVariants.{Idle}
 use Rattle.k_types.specs.declared.names.Heap.TheVariants.{Kernel, User}
@@ -21,16 +21,11 @@ use Rattle.k_calls.specs.Refusals.{IsNotReady, Lacks}
 abbrev pub HasRoomToKill : Basis → Guest → Guest → BookRecord → Type 0
 HasRoomToKill basis g t b = length b.journal.list + length g.cell.value.tail + length t.cell.value.tail < basis.events
 
--- the kernel can take the exit items of the process's heap beside its own
-abbrev pub HasRoomForExits : Basis → Guest → HoldingsValue → Type 0
-HasRoomForExits basis t k = length t.cell.value.exits + length k.value.exits ≤ basis.events
-
--- neither the target's heap nor the kernel's is collected, and there is room for the events and the exit items
+-- neither the target's heap nor the kernel's is collected, and the journal has room
 pub record IsReadyToEnd (basis : Basis) (g t : Guest) (k : HoldingsValue) (b : BookRecord) : Type 0 where
   pub idle : t.cell.value.collection ≡ Idle
   pub kernel_idle : k.value.collection ≡ Idle
   pub room : HasRoomToKill basis g t b
-  pub exits : HasRoomForExits basis t k
 
 -- the operation touches the cells of the end of the other process
 abbrev pub EndsThis : Basis → Guest → Guest → BookRecord → Op → Type 0
@@ -76,13 +71,12 @@ abbrev pub HasTriedToKill : Basis → Op → Guest → Guest → Guest → Guest
 HasTriedToKill basis op old g old_t t old_k k old_b b event =
     HasEndedNobody basis op old g old_t t old_k k old_b b event ⊎ HasKilledNow basis op old g old_t t k old_b b event
 
--- the target can't end now: a collection of its heap or of the kernel's is open, or the journal is full or the kernel's table of exit items
--- would be
+-- the target can't end now: a collection of its heap or of the kernel's is open, or the journal is full
 abbrev pub IsNotReadyToEnd : Basis → HoldingsValue → BookRecord → Guest → Guest → HostError → Type 0
 IsNotReadyToEnd basis k b g t why =
     Lacks Phase (t.cell.value.collection ≡ Idle) why
     ⊎ Lacks Phase (k.value.collection ≡ Idle) why
-    ⊎ Lacks Full (HasRoomToKill basis g t b × HasRoomForExits basis t k) why
+    ⊎ Lacks Full (HasRoomToKill basis g t b) why
 
 -- the operation would end the target, which can't end now
 pub record IsEndBarred (basis : Basis) (k : HoldingsValue) (b : BookRecord) (op : Op) (t g : Guest) (why : HostError) : Type 0 where

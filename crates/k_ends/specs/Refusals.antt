@@ -1,5 +1,5 @@
 -- When a call on collections, absorptions or the end of a process is refused, and with which error.
-use Rattle.std.specs.Prelude.{◌≡◌, ◌⊎◌, ◌+◌, ◌<◌, ◌≤◌, IsFalse, Some, None, length}
+use Rattle.std.specs.Prelude.{◌≡◌, ◌⊎◌, ◌<◌, IsFalse, Some, None, length}
 use Rattle.k_types.specs.declared.names.CellPhase.TheVariants.{Begun, Idle, Marked}
 use Rattle.k_types.specs.declared.names.SharedId.{SharedId}
 use Rattle.k_book.specs.Books.{BookRecord}
@@ -40,13 +40,12 @@ CanNotBeginKernel basis k b g why =
     ⊎ Lacks Orphan (lowest_orphan b.value.phases b.value.shares ≡ None) why
     ⊎ Lacks Full (HasEventsLeft basis g b) why
 
--- the process can't end: it is not awake, a collection of the kernel's heap is open, or the journal is full or the kernel's table of
--- exit items would be
+-- the process can't end: it is not awake, a collection of the kernel's heap is open, or the journal is full
 abbrev pub CanNotExit : Basis → HoldingsValue → BookRecord → Guest → HostError → Type 0
 CanNotExit basis k b g why =
     IsNotAwake g why
     ⊎ Lacks Phase (k.value.collection ≡ Idle) why
-    ⊎ Lacks Full (HasEventsLeft basis g b × (length g.cell.value.exits + length k.value.exits ≤ basis.events)) why
+    ⊎ Lacks Full (HasEventsLeft basis g b) why
 
 -- no collection of the kernel's heap has begun that is not marked
 abbrev pub CanNotMarkKernel : HoldingsValue → HostError → Type 0

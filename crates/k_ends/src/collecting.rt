@@ -4,6 +4,7 @@ ghost use Rattle.k_ends.specs.Collecting.{CanAbsorbNow, CanBegin, CanBeginKernel
 ghost use Rattle.k_guests.specs.Serving.{Basis, BookServes, KernelServes};
 ghost use Rattle.std.specs.Prelude.{◌<◌, length};
 
+use crate::known::{know_exits, know_kernel_exits};
 use k_book::Book;
 use k_calls::{
     absorb, begin_heap, begin_kernel, end_heap, end_kernel, exit, publish, settle_heap,
@@ -118,6 +119,8 @@ pub(crate) fn do_exit(
 {
     let _setup = &terms.setup;
     publish(&mut guest.cell, book);
+    know_exits(&guest.cell);
+    know_kernel_exits(kernel);
     exit(&mut guest.cell, kernel, book)
 }
 

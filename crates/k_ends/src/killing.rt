@@ -4,7 +4,7 @@ ghost use Rattle.k_types.specs.declared.op.Op.TheVariants.{Kill};
 ghost use Rattle.k_guests.specs.Serving.{Basis, BookServes, GuestServes, KernelServes, basis_of};
 ghost use Rattle.k_ends.specs.Killing.{CanKillNow, CanNotKill, HasKilledNow, HasRoomToKill, HasTriedToKill, IsNotReadyToEnd, IsReadyToEnd};
 
-use crate::starting::can_hand_on;
+use crate::known::{know_exits, know_kernel_exits};
 use k_book::Book;
 use k_calls::{HostError, Reach, do_alone, is_idle, kill, publish, reached, ready, room_left};
 use k_guests::{Guest, Terms};
@@ -36,7 +36,7 @@ fn ready_to_end(
     if !is_idle(kernel.phase()) {
         return Err(HostError::Phase);
     }
-    if !has_room_to_kill(terms, guest, target, book) || !can_hand_on(terms, target, kernel) {
+    if !has_room_to_kill(terms, guest, target, book) {
         return Err(HostError::Full);
     }
     Ok(())
@@ -58,6 +58,8 @@ fn do_kill(
     let _setup = &terms.setup;
     publish(&mut guest.cell, book);
     publish(&mut target.cell, book);
+    know_exits(&target.cell);
+    know_kernel_exits(kernel);
     kill(&mut guest.cell, &mut target.cell, kernel, book, op)
 }
 

@@ -11,6 +11,7 @@
 
 mod collecting;
 mod killing;
+mod known;
 mod starting;
 mod whole;
 

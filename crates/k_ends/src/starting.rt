@@ -1,5 +1,5 @@
 //! Calls on the collections of a host's heaps, on absorptions and on the ends of processes, each tested before it is done.
-ghost use Rattle.std.specs.Prelude.{◌≡◌, ◌≤◌, ◌+◌, ◌↔◌, IfErr, IfOk, IsTrue, OnErr, OnOk, length};
+ghost use Rattle.std.specs.Prelude.{◌≡◌, ◌↔◌, IfErr, IfOk, IsTrue, OnErr, OnOk};
 ghost use Rattle.k_shares.specs.Sharers.{lowest_orphan};
 ghost use Rattle.k_guests.specs.Serving.{BookServes, GuestServes, KernelServes, SharedServes, basis_of};
 ghost use Rattle.k_ends.specs.Collecting.{HasAbsorbedNow, HasBegun, HasBegunKernel, HasEnded, HasExitedNow, HasMarkedGuest, HasMarkedKernel, HasSettled, HasSettledKernel, KernelHasEnded};
@@ -182,17 +182,10 @@ pub fn try_exit(
     if !is_idle(kernel.phase()) {
         return Err(HostError::Phase);
     }
-    if !has_events_left(terms, guest, book) || !can_hand_on(terms, guest, kernel) {
+    if !has_events_left(terms, guest, book) {
         return Err(HostError::Full);
     }
     Ok(do_exit(terms, guest, kernel, book))
-}
-
-/// Whether the kernel can take the exit items of the process's heap beside its own.
-pub(crate) fn can_hand_on(terms: &Terms, guest: &Guest, kernel: &KernelCell) -> bool
-    ensures { IsTrue result ↔ (length guest.now.cell.value.exits + length kernel.now.value.exits ≤ terms.now.events) }
-{
-    u64::from(guest.cell.exit_count()) + u64::from(kernel.exit_count()) <= u64::from(terms.events)
 }
 
 /// Whether the shared heap is the orphan of the lowest number.

@@ -1,5 +1,5 @@
 -- A host of which one process, one shared heap or the kernel has changed serves still.
-use Rattle.std.proofs.Common.{◌≡◌, ◌<◌, ℕ, refl, sym, ap, ◌∙◌, subst, List, length, replicate, Option, Some, None, slice_get, slice_set, IfNone, IfSome, Result, Ok, Err, IfErr, OnErr, OnOk}
+use Rattle.std.proofs.Common.{◌≡◌, ◌<◌, ◌≤◌, ℕ, refl, sym, ap, ◌∙◌, subst, List, length, replicate, arith, Option, Some, None, slice_get, slice_set, IfNone, IfSome, Result, Ok, Err, IfErr, OnErr, OnOk}
 use Rattle.std.specs.Prelude.{IfOk}
 use Rattle.k_types.specs.declared.event.Event.{Event}
 use Rattle.k_types.specs.declared.event.Reply.{Reply}
@@ -150,3 +150,11 @@ module _ (basis : Basis) (gs : List Guest) (k : HoldingsValue) (ss : List Shared
       (ap (λ (y : SharedRecord). y.id) same.0)
       (subst (λ (y : BookRecord). KernelServes basis y.journal.table x) (sym same.2) (subst (KernelServes basis b.journal.table) (sym same.1) serves.rest.kernel))
       (subst (BookServes basis) (sym same.2) serves.rest.book) (ap (λ (y : BookRecord). y.journal.table) same.2)
+
+-- there are few processes and shared heaps
+module _ (basis : Basis) (gs : List Guest) (k : HoldingsValue) (ss : List SharedRecord) (b : BookRecord) (serves : HostServes (record { basis = basis; guests = gs; kernel = k; shared = ss; book = b })) where
+  pub few_guests : length gs ≤ 64
+  few_guests = let count = serves.all.count in let few = serves.rest.book.stands.keeps.processes in omega (arith, count, few)
+
+  pub few_heaps : length ss ≤ 64
+  few_heaps = let count = serves.rest.heaps.count in let few = serves.rest.book.stands.keeps.shared in omega (arith, count, few)

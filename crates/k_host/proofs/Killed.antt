@@ -265,6 +265,7 @@ module _ (basis : Basis) (gs : List Guest) (k : HoldingsValue) (ss : List Shared
       named = named;
       target_there = places.other;
       target_named = target_named;
+      two = λ e. places.two (e ∙ sym same);
       asks = asks;
       host_is = ap (λ n. host_of basis (slice_set (slice_set gs n own) target other) x ss l) same;
       way = d;

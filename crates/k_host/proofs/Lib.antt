@@ -6,3 +6,4 @@ pub mod Twined
 pub mod Killed
 pub mod Split
 pub mod KilledIn
+pub use Rattle.k_ends.proofs.AbsorbKept

@@ -1,5 +1,5 @@
 -- What the calls on a host leave of it.
-use Rattle.std.specs.Prelude.{◌≡◌, ◌⊎◌, IsFalse, IsTrue, Some, slice_get, slice_set}
+use Rattle.std.specs.Prelude.{◌≡◌, ◌≢◌, ◌⊎◌, IsFalse, IsTrue, Some, slice_get, slice_set}
 use Rattle.k_types.specs.declared.event.Event.{Event}
 use Rattle.k_types.specs.declared.event.Reply.{Reply}
 use Rattle.k_types.specs.declared.names.Pid.{Pid}
@@ -47,6 +47,7 @@ pub record HasKilledIn (old new : HostValue) (pid : Pid) (op : Op) (event : Even
   pub named : before.cell.pid ≡ pid
   pub target_there : slice_get old.guests target.0 ≡ Some target_before
   pub target_named : target_before.cell.pid ≡ target
+  pub two : target.0 ≢ pid.0
   pub asks : op ≡ Kill target
   pub host_is : new ≡ record old { guests = slice_set (slice_set old.guests pid.0 after) target.0 target_after; kernel = new.kernel; book = new.book }
   pub way : HasKilledNow old.basis op before after target_before target_after new.kernel old.book new.book event

@@ -8,3 +8,5 @@ pub mod Asked
 pub use Rattle.k_ends.specs.Refusals as EndsRefusals
 pub use Rattle.k_ends.specs.Whole
 pub use Rattle.k_ends.specs.HostError
+pub use Rattle.k_ends.specs.CallsRefusals
+pub use Rattle.k_ends.specs.Doing

@@ -203,7 +203,7 @@ impl Host {
     /// # Errors
     ///
     /// Each changes nothing: `Unknown`, `Ended`, `Phase` where a collection of either heap is open, and `Full` where the
-    /// journal has no room for what is unpublished and one event more, or the kernel's table may have none for the exit items of the heap.
+    /// journal has no room for what is unpublished and one event more.
     pub fn exit(&mut self, pid: Pid) -> Result<Event, HostError>
         ensures done { IfOk result (λ event. HasExitedIn self.old self.new pid event) }
         ensures same { OnErr result (self.new ≡ self.old) }

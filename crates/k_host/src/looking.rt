@@ -20,6 +20,20 @@ impl Host {
         let _book = &self.book;
     }
 
+    /// The number of processes, ended ones too. Constant time.
+    pub fn processes(&self) -> u32
+        ensures { result ≡ length self.now.guests }
+    {
+        self.guests.len() as u32
+    }
+
+    /// The number of shared heaps, absorbed ones too. Constant time.
+    pub fn shared_heaps(&self) -> u32
+        ensures { result ≡ length self.now.shared }
+    {
+        self.shared.len() as u32
+    }
+
     /// The number of events in the journal. Constant time.
     pub fn len(&self) -> u32
         ensures { result ≡ length self.now.book.journal.list }

@@ -1,4 +1,4 @@
-//! Tests of a host: operations that are made up as it goes, without a trace.
+//! Tests of a host and of a keeper: operations that are made up as it goes, without a trace.
 //!
 //! What no contract of a host says: that its calls do succeed, in one order or another, and that their replies are those of the machine on
 //! one thread. Nothing stands on this crate. What its tests want was worked out from the rules, or is what the plain machine answers.
@@ -12,6 +12,8 @@ mod collections;
 mod driving;
 #[cfg(test)]
 mod inside;
+#[cfg(test)]
+mod keeping;
 #[cfg(test)]
 mod killing;
 #[cfg(test)]

@@ -46,6 +46,9 @@ static void openings(void) {
     due("terms: reason", why.at, 2);
     due("2^30 events", kaffe_make(DECLARED, NODE, 1, 1u << 30, &why) == NULL, 1);
     due("its reason", why.at, 2);
+    due("too few events", kaffe_make(DECLARED, NODE, 1, 3 * PROCESSES + 4, &why) == NULL, 1); /* of the two shared heaps one is missing */
+    due("its line", why.seg, 0);
+    due("its reason", why.at, 2);
     due("no process", kaffe_make("kaffe 1\nkernel 32 2\ntype T int\nlimit root 10\n", 0, 1, 10, &why) == NULL, 1);
     due("its reason", why.at, 12);
     due("empty text", kaffe_make("", 0, 1, 10, &why) == NULL, 1);
@@ -89,7 +92,6 @@ static void lacks(void) {
     STATUS(kaffe_collect(h, GUEST), KAFFE_ENDED);
     STATUS(kaffe_kcollect(h, GUEST), KAFFE_ENDED);
     due("the orphan", kaffe_ask(h, KAFFE_ASK_ORPHAN, 0, 0).number, ONE);
-    STATUS(kaffe_request_call(h, KAFFE_CALL_KCOLLECT, HOST, 0, 0, 0, 0, 0), KAFFE_ORPHAN);
     kaffe_answer freed = kaffe_kcollect(h, HOST);
     due("the kernel's collection", freed.status, KAFFE_OK);
     due("what it freed", freed.number, 120);
@@ -184,25 +186,43 @@ static void below(void) {
     kaffe_free(h);
 }
 
-/* All room for events is used up. Nothing is half done: each call either has room for all its events, or changes nothing. */
-static void fulls(void) {
-    kaffe_host *h = opened(100, 10);
-    for (int i = 0; i < 9; i++) FAULT(kaffe_new(h, HOST, 0, NODE), KAFFE_DONE);
+/* Operations use up all that is left but the reserve. Then each heap is collected once, and the kernel heap; and each process is ended.
+   Nothing is half done: each call either has room for all its events, or changes nothing. */
+static void reserves(void) {
+    kaffe_host *h = opened(100, 3 * PROCESSES + 5);
+    due("left at first", kaffe_left(h), 2 * PROCESSES + 5);
+    FAULT(kaffe_new(h, HOST, 0, NODE), KAFFE_DONE);
     uint64_t charge = kaffe_charge(h, HOST);
-    STATUS(kaffe_collect(h, HOST), KAFFE_FULL); /* it would add two events, and there is room for one */
+    STATUS(kaffe_new(h, HOST, 0, NODE), KAFFE_RESERVED);
+    STATUS(kaffe_get(h, HOST, 0, 2), KAFFE_RESERVED);
+    STATUS(kaffe_kill_by(h, HOST, GUEST), KAFFE_RESERVED);
     due("the charge", kaffe_charge(h, HOST), charge);
-    FAULT(kaffe_new(h, HOST, 0, NODE), KAFFE_DONE); /* the heap is not left in a collection */
-    STATUS(kaffe_new(h, HOST, 0, NODE), KAFFE_FULL);
-    STATUS(kaffe_get(h, HOST, 0, 2), KAFFE_FULL);
-    STATUS(kaffe_collect(h, HOST), KAFFE_FULL);
-    STATUS(kaffe_kcollect(h, HOST), KAFFE_FULL);
-    STATUS(kaffe_kill(h, HOST), KAFFE_FULL);
-    due("the charge", kaffe_charge(h, HOST), charge + 40);
-    due("the events", kaffe_ask(h, KAFFE_ASK_EVENTS, 0, 0).number, 10);
+    for (uint32_t pid = 0; pid < PROCESSES; pid++) STATUS(kaffe_collect(h, pid), KAFFE_OK);
+    due("left after collections", kaffe_left(h), 4);
+    STATUS(kaffe_collect(h, HOST), KAFFE_RESERVED);
+    STATUS(kaffe_absorb(h, ONE), KAFFE_RESERVED);
+    STATUS(kaffe_kcollect(h, HOST), KAFFE_OK);
+    due("left after the kernel's", kaffe_left(h), 2);
+    STATUS(kaffe_kcollect(h, HOST), KAFFE_RESERVED);
+    STATUS(kaffe_new(h, HOST, 0, NODE), KAFFE_RESERVED); /* the heap is not left in a collection */
+    for (uint32_t pid = 0; pid < PROCESSES; pid++) STATUS(kaffe_kill(h, pid), KAFFE_OK);
+    due("left after the ends", kaffe_left(h), 2);
+    due("the charge", kaffe_charge(h, HOST), 0);
+    due("the limit", kaffe_use(h, ROOT), 0);
+    due("the events", kaffe_ask(h, KAFFE_ASK_EVENTS, 0, 0).number, 1 + 2 * PROCESSES + 2 + PROCESSES);
     kaffe_free(h);
-    h = opened(0, 0);
-    STATUS(kaffe_clear(h, HOST, 0), KAFFE_FULL);
-    STATUS(kaffe_new(h, HOST, 0, NODE), KAFFE_FULL);
+    /* a guest ends whose shared heap becomes an orphan, which the kernel's collection absorbs out of the reserve */
+    h = opened(100, 3 * PROCESSES + 7);
+    FAULT(kaffe_share(h, GUEST, ONE), KAFFE_DONE);
+    FAULT(kaffe_snew(h, GUEST, 0, ONE, NODE), KAFFE_DONE);
+    FAULT(kaffe_share(h, GUEST, TWO), KAFFE_DONE);
+    STATUS(kaffe_new(h, GUEST, 0, NODE), KAFFE_RESERVED);
+    for (uint32_t pid = 0; pid < PROCESSES; pid++) STATUS(kaffe_collect(h, pid), KAFFE_OK);
+    STATUS(kaffe_kill(h, GUEST), KAFFE_OK);
+    due("what the kernel's collection frees", kaffe_kcollect(h, HOST).number, 40);
+    due("left", kaffe_left(h), 0);
+    STATUS(kaffe_kcollect(h, HOST), KAFFE_RESERVED);
+    for (uint32_t pid = 0; pid < PROCESSES; pid++) STATUS(kaffe_kill(h, pid), pid == GUEST ? KAFFE_ENDED : KAFFE_OK);
     kaffe_free(h);
 }
 
@@ -236,7 +256,7 @@ int main(void) {
     lacks();
     faults();
     below();
-    fulls();
+    reserves();
     greatest();
     if (failures == 0) printf("each code that the functions can give was given where it is due\n");
     return failures != 0;

@@ -9,14 +9,14 @@ import random
 import struct
 import sys
 
-UNKNOWN, ENDED, NO_BODY, ORPHAN, NO_CALL = 1, 3, 6, 7, 8
+UNKNOWN, ENDED, NO_BODY, ORPHAN, NO_CALL, RESERVED = 1, 3, 6, 7, 8, 10
 NOTHING, NAME, NUMBER, FREED = range(4)
 FAULTS = ("Done Null Foreign NotSharer NoField WrongKind Frozen Segv NotPopulating NotFrozen Taken LimitFull KernelFull "
           "ProcNotBelow LimitNotBelow InUse").split()
 FAULT = {name: number for number, name in enumerate(FAULTS)}
 (NEW, KNEW, SNEW, STORE, LOAD, MOVE, CLEAR, DIR, PUT, GET, SHARE, FREEZE, ATTACH, KILL_BY, RESIZE) = range(15)
 COLLECT, KCOLLECT, KILL, ABSORB = 16, 17, 18, 19
-LIVES, BYTES, CHARGE, USE, MAX, REGISTER, DONE, EVENTS, BODIES, KERNEL_BYTES, FIRST_ORPHAN = range(32, 43)
+LIVES, BYTES, CHARGE, USE, MAX, REGISTER, DONE, EVENTS, BODIES, KERNEL_BYTES, FIRST_ORPHAN, LEFT = range(32, 44)
 KERNEL = ("kernel", 0)
 REGISTERS = 16
 MAXIMUM_BELOW = 1 << 40
@@ -31,9 +31,10 @@ class Refused(Exception):
 class Host:
     """The one-thread machine of one declaration, with a number of bodies for each process."""
 
-    def __init__(self, ceiling, directory, types, limits, procs, shared, of_type, bodies):
+    def __init__(self, ceiling, directory, types, limits, procs, shared, of_type, bodies, events):
         self.ceiling, self.types, self.limits, self.procs, self.of_type = ceiling, types, limits, procs, of_type
         self.shared_count = shared
+        self.left = events - len(procs)
         self.objects = {(0, 1): [None] * directory}
         self.kinds = {(0, 1): ["ref"] * directory}
         self.made = {0: 1}
@@ -303,16 +304,28 @@ class Host:
             return q.at < len(self.limits) and q.number < MAXIMUM_BELOW
         return q.call not in (SNEW, SHARE, FREEZE, ATTACH) or q.at < self.shared_count
 
+    # How many events a collection of the kernel heap may add, and an operation leaves for a collection of each heap.
+    def for_the_kernel(self):
+        return self.shared_count + 2
+
+    def for_all(self):
+        return self.for_the_kernel() + 2 * len(self.procs)
+
     def serve_operation(self, q):
-        if not self.is_declared(q):
+        if q.pid >= len(self.procs):
             return answer(status=UNKNOWN)
         if q.pid in self.ended:
             return answer(status=ENDED)
+        if self.left - 1 < self.for_all():
+            return answer(status=RESERVED)
+        if not self.is_declared(q):
+            return answer(status=UNKNOWN)
         if q.call in (NEW, KNEW, SNEW):
             if (q.to if q.call == SNEW else q.at) != self.of_type or self.bodies[q.pid] == 0:
                 return answer(status=NO_BODY)
             self.bodies[q.pid] -= 1
         self.done[q.pid] += 1
+        self.left -= 1
         try:
             return self.operate(q)
         except Refused as why:
@@ -321,22 +334,30 @@ class Host:
 
     def serve_whole(self, q):
         if q.call == ABSORB:
+            if self.left - 1 < self.for_the_kernel():
+                return answer(status=RESERVED)
             if q.at >= self.shared_count:
                 return answer(status=UNKNOWN)
             if self.orphan() != q.at:
                 return answer(status=ORPHAN)
             self.absorb(q.at)
+            self.left -= 1
             return answer()
         if q.pid >= len(self.procs):
             return answer(status=UNKNOWN)
         if q.pid in self.ended:
             return answer(status=ENDED)
-        if q.call == KCOLLECT and self.orphan() is not None:
-            return answer(status=ORPHAN)
-        self.done[q.pid] += 1
         if q.call == KILL:
+            self.done[q.pid] += 1
             self.kill(q.pid)
             return answer()
+        if self.left - (2 if q.call == COLLECT else 0) < self.for_the_kernel():
+            return answer(status=RESERVED)
+        while q.call == KCOLLECT and self.orphan() is not None:
+            self.absorb(self.orphan())
+            self.left -= 1
+        self.left -= 2
+        self.done[q.pid] += 1
         return self.sweep(KERNEL if q.call == KCOLLECT else ("user", q.pid))
 
     def ask(self, q):
@@ -347,6 +368,8 @@ class Host:
             return answer(what=NUMBER, number=self.use(q.at) if q.call == USE else self.limits[q.at][2])
         if q.call == KERNEL_BYTES:
             return answer(what=NUMBER, number=self.bytes_of(KERNEL))
+        if q.call == LEFT:
+            return answer(what=NUMBER, number=self.left)
         if q.call == FIRST_ORPHAN:
             s = self.orphan()
             return answer(status=UNKNOWN) if s is None else answer(what=NUMBER, number=s)
@@ -364,7 +387,7 @@ class Host:
             return self.serve_operation(q)
         if COLLECT <= q.call <= ABSORB:
             return self.serve_whole(q)
-        if LIVES <= q.call <= FIRST_ORPHAN and q.call != EVENTS:
+        if LIVES <= q.call <= LEFT and q.call != EVENTS:
             return self.ask(q)
         return answer(status=NO_CALL)
 
@@ -386,7 +409,7 @@ class Request:
 def reserves(limits, parent, most):
     """Whether a hard limit of that maximum fits under the parent, before anything is allocated."""
     try:
-        Host(0, 0, [], limits, [], 0, 0, 0).fits_at(parent, most)
+        Host(0, 0, [], limits, [], 0, 0, 0, 0).fits_at(parent, most)
         return True
     except Refused:
         return False
@@ -409,8 +432,10 @@ def declaration(rng, events):
     lines += [f"proc p{n} m{at}" for n, at in enumerate(procs)] + [f"shared s{n}" for n in range(shared)]
     of_type, bodies = rng.randrange(len(types)), rng.choice([events // 10, events, events])
     text = ("\n".join(lines) + "\n").encode()
-    head = struct.pack("<4I", len(text), of_type, bodies, 2 * events + 100) + text
-    return head, Host(ceiling, directory, types, limits, procs, shared, of_type, bodies)
+    fewest = 3 * len(procs) + shared + 3
+    room = rng.choice([2 * events + 100, 2 * events + 100, fewest + events // 4, fewest])
+    head = struct.pack("<4I", len(text), of_type, bodies, room) + text
+    return head, Host(ceiling, directory, types, limits, procs, shared, of_type, bodies, room)
 
 
 def some_call(rng, host):
@@ -420,9 +445,9 @@ def some_call(rng, host):
         [NEW, KNEW, SNEW, STORE, LOAD, MOVE, CLEAR, DIR, PUT, GET, SHARE, FREEZE, ATTACH, KILL_BY, RESIZE, COLLECT, KCOLLECT, KILL, ABSORB, None],
         [60, 12, 25, 110, 70, 20, 15, 15, 30, 30, 6, 6, 14, 1, 14, 6, 4, 0.5, 2, 60])[0]
     if call is None:
-        call = rng.choice([c for c in range(LIVES, FIRST_ORPHAN + 1) if c != EVENTS])
+        call = rng.choice([c for c in range(LIVES, LEFT + 1) if c != EVENTS])
     if odd and rng.random() < 0.2:
-        call = rng.choice([15, 20, 31, 43, 1 << 31])
+        call = rng.choice([15, 20, 31, 44, 1 << 31])
     pid = rng.randrange(len(host.procs) + odd)
     at = rng.randrange(4) if rng.random() < 0.9 else rng.choice([0, 5, 16, (1 << 32) - 1])
     if call in (NEW, KNEW):

@@ -6,6 +6,7 @@ publish-requires g c = publishes g.basis c.args.guest.now c.args.book.now c.requ
 
 pub exit-requires : goal.exit-requires
 exit-requires g c = can_exit g.basis c.args.guest.now c.args.book.now c.requires.own.can c.publish.new.cell c.publish.new.book c.publish.ensures c.args.kernel.now c.requires
+    c.know_exits.ensures c.know_kernel_exits.ensures
 
 pub returns : goal.returns
 returns g c =

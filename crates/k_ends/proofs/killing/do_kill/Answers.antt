@@ -11,7 +11,7 @@ publish-requires-2 g c =
 pub kill-requires : goal.kill-requires
 kill-requires g c =
     can_kill g.basis c.args.guest.now c.args.target.now c.args.kernel.now c.args.book.now c.args.op.now c.requires c.publish.new.cell c.publish.new.book c.publish.ensures
-    c.publish-2.new.cell c.publish-2.new.book c.publish-2.ensures
+    c.publish-2.new.cell c.publish-2.new.book c.publish-2.ensures c.know_exits.ensures c.know_kernel_exits.ensures
 
 pub returns : goal.returns
 returns g c =

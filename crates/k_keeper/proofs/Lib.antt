@@ -1,0 +1,6 @@
+pub mod Sums
+pub mod Insides
+pub mod Kept
+pub mod Refused
+pub mod Absorbed
+pub mod Opened

@@ -1,0 +1,57 @@
+-- What a keeper keeps of its host: room in the journal for the ends of all processes, and no collection open.
+use Rattle.std.specs.Prelude.{◌≡◌, ℕ, ◌+◌, ◌-◌, ◌*◌, ◌≤◌, Result, Ok, Err, IsFalse, Some, if◌then◌else◌, length, slice_get}
+use Rattle.k_types.specs.declared.names.CellPhase.TheVariants.{Idle}
+use Rattle.k_types.specs.declared.event.Event.{Event}
+use Rattle.k_types.specs.Totals.{total}
+use Rattle.k_guests.specs.declared.guest.Guest.{Guest}
+use Rattle.k_host.specs.HostError.{HostError}
+use Rattle.k_host.specs.Asked.{has_ended_of}
+use Rattle.k_host.specs.Hosts.{HostServes, HostValue}
+
+-- how many events the journal will have of the process when it ends now: what it has not published, and its end
+abbrev pub owed_by : Guest → ℕ
+owed_by g = length g.cell.value.tail + (if has_ended_of g then 0 else 1)
+
+-- the events of the journal, and those that the ends of all processes will add
+abbrev pub spent : HostValue → ℕ
+spent h = length h.book.journal.list + total owed_by h.guests
+
+-- no collection of the heap of a process that lives is open
+abbrev pub IsIdle : Guest → Type 0
+IsIdle g = IsFalse (has_ended_of g) → g.cell.value.collection ≡ Idle
+
+abbrev pub AreIdle : HostValue → Type 0
+AreIdle h = (k : ℕ) (g : Guest) → slice_get h.guests k ≡ Some g → IsIdle g
+
+-- the host serves, no collection is open, and beside what the ends of its processes need the journal has room for so many events
+pub record IsKept (h : HostValue) (left : ℕ) : Type 0 where
+  pub serves : HostServes h
+  pub idle : AreIdle h
+  pub kernel_idle : h.kernel.value.collection ≡ Idle
+  pub room : spent h + left ≤ h.basis.events
+
+-- a keeper: its host, and how many events are left beside those that are kept for the ends of processes
+pub record KeeperValue : Type 0 where
+  pub host : HostValue
+  pub left : ℕ
+
+-- how many events a collection of the kernel's heap asks for: its beginning and end, and an absorption of each shared heap
+abbrev pub needed_by_the_kernel : HostValue → ℕ
+needed_by_the_kernel h = length h.shared + 2
+
+-- how many a collection of a process's heap asks for: its two, and those of one collection of the kernel's heap
+abbrev pub needed_to_collect : HostValue → ℕ
+needed_to_collect h = needed_by_the_kernel h + 2
+
+-- how many an operation asks for: its own, those of a collection of each process's heap, and of one of the kernel's
+abbrev pub needed_to_operate : HostValue → ℕ
+needed_to_operate h = needed_by_the_kernel h + 2 * length h.guests + 1
+
+-- how many an absorption asks for: its own, and those of one collection of the kernel's heap
+abbrev pub needed_to_absorb : HostValue → ℕ
+needed_to_absorb h = needed_by_the_kernel h + 1
+
+-- how many events are left by a call that takes so many where it is done
+abbrev pub left_after : ℕ → ℕ → Result Event HostError → ℕ
+left_after left cost (Ok event) = left - cost
+left_after left cost (Err why) = left

@@ -1,0 +1,4 @@
+pub mod Keeping
+pub mod Kept
+pub use Rattle.k_host.specs.HostError
+pub use Rattle.k_host.specs.Calls

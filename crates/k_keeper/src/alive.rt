@@ -1,0 +1,48 @@
+//! Whether a call can be done.
+ghost use Rattle.std.specs.Prelude.{◌≤◌, ◌⊎◌, ◌↔◌, IfErr, IsTrue, OnOk};
+ghost use Rattle.k_host.specs.CallsRefusals.{Lacks};
+ghost use Rattle.k_keeper.specs.Kept.{IsAlive, IsGone};
+
+use k_host::{Host, HostError};
+use k_types::Pid;
+
+/// Tells that the process is one of the host's and lives. Constant time.
+pub(crate) fn alive(host: &Host, pid: Pid) -> Result<(), HostError>
+    ensures ok { OnOk result (IsAlive host.now pid) }
+    ensures why { IfErr result (λ why. IsGone host.now pid why) }
+{
+    let Some(ended) = host.has_ended(pid) else {
+        return Err(HostError::Unknown);
+    };
+    if ended {
+        return Err(HostError::Ended);
+    }
+    Ok(())
+}
+
+/// Whether so many events are left.
+fn is_enough(left: u32, needed: u64) -> bool
+    ensures { IsTrue result ↔ (needed ≤ left) }
+{
+    needed <= u64::from(left)
+}
+
+/// Tells that so many events are left.
+pub(crate) fn spared(left: u32, needed: u64) -> Result<(), HostError>
+    ensures ok { OnOk result (needed ≤ left) }
+    ensures why { IfErr result (λ why. Lacks HostError.Reserved (needed ≤ left) why) }
+{
+    if !is_enough(left, needed) {
+        return Err(HostError::Reserved);
+    }
+    Ok(())
+}
+
+/// Tells that the process lives, and that so many events are left.
+pub(crate) fn ready(host: &Host, pid: Pid, left: u32, needed: u64) -> Result<(), HostError>
+    ensures ok { OnOk result (IsAlive host.now pid × (needed ≤ left)) }
+    ensures why { IfErr result (λ why. IsGone host.now pid why ⊎ Lacks HostError.Reserved (needed ≤ left) why) }
+{
+    alive(host, pid)?;
+    spared(left, needed)
+}

@@ -1,0 +1,174 @@
+//! A host and the room that it keeps.
+ghost use Rattle.std.specs.Prelude.{◌≡◌, ◌+◌, ◌≤◌, IfErr, IfOk, OnErr, OnOk};
+ghost use Rattle.k_host.specs.Calls.{HasAbsorbedIn, HasCollectedIn, HasExitedIn, HasOperatedIn};
+ghost use Rattle.k_keeper.specs.Keeping.{IsKept, needed_by_the_kernel, needed_to_operate};
+ghost use Rattle.k_keeper.specs.Kept.{HasCollectedAll, HasOpened, IsGone, IsNotOpened, MayRefuseCollection, MayRefuseKernel, MayRefuseOperation, MayRefuseToAbsorb};
+
+use crate::absorbing::absorb_all;
+use crate::alive::{alive, ready, spared};
+use crate::rooms::{
+    fits, left_after, needed_by_the_kernel, needed_to_absorb, needed_to_collect, needed_to_operate,
+};
+use k_host::{Host, HostError, OpenError};
+use k_types::{Event, Op, Pid, SharedId, TypeId};
+use std::alloc::Global;
+use std::marker::Model;
+
+/// A host, and how many events are left for operations and collections. Room for the end of each living process is kept beside these.
+#[derive(Drop)]
+pub struct Keeper {
+    pub(crate) host: Host,
+    pub(crate) left: u32,
+}
+
+impl Model for Keeper {
+    ghost use Rattle.k_keeper.specs.Keeping.{IsKept, KeeperValue};
+
+    ghost Value = { KeeperValue };
+
+    ghost view = { λ k. record { host = k.host; left = k.left } };
+
+    ghost invariant = { λ k. IsKept k.host k.left };
+}
+
+impl Keeper {
+    /// A host of the setup that the text of a trace declares, as `Host::read` makes it.
+    ///
+    /// # Errors
+    ///
+    /// Those of `Host::read`; and `Terms` where the events are too few for one operation beside the reserve: three for each process, one
+    /// for each shared heap and three.
+    pub fn read(
+        alloc: Global,
+        text: &[u8],
+        ty: TypeId,
+        bodies: u32,
+        events: u32,
+    ) -> Result<Keeper, OpenError>
+        ensures read { IfOk result (λ k. HasOpened text.now ty bodies events k) }
+        ensures why { IfErr result (λ why. IsNotOpened text.now ty bodies events why) }
+    {
+        let host = Host::read(alloc, text, ty, bodies, events)?;
+        if !fits(&host, events) {
+            return Err(OpenError::Terms);
+        }
+        let left = events - host.processes();
+        Ok(Keeper { host, left })
+    }
+
+    /// The host, for questions.
+    pub fn host(&self) -> &Host
+        ensures { result.now ≡ self.now.host }
+    {
+        &self.host
+    }
+
+    /// Tells what a keeper keeps between its calls: no collection is open, and the journal has room for what is left and for the end of
+    /// each process.
+    pub fn keeps(&self)
+        ensures { IsKept self.now.host self.now.left }
+    {
+        let _left = self.left;
+    }
+
+    /// How many events are left beside those that are kept for the ends of processes. Constant time.
+    pub fn left(&self) -> u32
+        ensures { result ≡ self.now.left }
+    {
+        self.left
+    }
+
+    /// Does the operation of the process, as `Host::operate` does. Where it is done, at least two events for each process, one for each
+    /// shared heap and two are left: enough for a collection of each heap.
+    ///
+    /// # Errors
+    ///
+    /// Each changes nothing: those of `Host::operate`, and `Reserved` where no more is left than the reserve.
+    pub fn operate(&mut self, pid: Pid, op: &Op) -> Result<Event, HostError>
+        ensures done { IfOk result (λ event. HasOperatedIn self.old.host self.new.host pid op.now event) }
+        ensures left { OnOk result (self.old.left ≡ self.new.left + 1) }
+        ensures enough { OnOk result (needed_to_operate self.old.host ≤ self.new.left + 1) }
+        ensures same { OnErr result (self.new ≡ self.old) }
+        ensures why { IfErr result (λ why. MayRefuseOperation self.old pid op.now why) }
+    {
+        ready(&self.host, pid, self.left, needed_to_operate(&self.host))?;
+        let came = self.host.operate(pid, op);
+        self.left = left_after(self.left, 1, &came);
+        self.host.serves();
+        came
+    }
+
+    /// Collects the process's heap whole. It answers the event of the end, with what was freed.
+    ///
+    /// # Errors
+    ///
+    /// Each changes nothing: `Unknown`, `Ended`, and `Reserved` where no more is left than a collection of the kernel's heap asks for.
+    pub fn collect(&mut self, pid: Pid) -> Result<Event, HostError>
+        ensures done { IfOk result (λ event. HasCollectedIn self.old.host self.new.host pid event) }
+        ensures left { OnOk result (self.old.left ≡ self.new.left + 2) }
+        ensures enough { OnOk result (needed_by_the_kernel self.old.host ≤ self.new.left) }
+        ensures same { OnErr result (self.new ≡ self.old) }
+        ensures why { IfErr result (λ why. MayRefuseCollection self.old pid why) }
+    {
+        ready(&self.host, pid, self.left, needed_to_collect(&self.host))?;
+        let came = self.host.collect(pid);
+        self.left = left_after(self.left, 2, &came);
+        self.host.serves();
+        came
+    }
+
+    /// Absorbs every orphan, and collects the kernel's heap whole, as the process. It answers the event of the end of the collection, with
+    /// what was freed.
+    ///
+    /// # Errors
+    ///
+    /// Each changes nothing: `Unknown`, `Ended`, and `Reserved` where fewer are left than two events and one for each shared heap.
+    pub fn collect_kernel(&mut self, pid: Pid) -> Result<Event, HostError>
+        ensures done { IfOk result (λ event. HasCollectedAll self.old self.new pid event) }
+        ensures same { OnErr result (self.new ≡ self.old) }
+        ensures why { IfErr result (λ why. MayRefuseKernel self.old pid why) }
+    {
+        ready(&self.host, pid, self.left, needed_by_the_kernel(&self.host))?;
+        let left = absorb_all(&mut self.host, self.left);
+        let came = self.host.collect_kernel(pid);
+        self.left = left_after(left, 2, &came);
+        self.host.serves();
+        came
+    }
+
+    /// Ends the process, whoever asks for it: what it did inside its heap is published, and its heap becomes the kernel's.
+    ///
+    /// # Errors
+    ///
+    /// Each changes nothing: `Unknown` and `Ended`. A process that lives can always be ended.
+    pub fn kill(&mut self, pid: Pid) -> Result<Event, HostError>
+        ensures done { IfOk result (λ event. HasExitedIn self.old.host self.new.host pid event) }
+        ensures left { self.new.left ≡ self.old.left }
+        ensures same { OnErr result (self.new ≡ self.old) }
+        ensures why { IfErr result (λ why. IsGone self.old.host pid why) }
+    {
+        alive(&self.host, pid)?;
+        let came = self.host.exit(pid);
+        self.host.serves();
+        came
+    }
+
+    /// Absorbs the shared heap, an orphan of which no other has a lower number: it becomes the kernel's.
+    ///
+    /// # Errors
+    ///
+    /// Each changes nothing: those of `Host::absorb`, and `Reserved` where no more is left than a collection of the kernel's heap asks
+    /// for, which absorbs every orphan itself.
+    pub fn absorb(&mut self, id: SharedId) -> Result<Event, HostError>
+        ensures done { IfOk result (λ event. HasAbsorbedIn self.old.host self.new.host id event) }
+        ensures left { OnOk result (self.old.left ≡ self.new.left + 1) }
+        ensures same { OnErr result (self.new ≡ self.old) }
+        ensures why { IfErr result (λ why. MayRefuseToAbsorb self.old id why) }
+    {
+        spared(self.left, needed_to_absorb(&self.host))?;
+        let came = self.host.absorb(id);
+        self.left = left_after(self.left, 1, &came);
+        self.host.serves();
+        came
+    }
+}
