@@ -1,9 +1,7 @@
 //! Exit statuses of the program, from the arguments of its command line.
-use crate::calling::{Faults, HEADER, NO_FAULTS, check_end};
+use crate::calling::{Faults, NO_FAULTS, check_end};
 use crate::summaries::TEN;
-use crate::tests::USAGE;
-use crate::worked::trace_of;
-use crate::worked_sharing::SHARERS;
+use crate::tests::{SHARERS, SHARING, USAGE};
 use k_io::NoMemory;
 use std::alloc::Global;
 use std::process::Abort;
@@ -40,8 +38,7 @@ fn check_ends<R: Abort + Threads + Wait + Sync>(
 
 #[test]
 fn each_command_ends_with_the_number_of_its_answer(rt: HostRuntime) -> Result<(), Fail> {
-    let trace = trace_of(rt.alloc(), HEADER, SHARERS)?;
-    check_ends(&rt, rt.alloc(), &trace)?;
+    check_ends(&rt, rt.alloc(), SHARING)?;
     let bad = "bad trace: line 1 reason 12\n";
     check_end(&rt, rt.alloc(), "kaffe run", "", NO_FAULTS, 1, bad)?;
     Ok(())

@@ -1,7 +1,6 @@
 //! Traces at the ends of the ranges of their numbers, counts and lengths.
 use crate::calling::{Given, HEADER, NO_FAULTS, check_call, check_joined};
 use crate::summaries::count_run;
-use crate::worked::check_report;
 use k_gates::Counts;
 use k_io::{NoGate, NoMemory};
 use k_top::Status;
@@ -111,77 +110,5 @@ fn refuses_bytes_beyond_the_most(rt: HostRuntime) -> Result<(), Fail> {
     // 2^24 bytes and one more, and a line of 2^12 bytes and one more
     check_line(&rt, rt.alloc(), "", 24, "bad trace: line 0 reason 1\n")?;
     check_line(&rt, rt.alloc(), HEADER, 12, "bad trace: line 10 reason 2\n")?;
-    Ok(())
-}
-
-/// Appends so many lines of the header.
-fn push_lines(input: &mut String, lines: usize) -> Result<(), NoMemory> {
-    for line in HEADER.split_inclusive('\n').take(lines) {
-        input.push_str(line)?;
-    }
-    Ok(())
-}
-
-/// Replays what is left of the header where it is cut after so many lines. Compares the status, and how begins what was written.
-fn check_cut<R: Abort + Threads + Wait + Sync>(
-    rt: &R,
-    alloc: Global,
-    lines: usize,
-    want: Status,
-    text: &str,
-) -> Result<(), NoMemory> {
-    let mut input = String::new(alloc);
-    push_lines(&mut input, lines)?;
-    let mut given = Given::make(alloc, "replay", &input, NO_FAULTS)?;
-    assert_eq!(rt; given.answer(rt, alloc, &NoGate), want, "{lines} lines");
-    assert!(rt; given.written().starts_with(text), "{lines} lines");
-    Ok(())
-}
-
-#[test]
-fn reads_a_header_that_is_cut(rt: HostRuntime) -> Result<(), Fail> {
-    for (lines, want, text) in [
-        (0, Status::BadTrace, "bad trace: line 1 reason 12\n"),
-        (1, Status::BadTrace, "bad trace: line 2 reason 12\n"),
-        (2, Status::BadTrace, "bad trace: line 3 reason 12\n"),
-        (3, Status::BadTrace, "bad trace: line 4 reason 12\n"),
-        (4, Status::BadTrace, "bad trace: line 5 reason 12\n"),
-        (5, Status::BadTrace, "bad trace: line 6 reason 12\n"),
-        (6, Status::BadTrace, "bad trace: line 7 reason 12\n"),
-        (7, Status::Good, "report 1\n"),
-        (8, Status::Good, "report 1\n"),
-        (9, Status::Good, "report 1\n"),
-    ] {
-        check_cut(&rt, rt.alloc(), lines, want, text)?;
-    }
-    Ok(())
-}
-
-#[test]
-fn keeps_the_greatest_number(rt: HostRuntime) -> Result<(), Fail> {
-    let report = "report 1
-p1 new r0 Node = p1.1
-p1 put r0 2 18446744073709551615 = ok
-graph
-kernel.1 kernel directory null null
-p1.1 p1 Node null null 18446744073709551615
-roots
-p1 r0 p1.1
-exits
-shares
-faults
-p1 0
-p2 0
-charges
-kernel 32 of 200
-limit root 120 of 1000
-limit a 40 of 120
-limit b 0 of 400
-process p1 40
-process p2 0
-shared s 0 unmade
-end
-";
-    check_report(&rt, rt.alloc(), HEADER, report)?;
     Ok(())
 }

@@ -1,5 +1,5 @@
-//! Runs of the workload: their summaries, and what the gate is told of them and of a `run`.
-use crate::calling::{Faults, Given, HEADER, NO_FAULTS, check_call, check_faults, check_given};
+//! What the gate is told of runs of the workload, and of a `run`.
+use crate::calling::{Given, HEADER, NO_FAULTS, check_given};
 use k_gates::Counts;
 use k_io::NoMemory;
 use k_top::Status;
@@ -19,42 +19,6 @@ kernel 1040
 live 960
 root 3200
 ";
-
-#[test]
-fn summaries_are_those_worked_out(rt: HostRuntime) -> Result<(), Fail> {
-    for (words, text) in [
-        (
-            "big 1",
-            "big 1\noperations 52\nevents 52\nfaults 0\nfreed 0\nkernel 240\nlive 160\nroot 320\n",
-        ),
-        ("big 10", TEN),
-        (
-            "big 25",
-            "big 25\noperations 900\nevents 916\nfaults 0\nfreed 64\nkernel 2800\nlive 2720\nroot 8000\n",
-        ),
-    ] {
-        check_call(&rt, rt.alloc(), words, "", Status::Good, text)?;
-    }
-    Ok(())
-}
-
-#[test]
-fn the_greatest_summary_is_the_one_worked_out(rt: HostRuntime) -> Result<(), Fail> {
-    let text =
-        "big 5000\noperations 180012\nevents 184012\nfaults 0\nfreed 16000\nkernel 480080\nlive 480000\nroot 1600000\n";
-    check_call(&rt, rt.alloc(), "big 5000", "", Status::Good, text)?;
-    Ok(())
-}
-
-#[test]
-fn neither_reads_nor_writes_in_part(rt: HostRuntime) -> Result<(), Fail> {
-    // the source would fail at its first read, and is not read; and the summary is one piece
-    for (read, write, want, text) in [(1, 0, Status::Good, TEN), (0, 1, Status::WriteFault, "")] {
-        let faults = Faults { read, write };
-        check_faults(&rt, rt.alloc(), "big 10", "", faults, want, text)?;
-    }
-    Ok(())
-}
 
 /// Has the gate count what the workload of that line tells it, and compares its summary.
 pub fn count_workload<R: Abort + Threads + Wait + Sync>(

@@ -1,9 +1,8 @@
-//! The top call as tables: words, traces, bad traces, and each read and write that fails in turn.
-use crate::calling::{
-    Faults, Given, HEADER, NO_FAULTS, ROOM, check_call, check_faults, check_joined,
-};
-use crate::worked::trace_of;
-use crate::worked_sharing::SHARERS;
+//! The top call as tables: each read and each write that fails in turn.
+//!
+//! Traces with their whole reports, bad inputs and words that are no command are cases of `k_cases`.
+use crate::calling::{Faults, Given, NO_FAULTS, ROOM, check_faults};
+use crate::summaries::TEN;
 use k_io::{DripSink, DripSource, NoMemory};
 use k_top::Status;
 use std::alloc::Global;
@@ -12,6 +11,7 @@ use std::sync::Wait;
 use std::test::Fail;
 use std::thread::Threads;
 
+/// The first trace, of one process.
 pub const TRACE: &str = "kaffe 1
 kernel 32 2
 type Node ref ref int
@@ -25,6 +25,7 @@ p1 new r3 Node
 p1 load r4 r5 0
 ";
 
+/// Its report.
 const REPORT: &str = "report 1
 p1 new r0 Node = p1.1
 p1 new r1 Node = p1.2
@@ -51,209 +52,178 @@ process p1 80
 end
 ";
 
+/// What is written where the words are no command.
 pub const USAGE: &str = "usage: kaffe run | replay | check | big N | watch K | work | snap\n";
 
-#[test]
-fn reports_the_first_trace(rt: HostRuntime) -> Result<(), Fail> {
-    for (words, input) in [
-        ("run", TRACE),
-        ("replay", TRACE),
-        ("run", TRACE.trim_end()),
-        ("replay", TRACE.trim_end()),
-    ] {
-        check_call(&rt, rt.alloc(), words, input, Status::Good, REPORT)?;
-    }
-    Ok(())
-}
-
-#[test]
-fn refuses_other_words(rt: HostRuntime) -> Result<(), Fail> {
-    for words in [
-        "", "run x", "x run", "runs", "Replay", "checks", "big", "big 0", "big 007", "big 5001",
-        "big 1 1", "Big 10", "10 big", "work 1", "works",
-    ] {
-        // the source would fail at its first read, and is not read
-        let faults = Faults { read: 1, write: 0 };
-        check_faults(&rt, rt.alloc(), words, TRACE, faults, Status::Usage, USAGE)?;
-    }
-    Ok(())
-}
-
-#[test]
-fn tells_the_first_bad_line_of_a_header(rt: HostRuntime) -> Result<(), Fail> {
-    for (input, text) in [
-        ("", "bad trace: line 1 reason 12\n"),
-        ("\n", "bad trace: line 1 reason 4\n"),
-        ("kaffe 3\n", "bad trace: line 1 reason 4\n"),
-        ("kaffe 1\nkernel 32\t2\n", "bad trace: line 2 reason 3\n"),
-        ("kaffe 1\nkernel 32 17\n", "bad trace: line 2 reason 5\n"),
-        ("kaffe 1\nkernel 31 2\n", "bad trace: line 2 reason 10\n"),
-        (
-            "kaffe 1\nkernel 32 2\ntype Node ref ref int\nlimit a 1099511627776\n",
-            "bad trace: line 4 reason 5\n",
-        ),
-        (
-            "kaffe 1\nkernel 32 2\ntype end ref\n",
-            "bad trace: line 3 reason 6\n",
-        ),
-        (
-            "kaffe 1\nkernel 32 2\ntype A ref\ntype A\n",
-            "bad trace: line 4 reason 7\n",
-        ),
-        (
-            "kaffe 1\nkernel 32 2\ntype A ref ref ref ref ref ref ref ref ref ref ref ref ref ref ref ref ref\n",
-            "bad trace: line 3 reason 9\n",
-        ),
-        (
-            "kaffe 1\nkernel 32 2\nlimit a 80\nproc p1 b\n",
-            "bad trace: line 4 reason 8\n",
-        ),
-        (
-            "kaffe 1\nkernel 32 2\nlimit a 80\n",
-            "bad trace: line 4 reason 12\n",
-        ),
-    ] {
-        check_call(&rt, rt.alloc(), "run", input, Status::BadTrace, text)?;
-    }
-    Ok(())
-}
-
-#[test]
-fn tells_the_first_bad_operation(rt: HostRuntime) -> Result<(), Fail> {
-    for (rest, text) in [
-        ("p1 new r0 No", "bad trace: line 10 reason 8\n"),
-        ("p1 new r16 No\n", "bad trace: line 10 reason 5\n"),
-        (
-            "p1 put r0 2 18446744073709551616\n",
-            "bad trace: line 10 reason 5\n",
-        ),
-        ("p1  collect\n", "bad trace: line 10 reason 4\n"),
-        ("p1 collect \n", "bad trace: line 10 reason 4\n"),
-        ("p1\tcollect\n", "bad trace: line 10 reason 3\n"),
-        ("px foo\n", "bad trace: line 10 reason 4\n"),
-        ("limit new r0 Node\n", "bad trace: line 10 reason 4\n"),
-        ("shared p2\n", "bad trace: line 10 reason 7\n"),
-        (
-            "p1 exit\nlimit new r0 Node\n",
-            "bad trace: line 11 reason 8\n",
-        ),
-        (
-            "p1 exit\np1 new r0 Nobody\n",
-            "bad trace: line 11 reason 8\n",
-        ),
-        (
-            "p1 exit\np1 new r0 Node\n",
-            "bad trace: line 11 reason 11\n",
-        ),
-        (
-            "p1 collect\np3 collect\np4\n",
-            "bad trace: line 11 reason 8\n",
-        ),
-    ] {
-        check_joined(
-            &rt,
-            rt.alloc(),
-            "replay",
-            HEADER,
-            rest,
-            Status::BadTrace,
-            text,
-        )?;
-    }
-    Ok(())
-}
-
-/// Replays the first trace with another line in place of one of its own.
-fn check_replaced<R: Abort + Threads + Wait + Sync>(
-    rt: &R,
-    alloc: Global,
-    line: &str,
-    put: &str,
-    text: &str,
-) -> Result<(), NoMemory> {
-    match TRACE.split_once(line) {
-        Some((front, rest)) => {
-            let input = format!(in alloc; "{front}{put}{rest}")?;
-            check_call(rt, alloc, "replay", &input, Status::BadTrace, text)
-        }
-        None => {
-            assert!(rt; false, "{line}");
-            Ok(())
-        }
-    }
-}
-
-#[test]
-fn tells_a_header_beyond_its_range_in_a_whole_trace(rt: HostRuntime) -> Result<(), Fail> {
-    for (line, put, text) in [
-        (
-            "kernel 32 2",
-            "kernel 31 2",
-            "bad trace: line 2 reason 10\n",
-        ),
-        (
-            "limit a 80",
-            "limit a 1099511627776",
-            "bad trace: line 4 reason 5\n",
-        ),
-    ] {
-        check_replaced(&rt, rt.alloc(), line, put, text)?;
-    }
-    Ok(())
-}
-
-/// The first lines of a header; a limit behind them stands on line 7.
-const LIMITS: &str = "kaffe 1
-kernel 32 2
+/// A trace in which every sharer pays in full.
+pub const SHARING: &str = "kaffe 1
+kernel 200 2
+type Node ref ref int
 limit root 1000
 limit a root hard 120
 limit b root soft 400
-limit c b hard 300
+proc p1 a
+proc p2 b
+shared s
+p1 share s
+p1 snew r0 s Node
+p1 snew r1 s Node
+p1 store r0 0 r1
+p1 freeze s r0
+p2 attach r0 s
 ";
 
-#[test]
-fn tells_the_first_bad_limit(rt: HostRuntime) -> Result<(), Fail> {
-    for (rest, text) in [
-        ("limit d b hard 101\n", "bad trace: line 7 reason 10\n"),
-        ("limit d root hard 881\n", "bad trace: line 7 reason 10\n"),
-        ("limit d nobody hard 881\n", "bad trace: line 7 reason 8\n"),
-        ("limit c b hard 101\n", "bad trace: line 7 reason 7\n"),
-        ("limit end b hard 101\n", "bad trace: line 7 reason 6\n"),
-        (
-            "limit d b soft 1099511627776\n",
-            "bad trace: line 7 reason 5\n",
-        ),
-        ("limit d b firm 1\n", "bad trace: line 7 reason 4\n"),
-        ("limit d 1\n", "bad trace: line 7 reason 4\n"),
-        ("limit d b soft 5000\n", "bad trace: line 8 reason 12\n"),
-    ] {
-        check_joined(
-            &rt,
-            rt.alloc(),
-            "replay",
-            LIMITS,
-            rest,
-            Status::BadTrace,
-            text,
-        )?;
+/// Its report.
+pub const SHARERS: &str = "report 1
+p1 share s = ok
+p1 snew r0 s Node = s.1
+p1 snew r1 s Node = s.2
+p1 store r0 0 r1 = ok
+p1 freeze s r0 = ok
+p2 attach r0 s = s.1
+graph
+kernel.1 kernel directory null null
+s.1 s Node s.2 null 0
+s.2 s Node null null 0
+roots
+p1 r0 s.1
+p1 r1 s.2
+p2 r0 s.1
+exits
+shares
+p1 s
+p2 s
+faults
+p1 0
+p2 0
+charges
+kernel 32 of 200
+limit root 200 of 1000
+limit a 80 of 120
+limit b 80 of 400
+process p1 80
+process p2 80
+shared s 80 frozen s.1
+end
+";
+
+/// What `work` writes behind the report of the first trace.
+const WORK: &str = "work\nprocess p1 0 0\nclosing 0 0\ntotal 0 0\nend\n";
+
+/// What `watch 0` writes behind it.
+const SAMPLES: &str = "samples\nsample 6 80 1\nend\n";
+
+/// A trace of the second version, in which the last process ends and the first one ends another.
+const ENDING: &str = "kaffe 2
+kernel 200 2
+type Node ref ref int
+limit root 1000
+limit a root hard 120
+limit b root soft 400
+proc p0 root
+proc p1 a
+proc p2 b
+shared s
+p1 new r0 Node
+p1 dir r1
+p1 store r1 0 r0
+p2 new r0 Node
+p2 exit
+p0 resize a 100
+p0 kill p1
+p0 knew r3 Node
+";
+
+/// The snapshot of what it leaves.
+const ENDED: &str = "snapshot 1
+gone p1
+gone p2
+made
+kernel 2
+p0 0
+p1 1
+p2 1
+s 0
+graph
+kernel.1 kernel directory p1.1 null
+kernel.2 kernel Node null null 0
+p1.1 kernel Node null null 0
+p2.1 kernel Node null null 0
+roots
+p0 r3 kernel.2
+exits
+shares
+charges
+kernel 152 of 200
+limit root 100 of 1000
+limit a 0 of 100
+limit b 0 of 400
+process p0 0
+process p1 0
+process p2 0
+shared s 0 unmade
+end
+";
+
+/// A call whose read and write of those numbers fail: its words and its input, and what is wanted of it.
+type Row = (&'static str, &'static str, u32, u32, Status, &'static str);
+
+/// Reads that fail. The first one gives the input, the second its end, and there is no third. Words that are no command, and `big`, read
+/// nothing.
+const READS: [Row; 16] = [
+    ("run", TRACE, 1, 0, Status::ReadFault, ""),
+    ("run", TRACE, 2, 0, Status::ReadFault, ""),
+    ("run", TRACE, 3, 0, Status::Good, REPORT),
+    ("check", TRACE, 1, 0, Status::ReadFault, ""),
+    ("check", TRACE, 2, 0, Status::ReadFault, ""),
+    ("check", TRACE, 3, 0, Status::Refused, "refused 1\n"),
+    ("work", TRACE, 1, 0, Status::ReadFault, ""),
+    ("work", TRACE, 2, 0, Status::ReadFault, ""),
+    ("snap", ENDING, 1, 0, Status::ReadFault, ""),
+    ("snap", ENDING, 2, 0, Status::ReadFault, ""),
+    ("snap", ENDING, 3, 0, Status::Good, ENDED),
+    ("big 10", "", 1, 0, Status::Good, TEN),
+    ("", TRACE, 1, 0, Status::Usage, USAGE),
+    ("run x", TRACE, 1, 0, Status::Usage, USAGE),
+    ("big 0", TRACE, 1, 0, Status::Usage, USAGE),
+    ("snap 1", TRACE, 1, 0, Status::Usage, USAGE),
+];
+
+/// First writes that fail. A text that is no report is one piece.
+const WRITES: [Row; 6] = [
+    ("run", "", 0, 1, Status::WriteFault, ""),
+    ("help", TRACE, 0, 1, Status::WriteFault, ""),
+    ("check", TRACE, 0, 1, Status::WriteFault, ""),
+    ("big 10", "", 0, 1, Status::WriteFault, ""),
+    ("work", TRACE, 0, 1, Status::WriteFault, ""),
+    ("snap", ENDING, 0, 1, Status::WriteFault, ""),
+];
+
+/// Calls the program once for each row.
+fn check_rows<R: Abort + Threads + Wait + Sync>(
+    rt: &R,
+    alloc: Global,
+    rows: &[Row],
+) -> Result<(), NoMemory> {
+    for (words, input, read, write, want, text) in rows {
+        let faults = Faults {
+            read: *read,
+            write: *write,
+        };
+        check_faults(rt, alloc, words, input, faults, *want, text)?;
     }
     Ok(())
 }
 
 #[test]
 fn tells_each_read_that_fails(rt: HostRuntime) -> Result<(), Fail> {
-    // the first read gives the trace, the second the end of input, and there is no third
-    for (words, read, want, text) in [
-        ("run", 1, Status::ReadFault, ""),
-        ("run", 2, Status::ReadFault, ""),
-        ("run", 3, Status::Good, REPORT),
-        ("check", 1, Status::ReadFault, ""),
-        ("check", 2, Status::ReadFault, ""),
-        ("check", 3, Status::Refused, "refused 1\n"),
-    ] {
-        let faults = Faults { read, write: 0 };
-        check_faults(&rt, rt.alloc(), words, TRACE, faults, want, text)?;
-    }
+    check_rows(&rt, rt.alloc(), &READS)?;
+    Ok(())
+}
+
+#[test]
+fn tells_a_short_text_that_is_not_taken(rt: HostRuntime) -> Result<(), Fail> {
+    check_rows(&rt, rt.alloc(), &WRITES)?;
     Ok(())
 }
 
@@ -301,59 +271,64 @@ fn check_all_reads<R: Abort + Threads + Wait + Sync>(
 
 #[test]
 fn tells_each_byte_that_is_not_given(rt: HostRuntime) -> Result<(), Fail> {
-    let trace = trace_of(rt.alloc(), HEADER, SHARERS)?;
-    check_all_reads(&rt, rt.alloc(), &trace, SHARERS)?;
+    check_all_reads(&rt, rt.alloc(), SHARING, SHARERS)?;
     Ok(())
 }
 
-/// Replays the trace as often as its report has lines, and once more. The next line is not taken each time. Those before it are appended
-/// to what was written.
+/// Calls the program as often as what it writes has lines, and once more. The next line is not taken each time. Those before it are
+/// appended to what was written.
 fn check_writes<R: Abort + Threads + Wait + Sync>(
     rt: &R,
     alloc: Global,
+    words: &str,
     trace: &str,
-    report: &str,
+    text: &str,
     written: &mut String,
 ) -> Result<(), NoMemory> {
     let mut faults = Faults { read: 0, write: 1 };
-    for line in report.split_inclusive('\n') {
-        check_faults(
-            rt,
-            alloc,
-            "replay",
-            trace,
-            faults,
-            Status::WriteFault,
-            written.as_str(),
-        )?;
+    for line in text.split_inclusive('\n') {
+        let before = written.as_str();
+        check_faults(rt, alloc, words, trace, faults, Status::WriteFault, before)?;
         written.push_str(line)?;
         faults.write = faults.write.saturating_add(1);
     }
-    check_faults(rt, alloc, "replay", trace, faults, Status::Good, report)
+    check_faults(rt, alloc, words, trace, faults, Status::Good, text)
+}
+
+/// The same where nothing was written before.
+fn check_each_line<R: Abort + Threads + Wait + Sync>(
+    rt: &R,
+    alloc: Global,
+    words: &str,
+    trace: &str,
+    text: &str,
+) -> Result<(), NoMemory> {
+    let mut written = String::new(alloc);
+    check_writes(rt, alloc, words, trace, text, &mut written)
 }
 
 #[test]
 fn tells_each_line_that_is_not_taken(rt: HostRuntime) -> Result<(), Fail> {
-    let trace = trace_of(rt.alloc(), HEADER, SHARERS)?;
-    let mut written = String::new(rt.alloc());
-    check_writes(&rt, rt.alloc(), &trace, SHARERS, &mut written)?;
+    check_each_line(&rt, rt.alloc(), "replay", SHARING, SHARERS)?;
+    check_each_line(&rt, rt.alloc(), "snap", ENDING, ENDED)?;
     Ok(())
 }
 
+/// Has the command write the report of the first trace and the text behind it, of which one line after the other is not taken.
+fn check_behind<R: Abort + Threads + Wait + Sync>(
+    rt: &R,
+    alloc: Global,
+    words: &str,
+    behind: &str,
+) -> Result<(), NoMemory> {
+    let text = format!(in alloc; "{REPORT}{behind}")?;
+    check_each_line(rt, alloc, words, TRACE, &text)
+}
+
 #[test]
-fn tells_a_short_text_that_is_not_taken(rt: HostRuntime) -> Result<(), Fail> {
-    for (words, input) in [("run", ""), ("help", TRACE), ("check", TRACE)] {
-        let faults = Faults { read: 0, write: 1 };
-        check_faults(
-            &rt,
-            rt.alloc(),
-            words,
-            input,
-            faults,
-            Status::WriteFault,
-            "",
-        )?;
-    }
+fn tells_each_line_behind_a_report_that_is_not_taken(rt: HostRuntime) -> Result<(), Fail> {
+    check_behind(&rt, rt.alloc(), "work", WORK)?;
+    check_behind(&rt, rt.alloc(), "watch 0", SAMPLES)?;
     Ok(())
 }
 
@@ -408,7 +383,6 @@ fn check_taken<R: Abort + Threads + Wait + Sync>(
 
 #[test]
 fn tells_each_byte_that_is_not_taken(rt: HostRuntime) -> Result<(), Fail> {
-    let trace = trace_of(rt.alloc(), HEADER, SHARERS)?;
     for taken in 0..=SHARERS.len() {
         let want = if taken < SHARERS.len() {
             Status::WriteFault
@@ -416,7 +390,7 @@ fn tells_each_byte_that_is_not_taken(rt: HostRuntime) -> Result<(), Fail> {
             Status::Good
         };
         let bytes = &SHARERS.as_bytes()[..taken];
-        check_taken(&rt, rt.alloc(), &trace, taken as u32 + 1, want, bytes)?;
+        check_taken(&rt, rt.alloc(), SHARING, taken as u32 + 1, want, bytes)?;
     }
     Ok(())
 }

@@ -1,10 +1,8 @@
 //! Runs beside a watcher.
 use crate::calling::{Given, HEADER, NO_FAULTS};
 use crate::gated::{COLLECTION, check_collection};
-use crate::tests::TRACE;
-use crate::worked_governing::GOVERNED;
 use k_gates::{Stop, Stops, meanwhile_of_watching};
-use k_io::{NoGate, NoMemory};
+use k_io::NoMemory;
 use k_top::Status;
 use std::alloc::Global;
 use std::process::Abort;
@@ -12,52 +10,66 @@ use std::sync::Wait;
 use std::test::Fail;
 use std::thread::Threads;
 
-/// Calls the program, and compares the end of what it writes.
-fn check_end<R: Abort + Threads + Wait + Sync>(
-    rt: &R,
+/// A call of the command on the operations behind the header.
+fn given_behind(
     alloc: Global,
     line: &str,
-    input: &str,
-    end: &str,
-) -> Result<(), NoMemory> {
-    let mut given = Given::make(alloc, line, input, NO_FAULTS)?;
-    assert_eq!(rt; given.answer(rt, alloc, &NoGate), Status::Good, "{line}");
-    assert!(rt; given.written().ends_with(end), "{line}");
-    Ok(())
+    header: &str,
+    operations: &str,
+) -> Result<Given, NoMemory> {
+    let trace = format!(in alloc; "{header}{operations}")?;
+    Given::make(alloc, line, &trace, NO_FAULTS)
 }
 
-#[test]
-fn samples_stand_behind_the_report(rt: HostRuntime) -> Result<(), Fail> {
-    for (line, input, end) in [
-        (
-            "watch 2",
-            HEADER,
-            "end\nsamples\nsample 0 120 2\nsample 0 120 2\nsample 0 120 2\nend\n",
-        ),
-        ("watch 0", TRACE, "end\nsamples\nsample 6 80 1\nend\n"),
-    ] {
-        check_end(&rt, rt.alloc(), line, input, end)?;
-    }
-    Ok(())
+/// Has the program answer, with the gate, and sees that the run has come to each of its stops.
+fn watch<const N: usize, R: Abort + Threads + Wait + Sync>(
+    rt: &R,
+    alloc: Global,
+    given: &mut Given,
+    gate: &Stops<N>,
+) {
+    assert_eq!(rt; given.answer(rt, alloc, gate), Status::Good);
+    assert!(rt; gate.all_met());
+}
+
+/// The report, and the lines of the samples behind it.
+fn parts(written: &str) -> Result<(&str, &str), Fail> {
+    let parts = written.split_once("samples\n").ok_or("no samples")?;
+    Ok(parts)
+}
+
+/// Compares the report of the collection, and the samples, of which one was taken while the heap was marked.
+fn check_marked<R: Abort>(rt: &R, written: &str) -> Result<(), Fail> {
+    let (report, samples) = parts(written)?;
+    assert!(rt;
+        samples == "sample 3 160 2\nsample 5 160 2\nend\n"
+            || samples == "sample 4 160 2\nsample 5 160 2\nend\n",
+        "{samples}"
+    );
+    check_collection(rt, report)
 }
 
 /// A watcher that takes its samples before the run or after it, or that never reads the cell, is told by this.
 #[test]
 fn a_sample_is_taken_while_a_heap_is_marked(rt: HostRuntime) -> Result<(), Fail> {
     let gate = meanwhile_of_watching();
-    let trace = format!(in rt.alloc(); "{HEADER}{COLLECTION}")?;
-    let mut given = Given::make(rt.alloc(), "watch 1", &trace, NO_FAULTS)?;
-    assert_eq!(rt; given.answer(&rt, rt.alloc(), &gate), Status::Good);
-    assert!(rt; gate.all_met());
-    let (report, samples) = given.written().split_once("samples\n").ok_or("no samples")?;
-    check_collection(&rt, report)?;
-    assert!(rt;
-        samples == "sample 3 160 2\nsample 5 160 2\nend\n"
-            || samples == "sample 4 160 2\nsample 5 160 2\nend\n",
-        "{samples}"
-    );
-    Ok(())
+    let mut given = given_behind(rt.alloc(), "watch 1", HEADER, COLLECTION)?;
+    watch(&rt, rt.alloc(), &mut given, &gate);
+    check_marked(&rt, given.written())
 }
+
+/// A header of the second version with a process at the root; an operation behind it stands on line 11.
+const GOVERNED: &str = "kaffe 2
+kernel 200 2
+type Node ref ref int
+limit root 1000
+limit a root hard 120
+limit b root soft 400
+proc p0 root
+proc p1 a
+proc p2 b
+shared s
+";
 
 /// The third process makes an object, and is ended by the first one.
 const KILL: &str = "p0 kill p2
@@ -74,8 +86,19 @@ p0 drop r0 = ok
 graph
 ";
 
-/// The first sample is taken once the object is made, and the second once the kill is done and before anybody does anything more. A kill that
-/// gives the book back unpublished, or after which as many processes are said to live as before, is told by this.
+/// Compares how the report begins, and the samples: the first was taken once the object was made, and the second once the kill was done and
+/// before anybody did anything more.
+fn check_killed<R: Abort>(rt: &R, written: &str) -> Result<(), Fail> {
+    let (report, samples) = parts(written)?;
+    assert!(rt; report.starts_with(KILL_BEGINS), "{report}");
+    assert_eq!(rt;
+        samples,
+        "sample 1 160 3\nsample 2 120 2\nsample 3 120 2\nend\n"
+    );
+    Ok(())
+}
+
+/// A kill that gives the book back unpublished, or after which as many processes are said to live as before, is told by this.
 #[test]
 fn a_sample_behind_a_kill_has_one_process_less(rt: HostRuntime) -> Result<(), Fail> {
     let gate = Stops::of([
@@ -86,17 +109,9 @@ fn a_sample_behind_a_kill_has_one_process_less(rt: HostRuntime) -> Result<(), Fa
         Stop::before(0, 1, Some(5)),
         Stop::sampling(2, None),
     ]);
-    let trace = format!(in rt.alloc(); "{GOVERNED}{KILL}")?;
-    let mut given = Given::make(rt.alloc(), "watch 2", &trace, NO_FAULTS)?;
-    assert_eq!(rt; given.answer(&rt, rt.alloc(), &gate), Status::Good);
-    assert!(rt; gate.all_met());
-    let (report, samples) = given.written().split_once("samples\n").ok_or("no samples")?;
-    assert!(rt; report.starts_with(KILL_BEGINS), "{report}");
-    assert_eq!(rt;
-        samples,
-        "sample 1 160 3\nsample 2 120 2\nsample 3 120 2\nend\n"
-    );
-    Ok(())
+    let mut given = given_behind(rt.alloc(), "watch 2", GOVERNED, KILL)?;
+    watch(&rt, rt.alloc(), &mut given, &gate);
+    check_killed(&rt, given.written())
 }
 
 /// The second process makes an object, and then lets it go.
@@ -127,8 +142,9 @@ fn many_samples(alloc: Global) -> Result<String, NoMemory> {
 }
 
 /// Compares the samples.
-fn check_samples<R: Abort>(rt: &R, alloc: Global, samples: &str) -> Result<(), NoMemory> {
+fn check_many<R: Abort>(rt: &R, alloc: Global, written: &str) -> Result<(), Fail> {
     let want = many_samples(alloc)?;
+    let (_, samples) = parts(written)?;
     assert_eq!(rt; samples, want.as_str());
     Ok(())
 }
@@ -148,11 +164,7 @@ fn between_samples() -> Stops<4> {
 #[test]
 fn samples_beyond_the_hundredth_are_new(rt: HostRuntime) -> Result<(), Fail> {
     let gate = between_samples();
-    let trace = format!(in rt.alloc(); "{HEADER}{ONE_OBJECT}")?;
-    let mut given = Given::make(rt.alloc(), "watch 130", &trace, NO_FAULTS)?;
-    assert_eq!(rt; given.answer(&rt, rt.alloc(), &gate), Status::Good);
-    assert!(rt; gate.all_met());
-    let (_, samples) = given.written().split_once("samples\n").ok_or("no samples")?;
-    check_samples(&rt, rt.alloc(), samples)?;
-    Ok(())
+    let mut given = given_behind(rt.alloc(), "watch 130", HEADER, ONE_OBJECT)?;
+    watch(&rt, rt.alloc(), &mut given, &gate);
+    check_many(&rt, rt.alloc(), given.written())
 }
