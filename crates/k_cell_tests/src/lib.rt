@@ -10,6 +10,8 @@ mod journal_tests;
 #[cfg(test)]
 mod kernel_tests;
 #[cfg(test)]
+mod notes;
+#[cfg(test)]
 mod shared_tests;
 #[cfg(test)]
 mod tie_tests;

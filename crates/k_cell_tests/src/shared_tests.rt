@@ -1,10 +1,10 @@
 //! The cell of the first of two shared heaps, beside one process.
 ghost use Rattle.std.specs.Prelude.{◌≡◌, IfOk, length};
 
+use crate::notes::lone_note;
 use k_io::NoMemory;
 use k_shared::SharedCell;
 use k_space::Body;
-use k_tie::Tie;
 use k_types::{LimitId, LimitRow, Link, Phase, Pid, Seg, Serial, Setup, SharedId, Slot, TypeTable};
 use std::alloc::Global;
 use std::test::Fail;
@@ -40,10 +40,7 @@ fn small_setup(alloc: Global) -> Result<Setup, NoMemory>
 #[tactic(auto, using(k_shared::proofs::Rooms::serial_left))]
 fn a_shared_heap_is_filled_and_given_away(rt: HostRuntime) -> Result<(), Fail> {
     let setup = small_setup(rt.alloc())?;
-    let (_tie, _seat, mut notes) = Tie::make(rt.alloc(), 4)?;
-    let Some(note) = notes.pop() else {
-        return Ok(());
-    };
+    let note = lone_note(rt.alloc())?;
     let body = Body::directory(rt.alloc(), 1)?;
     let mut cell = SharedCell::make(rt.alloc(), &setup, SharedId(0), 1, 1, note)?;
     assert_eq!(rt; (cell.id(), cell.seg()), (SharedId(0), Seg(2)));
