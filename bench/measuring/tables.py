@@ -2,7 +2,6 @@
 import filecmp
 import pathlib
 import re
-import shutil
 import statistics
 import subprocess
 import sys
@@ -17,6 +16,8 @@ WORKERS = 4
 USED = ["elapsed, ms", "processor, ms", "peak, MB"]
 SAMPLES = [0, 1, 1000]
 CHECK_SECONDS = 120
+CHECK_OBJECTS = [1250, 2500, 5000]
+CHECK_TRACES = ["chain", "turns", "store", "collect_live"]
 GAP_COLLECTIONS = 20
 GAP_OBJECTS = [10_000, 40_000, 60_000]
 MOST_OPERATIONS = 200_000
@@ -280,23 +281,28 @@ def greatest(given):
     return table(["trace", "what", *columns], rows)
 
 
+def checked(given, what, source, command):
+    """The row of one `check`: of the report that the command writes of the trace."""
+    report, both, answer = given.folder / "report", given.folder / "both", given.folder / "answer"
+    given.runner.run(Job([given.programs.kaffe, command], source, report))
+    both.write_bytes(source.read_bytes() + report.read_bytes())
+    lines = report.read_bytes().count(b"\n")
+    job = Job([given.programs.kaffe, "check"], both, answer, alone=True, seconds=CHECK_SECONDS)
+    run = given.runner.run(job, may_fail=True)
+    said = "not ended" if run.status == ENDED_BY_TIME else answer.read_text(encoding="ascii").strip()
+    return [what, f"{lines:,}", said, f"{run.elapsed / 1e3:.2f}", f"{run.processor / 1e3:.2f}", f"{run.peak:.0f}"]
+
+
 def check(given):
-    """`check` of the reports of `big 5000`, in the order of the file and of a run on threads."""
-    count = 25 if given.quick else 5000
-    source = given.big_trace(count)
+    """`check` of reports, in the order of the file and of runs on threads: `big N` for growing N, and some traces of `scripts/greatest`."""
     rows = []
-    for command in ("replay", "run"):
-        report, both, answer = given.folder / "report", given.folder / "both", given.folder / "answer"
-        given.runner.run(Job([given.programs.kaffe, command], source, report))
-        with open(both, "wb") as out:
-            for part in (source, report):
-                with open(part, "rb") as text:
-                    shutil.copyfileobj(text, out)
-        job = Job([given.programs.kaffe, "check"], both, answer, alone=True, seconds=CHECK_SECONDS)
-        run = given.runner.run(job, may_fail=True)
-        said = "not ended" if run.status == ENDED_BY_TIME else answer.read_text(encoding="ascii").strip()
-        rows.append([f"`{command}`", said, f"{run.elapsed / 1e3:.2f}", f"{run.processor / 1e3:.2f}", f"{run.peak:.0f}"])
-    return table([f"report of `big {count}` by", "answer", "elapsed, s", "processor, s", "peak, MB"], rows)
+    for count in [25] if given.quick else CHECK_OBJECTS:
+        source = given.big_trace(count)
+        rows += [checked(given, f"`{command}` of `big {count}`", source, command) for command in ("replay", "run")]
+    for name in [] if given.quick else CHECK_TRACES:
+        subprocess.run([sys.executable, TOP / "scripts/greatest", given.folder, name], check=True)
+        rows.append(checked(given, f"`replay` of `{name}`", given.folder / f"{name}.kaffe", "replay"))
+    return table(["report by", "its lines", "answer", "elapsed, s", "processor, s", "peak, MB"], rows)
 
 
 def reading(given):

@@ -1,10 +1,11 @@
 -- The end of a collection is possible with the numbers that it has, and no others.
-use Rattle.std.proofs.Common.{◌≡◌, ◌↔◌, ℕ, Bool, sym, subst, Result, Ok, Err}
+use Rattle.std.proofs.Common.{◌≡◌, ◌↔◌, ◌∙◌, ℕ, Bool, ap, sym, subst, Result, Ok, Err}
 use Rattle.std.specs.Prelude.{IfOk, IsTrue}
 use Rattle.k_io.specs.declared.errors.NoMemory.{NoMemory}
 use Rattle.k_types.specs.declared.names.Heap.{Heap}
 use Rattle.k_types.specs.declared.event.Event.{Event}
 use Rattle.k_types.specs.declared.event.Event.TheVariants.{Ended}
+use Rattle.k_types.specs.Effects.{after_ended, step}
 use Rattle.k_types.specs.FileOrder.{end_of}
 use Rattle.k_types.specs.State.{State, is_scanned}
 use Rattle.k_types.specs.Steps.{IsPossible, MayEnd}
@@ -31,3 +32,11 @@ end_answers trace st event h objects bytes exits shares (Ok may) is asked =
       λ on. let both = here.0 on in may_end trace st h objects bytes exits shares both.0 both.1,
       λ possible. here.1 (possible.scanned, end_is trace st h objects bytes exits shares possible),
     ))
+
+-- and leaves what the machine's step leaves
+pub end_steps : (trace : Trace) (st now : State) (event : Event) (h : Heap) (objects bytes exits shares : ℕ) (result : Result Bool NoMemory) →
+    event ≡ Ended h objects bytes exits shares → IfOk result (λ had. IsTrue had → now ≡ after_ended trace h st) →
+    IfOk result (λ had. IsTrue had → now ≡ step trace st event)
+unfolding step
+end_steps trace st now event h objects bytes exits shares (Err e) is ended = tt
+end_steps trace st now event h objects bytes exits shares (Ok had) is ended = λ on. ended on ∙ ap (step trace st) (sym is)

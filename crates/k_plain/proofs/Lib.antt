@@ -6,3 +6,4 @@ pub mod DoneOperations
 pub mod Quiets
 pub mod Completed
 pub mod Owned
+pub mod Replied

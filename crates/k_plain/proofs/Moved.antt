@@ -1,6 +1,6 @@
 -- A machine that has taken a possible step is sound again.
-use Rattle.std.proofs.Common.{◌≡◌, ap, subst, sym, ◌∙◌, Result, Ok, Err}
-use Rattle.std.specs.Prelude.{IfOk, OnErr, OnOk}
+use Rattle.std.proofs.Common.{◌≡◌, ◌↔◌, Bool, true, false, refl, ap, subst, sym, ◌∙◌, Result, Ok, Err}
+use Rattle.std.specs.Prelude.{IfOk, IsFalse, IsTrue, OnErr, OnOk}
 use Rattle.k_io.specs.declared.errors.NoMemory.{NoMemory}
 use Rattle.k_types.specs.declared.names.Pid.{Pid}
 use Rattle.k_types.specs.declared.op.Op.{Op}
@@ -31,6 +31,15 @@ pub stepped_sound : {A : Type 0} (before after : Machine) (event : Event) (resul
     OnOk result (after.state ≡ step before.setup before.state event) → OnErr result (after ≡ before) → IsSoundMachine after
 stepped_sound before after event (Ok a) sound may setup state err = moved_sound before after event sound may setup state
 stepped_sound before after event (Err e) sound may setup state err = subst IsSoundMachine (sym err) sound
+
+-- after a step that is taken where it is possible, or where memory was wanting
+pub tried_sound : (before after : Machine) (event : Event) (result : Result Bool NoMemory) → IsSoundMachine before → after.setup ≡ before.setup →
+    IfOk result (λ had. IsTrue had ↔ IsPossible before.setup before.state event) →
+    IfOk result (λ had. IsTrue had → after.state ≡ step before.setup before.state event) → IfOk result (λ had. IsFalse had → after ≡ before) →
+    OnErr result (after ≡ before) → IsSoundMachine after
+tried_sound before after event (Ok true) sound setup possible stepped same err = moved_sound before after event sound (possible.0 refl) setup (stepped refl)
+tried_sound before after event (Ok false) sound setup possible stepped same err = subst IsSoundMachine (sym (same refl)) sound
+tried_sound before after event (Err e) sound setup possible stepped same err = subst IsSoundMachine (sym err) sound
 
 -- after an operation, or where memory was wanting
 pub operated_sound : (before after : Machine) (pid : Pid) (op : Op) (result : Result Reply NoMemory) → IsSoundMachine before →

@@ -6,6 +6,7 @@
 //! `k_scan`.
 #![tactic(auto)]
 
+mod answering;
 mod complete;
 mod counting;
 mod effects;

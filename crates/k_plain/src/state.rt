@@ -15,7 +15,7 @@ ghost use Rattle.k_types.specs.declared.event.Event.TheVariants.{Done};
 
 use crate::counting::{objects_of, refs_of};
 use crate::operating::operate;
-use crate::stepping::{is_possible, take_step};
+use crate::stepping::{step_if_possible, take_step};
 use k_io::NoMemory;
 use k_scan::ending;
 use k_state::PlainLists;
@@ -136,9 +136,5 @@ pub fn plain_step(alloc: Global, state: &mut PlainState, event: &Event) -> Resul
     ensures same { IfOk result (λ had. IsFalse had → state.new ≡ state.old) }
     ensures err { OnErr result (state.new ≡ state.old) }
 {
-    if !is_possible(alloc, &state.lists, event)? {
-        return Ok(false);
-    }
-    take_step(alloc, &mut state.lists, event)?;
-    Ok(true)
+    step_if_possible(alloc, &mut state.lists, event)
 }

@@ -7,4 +7,5 @@ pub mod Chosen
 pub mod Counts
 pub mod Turning
 pub mod Referred
+pub mod Found
 pub mod Ends

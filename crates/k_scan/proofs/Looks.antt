@@ -14,7 +14,7 @@ use Rattle.k_state.specs.Places.{IsNamedAt}
 use Rattle.k_scan.specs.Marks.{is_marked, IsMarked, HasLooked}
 use Rattle.k_scan.proofs.Marks.{marked-set, marked_at, left-set}
 
-or_more : (a b c : Bool) → (b ≡ true → c ≡ true → a ≡ true) → a ≡ (a || (b && c))
+pub or_more : (a b c : Bool) → (b ≡ true → c ≡ true → a ≡ true) → a ≡ (a || (b && c))
 or_more true b c h = refl
 or_more false true true h = h refl refl
 or_more false true false h = refl
@@ -26,7 +26,7 @@ or_if false b true h = sym (and_from b true (h refl) refl)
 or_if false true false h = refl
 or_if false false false h = refl
 
-no_object : Name → Object
+pub no_object : Name → Object
 no_object name = record { name = name; ty = None; fields = [] }
 
 -- where it is marked already
@@ -77,7 +77,7 @@ module _ (xs : List Object) (own : ℕ → Heap) (h : Heap) where
     left = refl;
   }
 
-  ours_named : (name : Name) → heap_eq (own name.seg.0) h ≡ true → (n : Name) → (has xs n && name_eq name n) ≡ (has (objects_of own h xs) n && name_eq name n)
+  pub ours_named : (name : Name) → heap_eq (own name.seg.0) h ≡ true → (n : Name) → (has xs n && name_eq name n) ≡ (has (objects_of own h xs) n && name_eq name n)
   ours_named name ours n =
       elim (name_eq name n) as (λ b. name_eq name n ≡ b → (has xs n && b) ≡ (has (objects_of own h xs) n && b)) [
         | true ↦ λ e.

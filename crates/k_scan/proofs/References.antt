@@ -1,5 +1,5 @@
 -- References of an object that is found by its name.
-use Rattle.std.proofs.Common.{◌≡◌, ◌||◌, ◌&&◌, cond, Bool, true, false, refl, sym, ap, ◌∙◌, inl, inr, List, [], ◌∷◌, map, Option, Some}
+use Rattle.std.proofs.Common.{◌≡◌, ℕ, ◌<◌, ◌||◌, ◌&&◌, cond, Bool, true, false, refl, sym, ap, ◌∙◌, inl, inr, List, [], ◌∷◌, get_or, length, map, Option, Some}
 use Rattle.std.specs.List.{list_any}
 use Rattle.std.proofs.lemmas.Bool.{or_cases}
 use Rattle.k_types.specs.declared.names.Name.{Name}
@@ -8,6 +8,7 @@ use Rattle.k_types.specs.State.{Object, object_at, refers, refers_in}
 use Rattle.k_types.specs.Sound.{IsOrdered}
 use Rattle.k_base.proofs.NameTests.{name_eq-true, name_lt_irrefl}
 use Rattle.k_base.proofs.Objects.{refers_in_has}
+use Rattle.k_state.proofs.Placed.{found_at}
 use Rattle.k_scan.proofs.Marks.{later}
 use Rattle.k_base.proofs.Ordered.{ordered_tail}
 
@@ -32,3 +33,9 @@ refers_only (x ∷ xs) a b o ordered found r =
 pub any_mapped : {A B : Type 0} (f : A → B) (p : B → Bool) (xs : List A) → list_any p (map f xs) ≡ list_any (λ x. p (f x)) xs
 any_mapped f p [] = refl
 any_mapped f p (x ∷ xs) = ap (λ b. p (f x) || b) (any_mapped f p xs)
+
+-- the object that stands at a place is the one that is found, where it has the name
+pub found_there : (n : Name) (xs : List Object) (k : ℕ) (o : Object) → IsOrdered xs → k < length xs → o ≡ get_or xs k o → name_eq o.name n ≡ true →
+    ◌≡◌ {A = Option Object} (Some o) (object_at xs n)
+found_there n xs k o ordered inside is named =
+    sym (found_at n xs k o ordered inside (ap (λ (y : Object). name_eq y.name n) (sym is) ∙ named) ∙ ap (λ (y : Object). Some y) (sym is))

@@ -27,3 +27,8 @@ pub record HasLooked (objects pool : List Object) (test : Name → Bool) (old ne
   pub kept : (n : Name) → IsTrue (name_among n before) → IsTrue (name_among n after)
   pub added : (n : Name) → IsTrue (name_among n after) → IsTrue (name_among n before) ⊎ IsTrue (is_marked objects new n)
   pub left : count_by not new + length after ≡ count_by not old + length before
+
+-- the objects of the pool that pass the test are marked from now on
+pub record HasFound (objects pool : List Object) (test : Name → Bool) (old new : List Bool) : Type 0 where
+  pub size : length new ≡ length old
+  pub marks : (n : Name) → is_marked objects new n ≡ (is_marked objects old n || (has pool n && test n))

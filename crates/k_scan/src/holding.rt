@@ -1,15 +1,18 @@
-//! Whether an object is held from outside its heap, or by the heap's own process.
-ghost use Rattle.std.specs.Prelude.{◌≡◌, Option};
+//! Marks of the objects that are held from outside their heap, or by the heap's own process.
+ghost use Rattle.std.specs.Prelude.{◌≡◌, ◌&&◌, length, map, IfOk};
 ghost use Rattle.std.specs.List.{list_any};
-ghost use Rattle.k_types.specs.declared.names.Name.{Name as Named};
-ghost use Rattle.k_types.specs.Names.{leads_to};
-ghost use Rattle.k_types.specs.Owners.{owner_of};
-ghost use Rattle.k_types.specs.Reach.{has_entry, is_entered, is_held, is_pinned, is_root};
-ghost use Rattle.k_types.specs.State.{in_registers};
+ghost use Rattle.k_scan.specs.Marks.{HasFound};
+ghost use Rattle.k_types.specs.Names.{heap_eq, leads_to, name_eq};
+ghost use Rattle.k_types.specs.Owners.{objects_of, owner_of};
+ghost use Rattle.k_types.specs.Reach.{has_entry, is_held, is_pinned, is_root};
+ghost use Rattle.k_types.specs.State.{Object};
 ghost use Rattle.k_types.specs.Trace.{process_count};
 
-use k_state::{PlainLists, is_same_heap, is_same_name};
+use crate::marking::Marks;
+use k_io::NoMemory;
+use k_state::{PlainLists, is_same_heap};
 use k_types::{Heap, Name, Pid, Seg, Serial};
+use std::alloc::Global;
 
 // The object from which every run begins.
 const DIRECTORY: Name = Name {
@@ -17,82 +20,89 @@ const DIRECTORY: Name = Name {
     serial: Serial(1),
 };
 
-fn leads_to(reference: Option<Name>, name: Name) -> bool
-    ensures { result ≡ leads_to reference name }
+// Marks the object of that name, where it is the heap's.
+fn find(lists: &PlainLists, heap: Heap, marks: &mut Marks, name: Name)
+    requires { length marks.old ≡ length lists.now.state.objects }
+    ensures { HasFound lists.now.state.objects (objects_of (owner_of lists.now.setup lists.now.state) heap lists.now.state.objects)
+        (λ n. name_eq name n) marks.old marks.new }
 {
-    match reference {
-        None => false,
-        Some(other) => is_same_name(other, name),
+    if is_same_heap(lists.owner(name.seg), heap) {
+        let _fresh = marks.mark(lists, name);
     }
 }
 
-fn some_leads_to(registers: &[Option<Name>], name: Name) -> bool
-    ensures { result ≡ list_any (λ (r : Option Named). leads_to r name) registers.now }
+// Marks those of the heap's objects to which another heap has an exit item.
+fn find_entered(lists: &PlainLists, heap: Heap, marks: &mut Marks)
+    requires { length marks.old ≡ length lists.now.state.objects }
+    ensures { HasFound lists.now.state.objects (objects_of (owner_of lists.now.setup lists.now.state) heap lists.now.state.objects)
+        (λ n. has_entry (λ seg. heap) lists.now.state.exits n) marks.old marks.new }
+{
+    for item in lists.exits() {
+        if !item.is_of(heap) {
+            find(lists, heap, marks, item.target());
+        }
+    }
+}
+
+// Marks those of the heap's objects that one of the registers holds.
+fn find_in_registers(lists: &PlainLists, heap: Heap, marks: &mut Marks, registers: &[Option<Name>])
+    requires { length marks.old ≡ length lists.now.state.objects }
+    ensures { HasFound lists.now.state.objects (objects_of (owner_of lists.now.setup lists.now.state) heap lists.now.state.objects)
+        (λ n. list_any (λ r. leads_to r n) registers.now) marks.old marks.new }
 {
     for register in registers {
-        if leads_to(*register, name) {
-            return true;
+        if let Some(name) = *register {
+            find(lists, heap, marks, name);
         }
     }
-    false
 }
 
-// Whether some register of the process holds the name; a process that the trace does not have holds nothing.
-#[tactic(auto, using(crate::proofs::Numbers::none_past))]
-fn is_in_registers(lists: &PlainLists, pid: Pid, name: Name) -> bool
-    ensures { result ≡ in_registers lists.now.state.registers pid.0 name }
+// Marks those of the heap's objects that a process of another heap holds in a register.
+fn find_pinned(lists: &PlainLists, heap: Heap, marks: &mut Marks)
+    requires { length marks.old ≡ length lists.now.state.objects }
+    ensures { HasFound lists.now.state.objects (objects_of (owner_of lists.now.setup lists.now.state) heap lists.now.state.objects)
+        (λ n. is_pinned (process_count lists.now.setup) (λ seg. heap) lists.now.state.registers n) marks.old marks.new }
 {
-    if (pid.0 as usize) < lists.process_count() {
-        some_leads_to(lists.registers(pid), name)
-    } else {
-        let _setup = lists.setup();
-        false
-    }
-}
-
-// Whether a heap that does not own the object has an exit item to it.
-fn has_entry(lists: &PlainLists, name: Name) -> bool
-    ensures { result ≡ has_entry (owner_of lists.now.setup lists.now.state) lists.now.state.exits name }
-{
-    let owner = lists.owner(name.seg);
-    for item in lists.exits() {
-        if !item.is_of(owner) && is_same_name(item.target(), name) {
-            return true;
-        }
-    }
-    false
-}
-
-// Whether a process whose heap does not own the object holds it in a register.
-#[tactic(auto, using(crate::proofs::Numbers::any_next, crate::proofs::Numbers::any_last))]
-fn is_pinned(lists: &PlainLists, name: Name) -> bool
-    ensures { result ≡ is_pinned (process_count lists.now.setup) (owner_of lists.now.setup lists.now.state) lists.now.state.registers name }
-{
-    let _setup = lists.setup();
-    let owner = lists.owner(name.seg);
+    let _shape = lists.setup();
     for p in 0..lists.process_count() as u32 {
-        if !is_same_heap(Heap::User(Pid(p)), owner) && is_in_registers(lists, Pid(p), name) {
-            return true;
+        if !is_same_heap(Heap::User(Pid(p)), heap) {
+            find_in_registers(lists, heap, marks, lists.registers(Pid(p)));
         }
     }
-    false
 }
 
+// Marks those of the heap's objects that its own process holds in a register, or the directory in the kernel's heap.
 #[tactic(auto, unfolding(k_types::specs::Reach::is_held))]
-fn is_held(lists: &PlainLists, heap: Heap, name: Name) -> bool
-    ensures { result ≡ is_held lists.now.state heap name }
+fn find_held(lists: &PlainLists, heap: Heap, marks: &mut Marks)
+    requires { length marks.old ≡ length lists.now.state.objects }
+    ensures { HasFound lists.now.state.objects (objects_of (owner_of lists.now.setup lists.now.state) heap lists.now.state.objects)
+        (λ n. is_held lists.now.state heap n) marks.old marks.new }
 {
+    let _shape = lists.setup();
     match heap {
-        Heap::Kernel => is_same_name(DIRECTORY, name),
-        Heap::User(pid) => is_in_registers(lists, pid, name),
-        Heap::Shared(_) => false,
+        Heap::Kernel => find(lists, heap, marks, DIRECTORY),
+        Heap::User(pid) if (pid.0 as usize) < lists.process_count() => {
+            find_in_registers(lists, heap, marks, lists.registers(pid));
+        }
+        _ => {}
     }
 }
 
-// Whether a collection of the heap begins with the object.
-#[tactic(auto, unfolding(k_types::specs::Reach::is_entered))]
-pub(crate) fn is_root(lists: &PlainLists, heap: Heap, name: Name) -> bool
-    ensures { result ≡ is_root lists.now.setup lists.now.state heap name }
+// Marks the objects of the heap with which a collection begins. Walks over all exit items and registers, and finds each object
+// by halving.
+pub(crate) fn mark_roots(
+    alloc: Global,
+    lists: &PlainLists,
+    heap: Heap,
+) -> Result<Vec<bool>, NoMemory>
+    ensures { IfOk result (λ marks. marks.items ≡ map
+        (λ (o : Object). heap_eq (owner_of lists.now.setup lists.now.state o.name.seg.0) heap && is_root lists.now.setup lists.now.state heap o.name)
+        lists.now.state.objects) }
 {
-    has_entry(lists, name) || is_pinned(lists, name) || is_held(lists, heap, name)
+    let _shape = lists.setup();
+    let mut marks = Marks::none(alloc, lists)?;
+    find_entered(lists, heap, &mut marks);
+    find_pinned(lists, heap, &mut marks);
+    find_held(lists, heap, &mut marks);
+    Ok(marks.into_list())
 }

@@ -1,5 +1,5 @@
 //! Marks beside the objects, one for each in order.
-ghost use Rattle.std.specs.Prelude.{◌≡◌, false, length, replicate, IfOk};
+ghost use Rattle.std.specs.Prelude.{◌≡◌, false, is_some, length, replicate, IfOk};
 ghost use Rattle.k_scan.specs.Marks.{IsMarked};
 
 use k_io::NoMemory;
@@ -32,19 +32,19 @@ impl Marks {
         })
     }
 
-    // Marks the object of that name, where there is one, and says whether it was not marked before.
-    pub(crate) fn mark(&mut self, lists: &PlainLists, name: Name) -> bool
+    // Marks the object of that name, where there is one, and gives its place, where it was not marked before.
+    pub(crate) fn mark(&mut self, lists: &PlainLists, name: Name) -> Option<usize>
         requires { length self.old ≡ length lists.now.state.objects }
-        ensures { IsMarked lists.now.state.objects name self.old self.new result }
+        ensures { IsMarked lists.now.state.objects name self.old self.new (is_some result) }
     {
         let Some(at) = lists.index_of(name) else {
-            return false;
+            return None;
         };
         if self.marks[at] {
-            return false;
+            return None;
         }
         self.marks[at] = true;
-        true
+        Some(at)
     }
 
     // The marks as a list.

@@ -7,6 +7,7 @@ ghost use Rattle.k_types.specs.Reach.{reach_in};
 ghost use Rattle.k_types.specs.State.{Object, has, refers};
 
 use crate::marking::Marks;
+use crate::waiting::Waiting;
 use k_io::NoMemory;
 use k_state::{FieldValue, PlainLists, PlainObject, is_same_heap};
 use k_types::{Heap, Name};
@@ -17,16 +18,20 @@ fn visit(
     lists: &PlainLists,
     heap: Heap,
     marks: &mut Marks,
-    work: &mut Vec<Name>,
+    work: &mut Vec<Waiting>,
     name: Name,
 ) -> Result<(), NoMemory>
     requires { length marks.old ≡ length lists.now.state.objects }
     ensures { OnOk result (HasLooked lists.now.state.objects (objects_of (owner_of lists.now.setup lists.now.state) heap lists.now.state.objects)
         (λ n. name_eq name n) marks.old marks.new work.old.items work.new.items) }
 {
-    if is_same_heap(lists.owner(name.seg), heap) && marks.mark(lists, name) {
-        work.push(name)?;
+    if !is_same_heap(lists.owner(name.seg), heap) {
+        return Ok(());
     }
+    let Some(at) = marks.mark(lists, name) else {
+        return Ok(());
+    };
+    work.push(Waiting::at(name, at))?;
     Ok(())
 }
 
@@ -35,7 +40,7 @@ fn follow(
     lists: &PlainLists,
     heap: Heap,
     marks: &mut Marks,
-    work: &mut Vec<Name>,
+    work: &mut Vec<Waiting>,
     object: &PlainObject,
 ) -> Result<(), NoMemory>
     requires { length marks.old ≡ length lists.now.state.objects }
@@ -55,7 +60,7 @@ fn begin(
     lists: &PlainLists,
     heap: Heap,
     marks: &mut Marks,
-    work: &mut Vec<Name>,
+    work: &mut Vec<Waiting>,
     roots: &[Name],
 ) -> Result<(), NoMemory>
     requires { length marks.old ≡ length lists.now.state.objects }
@@ -70,7 +75,7 @@ fn begin(
 
 /// Marks what the roots reach by references inside the heap: one mark for each object, in the order of the objects.
 ///
-/// It looks once at each reached object and its fields, and finds each object by halving. `NoMemory` comes where the marks
+/// It looks once at each reached object and its fields, and finds by halving each object to which one refers. `NoMemory` comes where the marks
 /// or the list of work find no memory.
 pub fn reached(
     alloc: Global,
@@ -85,8 +90,8 @@ pub fn reached(
     let mut marks = Marks::none(alloc, lists)?;
     let mut work = Vec::new(alloc);
     begin(lists, heap, &mut marks, &mut work, roots)?;
-    while let Some(name) = work.pop() {
-        if let Some(object) = lists.object(name) {
+    while let Some(waiting) = work.pop() {
+        if let Some(object) = waiting.object_in(lists) {
             follow(lists, heap, &mut marks, &mut work, object)?;
         }
     }

@@ -1,7 +1,7 @@
 //! What the end of a heap's collection keeps: a mark for each object, exit item and share.
 ghost use Rattle.std.specs.Prelude.{◌≡◌, ◌&&◌, IfOk, length, map};
 ghost use Rattle.std.specs.List.{list_any};
-ghost use Rattle.k_types.specs.declared.names.Name.{Name as Named};
+ghost use Rattle.k_scan.specs.Marks.{HasFound};
 ghost use Rattle.k_types.specs.Effects.{exit_stays, lies_in, open_roots, register_lies_in, registers_of, share_stays, survives};
 ghost use Rattle.k_types.specs.Names.{heap_eq};
 ghost use Rattle.k_types.specs.Owners.{shared};
@@ -9,9 +9,10 @@ ghost use Rattle.k_types.specs.Reach.{reach_in};
 ghost use Rattle.k_types.specs.Replies.{is_populating};
 ghost use Rattle.k_types.specs.State.{ExitItem as Item, Object, Sharing, has, refers};
 
+use crate::marking::Marks;
 use crate::reaching::reached;
 use k_io::NoMemory;
-use k_state::{ExitItem, PlainLists, Share, is_same_heap};
+use k_state::{FieldValue, PlainLists, PlainObject, Share, is_same_heap};
 use k_types::{Heap, Name, Phase, Pid, SharedId};
 use std::alloc::Global;
 
@@ -65,16 +66,95 @@ fn is_referred(lists: &PlainLists, heap: Heap, reached: &[bool], name: Name) -> 
     false
 }
 
-#[tactic(auto, unfolding(k_types::specs::Effects::exit_stays))]
-fn exit_stays(lists: &PlainLists, heap: Heap, reached: &[bool], item: &ExitItem) -> bool
-    requires { reached.now ≡ map
-        (λ (o : Object). has (reach_in lists.now.setup lists.now.state heap (open_roots lists.now.state heap)) o.name) lists.now.state.objects }
-    ensures { result ≡ exit_stays lists.now.setup lists.now.state heap item.now }
+// Marks what the object refers to.
+fn mark_references(lists: &PlainLists, marks: &mut Marks, object: &PlainObject)
+    requires { length marks.old ≡ length lists.now.state.objects }
+    ensures { HasFound lists.now.state.objects lists.now.state.objects (refers object.now) marks.old marks.new }
 {
-    !item.is_of(heap) || is_referred(lists, heap, reached, item.target())
+    for value in object.fields() {
+        if let FieldValue::Reference(Some(target)) = *value {
+            let _fresh = marks.mark(lists, target);
+        }
+    }
 }
 
-// The exit items that stay. For each of the heap's it walks over the reached objects.
+// Marks what the reached objects refer to.
+fn mark_referred(
+    alloc: Global,
+    lists: &PlainLists,
+    heap: Heap,
+    reached: &[bool],
+) -> Result<Vec<bool>, NoMemory>
+    requires { reached.now ≡ map
+        (λ (o : Object). has (reach_in lists.now.setup lists.now.state heap (open_roots lists.now.state heap)) o.name) lists.now.state.objects }
+    ensures { IfOk result (λ marks. marks.items ≡ map
+        (λ (o : Object). list_any (λ (x : Object). refers x o.name) (reach_in lists.now.setup lists.now.state heap (open_roots lists.now.state heap))) lists.now.state.objects) }
+{
+    let _shape = lists.setup();
+    let mut marks = Marks::none(alloc, lists)?;
+    for (at, object) in lists.objects().iter().enumerate() {
+        if reached[at] {
+            mark_references(lists, &mut marks, object);
+        }
+    }
+    Ok(marks.into_list())
+}
+
+// Whether a reached object refers to the target of an exit item. Where there is no such object each reached one is looked at.
+fn is_target_referred(
+    lists: &PlainLists,
+    heap: Heap,
+    reached: &[bool],
+    referred: &[bool],
+    target: Name,
+) -> bool
+    requires reached { reached.now ≡ map
+        (λ (o : Object). has (reach_in lists.now.setup lists.now.state heap (open_roots lists.now.state heap)) o.name) lists.now.state.objects }
+    requires referred { referred.now ≡ map
+        (λ (o : Object). list_any (λ (x : Object). refers x o.name) (reach_in lists.now.setup lists.now.state heap (open_roots lists.now.state heap))) lists.now.state.objects }
+    ensures { result ≡ list_any (λ (x : Object). refers x target) (reach_in lists.now.setup lists.now.state heap (open_roots lists.now.state heap)) }
+{
+    match lists.index_of(target) {
+        Some(at) => referred[at],
+        None => is_referred(lists, heap, reached, target),
+    }
+}
+
+// Whether some exit item is the heap's.
+fn has_exits(lists: &PlainLists, heap: Heap) -> bool
+    ensures { result ≡ list_any (λ (x : Item). heap_eq x.heap heap) lists.now.state.exits }
+{
+    for item in lists.exits() {
+        if item.is_of(heap) {
+            return true;
+        }
+    }
+    false
+}
+
+// The exit items that stay, where some are the heap's.
+fn surviving_among(
+    alloc: Global,
+    lists: &PlainLists,
+    heap: Heap,
+    reached: &[bool],
+) -> Result<Vec<bool>, NoMemory>
+    requires { reached.now ≡ map
+        (λ (o : Object). has (reach_in lists.now.setup lists.now.state heap (open_roots lists.now.state heap)) o.name) lists.now.state.objects }
+    ensures { IfOk result (λ stays. stays.items ≡ map (exit_stays lists.now.setup lists.now.state heap) lists.now.state.exits) }
+{
+    let referred = mark_referred(alloc, lists, heap, reached)?;
+    let mut stays = Vec::new(alloc);
+    for item in lists.exits() {
+        stays.push(
+            !item.is_of(heap) || is_target_referred(lists, heap, reached, &referred, item.target()),
+        )?;
+    }
+    Ok(stays)
+}
+
+// The exit items that stay. It looks once at the fields of the reached objects, where some items are the heap's.
+#[tactic(auto, using(crate::proofs::Found::all_stay))]
 pub(crate) fn surviving_exits(
     alloc: Global,
     lists: &PlainLists,
@@ -85,11 +165,10 @@ pub(crate) fn surviving_exits(
         (λ (o : Object). has (reach_in lists.now.setup lists.now.state heap (open_roots lists.now.state heap)) o.name) lists.now.state.objects }
     ensures { IfOk result (λ stays. stays.items ≡ map (exit_stays lists.now.setup lists.now.state heap) lists.now.state.exits) }
 {
-    let mut stays = Vec::new(alloc);
-    for item in lists.exits() {
-        stays.push(exit_stays(lists, heap, reached, item))?;
+    if has_exits(lists, heap) {
+        return surviving_among(alloc, lists, heap, reached);
     }
-    Ok(stays)
+    Ok(vec![in alloc; true; lists.exits().len()]?)
 }
 
 pub(crate) fn lies_in(lists: &PlainLists, shared: SharedId, name: Name) -> bool

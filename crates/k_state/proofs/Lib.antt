@@ -1,4 +1,5 @@
 pub mod Above
+pub mod Added
 pub mod Changes
 pub mod Fields
 pub mod Heaps

@@ -3,8 +3,8 @@
 //! [`PlainLists`] holds what the machine's state of `k_types` holds, and its contracts speak of that state alone: each reader
 //! gives what the definition of its name says of the state, and each change leaves what its definition says. Its invariant is
 //! the shape of the lists, not the soundness of the state, which whoever uses it proves. Objects stand in the order of their
-//! names and are found by halving; beside them stands the total of the bytes of each segment. Limits and charges are summed
-//! afresh from those totals.
+//! names and are found by halving; beside them stands the total of the bytes of each segment. Where a size is tested, all uses
+//! are summed afresh from those totals: once over the shares, the processes and the limits, from the last limit to the first.
 #![tactic(auto)]
 
 mod accounts;

@@ -1,22 +1,15 @@
 //! What is used at the limits, and which of them is full.
-ghost use Rattle.std.specs.Prelude.{◌≡◌, ℕ, ◌<◌, ◌≤◌, ◌+◌, ◌-◌, ◌^◌, length, min, nat_lt, option_map, IfSome};
+ghost use Rattle.std.specs.Prelude.{◌≡◌, ℕ, ◌<◌, ◌≤◌, ◌+◌, ◌-◌, ◌^◌, length, min, nat_lt, option_map, if◌then◌else◌, IfSome};
 ghost use Rattle.k_types.specs.Bounds.{maximum_below};
-ghost use Rattle.k_types.specs.Limits.{direct_by, full_for, full_limit, is_ancestor, is_parent, limits_in, max_of, use_of, use_within};
+ghost use Rattle.k_state.specs.Sums.{AreSums};
+ghost use Rattle.k_types.specs.Limits.{direct_by, full_for, full_limit, is_ancestor, limits_in, max_of, use_of};
 ghost use Rattle.k_types.specs.Owners.{charge_of};
 ghost use Rattle.k_types.specs.Trace.{row_of};
 ghost use Rattle.k_types.specs.declared.names.LimitId.{LimitId};
 
+use crate::accounts::add;
 use crate::lists::PlainLists;
-use k_types::{LimitId, LimitRow};
-
-fn is_parent(parent: Option<LimitId>, limit: u32) -> bool
-    ensures { result ≡ is_parent parent limit }
-{
-    match parent {
-        None => false,
-        Some(parent) => parent.0 == limit,
-    }
-}
+use k_types::{LimitId, LimitRow, MOST_LIMITS};
 
 // Whether so many bytes more do not fit beside those used. What is used may be given as the greatest number of 64 bits
 // where it is more.
@@ -25,6 +18,13 @@ fn is_full(max: u64, used: u64, size: u64) -> bool
     ensures { (all : ℕ) → used ≡ min all (2 ^ 64 - 1) → result ≡ nat_lt max (all + size) }
 {
     max < size || max - size < used
+}
+
+// What a limit adds to the use of its parent, where so much is used at it.
+fn part_above(row: LimitRow, used: u64) -> u64
+    ensures { result ≡ (if row.hard then row.max else used) }
+{
+    if row.hard { row.max } else { used }
 }
 
 impl PlainLists {
@@ -59,52 +59,61 @@ impl PlainLists {
         self.row(limit).max
     }
 
-    // What is used at the limit where the tree below it is at most so deep, or the greatest number of 64 bits where it is
-    // more.
-    #[tactic(auto, using(crate::proofs::Uses::use_none, k_base::proofs::Maxima::length_in))]
-    fn use_within(&self, depth: u32, limit: u32) -> u64
-        ensures { result ≡ min
-            (use_within (limits_in self.now.setup self.now.state) (direct_by self.now.setup (charge_of self.now.setup self.now.state)) depth limit)
-            (2 ^ 64 - 1) }
+    // What the processes on each limit are charged, or the greatest number of 64 bits where it is more.
+    fn directs(&self) -> [u64; MOST_LIMITS]
+        ensures { AreSums result (direct_by self.now.setup (charge_of self.now.setup self.now.state)) (length self.now.setup.limits) }
     {
-        if depth == 0 {
-            return 0;
+        let charges = self.charges();
+        let mut sums = [0; MOST_LIMITS];
+        for p in 0..self.setup.procs.len() {
+            add(&mut sums, self.setup.procs[p].0 as usize, charges[p]);
         }
-        let mut sum = self.direct(limit);
-        for c in 0..self.setup.limits.len() as u32 {
-            let row = self.row(LimitId(c));
-            if is_parent(row.parent, limit) {
-                let part = if row.hard {
-                    row.max
-                } else {
-                    self.use_within(depth - 1, c)
-                };
-                sum = sum.saturating_add(part);
-            }
-        }
-        sum
+        sums
     }
 
-    /// What is used at the limit, in bytes, or the greatest number of 64 bits where it is more. Summed afresh from the charges
-    /// of the processes at and below the limit.
-    #[tactic(auto, using(k_base::proofs::Maxima::length_in))]
+    // What is used at each limit, in bytes, or the greatest number of 64 bits where it is more. A limit's own use is whole once
+    // all limits behind it are counted, since each parent stands before its children.
+    fn uses(&self) -> [u64; MOST_LIMITS]
+        ensures { AreSums result (use_of self.now.setup self.now.state) (length self.now.setup.limits) }
+    {
+        let _shape = self.setup();
+        let mut sums = self.directs();
+        let count = self.limit_count();
+        for i in 0..count {
+            let c = count - 1 - i;
+            let row = self.row(LimitId(c));
+            if let Some(parent) = row.parent {
+                let part = part_above(row, sums[c as usize]);
+                add(&mut sums, parent.0 as usize, part);
+            }
+        }
+        sums
+    }
+
+    /// What is used at the limit, in bytes, or the greatest number of 64 bits where it is more. Summed afresh, once over the
+    /// shares, the processes and the limits.
     pub fn use_of(&self, limit: LimitId) -> u64
         ensures { result ≡ min (use_of self.now.setup self.now.state limit.0) (2 ^ 64 - 1) }
     {
-        self.use_within(self.setup.limits.len() as u32, limit.0)
+        let _shape = self.setup();
+        if limit.0 >= self.limit_count() {
+            return 0;
+        }
+        self.uses()[limit.0 as usize]
     }
 
-    /// The first limit on the path upward from the given one where so many bytes more do not fit. Sums each use on the path
-    /// afresh.
+    /// The first limit on the path upward from the given one where so many bytes more do not fit. Sums all uses afresh, once
+    /// over the shares, the processes and the limits.
     pub fn full_limit(&self, limit: LimitId, size: u64) -> Option<LimitId>
         requires { limit.0 < length self.now.setup.limits }
         ensures full { option_map (λ (m : LimitId). m.0) result ≡ full_limit self.now.setup self.now.state limit.0 size }
         ensures known { IfSome result (λ m. m.0 < length self.now.setup.limits) }
     {
+        let uses = self.uses();
         let mut at = limit;
         for _ in 0..self.setup.limits.len() {
             let row = self.row(at);
-            if is_full(row.max, self.use_of(at), size) {
+            if is_full(row.max, uses[at.0 as usize], size) {
                 return Some(at);
             }
             if row.hard {
@@ -119,7 +128,7 @@ impl PlainLists {
     }
 
     /// The first limit that is full where the limit is to have that maximum: what a hard limit gets more has to fit on the path
-    /// upward from its parent. Sums each use on that path afresh.
+    /// upward from its parent. Costs as much as [`PlainLists::full_limit`].
     pub fn full_for(&self, limit: LimitId, max: u64) -> Option<LimitId>
         requires { limit.0 < length self.now.setup.limits }
         ensures full { option_map (λ (m : LimitId). m.0) result ≡ full_for self.now.setup self.now.state limit.0 max }

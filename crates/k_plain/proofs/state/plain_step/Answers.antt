@@ -1,8 +1,8 @@
-use Rattle.k_plain.proofs.Moved.{stepped_sound}
+use Rattle.k_plain.proofs.Moved.{tried_sound}
 use Rattle.k_plain.proofs.state.plain_step.Goals as goal
 
-pub invariant_of-state-2 : goal.invariant_of-state-2
-invariant_of-state-2 c =
-    stepped_sound c.state.inside.lists c.take_step.new.lists c.args.event.now c.take_step.result c.state.invariant
-    (c.in_ok-is_possible.ensures.0 c.if-not-branch.false)
-    c.take_step.ensures.setup c.take_step.ensures.ok c.take_step.ensures.err
+pub invariant_of-state : goal.invariant_of-state
+invariant_of-state c =
+    let tried = c.step_if_possible.ensures in
+    tried_sound c.state.inside.lists c.step_if_possible.new.lists c.args.event.now c.step_if_possible.result c.state.invariant
+    tried.setup tried.possible tried.stepped tried.same tried.err

@@ -30,7 +30,7 @@ loop-init c =
 pub returns-then-is_full : goal.returns-then-is_full
 returns-then-is_full c =
     let m = c.args.self.now in
-    let test = tested m c.args.size c.loop.at.0 c.row-row.result c.is_full.result c.row-row.ensures.row (c.is_full.ensures (use_of m.setup m.state c.loop.at.0) c.use_of.ensures) in
+    let test = tested m c.args.size c.loop.at.0 c.row-row.result c.is_full.result c.row-row.ensures.row (c.is_full.ensures (use_of m.setup m.state c.loop.at.0) (c.uses-uses.ensures c.loop.at.0 c.loop.invariant.known)) in
     record {
       full = sym (path_here (limits_in m.setup m.state) (is_full m c.args.size) (c.len-end.result - c.loop.counter) c.loop.at.0 (omega arith) (test ∙ c.if-is_full.true))
           ∙ c.loop.invariant.found;
@@ -40,7 +40,7 @@ returns-then-is_full c =
 pub returns-then-row : goal.returns-then-row
 returns-then-row c =
     let m = c.args.self.now in
-    let test = tested m c.args.size c.loop.at.0 c.row-row.result c.is_full.result c.row-row.ensures.row (c.is_full.ensures (use_of m.setup m.state c.loop.at.0) c.use_of.ensures) in
+    let test = tested m c.args.size c.loop.at.0 c.row-row.result c.is_full.result c.row-row.ensures.row (c.is_full.ensures (use_of m.setup m.state c.loop.at.0) (c.uses-uses.ensures c.loop.at.0 c.loop.invariant.known)) in
     record {
       full = sym (path_hard (limits_in m.setup m.state) (is_full m c.args.size) (c.len-end.result - c.loop.counter) c.loop.at.0 c.row-row.result (omega arith) (test ∙ c.if-is_full.false) c.row-row.ensures.row c.if-row.true)
           ∙ c.loop.invariant.found;
@@ -50,7 +50,7 @@ returns-then-row c =
 pub returns-in-None : goal.returns-in-None
 returns-in-None c =
     let m = c.args.self.now in
-    let test = tested m c.args.size c.loop.at.0 c.row-row.result c.is_full.result c.row-row.ensures.row (c.is_full.ensures (use_of m.setup m.state c.loop.at.0) c.use_of.ensures) in
+    let test = tested m c.args.size c.loop.at.0 c.row-row.result c.is_full.result c.row-row.ensures.row (c.is_full.ensures (use_of m.setup m.state c.loop.at.0) (c.uses-uses.ensures c.loop.at.0 c.loop.invariant.known)) in
     record {
       full = sym (path_root (limits_in m.setup m.state) (is_full m c.args.size) (c.len-end.result - c.loop.counter) c.loop.at.0 c.row-row.result (omega arith) (test ∙ c.if-is_full.false) c.row-row.ensures.row c.in-None.is)
           ∙ c.loop.invariant.found;
@@ -62,7 +62,7 @@ loop-preserved c =
     let m = c.args.self.now in
     let rows = limits_in m.setup m.state in
     let plain : IsPlain m = subst IsPlain c.self.view_is c.self.invariant.plain in
-    let test = tested m c.args.size c.loop.at.0 c.row-row.result c.is_full.result c.row-row.ensures.row (c.is_full.ensures (use_of m.setup m.state c.loop.at.0) c.use_of.ensures) in
+    let test = tested m c.args.size c.loop.at.0 c.row-row.result c.is_full.result c.row-row.ensures.row (c.is_full.ensures (use_of m.setup m.state c.loop.at.0) (c.uses-uses.ensures c.loop.at.0 c.loop.invariant.known)) in
     let up = path_up rows (is_full m c.args.size) (c.len-end.result - c.loop.counter) c.loop.at.0 c.row-row.result c.in-Some.parent (omega arith) (test ∙ c.if-is_full.false) c.row-row.ensures.row c.if-row.false c.in-Some.is in
     let next : c.len-end.result - (c.loop.counter + 1) ≡ c.len-end.result - c.loop.counter - 1 = omega arith in
     record {
