@@ -1,4 +1,4 @@
-//! The writing of a snapshot: its first parts, and behind them those of a report.
+//! The writing of a snapshot: its first parts, and after them those of a report.
 ghost use Rattle.std.specs.Prelude.{◌≡◌, ◌<◌, ◌∷◌, [], length, map};
 ghost use Rattle.k_io.specs.Writing.{Writes};
 ghost use Rattle.k_types.specs.Numbers.{numbers_below};

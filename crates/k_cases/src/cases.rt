@@ -7,7 +7,7 @@ use std::thread::Threads;
 use std::{fs, io};
 
 /// What stands between the names of the files of an input.
-const BEHIND: char = '+';
+const BETWEEN_FILES: char = '+';
 
 /// A case, as its line has it.
 #[derive(Clone, Copy)]
@@ -41,13 +41,13 @@ fn case_of(line: &str) -> Option<Case<'_>> {
 
 /// Appends the bytes of the files.
 fn push_files<R: AllocGlobal + Files>(rt: &R, files: &str, input: &mut Vec<u8>) -> io::Result<()> {
-    for name in files.split(BEHIND) {
+    for name in files.split(BETWEEN_FILES) {
         input.extend_from_slice(&fs::read(rt, name)?)?;
     }
     Ok(())
 }
 
-/// Writes the exit status of `check` and what it says of the report behind the input.
+/// Writes the exit status of `check` and what it says of the report after the input.
 fn tell_check<R: AllocGlobal + Print + Threads + Wait + Sync>(
     rt: &R,
     input: &[u8],
@@ -88,7 +88,7 @@ fn tell_case<R: AllocGlobal + Files + Print + Threads + Wait + Sync>(
     tell_output(rt, case.wanted, &input, &output)
 }
 
-/// Writes the line, and behind it what came of its case, where it has one.
+/// Writes the line, and after it what came of its case, where it has one.
 pub fn tell_line<R: AllocGlobal + Files + Print + Threads + Wait + Sync>(
     rt: &R,
     line: &str,

@@ -1,8 +1,8 @@
 //! Worked traces, their reports and bad inputs, which are files: has the program do each case, and writes what came of it.
 //!
 //! A line of standard input is a case, of three parts with a blank between. The first has the files of the input, joined by `+`, which are read
-//! one behind the other. The second is what is wanted: a file that is the whole output; a file whose name ends with `.end`, by which the output
-//! ends; `good`, where the output is a report that `check` calls good behind the input; or `-`, where it is short and is written as it is. What
+//! one after the other. The second is what is wanted: a file that is the whole output; a file whose name ends with `.end`, by which the output
+//! ends; `good`, where the output is a report that `check` calls good after the input; or `-`, where it is short and is written as it is. What
 //! is left are the words of the command line, of which there may be none. A line that begins with `#` is no case.
 //!
 //! Each line is written again, that of a case with what came of it: its exit status, and whether the output is as wanted. The files stand in
