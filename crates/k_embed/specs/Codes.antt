@@ -19,6 +19,11 @@ plain status fault at = record { status = status; fault = fault; at = at; what =
 abbrev pub of_number : ℕ → Answer
 of_number n = record { status = 0; fault = 0; at = 0; what = 2; seg = 0; serial = 0; number = n }
 
+-- a number, where there is one
+abbrev pub of_found : Option ℕ → Answer
+of_found (Some n) = of_number n
+of_found None = plain 1 0 0
+
 -- an object
 abbrev pub of_name : Name → Answer
 of_name x = record { status = 0; fault = 0; at = 0; what = 1; seg = x.seg.0; serial = x.serial.0; number = 0 }

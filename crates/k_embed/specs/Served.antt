@@ -1,9 +1,11 @@
 -- What a call of a host is answered, in numbers.
-use Rattle.std.specs.Prelude.{◌≡◌, Some, MatchOption, Result, IfErr, IfOk, OnErr}
+use Rattle.std.specs.Prelude.{◌≡◌, ℕ, ◌==◌, if◌then◌else◌, Option, Some, None, IfSome, MatchOption, length, option_map, slice_get, Result, IfErr, IfOk, OnErr}
 use Rattle.k_types.specs.declared.event.Event.{Event}
 use Rattle.k_types.specs.declared.names.Pid.{Pid}
 use Rattle.k_types.specs.declared.op.Op.{Op}
 use Rattle.k_keeper.specs.HostError.{HostError}
+use Rattle.k_keeper.specs.Guest.{Guest}
+use Rattle.k_keeper.specs.Asked.{charge_told, has_ended_of, heap_bytes_of}
 use Rattle.k_keeper.specs.Calls.{HasAbsorbedIn, HasCollectedIn, HasExitedIn, HasOperatedIn}
 use Rattle.k_keeper.specs.Keeping.{KeeperValue}
 use Rattle.k_keeper.specs.Kept.{HasCollectedAll, IsGone, MayRefuseCollection, MayRefuseKernel, MayRefuseOperation, MayRefuseToAbsorb}
@@ -13,7 +15,7 @@ use Rattle.k_embed.specs.declared.messages.Answer.{Answer}
 use Rattle.k_embed.specs.declared.messages.Request.{Request}
 use Rattle.k_embed.specs.declared.serving.Slot.{Slot}
 use Rattle.k_embed.specs.Asked.{operation_of, pid_of, whole_of}
-use Rattle.k_embed.specs.Codes.{of_result}
+use Rattle.k_embed.specs.Codes.{of_found, of_number, of_result}
 
 -- the answer is that of the machine's event, with its reply, or of what is lacking; and then nothing has changed
 pub record IsActed (old new : KeeperValue) (pid : Pid) (op : Op) (answer : Answer) : Type 0 where
@@ -49,9 +51,30 @@ pub record IsDoneWhole (old new : KeeperValue) (pid : Pid) (whole : Whole) (answ
   pub shown : answer ≡ of_result came
   pub has_come : HasCome old new pid whole came
 
--- where the request asks for a collection, an end or an absorption, that is what was done on the host, and else nothing has changed
+-- whether the process lives, as a number
+abbrev pub lives_of : Guest → ℕ
+lives_of g = if has_ended_of g then 0 else 1
+
+-- what is told of a process: whether it lives, the bytes of its heap, what it is charged, and how many bodies it has yet; and how many
+-- events there are, and how many are left. Of another request nothing is said
+abbrev pub told_of : KeeperValue → Request → Option Answer
+told_of k q =
+    if q.call == 32 then Some (of_found (option_map lives_of (slice_get k.host.guests q.pid)))
+    else if q.call == 33 then Some (of_found (option_map heap_bytes_of (slice_get k.host.guests q.pid)))
+    else if q.call == 34 then Some (of_found (option_map (charge_told k.host) (slice_get k.host.guests q.pid)))
+    else if q.call == 39 then Some (of_number (length k.host.book.journal.list))
+    else if q.call == 40 then Some (of_found (option_map (λ g. g.bodies) (slice_get k.host.guests q.pid)))
+    else if q.call == 43 then Some (of_number k.left)
+    else None
+
+-- nothing has changed, and the answer is what is told
+pub record IsAnswered (old new : KeeperValue) (q : Request) (answer : Answer) : Type 0 where
+  pub same : new ≡ old
+  pub told : IfSome (told_of old q) (λ known. answer ≡ known)
+
+-- where the request asks for a collection, an end or an absorption, that is what was done on the host, and else it is answered
 abbrev pub IsServedElse : KeeperValue → KeeperValue → Request → Answer → Type 0
-IsServedElse old new q answer = MatchOption (whole_of q) (new ≡ old) (λ whole. IsDoneWhole old new (pid_of q) whole answer)
+IsServedElse old new q answer = MatchOption (whole_of q) (IsAnswered old new q answer) (λ whole. IsDoneWhole old new (pid_of q) whole answer)
 
 -- where the request asks for an operation, that is what was done on the host
 abbrev pub IsServedOn : KeeperValue → KeeperValue → Request → Answer → Type 0

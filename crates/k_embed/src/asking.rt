@@ -1,4 +1,8 @@
 //! Questions, which change nothing.
+ghost use Rattle.std.specs.Prelude.{◌≡◌, IfSome, Some, option_map, slice_get};
+ghost use Rattle.k_embed.specs.Codes.{of_found};
+ghost use Rattle.k_embed.specs.Served.{lives_of, told_of};
+
 use crate::codes::{number, of_number, referred, unknown};
 use crate::messages::{Answer, Request};
 use k_keeper::{Host, Keeper};
@@ -11,14 +15,18 @@ fn register(host: &Host, pid: Pid, reg: Reg) -> Answer {
     }
 }
 
-fn lives(host: &Host, pid: Pid) -> Answer {
+fn lives(host: &Host, pid: Pid) -> Answer
+    ensures { result ≡ of_found (option_map lives_of (slice_get host.now.guests pid.0)) }
+{
     match host.has_ended(pid) {
         Some(ended) => number(if ended { 0 } else { 1 }),
         None => unknown(),
     }
 }
 
-fn small(found: Option<u32>) -> Answer {
+fn small(found: Option<u32>) -> Answer
+    ensures { result ≡ of_found found }
+{
     match found {
         Some(n) => number(u64::from(n)),
         None => unknown(),
@@ -33,7 +41,9 @@ fn orphan(host: &Host) -> Answer {
 }
 
 /// The answer to a question; none where the request asks none.
-pub(crate) fn ask(keeper: &Keeper, request: &Request) -> Option<Answer> {
+pub(crate) fn ask(keeper: &Keeper, request: &Request) -> Option<Answer>
+    ensures { IfSome (told_of keeper.now request.now) (λ known. result ≡ Some known) }
+{
     let host = keeper.host();
     let pid = Pid(request.pid);
     let limit = LimitId(request.at);

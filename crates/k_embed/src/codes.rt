@@ -1,6 +1,6 @@
 //! The numbers of errors, faults and replies.
 ghost use Rattle.std.specs.Prelude.{◌≡◌};
-ghost use Rattle.k_embed.specs.Codes.{of_error, of_event, of_fault, of_name, of_number, of_reply, of_result, of_target, plain};
+ghost use Rattle.k_embed.specs.Codes.{of_error, of_event, of_fault, of_found, of_name, of_number, of_reply, of_result, of_target, plain};
 
 use crate::messages::Answer;
 use k_keeper::HostError;
@@ -197,7 +197,9 @@ pub(crate) fn of_event(came: Result<Event, HostError>) -> Answer
 }
 
 /// A number, where there is one.
-pub(crate) fn of_number(found: Option<u64>) -> Answer {
+pub(crate) fn of_number(found: Option<u64>) -> Answer
+    ensures { result ≡ of_found found }
+{
     match found {
         Some(n) => number(n),
         None => unknown(),

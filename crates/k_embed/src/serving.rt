@@ -1,7 +1,7 @@
 //! One call for everything that a host does.
 ghost use Rattle.std.specs.Prelude.{◌≡◌, IfSome, None};
 ghost use Rattle.k_keeper.specs.Kept.{HasOpened};
-ghost use Rattle.k_embed.specs.Served.{IsActed, IsDoneWhole, IsServed, IsServedOn};
+ghost use Rattle.k_embed.specs.Served.{IsActed, IsDoneWhole, IsServed, IsServedOn, told_of};
 
 use crate::asking::ask;
 use crate::codes::{lacking_host, no_call, of_event};
@@ -72,7 +72,9 @@ pub fn act_whole(host: &mut Keeper, pid: Pid, whole: Whole) -> Answer
 }
 
 /// Answers a question, or that there is no such call.
-fn answered(host: &Keeper, request: &Request) -> Answer {
+fn answered(host: &Keeper, request: &Request) -> Answer
+    ensures { IfSome (told_of host.now request.now) (λ known. result ≡ known) }
+{
     match ask(host, request) {
         Some(answer) => answer,
         None => no_call(),

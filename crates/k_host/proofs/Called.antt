@@ -56,7 +56,7 @@ module _ (basis : Basis) (gs : List Guest) (k : HoldingsValue) (ss : List Shared
   numbered : g.cell.pid.0 ≡ pid.0
   numbered = serves.all.placed i g at ∙ same
 
-  changed : (x : HoldingsValue) (l : BookRecord) (Way : Guest → Guest → Type 0) → Way g h → HasChanged (host_of basis gs k ss b) (host_of basis (slice_set gs i h) x ss l) pid x l Way
+  pub changed : (x : HoldingsValue) (l : BookRecord) (Way : Guest → Guest → Type 0) → Way g h → HasChanged (host_of basis gs k ss b) (host_of basis (slice_set gs i h) x ss l) pid x l Way
   changed x l Way way = record { before = g; after = h; there = there; named = ap pid_of numbered; host_is = ap (λ n. host_of basis (slice_set gs n h) x ss l) same; way = way }
 
   -- a call that answers an event

@@ -6,4 +6,6 @@ pub mod Twined
 pub mod Killed
 pub mod Split
 pub mod KilledIn
+pub mod InsideCharges
+pub mod Charged
 pub use Rattle.k_ends.proofs.AbsorbKept

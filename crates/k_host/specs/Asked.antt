@@ -1,9 +1,11 @@
 -- What a host is asked of one of its processes.
-use Rattle.std.specs.Prelude.{ℕ, Bool}
+use Rattle.std.specs.Prelude.{ℕ, Bool, if◌then◌else◌}
 use Rattle.k_types.specs.Owners.{object_bytes}
 use Rattle.k_types.specs.Totals.{total}
+use Rattle.k_agree.specs.GivingOnTheBook.{charged}
 use Rattle.k_heap.specs.Heaps.{has_ended_in}
 use Rattle.k_guests.specs.declared.guest.Guest.{Guest}
+use Rattle.k_host.specs.Hosts.{HostValue}
 
 -- the bytes of the process's own objects
 abbrev pub heap_bytes_of : Guest → ℕ
@@ -12,3 +14,7 @@ heap_bytes_of g = total object_bytes g.cell.value.objects
 -- whether the process has ended
 abbrev pub has_ended_of : Guest → Bool
 has_ended_of g = has_ended_in g.cell.value.process
+
+-- what the process is charged, by its cell and the book: nothing once it has ended
+abbrev pub charge_told : HostValue → Guest → ℕ
+charge_told h g = if has_ended_of g then 0 else charged h.basis.trace h.book.value g.cell.value g.cell.pid.0

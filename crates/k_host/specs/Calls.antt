@@ -6,6 +6,7 @@ use Rattle.k_types.specs.declared.names.Pid.{Pid}
 use Rattle.k_types.specs.declared.names.SharedId.{SharedId}
 use Rattle.k_types.specs.declared.op.Op.{Op}
 use Rattle.k_types.specs.declared.op.Op.TheVariants.{Kill}
+use Rattle.k_agree.specs.Meeting.{Fits, met_note}
 use Rattle.k_book.specs.Books.{BookRecord}
 use Rattle.k_cell.specs.Holdings.{HoldingsValue}
 use Rattle.k_moves.specs.Shown.{idle_part}
@@ -67,6 +68,16 @@ pub record HasLeftOutside (old new : HostValue) (pid : Pid) (op : Op) : Type 0 w
   pub there : slice_get old.guests pid.0 ≡ Some guest
   pub outside : IsFalse (is_local_in (idle_part guest.cell.value) pid.0 op)
   pub same : new ≡ old
+
+-- the note of the process's cell fitted the journal, since no event had touched the cell unseen, and has the whole journal now
+pub record HasMetTheJournal (b : BookRecord) (old g : Guest) : Type 0 where
+  pub fitted : Fits b.journal old.cell.note
+  pub guest_is : g ≡ record old { cell = record old.cell { note = met_note b.journal old.cell.note } }
+  pub fits : Fits b.journal g.cell.note
+
+-- the cell of the process has met the journal, and nothing else has changed
+abbrev pub HasMetIn : HostValue → HostValue → Pid → Type 0
+HasMetIn old new pid = HasChanged old new pid old.kernel old.book (HasMetTheJournal old.book)
 
 -- what the process had unpublished is in the journal, and nothing else has changed
 abbrev pub HasPublishedIn : HostValue → HostValue → Pid → Type 0

@@ -1,11 +1,20 @@
 //! What a host tells of uses, charges and registers.
-ghost use Rattle.std.specs.Prelude.{◌≡◌, ◌<◌, length, option_map, slice_get, IfSome, OnSome};
+ghost use Rattle.std.specs.Prelude.{◌≡◌, ◌<◌, ◌^◌, if◌then◌else◌, length, option_map, slice_get, slice_index_or, IfErr, IfSome, None, OnErr, OnOk, OnSome};
 ghost use Rattle.k_types.specs.Limits.{max_of};
+ghost use Rattle.k_types.specs.State.{has_share};
+ghost use Rattle.k_agree.specs.GivingOnTheBook.{charged};
 ghost use Rattle.k_limits.specs.Limits.{use_at};
 ghost use Rattle.k_book.specs.Books.{book_limits};
-ghost use Rattle.k_host.specs.Asked.{heap_bytes_of, has_ended_of};
+ghost use Rattle.k_guests.specs.Serving.{basis_of};
+ghost use Rattle.k_host.specs.Asked.{charge_told, heap_bytes_of, has_ended_of};
+ghost use Rattle.k_host.specs.Calls.{HasMetIn, HasMetTheJournal};
 
 use crate::host::Host;
+use crate::places::place_of;
+use k_book::Book;
+use k_ends::HostError;
+use k_guests::{Guest, Terms};
+use k_heap::HeapCell;
 use k_types::{LimitId, Name, Pid, REGISTERS, Reg, SharedId};
 
 impl Host {
@@ -77,19 +86,68 @@ impl Host {
         Some(self.book.max_of(limit))
     }
 
-    /// What the process is charged: the bytes of its heap and of each heap that it shares. `None` where there is no such process. It looks
-    /// at each shared heap.
-    pub fn charge(&self, pid: Pid) -> Option<u64> {
+    /// Lets the process's cell meet the journal, which tells that no event has touched the cell unseen. So what `charge` tells of the
+    /// process is what the machine charges it ([`charges_are_the_machines`](crate::charges_are_the_machines)). Constant time; nothing changes
+    /// but what the cell's note is known to know.
+    ///
+    /// # Errors
+    ///
+    /// `Unknown` exactly where there is no such process, and then nothing has changed.
+    pub fn meet(&mut self, pid: Pid) -> Result<(), HostError>
+        ensures met { OnOk result (HasMetIn self.old self.new pid) }
+        ensures same { OnErr result (self.new ≡ self.old) }
+        ensures why { IfErr result (λ why. (why ≡ HostError.Unknown) × (slice_get self.old.guests pid.0 ≡ None)) }
+    {
+        let at = place_of(&self.guests, pid)?;
+        meet_guest(&mut self.guests[at], &mut self.book);
+        Ok(())
+    }
+
+    /// What the process is charged: the bytes of its heap and of each heap that it shares, and nothing once it has ended. `None` where there
+    /// is no such process. It looks at each shared heap.
+    pub fn charge(&self, pid: Pid) -> Option<u64>
+        ensures { result ≡ option_map (charge_told self.now) (slice_get self.now.guests pid.0) }
+    {
         let guest = self.guests.get(pid.0 as usize)?;
         if !guest.cell.lives() {
             return Some(0);
         }
-        let mut sum = guest.cell.bytes();
-        for id in 0..self.book.shared_heaps() {
-            if self.book.shares(pid, SharedId(id)) {
-                sum = sum.saturating_add(self.book.bytes_of(SharedId(id)));
-            }
-        }
-        Some(sum)
+        Some(charged(&self.terms, &guest.cell, &self.book))
     }
+}
+
+/// The process's cell meets the journal.
+fn meet_guest(guest: &mut Guest, book: &mut Book)
+    requires { guest.old.cell.note.table ≡ book.old.journal.table }
+    ensures met { HasMetTheJournal book.old guest.old guest.new }
+    ensures same { book.new ≡ book.old }
+{
+    book.meet(guest.cell.note_mut());
+}
+
+/// What a living process is charged, by its cell and the book.
+fn charged(terms: &Terms, cell: &HeapCell, book: &Book) -> u64
+    requires heaps { (basis_of terms.now).trace.shared_heaps ≡ length book.now.value.phases }
+    requires process { cell.now.pid.0 < length book.now.procs }
+    requires small { charged (basis_of terms.now).trace book.now.value cell.now.value cell.now.pid.0 < 2 ^ 64 }
+    ensures { result ≡ charged (basis_of terms.now).trace book.now.value cell.now.value cell.now.pid.0 }
+{
+    let pid = cell.pid();
+    let mut bytes = cell.bytes();
+    for id in 0..book.shared_heaps() {
+        bytes += charged_for(book, pid, SharedId(id));
+    }
+    bytes
+}
+
+/// What the process is charged for the shared heap: all its bytes where it shares it.
+fn charged_for(book: &Book, pid: Pid, shared: SharedId) -> u64
+    requires process { pid.0 < length book.now.procs }
+    requires heap { shared.0 < length book.now.value.phases }
+    ensures { result ≡ (if has_share book.now.value.shares pid.0 shared.0 then slice_index_or book.now.value.shared_bytes shared.0 0 else 0) }
+{
+    if !book.shares(pid, shared) {
+        return 0;
+    }
+    book.bytes_of(shared)
 }

@@ -2,9 +2,11 @@
 //!
 //! A [`Host`] has the cells and the book of a setup, with a guest for each process. What a process does is made up as it goes:
 //! [`Host::operate`] does an operation inside the process's heap where it needs that heap alone, and else publishes and calls the
-//! step of the cells that it touches. A `kill` may end another process. Collections begin, are marked and end by calls of their own. What a step asks beyond what the host
-//! keeps, such as room in the journal, is tested when it is called: a test that fails is an error, which names what is lacking, and
-//! nothing has changed.
+//! step of the cells that it touches. A `kill` may end another process. Collections begin, are marked and end by calls of their own.
+//! What a step asks beyond what the host keeps, such as room in the journal, is tested when it is called: a test that fails is an
+//! error, which names what is lacking, and nothing has changed.
+//!
+//! [`charges_are_the_machines`] is a law: what [`Host::charge`] tells that a process is charged is what the machine charges it.
 //!
 //! A [`Twin`] is the machine on one thread beside a host, which takes the events that the host answers.
 #![tactic(auto)]
@@ -14,6 +16,7 @@ mod collections;
 mod errors;
 mod host;
 mod killing;
+mod laws;
 mod looking;
 mod places;
 mod twin;
@@ -22,4 +25,5 @@ pub use errors::OpenError;
 pub use host::Host;
 pub use k_ends::HostError;
 pub use k_guests::Terms;
+pub use laws::charges_are_the_machines;
 pub use twin::Twin;

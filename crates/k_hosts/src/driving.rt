@@ -65,3 +65,7 @@ pub(crate) fn collect_kernel(host: &mut Host, pid: Pid) -> Result<Event, HostErr
 pub(crate) fn charge(host: &Host, pid: Pid) -> Option<u64> {
     host.charge(pid)
 }
+
+pub(crate) fn meet(host: &mut Host, pid: Pid) -> Result<(), HostError> {
+    host.meet(pid)
+}

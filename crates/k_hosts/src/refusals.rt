@@ -1,5 +1,7 @@
 //! What a host refuses, and with which errors.
-use crate::driving::{absorb, begin_heap, begin_kernel, exit, operate, publish, settle_kernel};
+use crate::driving::{
+    absorb, begin_heap, begin_kernel, exit, meet, operate, publish, settle_kernel,
+};
 use crate::usual::{NODE, P1, P2, S, USUAL, clear, let_go, new, share, usual};
 use k_host::{Host, HostError};
 use k_types::{Op, Pid, Reg};
@@ -14,6 +16,7 @@ fn check_refused<R: Abort>(rt: &R, host: &mut Host, pid: Pid, op: &Op, why: Host
 /// Of a process that there is not, with a register that there is not, with a call of its own, and beside a collection.
 fn refuse<R: Abort>(rt: &R, host: &mut Host) -> Result<(), Fail> {
     check_refused(rt, host, Pid(2), &new(0), HostError::Unknown);
+    assert_eq!(rt; meet(host, Pid(2)).err(), Some(HostError::Unknown));
     check_refused(rt, host, P1, &new(16), HostError::Unknown);
     check_refused(rt, host, P1, &Op::Exit, HostError::OwnCall);
     begin_heap(host, P1)?;

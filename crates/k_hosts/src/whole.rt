@@ -1,6 +1,6 @@
 //! Whole collections, and what a process is charged between them.
 use crate::collections::ended;
-use crate::driving::{charge, collect, collect_kernel, exit, operate};
+use crate::driving::{charge, collect, collect_kernel, exit, meet, operate};
 use crate::usual::{NODE, P1, P2, USUAL, let_go, new, usual};
 use k_host::{Host, HostError};
 use k_types::Heap;
@@ -11,6 +11,7 @@ use std::test::Fail;
 fn collect_both<R: Abort>(rt: &R, host: &mut Host) -> Result<(), Fail> {
     operate(host, P1, &new(0))?;
     operate(host, P1, &new(0))?;
+    meet(host, P1)?;
     assert_eq!(rt; charge(host, P1), Some(80));
     assert_eq!(rt; collect(host, P1)?, ended(Heap::User(P1), 1, 40, 0));
     assert_eq!(rt; charge(host, P1), Some(40));
