@@ -208,7 +208,8 @@ static void reserves(void) {
     for (uint32_t pid = 0; pid < PROCESSES; pid++) STATUS(kaffe_kill(h, pid), KAFFE_OK);
     due("left after the ends", kaffe_left(h), 2);
     due("the charge", kaffe_charge(h, HOST), 0);
-    due("the limit", kaffe_use(h, ROOT), 0);
+    due("the limit of the guests", kaffe_use(h, ALL), 0);
+    due("the root, at which a hard limit counts as a whole", kaffe_use(h, ROOT), 800);
     due("the events", kaffe_ask(h, KAFFE_ASK_EVENTS, 0, 0).number, 1 + 2 * PROCESSES + 2 + PROCESSES);
     kaffe_free(h);
     /* a guest ends whose shared heap becomes an orphan, which the kernel's collection absorbs out of the reserve */
