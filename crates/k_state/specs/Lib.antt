@@ -3,3 +3,4 @@ pub mod Contents
 pub mod Marks
 pub mod Places
 pub mod Rooms
+pub mod Stills

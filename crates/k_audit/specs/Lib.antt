@@ -1,0 +1,12 @@
+pub mod Claims
+pub mod Grammar
+pub mod Lines
+pub mod Reading
+pub mod Objects
+pub mod Items
+pub mod Pairs
+pub mod Sums
+pub mod Verdicts
+pub mod Judged
+pub mod Tests
+pub mod Places
