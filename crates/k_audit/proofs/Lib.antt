@@ -1,0 +1,6 @@
+mod Numbers
+mod Means
+mod NumberedLaw
+mod DanglingLaw
+mod GuardedLaw
+mod ExitsLaw

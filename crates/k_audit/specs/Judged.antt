@@ -1,18 +1,16 @@
 -- What is judged, and the answer of the judgement.
 use Rattle.std.specs.Prelude.{◌≡◌, ℕ, [], Option, Some, None}
-use Rattle.std.specs.List.{AllByRecursion}
 use Rattle.k_types.specs.Sound.{AreNames}
 use Rattle.k_types.specs.Trace.{Trace}
 use Rattle.k_state.specs.Machines.{Machine}
 use Rattle.k_audit.specs.Claims.{Claims, Snap}
-use Rattle.k_audit.specs.Grammar.{AreExitsFrom, AreSpelledClaims, IsSpelledExit}
+use Rattle.k_audit.specs.Grammar.{AreExitsFrom, AreSpelledClaims}
 use Rattle.k_audit.specs.Verdicts.{HoldsAt, IsLowestFalse}
 
 -- What a snapshot that keeps the grammar and the first point says, as the points from the second on ask for it.
 pub record AreHeld (machine : Machine) (claims : Claims) : Type 0 where
   pub names : AreNames machine.state.objects machine.state.made
-  pub exits_ordered : AreExitsFrom machine.setup 0 None machine.state.exits
-  pub exits : AllByRecursion (IsSpelledExit machine.setup) machine.state.exits
+  pub exits : AreExitsFrom machine.setup 0 None machine.state.exits
   pub claims : AreSpelledClaims machine.setup machine.state.objects claims
   pub scans : machine.state.scans ≡ []
 

@@ -1,5 +1,5 @@
 -- The points of a snapshot as tests of its lists, one element at a time.
-use Rattle.std.specs.Prelude.{ℕ, ◌+◌, ◌==◌, ◌&&◌, ◌||◌, not, nat_le, nat_lt, Bool, true, false, List, [], ◌∷◌, slice_index_or, Option, Some, None, is_none}
+use Rattle.std.specs.Prelude.{ℕ, ◌+◌, ◌==◌, ◌&&◌, ◌||◌, not, nat_le, nat_lt, Bool, true, false, List, [], ◌∷◌, length, slice_index_or, Option, Some, None, is_none}
 use Rattle.std.specs.List.{list_all}
 use Rattle.k_types.specs.declared.names.Heap.{Heap}
 use Rattle.k_types.specs.declared.names.Heap.TheVariants.{Kernel, User, Shared}
@@ -7,10 +7,12 @@ use Rattle.k_types.specs.declared.names.Name.{Name}
 use Rattle.k_types.specs.declared.names.Phase.{Phase}
 use Rattle.k_types.specs.declared.names.Phase.TheVariants.{Unmade, Populating, Frozen, Absorbed}
 use Rattle.k_types.specs.Barrier.{legal_store}
-use Rattle.k_types.specs.Names.{among, heap_eq, kind_of, name_lt}
-use Rattle.k_types.specs.Owners.{is_absorbed, phase_of, shared}
-use Rattle.k_types.specs.State.{Content, ExitItem, Holds, Object, Refers, Sharing, has, has_exit, has_share}
-use Rattle.k_types.specs.Trace.{Trace, segment_of}
+use Rattle.k_types.specs.Limits.{limits_in, max_of, use_of}
+use Rattle.k_types.specs.Names.{among, directory, heap_eq, kind_of, name_lt}
+use Rattle.k_types.specs.Numbers.{numbers_below}
+use Rattle.k_types.specs.Owners.{is_absorbed, owner_of, phase_of, shared}
+use Rattle.k_types.specs.State.{Content, ExitItem, Holds, Object, Refers, Sharing, State, has, has_exit, has_share}
+use Rattle.k_types.specs.Trace.{Trace, process_count, segment_of}
 
 -- ---- names
 
@@ -48,6 +50,20 @@ root_there objects Unmade = true
 root_there objects (Populating p) = true
 root_there objects (Frozen root) = has objects root
 root_there objects Absorbed = true
+
+-- What the registers of each process lead to is there.
+abbrev pub all_registers_there : Trace → State → Bool
+all_registers_there trace st = list_all (λ p. registers_there st.objects (slice_index_or st.registers p [])) (numbers_below (process_count trace))
+
+-- The root of each phase is there.
+abbrev pub roots_there : Trace → State → Bool
+roots_there trace st = list_all (λ s. root_there st.objects (phase_of st.phases s)) (numbers_below trace.shared_heaps)
+
+-- Nothing dangles.
+abbrev pub nothing_dangles : Trace → State → Bool
+nothing_dangles trace st =
+    has st.objects directory && list_all (object_there st.objects) st.objects && all_registers_there trace st
+    && list_all (target_there st.objects) st.exits && roots_there trace st
 
 -- ---- references
 
@@ -99,6 +115,18 @@ heap_stays ended phases Kernel = true
 heap_stays ended phases (User p) = not (among p.0 ended)
 heap_stays ended phases (Shared s) = not (is_absorbed (phase_of phases s.0))
 
+-- The registers of those who have ended are null.
+abbrev pub all_registers_gone : Trace → State → Bool
+all_registers_gone trace st = list_all (λ p. registers_gone st.ended p (slice_index_or st.registers p [])) (numbers_below (process_count trace))
+
+-- The heap of each exit item is there.
+abbrev pub exits_stay : State → Bool
+exits_stay st = list_all (λ e. heap_stays st.ended st.phases e.heap) st.exits
+
+-- Nothing is left of what is gone.
+abbrev pub nothing_left : Trace → State → Bool
+nothing_left trace st = all_registers_gone trace st && list_all (share_stays st.ended st.phases) st.shares && exits_stay st
+
 -- ---- phases
 
 -- The share is one that the phase of its heap allows.
@@ -135,3 +163,18 @@ phase_fits own ended shares s Unmade = true
 phase_fits own ended shares s (Populating q) = among q.0 ended || has_share shares q.0 s
 phase_fits own ended shares s (Frozen root) = heap_eq (own root.seg.0) (shared s)
 phase_fits own ended shares s Absorbed = true
+
+-- That holds of each shared heap.
+abbrev pub all_phases_fit : Trace → State → Bool
+all_phases_fit trace st = list_all (λ s. phase_fits (owner_of trace st) st.ended st.shares s (phase_of st.phases s)) (numbers_below trace.shared_heaps)
+
+-- The phases agree with shares, objects and roots.
+abbrev pub phases_agree : Trace → State → Bool
+phases_agree trace st =
+    list_all (share_fits st.phases) st.shares && list_all (object_fits (owner_of trace st) st.phases) st.objects && all_phases_fit trace st
+
+-- ---- uses
+
+-- The use of the limit is at most its maximum.
+abbrev pub use_fits : Trace → State → ℕ → Bool
+use_fits trace st m = nat_le (use_of trace st m) (max_of (limits_in trace st) m)

@@ -1,13 +1,11 @@
 //! The points of a snapshot, each decided exactly: that nothing dangles, and that references and exit items are lawful.
-ghost use Rattle.std.specs.Prelude.{◌≡◌, ℕ, ◌<◌, ◌↔◌, [], IsTrue, None, slice_index_or};
-ghost use Rattle.std.specs.List.{AllByRecursion, list_all};
+ghost use Rattle.std.specs.Prelude.{◌≡◌, ◌↔◌, [], IsTrue, None};
+ghost use Rattle.std.specs.List.{list_all};
 ghost use Rattle.k_state.specs.Contents.{content};
-ghost use Rattle.k_types.specs.Known.{IsKnownName};
-ghost use Rattle.k_types.specs.Owners.{owner_of, phase_of};
+ghost use Rattle.k_types.specs.Owners.{owner_of};
 ghost use Rattle.k_types.specs.Sound.{AreExits, AreGuarded, AreNumbered, HasNoDangling};
-ghost use Rattle.k_types.specs.Trace.{IsHeap, process_count};
-ghost use Rattle.k_audit.specs.Grammar.{AreExitsFrom, IsSpelledExit};
-ghost use Rattle.k_audit.specs.Tests.{content_guarded, content_there, exit_leaves, is_numbered, is_there, object_guarded, object_there, reference_guarded, registers_there, root_there, target_there};
+ghost use Rattle.k_audit.specs.Grammar.{AreExitsFrom};
+ghost use Rattle.k_audit.specs.Tests.{all_registers_there, content_guarded, content_there, exit_leaves, is_numbered, is_there, nothing_dangles, object_guarded, object_there, reference_guarded, registers_there, root_there, roots_there, target_there};
 
 use crate::holding::{has, has_exit, passes};
 use k_state::{ExitItem, FieldValue, PlainLists, PlainObject, StillState, is_same_heap};
@@ -31,9 +29,9 @@ fn is_numbered(made: &[u32], object: &PlainObject) -> bool
     name.serial.0 <= given
 }
 
-/// The first point: no serial is above the number of those that its segment has given. The order of the objects is the grammar's.
-pub fn are_numbered(state: &StillState) -> bool
-    ensures { IsTrue result ↔ AreNumbered state.now.objects state.now.made }
+/// Whether the serials of all objects are such.
+fn all_numbered(state: &StillState) -> bool
+    ensures { result ≡ list_all (is_numbered state.now.made) state.now.objects }
 {
     let made = state.made();
     for object in state.objects() {
@@ -42,6 +40,13 @@ pub fn are_numbered(state: &StillState) -> bool
         }
     }
     true
+}
+
+/// The first point: no serial is above the number of those that its segment has given. The order of the objects is the grammar's.
+pub fn are_numbered(state: &StillState) -> bool
+    ensures { IsTrue result ↔ AreNumbered state.now.objects state.now.made }
+{
+    all_numbered(state)
 }
 
 /// Whether what the reference leads to is there.
@@ -101,9 +106,9 @@ fn registers_there(lists: &PlainLists, registers: &[Option<Name>]) -> bool
 }
 
 /// Whether what the registers of all processes lead to is there.
+#[tactic(auto, using(crate::proofs::Numbers::all_next, crate::proofs::Numbers::all_last))]
 fn all_registers_there(lists: &PlainLists) -> bool
-    ensures { IsTrue result ↔ ((p : ℕ) → p < process_count lists.now.setup →
-        IsTrue (registers_there lists.now.state.objects (slice_index_or lists.now.state.registers p []))) }
+    ensures { result ≡ all_registers_there lists.now.setup lists.now.state }
 {
     for p in 0..lists.process_count() {
         if !registers_there(lists, lists.registers(Pid(p as u32))) {
@@ -136,9 +141,9 @@ fn root_there(lists: &PlainLists, phase: Phase) -> bool
 }
 
 /// Whether the roots of the phases are there.
+#[tactic(auto, using(crate::proofs::Numbers::all_next, crate::proofs::Numbers::all_last))]
 fn roots_there(lists: &PlainLists) -> bool
-    ensures { IsTrue result ↔ ((s : ℕ) → s < lists.now.setup.shared_heaps →
-        IsTrue (root_there lists.now.state.objects (phase_of lists.now.state.phases s))) }
+    ensures { result ≡ roots_there lists.now.setup lists.now.state }
 {
     for s in 0..lists.shared_count() {
         if !root_there(lists, lists.phase(SharedId(s))) {
@@ -148,10 +153,9 @@ fn roots_there(lists: &PlainLists) -> bool
     true
 }
 
-/// The second point: the directory is there, and what fields, registers, exit items and phases name. Finds each name by halving.
-pub fn has_no_dangling(lists: &PlainLists) -> bool
-    requires { lists.now.state.scans ≡ [] }
-    ensures { IsTrue result ↔ HasNoDangling lists.now.state }
+/// Whether nothing dangles.
+fn nothing_dangles(lists: &PlainLists) -> bool
+    ensures { result ≡ nothing_dangles lists.now.setup lists.now.state }
 {
     has(lists, DIRECTORY)
         && objects_there(lists)
@@ -160,11 +164,18 @@ pub fn has_no_dangling(lists: &PlainLists) -> bool
         && roots_there(lists)
 }
 
+/// The second point: the directory is there, and what fields, registers, exit items and phases name. Finds each name by halving.
+pub fn has_no_dangling(lists: &PlainLists) -> bool
+    requires { lists.now.state.scans ≡ [] }
+    ensures { IsTrue result ↔ HasNoDangling lists.now.state }
+{
+    let _shape = lists.setup();
+    nothing_dangles(lists)
+}
+
 /// Whether the reference of an object of the heap passes the barrier, and has its exit item where it leaves the heap.
 fn reference_guarded(lists: &PlainLists, from: Heap, reference: Option<Name>) -> bool
-    requires known { AllByRecursion (IsSpelledExit lists.now.setup) lists.now.state.exits }
-    requires ordered { AreExitsFrom lists.now.setup 0 None lists.now.state.exits }
-    requires from { IsHeap lists.now.setup from }
+    requires { AreExitsFrom lists.now.setup 0 None lists.now.state.exits }
     ensures { result ≡ reference_guarded (owner_of lists.now.setup lists.now.state) lists.now.state.exits from reference }
 {
     match reference {
@@ -178,9 +189,7 @@ fn reference_guarded(lists: &PlainLists, from: Heap, reference: Option<Name>) ->
 
 /// The same of a field.
 fn value_guarded(lists: &PlainLists, from: Heap, value: FieldValue) -> bool
-    requires known { AllByRecursion (IsSpelledExit lists.now.setup) lists.now.state.exits }
-    requires ordered { AreExitsFrom lists.now.setup 0 None lists.now.state.exits }
-    requires from { IsHeap lists.now.setup from }
+    requires { AreExitsFrom lists.now.setup 0 None lists.now.state.exits }
     ensures { result ≡ content_guarded (owner_of lists.now.setup lists.now.state) lists.now.state.exits from (content value) }
 {
     match value {
@@ -191,9 +200,7 @@ fn value_guarded(lists: &PlainLists, from: Heap, value: FieldValue) -> bool
 
 /// The same of all fields of an object.
 fn object_guarded(lists: &PlainLists, object: &PlainObject) -> bool
-    requires known { AllByRecursion (IsSpelledExit lists.now.setup) lists.now.state.exits }
-    requires ordered { AreExitsFrom lists.now.setup 0 None lists.now.state.exits }
-    requires object { IsKnownName lists.now.setup object.now.name }
+    requires { AreExitsFrom lists.now.setup 0 None lists.now.state.exits }
     ensures { result ≡ object_guarded (owner_of lists.now.setup lists.now.state) lists.now.state.exits object.now }
 {
     let from = lists.owner(object.name().seg);
@@ -205,11 +212,10 @@ fn object_guarded(lists: &PlainLists, object: &PlainObject) -> bool
     true
 }
 
-/// The third point: each reference passes the barrier, and has its exit item where it leaves its heap. Finds each exit item by halving.
-pub fn are_guarded(lists: &PlainLists) -> bool
-    requires known { AllByRecursion (IsSpelledExit lists.now.setup) lists.now.state.exits }
-    requires ordered { AreExitsFrom lists.now.setup 0 None lists.now.state.exits }
-    ensures { IsTrue result ↔ AreGuarded (owner_of lists.now.setup lists.now.state) lists.now.state.objects lists.now.state.exits }
+/// The same of all objects.
+fn objects_guarded(lists: &PlainLists) -> bool
+    requires { AreExitsFrom lists.now.setup 0 None lists.now.state.exits }
+    ensures { result ≡ list_all (object_guarded (owner_of lists.now.setup lists.now.state) lists.now.state.exits) lists.now.state.objects }
 {
     for object in lists.objects() {
         if !object_guarded(lists, object) {
@@ -217,6 +223,14 @@ pub fn are_guarded(lists: &PlainLists) -> bool
         }
     }
     true
+}
+
+/// The third point: each reference passes the barrier, and has its exit item where it leaves its heap. Finds each exit item by halving.
+pub fn are_guarded(lists: &PlainLists) -> bool
+    requires { AreExitsFrom lists.now.setup 0 None lists.now.state.exits }
+    ensures { IsTrue result ↔ AreGuarded (owner_of lists.now.setup lists.now.state) lists.now.state.objects lists.now.state.exits }
+{
+    objects_guarded(lists)
 }
 
 /// Whether the exit item leaves its heap, and the barrier lets it pass.
@@ -227,9 +241,9 @@ fn exit_leaves(lists: &PlainLists, exit: &ExitItem) -> bool
     !is_same_heap(exit.heap(), to) && passes(exit.heap(), to)
 }
 
-/// The fourth point: each exit item leaves its heap, and the barrier lets it pass.
-pub fn are_exits(lists: &PlainLists) -> bool
-    ensures { IsTrue result ↔ AreExits (owner_of lists.now.setup lists.now.state) lists.now.state.exits }
+/// Whether that holds of all exit items.
+fn exits_leave(lists: &PlainLists) -> bool
+    ensures { result ≡ list_all (exit_leaves (owner_of lists.now.setup lists.now.state)) lists.now.state.exits }
 {
     for exit in lists.exits() {
         if !exit_leaves(lists, exit) {
@@ -237,4 +251,11 @@ pub fn are_exits(lists: &PlainLists) -> bool
         }
     }
     true
+}
+
+/// The fourth point: each exit item leaves its heap, and the barrier lets it pass.
+pub fn are_exits(lists: &PlainLists) -> bool
+    ensures { IsTrue result ↔ AreExits (owner_of lists.now.setup lists.now.state) lists.now.state.exits }
+{
+    exits_leave(lists)
 }

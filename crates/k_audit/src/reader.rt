@@ -1,7 +1,7 @@
 //! How far a reading has come, and what was read: the sections up to the shares.
 ghost use Rattle.std.specs.Prelude.{◌≡◌, ◌<◌, ◌≤◌, ◌+◌, ◌*◌, ◌∷◌, [], length, IfOk, Option};
 ghost use Rattle.k_types.specs.Bounds.{register_count};
-ghost use Rattle.k_types.specs.Trace.{process_count, segment_count, segment_of, trace_of};
+ghost use Rattle.k_types.specs.Trace.{process_count, segment_count, trace_of};
 ghost use Rattle.k_words.specs.Words.{word_at, words_of};
 ghost use Rattle.k_text.specs.Named.{AreNamed, segment_names};
 ghost use Rattle.k_types.specs.declared.names.Name.{Name};
@@ -9,13 +9,14 @@ ghost use Rattle.k_audit.specs.Items.{exit_item, root, sharing};
 ghost use Rattle.k_audit.specs.Reading.{HasRead, past_heading, exit_line, gone_line, graph_line, is_after, is_exit_after, made_line, made_of, root_line, root_place, share_line, share_place, start_line, unread};
 
 use crate::claims::Claimed;
+use crate::holding::segment_of;
 use crate::items::{ExitLine, RootLine, ShareLine, read_exit, read_gone, read_root, read_share};
 use crate::objects::read_object;
 use crate::places::Place;
 use k_io::NoMemory;
 use k_state::{ExitItem, Share, StillState, is_before};
 use k_trace::Names;
-use k_types::{Heap, Name, Pid, REGISTERS, Setup, SharedId};
+use k_types::{Name, Pid, REGISTERS, Setup, SharedId};
 use k_words::{is, number, word, word_count};
 use std::alloc::Global;
 use std::marker::Model;
@@ -73,18 +74,6 @@ fn is_after(last: Option<Name>, name: Name) -> bool
     match last {
         None => true,
         Some(last) => is_before(last, name),
-    }
-}
-
-/// The segment in which the heap's allocations stand.
-fn segment_of(setup: &Setup, heap: Heap) -> u64
-    requires { process_count (trace_of setup.now [] []) ≤ 64 }
-    ensures { result ≡ segment_of (trace_of setup.now [] []) heap }
-{
-    match heap {
-        Heap::Kernel => 0,
-        Heap::User(pid) => u64::from(pid.0) + 1,
-        Heap::Shared(shared) => 1 + setup.procs.len() as u64 + u64::from(shared.0),
     }
 }
 

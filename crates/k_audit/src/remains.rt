@@ -1,11 +1,10 @@
 //! The points of a snapshot that speak of what is gone and of phases, each decided exactly.
-ghost use Rattle.std.specs.Prelude.{◌≡◌, ℕ, ◌<◌, ◌↔◌, [], IsTrue, slice_index_or};
+ghost use Rattle.std.specs.Prelude.{◌≡◌, ◌<◌, ◌↔◌, [], IsTrue, slice_index_or};
 ghost use Rattle.std.specs.List.{list_all};
 ghost use Rattle.k_types.specs.Owners.{is_absorbed, owner_of, phase_of};
 ghost use Rattle.k_types.specs.Sound.{AreGone, ArePhases};
-ghost use Rattle.k_types.specs.State.{ExitItem as Item};
 ghost use Rattle.k_types.specs.Trace.{process_count};
-ghost use Rattle.k_audit.specs.Tests.{heap_stays, is_null, object_fits, owner_made, phase_fits, registers_gone, share_fits, share_stays, sharer_fits};
+ghost use Rattle.k_audit.specs.Tests.{all_phases_fit, all_registers_gone, exits_stay, heap_stays, is_null, nothing_left, object_fits, owner_made, phase_fits, phases_agree, registers_gone, share_fits, share_stays, sharer_fits};
 
 use k_state::{PlainLists, Share, is_same_heap};
 use k_types::{Heap, Name, Phase, Pid, SharedId};
@@ -31,9 +30,9 @@ fn registers_gone(lists: &PlainLists, pid: Pid) -> bool
 }
 
 /// Whether the registers of all processes that have ended are null.
+#[tactic(auto, using(crate::proofs::Numbers::all_next, crate::proofs::Numbers::all_last))]
 fn all_registers_gone(lists: &PlainLists) -> bool
-    ensures { IsTrue result ↔ ((p : ℕ) → p < process_count lists.now.setup →
-        IsTrue (registers_gone lists.now.state.ended p (slice_index_or lists.now.state.registers p []))) }
+    ensures { result ≡ all_registers_gone lists.now.setup lists.now.state }
 {
     for p in 0..lists.process_count() {
         if !registers_gone(lists, Pid(p as u32)) {
@@ -82,7 +81,7 @@ fn heap_stays(lists: &PlainLists, heap: Heap) -> bool
 
 /// Whether the heaps of all exit items are there.
 fn exits_stay(lists: &PlainLists) -> bool
-    ensures { result ≡ list_all (λ (e : Item). heap_stays lists.now.state.ended lists.now.state.phases e.heap) lists.now.state.exits }
+    ensures { result ≡ exits_stay lists.now.state }
 {
     for exit in lists.exits() {
         if !heap_stays(lists, exit.heap()) {
@@ -92,12 +91,20 @@ fn exits_stay(lists: &PlainLists) -> bool
     true
 }
 
+/// Whether nothing is left of what is gone.
+fn nothing_left(lists: &PlainLists) -> bool
+    ensures { result ≡ nothing_left lists.now.setup lists.now.state }
+{
+    all_registers_gone(lists) && shares_stay(lists) && exits_stay(lists)
+}
+
 /// The fifth point: what an ended process and an absorbed heap have left.
 pub fn are_gone(lists: &PlainLists) -> bool
     requires { lists.now.state.scans ≡ [] }
     ensures { IsTrue result ↔ AreGone lists.now.state }
 {
-    all_registers_gone(lists) && shares_stay(lists) && exits_stay(lists)
+    let _shape = lists.setup();
+    nothing_left(lists)
 }
 
 /// Whether the phase allows that the process shares the heap.
@@ -157,9 +164,9 @@ fn phase_fits(lists: &PlainLists, shared: SharedId) -> bool
 }
 
 /// Whether that holds of all shared heaps.
+#[tactic(auto, using(crate::proofs::Numbers::all_next, crate::proofs::Numbers::all_last))]
 fn phases_fit(lists: &PlainLists) -> bool
-    ensures { IsTrue result ↔ ((s : ℕ) → s < lists.now.setup.shared_heaps →
-        IsTrue (phase_fits (owner_of lists.now.setup lists.now.state) lists.now.state.ended lists.now.state.shares s (phase_of lists.now.state.phases s))) }
+    ensures { result ≡ all_phases_fit lists.now.setup lists.now.state }
 {
     for s in 0..lists.shared_count() {
         if !phase_fits(lists, SharedId(s)) {
@@ -169,9 +176,17 @@ fn phases_fit(lists: &PlainLists) -> bool
     true
 }
 
+/// Whether the phases agree with shares, objects and roots.
+fn phases_agree(lists: &PlainLists) -> bool
+    ensures { result ≡ phases_agree lists.now.setup lists.now.state }
+{
+    shares_fit(lists) && objects_fit(lists) && phases_fit(lists)
+}
+
 /// The sixth point: what the phases of shared heaps say of sharers, objects and roots.
 pub fn are_phases(lists: &PlainLists) -> bool
     ensures { IsTrue result ↔ ArePhases lists.now.setup lists.now.state }
 {
-    shares_fit(lists) && objects_fit(lists) && phases_fit(lists)
+    let _shape = lists.setup();
+    phases_agree(lists)
 }

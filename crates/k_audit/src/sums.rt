@@ -1,6 +1,7 @@
 //! The points of a snapshot that speak of bytes: that each use fits, and that what is claimed is so.
-ghost use Rattle.std.specs.Prelude.{◌≡◌, ℕ, ◌<◌, ◌≤◌, ◌↔◌, IsTrue, length, map, slice_index_or};
-ghost use Rattle.k_types.specs.Limits.{limits_in, max_of, use_of};
+ghost use Rattle.std.specs.Prelude.{◌≡◌, ◌<◌, ◌↔◌, IsTrue, length, map};
+ghost use Rattle.std.specs.List.{list_all};
+ghost use Rattle.k_types.specs.Limits.{use_of};
 ghost use Rattle.k_types.specs.Numbers.{numbers_below};
 ghost use Rattle.k_types.specs.Owners.{bytes_of, charge_of, owner_of, shared};
 ghost use Rattle.k_types.specs.State.{Object};
@@ -8,21 +9,38 @@ ghost use Rattle.k_types.specs.Trace.{process_count};
 ghost use Rattle.k_audit.specs.Claims.{claims_of};
 ghost use Rattle.k_audit.specs.Grammar.{AreSpelledClaims};
 ghost use Rattle.k_audit.specs.Sums.{UsesFit};
+ghost use Rattle.k_audit.specs.Tests.{use_fits};
 
 use crate::claims::Claimed;
 use k_state::{PlainLists, is_same_heap};
 use k_types::{Heap, LimitId, Pid, SharedId};
 
-/// The seventh point: each use is at most the maximum. Sums each use afresh from the totals of the segments.
-pub fn uses_fit(lists: &PlainLists) -> bool
-    ensures { IsTrue result ↔ UsesFit lists.now.setup lists.now.state }
+/// Whether the use of the limit is at most its maximum.
+fn use_fits(lists: &PlainLists, limit: LimitId) -> bool
+    requires { limit.0 < length lists.now.setup.limits }
+    ensures { result ≡ use_fits lists.now.setup lists.now.state limit.0 }
+{
+    lists.use_of(limit) <= lists.max_of(limit)
+}
+
+/// Whether that holds of all limits.
+#[tactic(auto, using(crate::proofs::Numbers::all_next, crate::proofs::Numbers::all_last))]
+fn all_uses_fit(lists: &PlainLists) -> bool
+    ensures { result ≡ list_all (use_fits lists.now.setup lists.now.state) (numbers_below (length lists.now.setup.limits)) }
 {
     for m in 0..lists.limit_count() {
-        if lists.use_of(LimitId(m)) > lists.max_of(LimitId(m)) {
+        if !use_fits(lists, LimitId(m)) {
             return false;
         }
     }
     true
+}
+
+/// The seventh point: each use is at most the maximum. Sums each use afresh from the totals of the segments.
+pub fn uses_fit(lists: &PlainLists) -> bool
+    ensures { IsTrue result ↔ UsesFit lists.now.setup lists.now.state }
+{
+    all_uses_fit(lists)
 }
 
 /// Whether the claimed owners are those of the objects' segments.
