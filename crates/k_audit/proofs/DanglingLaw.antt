@@ -17,7 +17,7 @@ use Rattle.k_types.specs.Trace.{Trace, process_count}
 use Rattle.k_base.proofs.NameTests.{heap_eq-true, heap_eq_refl, name_eq-true, name_eq_refl}
 use Rattle.k_base.proofs.Numbered.{all_at_below, all_below}
 use Rattle.k_audit.specs.Tests.{all_registers_there, content_there, is_there, nothing_dangles, object_there, registers_there, root_there, roots_there, target_there}
-use Rattle.k_audit.proofs.Means.{all_say, said_of_all}
+use Rattle.k_audit.proofs.Means.{all_say, order, said_of_all}
 
 -- the object of that name is there
 abbrev there : List Object → Name → Type 0
@@ -81,13 +81,10 @@ no_registers registers p n past = rw (get_or_past registers p [] past) refl
 
 registers_say : (trace : Trace) (st : State) → IsSized trace st → all_registers_there trace st ≡ true → (p : ℕ) (n : Name) → in_registers st.registers p n ≡ true → there st.objects n
 registers_say trace st sized all p n leads =
-    elim (below p (process_count trace)) [
+    elim (order p (process_count trace)) [
       | inl inside ↦ one_says st.objects (get_or st.registers p []) (all_at_below (λ q. registers_there st.objects (get_or st.registers q [])) (process_count trace) p all inside) n leads
       | inr past ↦ absurd (false≢true (sym (no_registers st.registers p n (omega (arith, sized.registers, past))) ∙ leads))
     ]
-  where
-    below : (a b : ℕ) → (a < b) ⊎ (b ≤ a)
-    below a b = omega arith
 
 registers_hold : (trace : Trace) (st : State) → ((p : ℕ) (n : Name) → in_registers st.registers p n ≡ true → there st.objects n) → all_registers_there trace st ≡ true
 registers_hold trace st each =
@@ -95,16 +92,16 @@ registers_hold trace st each =
 
 -- ---- exit items: a pair of heap and target
 
-pub exits_say : {says : Heap × Name → Type 0} {test : ExitItem → Bool} → ((e : ExitItem) → test e ≡ true → says (e.heap, e.target)) → (exits : List ExitItem) → list_all test exits ≡ true → (h : Heap) (n : Name) → has_exit exits h n ≡ true → says (h, n)
-exits_say {says} {test} each exits all h n there =
+pub exits_say : (says : Heap × Name → Type 0) (test : ExitItem → Bool) → ((e : ExitItem) → test e ≡ true → says (e.heap, e.target)) → (exits : List ExitItem) → list_all test exits ≡ true → (h : Heap) (n : Name) → has_exit exits h n ≡ true → says (h, n)
+exits_say says test each exits all h n there =
     all_say {A = ExitItem} {N = Heap × Name} (λ pair e. heap_eq e.heap pair.0 && name_eq e.target pair.1) says test
     (λ e pair ok same.
     let parts = and_parts (heap_eq e.heap pair.0) (name_eq e.target pair.1) same in
     subst (λ (g : Heap). says (g, pair.1)) (heap_eq-true e.heap pair.0 parts.0) (subst (λ (m : Name). says (e.heap, m)) (name_eq-true e.target pair.1 parts.1) (each e ok)))
     exits all (h, n) there
 
-pub exits_hold : {says : Heap × Name → Type 0} {test : ExitItem → Bool} → ((e : ExitItem) → says (e.heap, e.target) → test e ≡ true) → (exits : List ExitItem) → ((h : Heap) (n : Name) → has_exit exits h n ≡ true → says (h, n)) → list_all test exits ≡ true
-exits_hold {says} {test} each exits holds =
+pub exits_hold : (says : Heap × Name → Type 0) (test : ExitItem → Bool) → ((e : ExitItem) → says (e.heap, e.target) → test e ≡ true) → (exits : List ExitItem) → ((h : Heap) (n : Name) → has_exit exits h n ≡ true → says (h, n)) → list_all test exits ≡ true
+exits_hold says test each exits holds =
     said_of_all {A = ExitItem} {N = Heap × Name} (λ pair e. heap_eq e.heap pair.0 && name_eq e.target pair.1) says test
     (λ e here. each e (here (e.heap, e.target) (and_from (heap_eq e.heap e.heap) (name_eq e.target e.target) (heap_eq_refl e.heap) (name_eq_refl e.target))))
     exits (λ pair there. holds pair.0 pair.1 there)
@@ -115,13 +112,10 @@ exits_hold {says} {test} each exits holds =
 pub phase_at : (trace : Trace) (st : State) → IsSized trace st → (test : ℕ → Phase → Bool) → list_all (λ s. test s (phase_of st.phases s)) (numbers_below trace.shared_heaps) ≡ true →
     (s : ℕ) (phase : Phase) → phase_of st.phases s ≡ phase → (phase ≡ Unmade → ⊥) → test s phase ≡ true
 phase_at trace st sized test all s phase is made =
-    elim (below s trace.shared_heaps) [
+    elim (order s trace.shared_heaps) [
       | inl inside ↦ subst (λ (x : Phase). test s x ≡ true) is (all_at_below (λ t. test t (phase_of st.phases t)) trace.shared_heaps s all inside)
       | inr past ↦ absurd (made (sym is ∙ get_or_past st.phases s Unmade (omega (arith, sized.phases, past))))
     ]
-  where
-    below : (a b : ℕ) → (a < b) ⊎ (b ≤ a)
-    below a b = omega arith
 
 root_holds : (objects : List Object) (phase : Phase) → ((root : Name) → phase ≡ Frozen root → there objects root) → root_there objects phase ≡ true
 root_holds objects Unmade each = refl
@@ -145,7 +139,7 @@ dangling_law trace st sized none = (
         directory = d.0;
         fields = fields_say st.objects d.1;
         registers = registers_say trace st sized c.1;
-        exits = exits_say {says = λ pair. there st.objects pair.1} {test = target_there st.objects} (λ e ok. ok) st.exits b.1;
+        exits = exits_say (λ pair. there st.objects pair.1) (target_there st.objects) (λ e ok. ok) st.exits b.1;
         scans = λ h roots n is among. absurd (scans_none st.scans h roots none is);
         frozen = λ s root is. phase_at trace st sized (λ t phase. root_there st.objects phase) a.1 s (Frozen root) is (λ e. absurd cc);
       },
@@ -155,6 +149,6 @@ dangling_law trace st sized none = (
       (and_from (has st.objects directory && list_all (object_there st.objects) st.objects) (all_registers_there trace st)
       (and_from (has st.objects directory) (list_all (object_there st.objects) st.objects) holds.directory (fields_hold st.objects holds.fields))
       (registers_hold trace st holds.registers))
-      (exits_hold {says = λ pair. there st.objects pair.1} {test = target_there st.objects} (λ e ok. ok) st.exits holds.exits))
+      (exits_hold (λ pair. there st.objects pair.1) (target_there st.objects) (λ e ok. ok) st.exits holds.exits))
       (all_below (λ s. root_there st.objects (phase_of st.phases s)) trace.shared_heaps (λ s inside. root_holds st.objects (phase_of st.phases s) (holds.frozen s))),
 )

@@ -20,12 +20,12 @@ pub exits_law : (own : ℕ → Heap) (exits : List ExitItem) → (list_all (exit
 exits_law own exits = (
   λ all.
       let each : (h : Heap) (n : Name) → has_exit exits h n ≡ true → Leaves own (h, n)
-      = exits_say {says = Leaves own} {test = exit_leaves own}
+      = exits_say (Leaves own) (exit_leaves own)
       (λ e ok. let parts = and_parts (not (heap_eq e.heap (own e.target.seg.0))) (passes e.heap (own e.target.seg.0)) ok in
       record { leave = not-true (heap_eq e.heap (own e.target.seg.0)) parts.0; allowed = parts.1 }) exits all in
       record { leave = λ h n there. (each h n there).leave; allowed = λ h n there. (each h n there).allowed },
   λ holds.
-      exits_hold {says = Leaves own} {test = exit_leaves own}
+      exits_hold (Leaves own) (exit_leaves own)
       (λ e lawful. and_from (not (heap_eq e.heap (own e.target.seg.0))) (passes e.heap (own e.target.seg.0)) (not_from_false (heap_eq e.heap (own e.target.seg.0)) lawful.leave) lawful.allowed)
       exits (λ h n there. record { leave = holds.leave h n there; allowed = holds.allowed h n there }),
 )

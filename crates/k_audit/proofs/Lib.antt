@@ -4,3 +4,8 @@ mod NumberedLaw
 mod DanglingLaw
 mod GuardedLaw
 mod ExitsLaw
+mod GoneLaw
+mod PhasesLaw
+mod ExitPlaces
+mod Owners
+mod ClaimsLaw

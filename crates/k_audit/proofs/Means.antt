@@ -1,5 +1,5 @@
 -- What a test of all elements says, and where it holds.
-use Rattle.std.proofs.Common.{◌≡◌, Bool, true, inl, inr, refl, List, [], ◌∷◌, ◌&&◌, ◌||◌}
+use Rattle.std.proofs.Common.{◌≡◌, ◌⊎◌, ℕ, ◌<◌, ◌≤◌, nat_lt, Bool, true, false, inl, inr, refl, List, [], ◌∷◌, ◌&&◌, ◌||◌, ltb-false, ltb-true}
 use Rattle.std.specs.List.{list_all, list_any}
 use Rattle.std.proofs.lemmas.Bool.{and_from, and_parts, false≢true, or_cases, or_left, or_right}
 
@@ -22,3 +22,11 @@ said_of_all leads says test each (x ∷ xs) holds =
     and_from (test x) (list_all test xs)
     (each x (λ n here. holds n (or_left (leads n x) (list_any (leads n) xs) here)))
     (said_of_all leads says test each xs (λ n later. holds n (or_right (leads n x) (list_any (leads n) xs) later)))
+
+-- one number is below the other, or is not
+pub order : (a b : ℕ) → (a < b) ⊎ (b ≤ a)
+order a b =
+    (elim (nat_lt a b) as (λ t. nat_lt a b ≡ t → (a < b) ⊎ (b ≤ a)) [
+      | true ↦ λ e. inl (ltb-true a b e)
+      | false ↦ λ e. inr (ltb-false a b e)
+    ]) refl

@@ -5,6 +5,7 @@ pub mod Reading
 pub mod Objects
 pub mod Items
 pub mod Pairs
+pub mod Agreeing
 pub mod Sums
 pub mod Verdicts
 pub mod Judged

@@ -13,7 +13,10 @@ use k_types::{Heap, Name, Setup, legal};
 pub fn has(lists: &PlainLists, name: Name) -> bool
     ensures { result ≡ has lists.now.state.objects name }
 {
-    lists.index_of(name).is_some()
+    match lists.index_of(name) {
+        Some(_) => true,
+        None => false,
+    }
 }
 
 /// Whether the barrier lets a reference from the one heap to the other pass.

@@ -110,6 +110,7 @@ fn registers_there(lists: &PlainLists, registers: &[Option<Name>]) -> bool
 fn all_registers_there(lists: &PlainLists) -> bool
     ensures { result ≡ all_registers_there lists.now.setup lists.now.state }
 {
+    let _shape = lists.setup();
     for p in 0..lists.process_count() {
         if !registers_there(lists, lists.registers(Pid(p as u32))) {
             return false;

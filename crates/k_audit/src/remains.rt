@@ -34,6 +34,7 @@ fn registers_gone(lists: &PlainLists, pid: Pid) -> bool
 fn all_registers_gone(lists: &PlainLists) -> bool
     ensures { result ≡ all_registers_gone lists.now.setup lists.now.state }
 {
+    let _shape = lists.setup();
     for p in 0..lists.process_count() {
         if !registers_gone(lists, Pid(p as u32)) {
             return false;
