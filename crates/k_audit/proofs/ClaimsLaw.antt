@@ -1,5 +1,5 @@
 -- The seventh and the eighth point by their tests.
-use Rattle.std.proofs.Common.{◌≡◌, ◌∙◌, ◌↔◌, ◌&&◌, ◌||◌, ◌==◌, ◌⊎◌, inl, inr, ℕ, zero, suc, ◌+◌, ◌-◌, ◌^◌, ◌<◌, ◌≤◌, min, Bool, true, false, cond, List, [], ◌∷◌, length, map, filter, get_or, refl, sym, ap, subst, eq-eqb, eqb-true, le-leb, leb-true, arith}
+use Rattle.std.proofs.Common.{◌≡◌, ◌∙◌, ◌↔◌, ◌&&◌, ◌||◌, ◌==◌, ◌⊎◌, inl, inr, ℕ, zero, suc, ◌+◌, ◌-◌, ◌^◌, ◌<◌, ◌≤◌, min, Bool, true, false, cond, List, [], ◌∷◌, length, map, filter, get_or, refl, sym, ap, ap₂, subst, eq-eqb, eqb-true, le-leb, leb-true, arith}
 use Rattle.std.specs.List.{list_all}
 use Rattle.std.proofs.lemmas.Bool.{and_from, and_parts, cases_eq, false≢true}
 use Rattle.std.proofs.lemmas.Bool.Decides.{nat_tests}
@@ -34,7 +34,8 @@ agree_from : (f : ℕ → ℕ) (xs : List ℕ) (first : ℕ) → ((k : ℕ) → 
 agree_from f [] first each = refl
 agree_from f (x ∷ xs) first each =
     let here : x ≡ f first = each 0 (omega arith) ∙ ap f (let e : first + 0 ≡ first = omega arith in e) in
-    rw (agree_from f xs (suc first) (λ k inside. each (suc k) (omega arith) ∙ ap f (let e : first + suc k ≡ suc first + k = omega arith in e))) (ap (λ y. y ∷ map f (numbers_from (suc first) (length xs))) here)
+    let rest = agree_from f xs (suc first) (λ k inside. each (suc k) (omega arith) ∙ ap f (let e : first + suc k ≡ suc first + k = omega arith in e)) in
+    ap₂ (λ (y : ℕ) (ys : List ℕ). y ∷ ys) here rest
 
 same_at : (f : ℕ → ℕ) (n first k : ℕ) → k < n → get_or (map f (numbers_from first n)) k 0 ≡ f (first + k)
 same_at f zero first k inside = absurd (omega arith)

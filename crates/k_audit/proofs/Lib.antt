@@ -9,3 +9,7 @@ mod PhasesLaw
 mod ExitPlaces
 mod Owners
 mod ClaimsLaw
+mod WorkedAudits
+mod FedLines
+mod Fields
+mod Judged

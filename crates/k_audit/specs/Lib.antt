@@ -8,6 +8,8 @@ pub mod Pairs
 pub mod Agreeing
 pub mod Sums
 pub mod Verdicts
+pub mod Answering
+pub mod WorkedAudits
 pub mod Judged
 pub mod Tests
 pub mod Places

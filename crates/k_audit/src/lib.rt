@@ -11,6 +11,7 @@ mod claims;
 mod errors;
 mod holding;
 mod items;
+mod laws;
 mod objects;
 mod places;
 mod points;
@@ -22,4 +23,5 @@ mod verdicts;
 mod words;
 
 pub use auditing::audit;
+pub use laws::{barrier_audit_row, every_sharer_pays_audit_row, last_lines_audit_row};
 pub use verdicts::Verdict;

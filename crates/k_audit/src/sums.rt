@@ -75,6 +75,7 @@ fn uses_agree(lists: &PlainLists, uses: &[u64]) -> bool
     requires fit { UsesFit lists.now.setup lists.now.state }
     ensures { result ≡ agree (use_of lists.now.setup lists.now.state) uses.now (length lists.now.setup.limits) }
 {
+    let _count = lists.limit_count();
     for m in 0..uses.len() {
         if !use_is(lists, LimitId(m as u32), uses[m]) {
             return false;

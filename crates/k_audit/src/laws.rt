@@ -1,0 +1,30 @@
+//! Worked snapshots, and what the audit answers of them.
+ghost use Rattle.std.specs.Prelude.{◌≡◌, ◌++◌, ◌∷◌, [], codes};
+ghost use Rattle.k_text.specs.Worked.{barrier, every_sharer_pays, of_lines};
+ghost use Rattle.k_audit.specs.Answering.{answer_to};
+ghost use Rattle.k_audit.specs.WorkedAudits.{audited, barrier_snapshot, one_exit_less, one_share_less, sharing_front, sharing_snapshot};
+ghost use Rattle.k_audit.specs.declared.verdicts.Verdict.TheVariants.{Line, Point, Sound};
+
+/// The snapshot where every sharer pays in full is sound, and the claims of the same without one share are false, computed by the
+/// definitions.
+#[tactic(auto, using(crate::proofs::WorkedAudits::sharing_is_sound, crate::proofs::WorkedAudits::share_is_missed))]
+pub fn every_sharer_pays_audit_row()
+    ensures whole { audited every_sharer_pays sharing_snapshot ≡ Sound }
+    ensures less { audited every_sharer_pays one_share_less ≡ Point 8 }
+{}
+
+/// The snapshot of the row of the barrier is sound; without its exit item a reference has none; where there is nothing at all the first
+/// line is missing; computed by the definitions.
+#[tactic(auto, using(crate::proofs::WorkedAudits::barrier_is_sound, crate::proofs::WorkedAudits::exit_is_missed, crate::proofs::WorkedAudits::nothing_is_line_one))]
+pub fn barrier_audit_row()
+    ensures whole { audited barrier barrier_snapshot ≡ Sound }
+    ensures less { audited barrier one_exit_less ≡ Point 3 }
+    ensures nothing { audited barrier [] ≡ Line 1 }
+{}
+
+/// A line that is missing and a last line without its line feed, computed by the definitions.
+#[tactic(auto, using(crate::proofs::WorkedAudits::line_is_missing, crate::proofs::WorkedAudits::feed_is_missing))]
+pub fn last_lines_audit_row()
+    ensures missing { audited every_sharer_pays sharing_front ≡ Line 18 }
+    ensures feed { answer_to every_sharer_pays.names every_sharer_pays.trace (of_lines sharing_front ++ codes "p2 s") ≡ Line 18 }
+{}
