@@ -7,7 +7,8 @@ use Rattle.k_words.specs.Words.{Text}
 use Rattle.k_words.proofs.Lines.{is_feed}
 use Rattle.k_trace.specs.Named.{DeclaredNames}
 use Rattle.k_audit.specs.Claims.{Snap}
-use Rattle.k_audit.specs.Reading.{Reading, end_of, is_over, is_whole, read_line, read_lines}
+use Rattle.std.proofs.lemmas.Bool.{false≢true}
+use Rattle.k_audit.specs.Reading.{HasRead, Reading, end_of, is_over, is_whole, read_line, read_lines}
 use Rattle.k_audit.specs.Verdicts.{fed_lines, onto_fed}
 
 -- ---- a line and what stands behind it
@@ -103,3 +104,17 @@ pub lines_end : (names : DeclaredNames) (trace : Trace) (rd : Reading) (number :
 unfolding read_lines
 lines_end names trace rd number [] none = refl
 lines_end names trace rd number (b ∷ bytes) none = absurd (omega (arith, none))
+
+-- ---- what a call answered
+
+pub refused_then : (b : Bool) (old new : Reading) (next : Option Reading) → HasRead (Ok b) old new next → b ≡ false → next ≡ None
+refused_then true old new next read e = absurd (false≢true (sym e))
+refused_then false old new next read e = read
+
+pub fits_then : (b : Bool) (old new : Reading) (next : Option Reading) → HasRead (Ok b) old new next → b ≡ true → (next ≡ Some new) × (length new.snap.state.registers ≡ length old.snap.state.registers)
+fits_then true old new next read e = read
+fits_then false old new next read e = absurd (false≢true e)
+
+pub over_then : (rd : Reading) (number : ℕ) (b : Bool) → is_over rd.place ≡ b → end_of rd number true ≡ cond b (Ok rd.snap) (Err number)
+over_then rd number true e = rw e refl
+over_then rd number false e = rw e refl

@@ -13,3 +13,11 @@ mod WorkedAudits
 mod FedLines
 mod Fields
 mod Judged
+mod Runs
+mod PlainOf
+mod RootTaken
+mod Plainly
+mod LinesRead
+mod SectionRuns
+mod ChargeRuns
+mod ReaderLaws

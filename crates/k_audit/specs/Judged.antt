@@ -11,7 +11,7 @@ use Rattle.k_audit.specs.Verdicts.{HoldsAt, IsLowestFalse}
 pub record AreHeld (machine : Machine) (claims : Claims) : Type 0 where
   pub names : AreNames machine.state.objects machine.state.made
   pub exits : AreExitsFrom machine.setup 0 None machine.state.exits
-  pub claims : AreSpelledClaims machine.setup machine.state.objects claims
+  pub claimed : AreSpelledClaims machine.setup machine.state.objects claims
   pub scans : machine.state.scans ≡ []
 
 -- The number is that of the lowest point that does not hold, or there is none.

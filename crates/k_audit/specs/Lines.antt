@@ -1,5 +1,5 @@
 -- The lines of a snapshot, and its text. The words of objects, registers, exit items and charges are those of a report.
-use Rattle.std.specs.Prelude.{ℕ, List, [], ◌∷◌, ◌++◌, map, length, slice_index_or, decimal, codes}
+use Rattle.std.specs.Prelude.{ℕ, ◌+◌, List, [], ◌∷◌, ◌++◌, map, length, slice_index_or, decimal, codes}
 use Rattle.std.specs.List.{flat_map}
 use Rattle.k_types.specs.declared.names.Heap.{Heap}
 use Rattle.k_types.specs.declared.names.Phase.{Phase}

@@ -25,6 +25,7 @@ use Rattle.k_history.specs.Reading.{heap_named, name_of_word}
 use Rattle.k_state.specs.Stills.{blank}
 use Rattle.k_io.specs.declared.errors.NoMemory.{NoMemory as Lack}
 use Rattle.k_audit.specs.Claims.{Claims, Snap}
+use Rattle.k_audit.specs.Grammar.{share_place}
 use Rattle.k_audit.specs.declared.errors.SnapshotError.{SnapshotError}
 use Rattle.k_audit.specs.declared.errors.SnapshotError.TheVariants.{Bad, NoMemory}
 use Rattle.k_audit.specs.declared.objects.ObjectHead.{ObjectHead}
@@ -244,10 +245,6 @@ unfoldable pub exit_line : DeclaredNames → Trace → ℕ → Option Name → R
 exit_line names trace seg last rd line =
     if bytes_eq line (codes "shares") then Some (at_place (Shares 0) rd)
     else option_and_then (λ e. if is_exit_after trace seg last e then Some (add_exit trace e rd) else None) (exit_of names (words_of line))
-
--- The number of the share among all that there may be.
-abbrev pub share_place : Trace → Sharing → ℕ
-share_place trace e = e.process * trace.shared_heaps + e.heap
 
 -- The share, and the place behind it.
 abbrev pub add_share : Trace → Sharing → Reading → Reading

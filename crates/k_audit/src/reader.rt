@@ -5,8 +5,9 @@ ghost use Rattle.k_types.specs.Trace.{process_count, segment_count, trace_of};
 ghost use Rattle.k_words.specs.Words.{word_at, words_of};
 ghost use Rattle.k_text.specs.Named.{AreNamed, segment_names};
 ghost use Rattle.k_types.specs.declared.names.Name.{Name};
+ghost use Rattle.k_audit.specs.Grammar.{share_place};
 ghost use Rattle.k_audit.specs.Items.{exit_item, root, sharing};
-ghost use Rattle.k_audit.specs.Reading.{HasRead, past_heading, exit_line, gone_line, graph_line, is_after, is_exit_after, made_line, made_of, root_line, root_place, share_line, share_place, start_line, unread};
+ghost use Rattle.k_audit.specs.Reading.{HasRead, past_heading, exit_line, gone_line, graph_line, is_after, is_exit_after, made_line, made_of, root_line, root_place, share_line, start_line, unread};
 
 use crate::claims::Claimed;
 use crate::holding::segment_of;
