@@ -51,7 +51,7 @@ module _ (names : DeclaredNames) (trace : Trace) (header : IsHeader names trace)
       let back : k - 1 - limits - procs ≡ s = omega (arith, is) in
       rw (not_zero k (omega (arith, is)), not_le k limits (omega (arith, is)), not_le k (limits + procs) (omega (arith, is)), le-leb k (limits + procs + trace.shared_heaps) (omega (arith, is, known)), back) refl
 
-  at_end : (k : ℕ) (rd : Reading) (line : Text) → k ≡ 1 + limits + procs + trace.shared_heaps → charge_line names trace k rd line ≡ past_heading (codes "end") Over rd line
+  pub at_end : (k : ℕ) (rd : Reading) (line : Text) → k ≡ 1 + limits + procs + trace.shared_heaps → charge_line names trace k rd line ≡ past_heading (codes "end") Over rd line
   unfolding charge_line
   at_end k rd line is =
       rw (not_zero k (omega (arith, is)), not_le k limits (omega (arith, is)), not_le k (limits + procs) (omega (arith, is)), not_le k (limits + procs + trace.shared_heaps) (omega (arith, is))) refl
@@ -65,7 +65,7 @@ module _ (names : DeclaredNames) (trace : Trace) (header : IsHeader names trace)
       run names trace (record { place = Charges 0; snap = snap }) (line_of (kernel_charge_words bytes ceiling) ∷ []) ≡ Some (record { place = Charges 1; snap = with_kernel snap bytes ceiling })
   unfolding read_at charge_line
   run_kernel snap bytes ceiling small below =
-      one_more names trace header _ (record { place = Charges 1; snap = with_kernel snap bytes ceiling }) _ _ (kernel_read names trace header bytes ceiling (record { place = Charges 0; snap = snap }) small below)
+      one_more names trace header (record { place = Charges 0; snap = snap }) (record { place = Charges 1; snap = with_kernel snap bytes ceiling }) (line_of (kernel_charge_words bytes ceiling)) [] (kernel_read names trace header bytes ceiling (record { place = Charges 0; snap = snap }) small below)
 
   -- ---- limits
 

@@ -1,5 +1,5 @@
 -- The lines that end with a line feed, as they are found.
-use Rattle.std.proofs.Common.{◌≡◌, ◌∙◌, ℕ, ◌+◌, ◌-◌, ◌<◌, ◌≤◌, ◌&&◌, cond, Bool, true, false, eqb, List, [], ◌∷◌, length, take, drop, refl, sym, ap, arith, one-add, add-one, Option, Some, None, Result, Ok, Err}
+use Rattle.std.proofs.Common.{◌≡◌, ◌∙◌, ℕ, zero, suc, ◌+◌, ◌-◌, ◌<◌, ◌≤◌, ◌&&◌, cond, Bool, true, false, eqb, List, [], ◌∷◌, length, take, drop, refl, sym, ap, arith, one-add, add-one, Option, Some, None, Result, Ok, Err}
 use Rattle.std.specs.List.{position_or_len, before_first, after_first}
 use Rattle.std.proofs.lemmas.List.{take_rest}
 use Rattle.k_types.specs.Trace.{Trace}
@@ -71,31 +71,37 @@ not_over false snap number = refl
 not_finished : (rd : Reading) (number : ℕ) → end_of rd number false ≡ Err number
 not_finished rd number = not_over (is_over rd.place) rd.snap number
 
-module _ (names : DeclaredNames) (trace : Trace) (rd : Reading) (number : ℕ) (bytes : Text) (end : ℕ) where
-  -- a line that fits
-  pub line_fits : end ≡ position_or_len is_feed bytes → end < length bytes → (next : Reading) → read_line names trace rd (take end bytes) ≡ Some next →
-      read_lines names trace (is_whole bytes) (Some rd) number (fed_lines bytes)
-      ≡ read_lines names trace (is_whole (take (length bytes - (end + 1)) (drop (end + 1) bytes))) (Some next) (number + 1) (fed_lines (take (length bytes - (end + 1)) (drop (end + 1) bytes)))
+module _ (names : DeclaredNames) (trace : Trace) (rd : Reading) (number : ℕ) (bytes : Text) where
+  fits_first : position_or_len is_feed bytes < length bytes → (next : Reading) → read_line names trace rd (before_first is_feed bytes) ≡ Some next →
+      read_lines names trace (is_whole bytes) (Some rd) number (fed_lines bytes) ≡ read_lines names trace (is_whole (after_first is_feed bytes)) (Some next) (number + 1) (fed_lines (after_first is_feed bytes))
   unfolding read_lines
-  line_fits e lt next fits =
-      rw (take_rest bytes (end + 1))
-      (ap (λ (w : Bool). read_lines names trace w (Some rd) number (fed_lines bytes)) (whole_first bytes (rw (← e) lt))
-      ∙ ap (λ (ls : List Text). read_lines names trace (is_whole (after_first is_feed bytes)) (Some rd) number ls) (fed_first bytes (rw (← e) lt))
-      ∙ rw e at (ap (λ (o : Option Reading). read_lines names trace (is_whole (drop (end + 1) bytes)) o (number + 1) (fed_lines (drop (end + 1) bytes))) fits))
+  fits_first lt next fits =
+      ap (λ (w : Bool). read_lines names trace w (Some rd) number (fed_lines bytes)) (whole_first bytes lt)
+      ∙ ap (λ (ls : List Text). read_lines names trace (is_whole (after_first is_feed bytes)) (Some rd) number ls) (fed_first bytes lt)
+      ∙ ap (λ (o : Option Reading). read_lines names trace (is_whole (after_first is_feed bytes)) o (number + 1) (fed_lines (after_first is_feed bytes))) fits
 
-  -- a line that does not
-  pub line_refused : end ≡ position_or_len is_feed bytes → end < length bytes → read_line names trace rd (take end bytes) ≡ None →
-      read_lines names trace (is_whole bytes) (Some rd) number (fed_lines bytes) ≡ Err number
+  refused_first : position_or_len is_feed bytes < length bytes → read_line names trace rd (before_first is_feed bytes) ≡ None → read_lines names trace (is_whole bytes) (Some rd) number (fed_lines bytes) ≡ Err number
   unfolding read_lines
-  line_refused e lt refused =
-      ap (λ (ls : List Text). read_lines names trace (is_whole bytes) (Some rd) number ls) (fed_first bytes (rw (← e) lt))
-      ∙ rw e at (ap (λ (o : Option Reading). read_lines names trace (is_whole bytes) o (number + 1) (fed_lines (drop (end + 1) bytes))) refused)
+  refused_first lt refused =
+      ap (λ (ls : List Text). read_lines names trace (is_whole bytes) (Some rd) number ls) (fed_first bytes lt)
+      ∙ ap (λ (o : Option Reading). read_lines names trace (is_whole bytes) o (number + 1) (fed_lines (after_first is_feed bytes))) refused
       ∙ ap (λ (n : ℕ). let r : Result Snap ℕ = Err n in r) (let same : number + 1 - 1 ≡ number = omega arith in same)
 
+  -- a line that fits
+  pub line_fits : (end : ℕ) → end ≡ position_or_len is_feed bytes → end < length bytes → (next : Reading) → read_line names trace rd (take end bytes) ≡ Some next →
+      read_lines names trace (is_whole bytes) (Some rd) number (fed_lines bytes)
+      ≡ read_lines names trace (is_whole (take (length bytes - (end + 1)) (drop (end + 1) bytes))) (Some next) (number + 1) (fed_lines (take (length bytes - (end + 1)) (drop (end + 1) bytes)))
+  line_fits end e lt next fits = rw (take_rest bytes (end + 1), e) (fits_first (rw (← e) lt) next (rw (← e) fits))
+
+  -- a line that does not
+  pub line_refused : (end : ℕ) → end ≡ position_or_len is_feed bytes → end < length bytes → read_line names trace rd (take end bytes) ≡ None →
+      read_lines names trace (is_whole bytes) (Some rd) number (fed_lines bytes) ≡ Err number
+  line_refused end e lt refused = refused_first (rw (← e) lt) (rw (← e) refused)
+
   -- a last line without a line feed
-  pub line_unfed : end ≡ position_or_len is_feed bytes → length bytes ≤ end → 0 < length bytes → read_lines names trace (is_whole bytes) (Some rd) number (fed_lines bytes) ≡ Err number
+  pub line_unfed : (end : ℕ) → end ≡ position_or_len is_feed bytes → length bytes ≤ end → 0 < length bytes → read_lines names trace (is_whole bytes) (Some rd) number (fed_lines bytes) ≡ Err number
   unfolding read_lines
-  line_unfed e le some =
+  line_unfed end e le some =
       let none = unfed bytes (rw (← e) le) some in
       ap (λ (ls : List Text). read_lines names trace (is_whole bytes) (Some rd) number ls) none.lines ∙ ap (end_of rd number) none.whole ∙ not_finished rd number
 
@@ -118,3 +124,8 @@ fits_then false old new next read e = absurd (false≢true e)
 pub over_then : (rd : Reading) (number : ℕ) (b : Bool) → is_over rd.place ≡ b → end_of rd number true ≡ cond b (Ok rd.snap) (Err number)
 over_then rd number true e = rw e refl
 over_then rd number false e = rw e refl
+
+pub taken_few : (n : ℕ) (xs : Text) → length (take n xs) ≤ n
+taken_few zero xs = omega arith
+taken_few (suc n) [] = omega arith
+taken_few (suc n) (x ∷ xs) = let few = taken_few n xs in omega (arith, few)

@@ -20,4 +20,7 @@ mod Plainly
 mod LinesRead
 mod SectionRuns
 mod ChargeRuns
+mod RootRuns
+mod ReadsSpelled
+mod ItsLines
 mod ReaderLaws

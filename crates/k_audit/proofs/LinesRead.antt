@@ -8,6 +8,7 @@ use Rattle.std.proofs.lemmas.Slice.Eq.{bytes_eq-Decides}
 use Rattle.k_types.specs.declared.names.Field.{Field}
 use Rattle.k_types.specs.declared.names.Heap.{Heap}
 use Rattle.k_types.specs.declared.names.Name.{Name}
+use Rattle.k_types.specs.declared.names.Pid.{Pid}
 use Rattle.k_types.specs.declared.names.Phase.{Phase}
 use Rattle.k_types.specs.declared.names.Phase.TheVariants.{Unmade, Populating, Frozen, Absorbed}
 use Rattle.k_types.specs.declared.names.TypeId.{TypeId}
@@ -58,10 +59,18 @@ module _ (names : DeclaredNames) (trace : Trace) (header : IsHeader names trace)
 
   -- ---- the processes that have ended
 
+  gone_of_words : (p : ℕ) → p < process_count trace → gone_of names (gone_words names p) ≡ Some (record { 0 = p })
+  unfolding gone_of
+  gone_of_words p known = proc_read names trace header p known
+
+  gone_taken : (p : Pid) (least : ℕ) (rd : Reading) (line : Text) → bytes_eq line (codes "made") ≡ false → gone_of names (words_of line) ≡ Some p → least ≤ p.0 → gone_line names least rd line ≡ Some (add_gone p.0 rd)
+  unfolding gone_line
+  gone_taken p least rd line other is low = rw (other, is, le-leb least p.0 low) refl
+
   pub gone_read : (p least : ℕ) (rd : Reading) → p < process_count trace → least ≤ p → gone_line names least rd (line_of (gone_words names p)) ≡ Some (add_gone p rd)
-  unfolding gone_line gone_of
   gone_read p least rd known low =
-      rw (not_heading (codes "gone") (word_at names.procs p) [] (codes "made") refl, read_back (gone_words names p) (omega arith) (gone_plain names trace header p known), proc_read names trace header p known, le-leb least p low) refl
+      gone_taken (record { 0 = p }) least rd (line_of (gone_words names p)) (not_heading (codes "gone") (word_at names.procs p) [] (codes "made") refl)
+      (ap (gone_of names) (read_back (gone_words names p) (omega arith) (gone_plain names trace header p known)) ∙ gone_of_words p known) low
 
   -- ---- serials
 
@@ -99,10 +108,10 @@ module _ (names : DeclaredNames) (trace : Trace) (header : IsHeader names trace)
       rw (here, rest) refl
 
   type_word_read : (o : Object) → IsTyped trace o → type_of_word names o.name (type_word names o.ty) ≡ Some o.ty
+  unfolding type_of_word
   type_word_read o typed = go o.ty typed.untyped typed.declared
     where
       go : (ty : Option TypeId) → is_none ty ≡ name_eq o.name directory → IfSome ty (λ t. t.0 < length trace.types) → type_of_word names o.name (type_word names ty) ≡ Some ty
-      unfolding type_of_word
       go None untyped declared = rw (← untyped) refl
       go (Some ty) untyped declared = rw (← untyped) (ap (option_map Some) (type_read names trace header ty.0 declared))
 
@@ -129,8 +138,14 @@ module _ (names : DeclaredNames) (trace : Trace) (header : IsHeader names trace)
       root_line names least rd (line_of (word_at names.procs p ∷ register_word r ∷ name_word names n ∷ [])) ≡ Some (add_root (record { process = p; register = r; name = n }) rd)
   unfolding root_line root_of
   root_read p r n least rd known small spelled low =
-      rw (not_heading (word_at names.procs p) (register_word r) (name_word names n ∷ []) (codes "exits") refl, read_back (word_at names.procs p ∷ register_word r ∷ name_word names n ∷ []) (omega arith) (root_plain names trace header p r n known small spelled),
-        proc_read names trace header p known, register_read r small, spelled_read n spelled, le-leb least (p * 16 + r) low) refl
+      rw (
+        not_heading (word_at names.procs p) (register_word r) (name_word names n ∷ []) (codes "exits") refl,
+        read_back (word_at names.procs p ∷ register_word r ∷ name_word names n ∷ []) (omega arith) (root_plain names trace header p r n known small spelled),
+        proc_read names trace header p known,
+        register_read r small,
+        spelled_read n spelled,
+        le-leb least (p * 16 + r) low,
+      ) refl
 
   -- ---- exit items
 
@@ -152,21 +167,29 @@ module _ (names : DeclaredNames) (trace : Trace) (header : IsHeader names trace)
 
   -- ---- charges
 
-  pub kernel_read : (b c : ℕ) (rd : Reading) → b < 2 ^ 64 → c < 2 ^ 64 → kernel_line rd (words_of (line_of (kernel_charge_words b c))) ≡ Some (add_kernel (record { first = b; second = c }) rd)
+  kernel_words : (b c : ℕ) (rd : Reading) → b < 2 ^ 64 → c < 2 ^ 64 → kernel_line rd (kernel_charge_words b c) ≡ Some (add_kernel (record { first = b; second = c }) rd)
   unfolding kernel_line pair_at
-  kernel_read b c rd small below =
-      rw (read_back (kernel_charge_words b c) (omega arith) (kernel_plain names trace header b c small below), number_read (2 ^ 64) b small (omega arith), number_read (2 ^ 64) c below (omega arith)) refl
+  kernel_words b c rd small below = rw (number_read (2 ^ 64) b small (omega arith), number_read (2 ^ 64) c below (omega arith)) refl
+
+  pub kernel_read : (b c : ℕ) (rd : Reading) → b < 2 ^ 64 → c < 2 ^ 64 → kernel_line rd (words_of (line_of (kernel_charge_words b c))) ≡ Some (add_kernel (record { first = b; second = c }) rd)
+  kernel_read b c rd small below = ap (kernel_line rd) (read_back (kernel_charge_words b c) (omega arith) (kernel_plain names trace header b c small below)) ∙ kernel_words b c rd small below
+
+  limit_words : (k m used max : ℕ) (rd : Reading) → used < 2 ^ 64 → max < 2 ^ 40 → limit_line names k m rd (limit_charge_words (word_at names.limits m) used max) ≡ Some (add_limit k (record { first = used; second = max }) rd)
+  unfolding limit_line pair_at
+  limit_words k m used max rd small below = rw (itself (word_at names.limits m), number_read (2 ^ 64) used small (omega arith), number_read (2 ^ 40) max below (omega arith)) refl
 
   pub limit_read : (k m used max : ℕ) (rd : Reading) → m < length trace.limits → used < 2 ^ 64 → max < 2 ^ 40 →
       limit_line names k m rd (words_of (line_of (limit_charge_words (word_at names.limits m) used max))) ≡ Some (add_limit k (record { first = used; second = max }) rd)
-  unfolding limit_line pair_at
   limit_read k m used max rd known small below =
-      rw (read_back (limit_charge_words (word_at names.limits m) used max) (omega arith) (limit_line_plain names trace header m used max known small below), itself (word_at names.limits m), number_read (2 ^ 64) used small (omega arith), number_read (2 ^ 40) max below (omega arith)) refl
+      ap (limit_line names k m rd) (read_back (limit_charge_words (word_at names.limits m) used max) (omega arith) (limit_line_plain names trace header m used max known small below)) ∙ limit_words k m used max rd small below
+
+  process_words : (k p charge : ℕ) (rd : Reading) → charge < 2 ^ 64 → process_line names k p rd (process_charge_words (word_at names.procs p) charge) ≡ Some (add_process k charge rd)
+  unfolding process_line
+  process_words k p charge rd small = rw (itself (word_at names.procs p), number_read (2 ^ 64) charge small (omega arith)) refl
 
   pub process_read : (k p charge : ℕ) (rd : Reading) → p < process_count trace → charge < 2 ^ 64 → process_line names k p rd (words_of (line_of (process_charge_words (word_at names.procs p) charge))) ≡ Some (add_process k charge rd)
-  unfolding process_line
   process_read k p charge rd known small =
-      rw (read_back (process_charge_words (word_at names.procs p) charge) (omega arith) (process_line_plain names trace header p charge known small), itself (word_at names.procs p), number_read (2 ^ 64) charge small (omega arith)) refl
+      ap (process_line names k p rd) (read_back (process_charge_words (word_at names.procs p) charge) (omega arith) (process_line_plain names trace header p charge known small)) ∙ process_words k p charge rd small
 
   phase_read : (name bytes : Text) (phase : Phase) → IsSpelledPhase trace phase → phase_of_words names (codes "shared" ∷ name ∷ bytes ∷ phase_words names phase) ≡ Some phase
   unfolding phase_of_words bare_phase phase_with phase_words
@@ -179,5 +202,9 @@ module _ (names : DeclaredNames) (trace : Trace) (header : IsHeader names trace)
       heap_line names k s rd (words_of (line_of (shared_charge_words names (word_at names.shared s) bytes phase))) ≡ Some (add_heap k bytes phase rd)
   unfolding heap_line
   heap_line_read k s bytes phase rd known small spelled =
-      rw (read_back (shared_charge_words names (word_at names.shared s) bytes phase) (omega arith) (heap_line_plain names trace header s bytes phase known small spelled), itself (word_at names.shared s), number_read (2 ^ 64) bytes small (omega arith),
-        phase_read (word_at names.shared s) (decimal bytes) phase spelled) refl
+      rw (
+        read_back (shared_charge_words names (word_at names.shared s) bytes phase) (omega arith) (heap_line_plain names trace header s bytes phase known small spelled),
+        itself (word_at names.shared s),
+        number_read (2 ^ 64) bytes small (omega arith),
+        phase_read (word_at names.shared s) (decimal bytes) phase spelled,
+      ) refl

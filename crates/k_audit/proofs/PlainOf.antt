@@ -28,7 +28,7 @@ declared_of trace rules o spelled = record {
   ty = spelled.typed.declared;
   fields =
       let kinds : length (map field_kind o.fields) ≡ length (kinds_by trace o.ty) = ap length spelled.typed.kinds in
-      let same = length-map field_kind o.fields in
+      let same = length-map o.fields field_kind in
       let few = few_kinds trace rules o.ty in
       omega (arith, kinds, same, few);
   seg = spelled.name.known;
@@ -78,13 +78,14 @@ object_lines_all names (h ∷ owners) [] same = absurd (omega (arith, same))
 object_lines_all names (h ∷ owners) (o ∷ objects) same = ap suc (object_lines_all names owners objects (omega (arith, same)))
 
 parts_within : {A : Type 0} (s m gr ro ex : A) (g ml ol rl el rest : List A) →
-    (length ol ≤ length (s ∷ g ++ m ∷ ml ++ gr ∷ ol ++ ro ∷ rl ++ ex ∷ el ++ rest)) × (length el ≤ length (s ∷ g ++ m ∷ ml ++ gr ∷ ol ++ ro ∷ rl ++ ex ∷ el ++ rest))
+    (length ol ≤ length (s ∷ (g ++ (m ∷ (ml ++ (gr ∷ (ol ++ (ro ∷ (rl ++ (ex ∷ (el ++ rest)))))))))))
+    × (length el ≤ length (s ∷ (g ++ (m ∷ (ml ++ (gr ∷ (ol ++ (ro ∷ (rl ++ (ex ∷ (el ++ rest)))))))))))
 parts_within s m gr ro ex g ml ol rl el rest =
     let a = length-append el rest in
-    let b = length-append rl (ex ∷ el ++ rest) in
-    let c = length-append ol (ro ∷ rl ++ ex ∷ el ++ rest) in
-    let d = length-append ml (gr ∷ ol ++ ro ∷ rl ++ ex ∷ el ++ rest) in
-    let e = length-append g (m ∷ ml ++ gr ∷ ol ++ ro ∷ rl ++ ex ∷ el ++ rest) in
+    let b = length-append rl (ex ∷ (el ++ rest)) in
+    let c = length-append ol (ro ∷ (rl ++ (ex ∷ (el ++ rest)))) in
+    let d = length-append ml (gr ∷ (ol ++ (ro ∷ (rl ++ (ex ∷ (el ++ rest)))))) in
+    let e = length-append g (m ∷ (ml ++ (gr ∷ (ol ++ (ro ∷ (rl ++ (ex ∷ (el ++ rest)))))))) in
     (omega (arith, a, b, c, d, e), omega (arith, a, b, c, d, e))
 
 -- no more than the bytes of the text
@@ -94,10 +95,10 @@ few_in_text names trace snap bytes spelled text few =
     let lines = lines_in_text (snap_lines names trace snap) in
     let same = ap length text in
     let objects = object_lines_all names snap.claims.owners snap.state.objects spelled.claims.owners in
-    let exits = length-map (exit_line names) snap.state.exits in
+    let exits = length-map snap.state.exits (exit_line names) in
     let within = parts_within {A = List Text} (codes "snapshot" ∷ codes "1" ∷ []) (codes "made" ∷ []) (codes "graph" ∷ []) (codes "roots" ∷ []) (codes "exits" ∷ [])
     (map (gone_words names) snap.state.ended) (made_lines names 0 snap.state.made) (object_lines names snap.claims.owners snap.state.objects) (root_lines names trace snap.state) (map (exit_line names) snap.state.exits)
-    ((codes "shares" ∷ []) ∷ map (share_words names) snap.state.shares ++ (codes "charges" ∷ []) ∷ charge_lines names snap ++ (codes "end" ∷ []) ∷ []) in
+    ((codes "shares" ∷ []) ∷ (map (share_words names) snap.state.shares ++ ((codes "charges" ∷ []) ∷ (charge_lines names snap ++ ((codes "end" ∷ []) ∷ []))))) in
     let first = within.0 in
     let second = within.1 in
     (omega (arith, lines, same, objects, first, few), omega (arith, lines, same, exits, second, few))

@@ -21,7 +21,7 @@ take_front xs ys zero low = refl
 take_front [] ys (suc m) low = absurd (omega (arith, low))
 take_front (x ∷ xs) ys (suc m) low = ap (λ zs. x ∷ zs) (take_front xs ys m (omega (arith, low)))
 
-take_through : {A : Type 0} (xs : List A) (x : A) (ys : List A) → take (1 + length xs) (xs ++ x ∷ ys) ≡ xs ++ x ∷ []
+take_through : {A : Type 0} (xs : List A) (x : A) (ys : List A) → take (suc (length xs)) (xs ++ x ∷ ys) ≡ xs ++ x ∷ []
 take_through [] x ys = refl
 take_through (y ∷ xs) x ys = ap (λ zs. y ∷ zs) (take_through xs x ys)
 
@@ -105,7 +105,7 @@ pub record AreReaderLaws (names : DeclaredNames) (trace : Trace) : Type 0 where
   pub sound : CompletesRead names trace
   pub lines : (snap : Snap) → IsSpelledSnap trace snap → HasItsLines names trace snap
 
-run_append : (names : DeclaredNames) (trace : Trace) (rd : Reading) (xs ys : List Text) → run names trace rd (xs ++ ys) ≡ option_and_then (λ next. run names trace next ys) (run names trace rd xs)
+pub run_append : (names : DeclaredNames) (trace : Trace) (rd : Reading) (xs ys : List Text) → run names trace rd (xs ++ ys) ≡ option_and_then (λ next. run names trace next ys) (run names trace rd xs)
 run_append names trace rd [] ys = refl
 run_append names trace rd (x ∷ xs) ys =
     elim (read_line names trace rd x) as (λ o. option_and_then (λ next. run names trace next (xs ++ ys)) o
@@ -233,7 +233,7 @@ module _ (names : DeclaredNames) (trace : Trace) where
       absurd (omega (arith, there, long, all, at))
   past_front laws bytes n front (line ∷ rest) end parts read at stuck fits =
       let lines = line_bytes names trace fits.snap in
-      let taken : take n (fed_lines bytes) ≡ front ++ line ∷ [] = ap (λ (ls : List Text). take n ls) (sym parts) ∙ ap (λ k. take k (front ++ line ∷ rest)) at ∙ take_through front line rest in
+      let taken : take n (fed_lines bytes) ≡ front ++ line ∷ [] = ap (λ (ls : List Text). take n ls) (sym parts) ∙ ap (λ k. take k (front ++ line ∷ rest)) (let e : n ≡ suc (length front) = omega (arith, at) in e) ∙ take_through front line rest in
       let whole : run names trace (unread trace) (take n lines ++ drop n lines) ≡ Some (read_whole fits.snap) = ap (run names trace (unread trace)) (take_and_drop n lines) ∙ laws.complete fits.snap fits.spelled in
       let some = front_read names trace (unread trace) (read_whole fits.snap) (take n lines) (drop n lines) whole in
       let first : run names trace (unread trace) (front ++ line ∷ []) ≡ Some some.0 = ap (run names trace (unread trace)) (sym taken ∙ fits.same) ∙ some.1 in

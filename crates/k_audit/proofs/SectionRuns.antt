@@ -17,7 +17,6 @@ use Rattle.k_audit.specs.Claims.{Claims, Snap}
 use Rattle.k_audit.specs.Grammar.{AreExitsFrom, AreRisingFrom, IsAfter, IsNumber, IsSpelledExit, IsSpelledObject, IsSpelledPhase, IsSpelledShare, share_place}
 use Rattle.k_audit.specs.Lines.{exit_line as exit_words, gone_words, heap_lines, limit_lines, made_lines, made_words, object_lines, process_lines, share_words}
 use Rattle.k_audit.specs.Reading.{Reading, charge_line, read_at, read_line}
-use Rattle.k_audit.specs.declared.places.Place.{Place}
 use Rattle.k_audit.specs.declared.places.Place.TheVariants.{Start, Gone, Made, Graph, Roots, Exits, Shares, Charges, Over}
 use Rattle.k_audit.proofs.LinesRead.{exit_read, gone_read, heap_line_read, kernel_read, limit_read, made_read, object_line_read, process_read, share_read}
 use Rattle.k_audit.proofs.Plainly.{IsHeader, line_of}
@@ -46,7 +45,7 @@ module _ (names : DeclaredNames) (trace : Trace) (header : IsHeader names trace)
   unfolding read_at
   run_gone snap before [] least rising known = ap (λ (qs : List ℕ). Some (record { place = Gone least; snap = with_ended snap qs })) (sym (append-nil before))
   run_gone snap before (p ∷ ps) least rising known =
-      one_more _ (record { place = Gone (p + 1); snap = with_ended snap (before ++ p ∷ []) }) _ _ (gone_read names trace header p least (record { place = Gone least; snap = with_ended snap before }) known.0 rising.0)
+      one_more (record { place = Gone least; snap = with_ended snap before }) (record { place = Gone (p + 1); snap = with_ended snap (before ++ p ∷ []) }) (line_of (gone_words names p)) (lines_of (map (gone_words names) ps)) (gone_read names trace header p least (record { place = Gone least; snap = with_ended snap before }) known.0 rising.0)
       ∙ run_gone snap (before ++ p ∷ []) ps (p + 1) rising.1 known.1
       ∙ ap (λ (qs : List ℕ). Some (record { place = Gone (gone_after (p + 1) ps); snap = with_ended snap qs })) (append_assoc before (p ∷ []) ps)
 
@@ -64,7 +63,7 @@ module _ (names : DeclaredNames) (trace : Trace) (header : IsHeader names trace)
   run_made snap before (n ∷ ns) seg long small =
       let next : seg + 1 ≡ 1 + seg = omega arith in
       let last : seg + 1 + length ns ≡ seg + length (n ∷ ns) = omega arith in
-      one_more _ (record { place = Made (seg + 1); snap = with_made snap (before ++ n ∷ []) }) _ _ (made_read names trace header seg n (record { place = Made seg; snap = with_made snap before }) (omega (arith, long)) small.0)
+      one_more (record { place = Made seg; snap = with_made snap before }) (record { place = Made (seg + 1); snap = with_made snap (before ++ n ∷ []) }) (line_of (made_words names seg n)) (lines_of (made_lines names (1 + seg) ns)) (made_read names trace header seg n (record { place = Made seg; snap = with_made snap before }) (omega (arith, long)) small.0)
       ∙ ap (λ k. run names trace (record { place = Made (seg + 1); snap = with_made snap (before ++ n ∷ []) }) (lines_of (made_lines names k ns))) (sym next)
       ∙ run_made snap (before ++ n ∷ []) ns (seg + 1) (omega (arith, long)) small.1
       ∙ ap (λ (qs : List ℕ). Some (record { place = Made (seg + 1 + length ns); snap = with_made snap qs })) (append_assoc before (n ∷ []) ns)
@@ -100,7 +99,7 @@ module _ (names : DeclaredNames) (trace : Trace) (header : IsHeader names trace)
   run_objects snap first [] before (o ∷ objects) last same known spelled after = absurd (omega (arith, same))
   run_objects snap first (h ∷ owners) before [] last same known spelled after = absurd (omega (arith, same))
   run_objects snap first (h ∷ owners) before (o ∷ objects) last same known spelled after =
-      one_more _ (record { place = Graph (Some o.name); snap = with_objects snap (first ++ h ∷ []) (before ++ o ∷ []) }) _ _
+      one_more (record { place = Graph last; snap = with_objects snap first before }) (record { place = Graph (Some o.name); snap = with_objects snap (first ++ h ∷ []) (before ++ o ∷ []) }) (line_of (object_words names h o)) (lines_of (object_lines names owners objects))
       (object_line_read names trace header h o last (record { place = Graph last; snap = with_objects snap first before }) known.0 spelled.0 after.0)
       ∙ run_objects snap (first ++ h ∷ []) owners (before ++ o ∷ []) objects (Some o.name) (omega (arith, same)) known.1 spelled.1 after.1
       ∙ rw (append_assoc first (h ∷ []) owners, append_assoc before (o ∷ []) objects) refl
@@ -110,19 +109,23 @@ module _ (names : DeclaredNames) (trace : Trace) (header : IsHeader names trace)
   abbrev pub with_exits : Snap → List ExitItem → Snap
   with_exits snap es = record snap { state = record snap.state { exits = es } }
 
-  abbrev pub exits_after : Place → List ExitItem → Place
-  exits_after place [] = place
-  exits_after place (e ∷ exits) = exits_after (Exits (segment_of trace e.heap) (Some e.target)) exits
+  abbrev pub segment_after : ℕ → List ExitItem → ℕ
+  segment_after seg [] = seg
+  segment_after seg (e ∷ exits) = segment_after (segment_of trace e.heap) exits
+
+  abbrev pub target_after : Option Name → List ExitItem → Option Name
+  target_after last [] = last
+  target_after last (e ∷ exits) = target_after (Some e.target) exits
 
   pub run_exits : (snap : Snap) (before es : List ExitItem) (seg : ℕ) (last : Option Name) → AreExitsFrom trace seg last es → AllByRecursion (IsSpelledExit trace) es →
-      run names trace (record { place = Exits seg last; snap = with_exits snap before }) (lines_of (map (exit_words names) es)) ≡ Some (record { place = exits_after (Exits seg last) es; snap = with_exits snap (before ++ es) })
+      run names trace (record { place = Exits seg last; snap = with_exits snap before }) (lines_of (map (exit_words names) es)) ≡ Some (record { place = Exits (segment_after seg es) (target_after last es); snap = with_exits snap (before ++ es) })
   unfolding read_at
   run_exits snap before [] seg last ordered spelled = ap (λ (qs : List ExitItem). Some (record { place = Exits seg last; snap = with_exits snap qs })) (sym (append-nil before))
   run_exits snap before (e ∷ es) seg last ordered spelled =
-      one_more _ (record { place = Exits (segment_of trace e.heap) (Some e.target); snap = with_exits snap (before ++ e ∷ []) }) _ _
+      one_more (record { place = Exits seg last; snap = with_exits snap before }) (record { place = Exits (segment_of trace e.heap) (Some e.target); snap = with_exits snap (before ++ e ∷ []) }) (line_of (exit_words names e)) (lines_of (map (exit_words names) es))
       (exit_read names trace header e seg last (record { place = Exits seg last; snap = with_exits snap before }) spelled.0 ordered.0)
       ∙ run_exits snap (before ++ e ∷ []) es (segment_of trace e.heap) (Some e.target) ordered.1 spelled.1
-      ∙ ap (λ (qs : List ExitItem). Some (record { place = exits_after (Exits (segment_of trace e.heap) (Some e.target)) es; snap = with_exits snap qs })) (append_assoc before (e ∷ []) es)
+      ∙ ap (λ (qs : List ExitItem). Some (record { place = Exits (segment_after (segment_of trace e.heap) es) (target_after (Some e.target) es); snap = with_exits snap qs })) (append_assoc before (e ∷ []) es)
 
   -- ---- shares
 
@@ -138,6 +141,6 @@ module _ (names : DeclaredNames) (trace : Trace) (header : IsHeader names trace)
   unfolding read_at
   run_shares snap before [] least rising spelled = ap (λ (qs : List Sharing). Some (record { place = Shares least; snap = with_shares snap qs })) (sym (append-nil before))
   run_shares snap before (e ∷ es) least rising spelled =
-      one_more _ (record { place = Shares (share_place trace e + 1); snap = with_shares snap (before ++ e ∷ []) }) _ _ (share_read names trace header e least (record { place = Shares least; snap = with_shares snap before }) spelled.0 rising.0)
+      one_more (record { place = Shares least; snap = with_shares snap before }) (record { place = Shares (share_place trace e + 1); snap = with_shares snap (before ++ e ∷ []) }) (line_of (share_words names e)) (lines_of (map (share_words names) es)) (share_read names trace header e least (record { place = Shares least; snap = with_shares snap before }) spelled.0 rising.0)
       ∙ run_shares snap (before ++ e ∷ []) es (share_place trace e + 1) rising.1 spelled.1
       ∙ ap (λ (qs : List Sharing). Some (record { place = Shares (shares_after (share_place trace e + 1) es); snap = with_shares snap qs })) (append_assoc before (e ∷ []) es)

@@ -67,23 +67,28 @@ heap_lines names s claimed [] = []
 -- The lines of the charges: the kernel's, and those of the limits, the processes and the shared heaps.
 abbrev pub charge_lines : DeclaredNames → Snap → List (List Text)
 charge_lines names snap =
-    kernel_charge_words snap.claims.kernel snap.claims.ceiling
-    ∷ limit_lines names 0 snap.claims.uses snap.state.maxima
-    ++ process_lines names 0 snap.claims.charges
-    ++ heap_lines names 0 snap.claims.shared_bytes snap.state.phases
+    flat_map (λ lines. lines)
+    ((kernel_charge_words snap.claims.kernel snap.claims.ceiling ∷ limit_lines names 0 snap.claims.uses snap.state.maxima)
+    ∷ process_lines names 0 snap.claims.charges
+    ∷ heap_lines names 0 snap.claims.shared_bytes snap.state.phases
+    ∷ [])
+
+-- The sections of a snapshot, each with its heading.
+abbrev pub sections : DeclaredNames → Trace → Snap → List (List (List Text))
+sections names trace snap =
+    ((codes "snapshot" ∷ codes "1" ∷ []) ∷ map (gone_words names) snap.state.ended)
+    ∷ (heading (codes "made") ∷ made_lines names 0 snap.state.made)
+    ∷ (heading (codes "graph") ∷ object_lines names snap.claims.owners snap.state.objects)
+    ∷ (heading (codes "roots") ∷ root_lines names trace snap.state)
+    ∷ (heading (codes "exits") ∷ map (exit_line names) snap.state.exits)
+    ∷ (heading (codes "shares") ∷ map (share_words names) snap.state.shares)
+    ∷ (heading (codes "charges") ∷ charge_lines names snap)
+    ∷ (heading (codes "end") ∷ [])
+    ∷ []
 
 -- The lines of a snapshot.
 abbrev pub snap_lines : DeclaredNames → Trace → Snap → List (List Text)
-snap_lines names trace snap =
-    (codes "snapshot" ∷ codes "1" ∷ [])
-    ∷ map (gone_words names) snap.state.ended
-    ++ heading (codes "made") ∷ made_lines names 0 snap.state.made
-    ++ heading (codes "graph") ∷ object_lines names snap.claims.owners snap.state.objects
-    ++ heading (codes "roots") ∷ root_lines names trace snap.state
-    ++ heading (codes "exits") ∷ map (exit_line names) snap.state.exits
-    ++ heading (codes "shares") ∷ map (share_words names) snap.state.shares
-    ++ heading (codes "charges") ∷ charge_lines names snap
-    ++ heading (codes "end") ∷ []
+snap_lines names trace snap = flat_map (λ lines. lines) (sections names trace snap)
 
 -- Its text, in which each line ends with a line feed.
 abbrev pub snap_text : DeclaredNames → Trace → Snap → Text

@@ -91,7 +91,7 @@ pub fn read_snapshot(
     let mut number: u32 = 1;
     while !rest.is_empty() {
         let end = find(rest, b'\n');
-        if end == rest.len() {
+        if end >= rest.len() {
             return Err(SnapshotError::Bad(number));
         }
         if !reader.take_line(alloc, setup, names, &rest[..end])? {

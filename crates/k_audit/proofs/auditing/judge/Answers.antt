@@ -1,6 +1,7 @@
 use Rattle.std.proofs.Common.{◌∙◌, [], Option, ap, subst, sym, refl, arith, ℕ}
 use Rattle.std.specs.Prelude.{IfOk}
 use Rattle.std.proofs.lemmas.Bool.{false≢true}
+use Rattle.k_types.specs.Sound.{AreNumbered}
 use Rattle.k_types.specs.Trace.{trace_of}
 use Rattle.k_state.specs.Machines.{Machine}
 use Rattle.k_audit.specs.Claims.{Snap}
@@ -22,4 +23,4 @@ returns-then-not-are_numbered c =
       uses = λ lt. absurd (omega (arith, lt));
       claims = λ lt. absurd (omega (arith, lt));
     })
-    (λ holds. false≢true (sym c.if-not-are_numbered.true ∙ c.are_numbered.ensures.1 (holds.names refl).numbered))
+    (λ holds. false≢true (sym c.if-not-are_numbered.true ∙ c.are_numbered.ensures.1 (subst (λ (s : Snap). AreNumbered s.state.objects s.state.made) (sym c.snapshot.view_is) (holds.names refl).numbered)))
