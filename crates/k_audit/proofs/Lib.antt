@@ -24,3 +24,5 @@ mod RootRuns
 mod ReadsSpelled
 mod ItsLines
 mod ReaderLaws
+mod WordsBack
+mod Begun

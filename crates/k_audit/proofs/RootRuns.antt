@@ -68,7 +68,7 @@ unfolding roots_of_process register_numbers
 process_lines names st p row is long =
     ap (λ (r : List (Option Name)). flat_map (λ k. one_root names p k (get_or r k None)) (numbers_below 16)) is
     ∙ ap (λ n. flat_map (λ k. one_root names p k (get_or row k None)) (numbers_from 0 n)) (sym long)
-    ∙ row_from names p 0 row row (λ i inside. refl)
+    ∙ row_from names p 0 row row (λ i inside. ap (λ k. get_or row k None) (let e : 0 + i ≡ i = omega arith in e))
 
 rows_from : (names : DeclaredNames) (st : State) (p : ℕ) (rows : List (List (Option Name))) → ((i : ℕ) → i < length rows → get_or st.registers (p + i) [] ≡ get_or rows i []) → ((i : ℕ) → i < length rows → length (get_or rows i []) ≡ 16) →
     flat_map (roots_of_process names st) (numbers_from p (length rows)) ≡ rows_lines names p rows
@@ -84,7 +84,7 @@ rows_from names st p (row ∷ rows) same each =
 pub all_rows : (names : DeclaredNames) (trace : Trace) (st : State) → length st.registers ≡ process_count trace → ((p : ℕ) → p < process_count trace → length (get_or st.registers p []) ≡ 16) → root_lines names trace st ≡ rows_lines names 0 st.registers
 all_rows names trace st long each =
     ap (λ n. flat_map (roots_of_process names st) (numbers_from 0 n)) (sym long)
-    ∙ rows_from names st 0 st.registers (λ i inside. refl) (λ i inside. each i (omega (arith, inside, long)))
+    ∙ rows_from names st 0 st.registers (λ i inside. ap (λ k. get_or st.registers k []) (let e : 0 + i ≡ i = omega arith in e)) (λ i inside. each i (omega (arith, inside, long)))
 
 -- ---- the reading
 
@@ -158,7 +158,7 @@ module _ (names : DeclaredNames) (trace : Trace) (header : IsHeader names trace)
       AreRowsRead snap done rows least p
   run_rows snap done [] least p here long sixteen spelled low = record { next = least; read = refl }
   run_rows snap done (row ∷ rows) least p here long sixteen spelled low =
-      let one = run_row snap done [] row (blanks rows) least p 0 here refl (omega (arith, long)) sixteen.0 spelled.0 (omega (arith, low)) in
+      let one = run_row snap done [] row (blanks rows) least p 0 here refl (omega (arith, long)) (let s = sixteen.0 in omega (arith, s)) spelled.0 (omega (arith, low)) in
       let more = run_rows snap (done ++ row ∷ []) rows one.next (suc p) (let l = length-append done (row ∷ []) in omega (arith, here, l)) (omega (arith, long)) sixteen.1 spelled.1 (let l = one.low in let s = sixteen.0 in omega (arith, l, s)) in
       let shift : (rest : List (List (Option Name))) → (done ++ row ∷ []) ++ rest ≡ done ++ row ∷ rest = λ rest. append_assoc done (row ∷ []) rest in
       let start : Reading = record { place = Roots least; snap = with_registers snap (done ++ blanks (row ∷ rows)) } in

@@ -10,7 +10,9 @@ use Rattle.k_trace.specs.Named.{DeclaredNames}
 use Rattle.k_audit.specs.Claims.{Snap}
 use Rattle.k_audit.specs.Grammar.{IsSpelledSnap}
 use Rattle.k_audit.specs.Lines.{snap_lines, snap_text}
-use Rattle.k_audit.specs.Reading.{Reading, end_of, is_over, is_whole, read_line, read_lines, unread}
+use Rattle.k_audit.specs.declared.errors.SnapshotError.{SnapshotError}
+use Rattle.k_audit.specs.declared.errors.SnapshotError.TheVariants.{Bad}
+use Rattle.k_audit.specs.Reading.{Reading, ReadsSnap, end_of, is_over, is_whole, read_line, read_lines, unread}
 use Rattle.k_audit.specs.Verdicts.{Fits, IsBadLine, Spells, fed_lines, onto_fed}
 use Rattle.k_audit.specs.declared.places.Place.TheVariants.{Over}
 
@@ -280,3 +282,8 @@ module _ (names : DeclaredNames) (trace : Trace) where
         before = λ m lt. front_fits laws bytes stop.front stop.rest stop.end m stop.parts stop.read (let at = stop.at in omega (arith, at, lt));
         here = past_front laws bytes n stop.front stop.rest stop.end stop.parts stop.read stop.at stop.stuck;
       }
+
+  -- the same of the answer of the call
+  pub bad_answer : AreReaderLaws names trace → (bytes : Text) (e : SnapshotError) (n : ℕ) → e ≡ Bad n → ReadsSnap (Err e) (read_lines names trace (is_whole bytes) (Some (unread trace)) 1 (fed_lines bytes)) → IsBadLine names trace bytes n
+  bad_answer laws bytes e n is read =
+      err_is_bad laws bytes n (subst (λ (x : SnapshotError). ReadsSnap (Err x) (read_lines names trace (is_whole bytes) (Some (unread trace)) 1 (fed_lines bytes))) is read)

@@ -40,16 +40,16 @@ loop-rest-preserved c =
 pub returns-then-is_over : goal.returns-then-is_over
 returns-then-is_over c =
     let none : length c.loop-rest.rest.now ≡ 0 = eqb-true _ _ (sym c.loop-rest-test.ensures) in
-    let over : is_over c.loop-rest.reader.place ≡ true = ap (λ (r : Reading). is_over r.place) (sym c.reader.view_is) ∙ sym c.is_over.ensures ∙ c.if-is_over.true in
+    let over : is_over c.loop-rest.reader.place ≡ true = ap (λ (r : Reading). is_over r.place) (sym c.reader-2.view_is) ∙ sym c.is_over.ensures ∙ c.if-is_over.true in
     c.loop-rest.invariant.read
     ∙ lines_end c.args.names.now (trace_of c.args.setup.now [] []) c.loop-rest.reader c.loop-rest.number c.loop-rest.rest.now none
     ∙ over_then c.loop-rest.reader c.loop-rest.number true over
-    ∙ ap (λ (r : Reading). let x : Result Snap ℕ = Ok r.snap in x) (sym c.reader.view_is)
+    ∙ ap (λ (r : Reading). let x : Result Snap ℕ = Ok r.snap in x) (sym c.reader-2.view_is)
 
 pub returns-else-is_over : goal.returns-else-is_over
 returns-else-is_over c =
     let none : length c.loop-rest.rest.now ≡ 0 = eqb-true _ _ (sym c.loop-rest-test.ensures) in
-    let over : is_over c.loop-rest.reader.place ≡ false = ap (λ (r : Reading). is_over r.place) (sym c.reader.view_is) ∙ sym c.is_over.ensures ∙ c.if-is_over.false in
+    let over : is_over c.loop-rest.reader.place ≡ false = ap (λ (r : Reading). is_over r.place) (sym c.reader-2.view_is) ∙ sym c.is_over.ensures ∙ c.if-is_over.false in
     c.loop-rest.invariant.read
     ∙ lines_end c.args.names.now (trace_of c.args.setup.now [] []) c.loop-rest.reader c.loop-rest.number c.loop-rest.rest.now none
     ∙ over_then c.loop-rest.reader c.loop-rest.number false over
