@@ -26,3 +26,4 @@ mod ItsLines
 mod ReaderLaws
 mod WordsBack
 mod Begun
+mod Stages

@@ -1,6 +1,7 @@
-use Rattle.std.proofs.Common.{◌≡◌, [], ℕ, Option, subst}
+use Rattle.std.proofs.Common.{◌≡◌, [], ℕ, Option, subst, sym}
 use Rattle.k_types.specs.Trace.{trace_of}
 use Rattle.k_audit.specs.Judged.{IsJudged}
+use Rattle.k_audit.specs.Verdicts.{IsBadLine}
 use Rattle.k_audit.proofs.PlainOf.{few_in_text}
 use Rattle.k_audit.proofs.ReaderLaws.{reader_laws}
 use Rattle.k_audit.proofs.Runs.{bad_answer, ok_is_spelled}
@@ -11,7 +12,7 @@ returns-in-Err-Bad c =
     let names = c.args.names.now in
     let trace = trace_of c.args.setup.now [] [] in
     let laws = reader_laws names trace (record { rules = c.requires.rules; named = c.requires.named; proper = c.requires.proper }) in
-    bad_answer names trace laws c.args.bytes.now c.in-Err-Bad.field-0 _ c.in-Err-Bad.field-0-is c.in-Err-Bad.ensures
+    subst (IsBadLine names trace c.args.bytes.now) (sym c.in-Err-Bad.line-is) (bad_answer names trace laws c.args.bytes.now c.in-Err-Bad.field-0 c.in-Err-Bad.line c.in-Err-Bad.field-0-is c.in-Err-Bad.ensures)
 
 pub judge-requires-clause-spelled : goal.judge-requires-clause-spelled
 judge-requires-clause-spelled c =
