@@ -33,19 +33,19 @@ module _ (names : DeclaredNames) (trace : Trace) (header : IsHeader names trace)
 
   -- ---- which line stands where
 
-  at_limit : (k m : ℕ) (rd : Reading) (line : Text) → k ≡ 1 + m → m < limits → charge_line names trace k rd line ≡ limit_line names k m rd (words_of line)
+  pub at_limit : (k m : ℕ) (rd : Reading) (line : Text) → k ≡ 1 + m → m < limits → charge_line names trace k rd line ≡ limit_line names k m rd (words_of line)
   unfolding charge_line
   at_limit k m rd line is known =
       let back : k - 1 ≡ m = omega (arith, is) in
       rw (not_zero k (omega (arith, is)), le-leb k limits (omega (arith, is, known)), back) refl
 
-  at_process : (k p : ℕ) (rd : Reading) (line : Text) → k ≡ 1 + limits + p → p < procs → charge_line names trace k rd line ≡ process_line names k p rd (words_of line)
+  pub at_process : (k p : ℕ) (rd : Reading) (line : Text) → k ≡ 1 + limits + p → p < procs → charge_line names trace k rd line ≡ process_line names k p rd (words_of line)
   unfolding charge_line
   at_process k p rd line is known =
       let back : k - 1 - limits ≡ p = omega (arith, is) in
       rw (not_zero k (omega (arith, is)), not_le k limits (omega (arith, is)), le-leb k (limits + procs) (omega (arith, is, known)), back) refl
 
-  at_heap : (k s : ℕ) (rd : Reading) (line : Text) → k ≡ 1 + limits + procs + s → s < trace.shared_heaps → charge_line names trace k rd line ≡ heap_line names k s rd (words_of line)
+  pub at_heap : (k s : ℕ) (rd : Reading) (line : Text) → k ≡ 1 + limits + procs + s → s < trace.shared_heaps → charge_line names trace k rd line ≡ heap_line names k s rd (words_of line)
   unfolding charge_line
   at_heap k s rd line is known =
       let back : k - 1 - limits - procs ≡ s = omega (arith, is) in

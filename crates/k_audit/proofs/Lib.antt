@@ -27,3 +27,5 @@ mod ReaderLaws
 mod WordsBack
 mod Begun
 mod Stages
+mod ChargesBack
+mod RowsSet

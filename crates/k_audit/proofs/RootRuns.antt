@@ -36,7 +36,7 @@ set_length (x ∷ xs) y z ys = ap (λ zs. x ∷ zs) (set_length xs y z ys)
 -- ---- the lines of a row of registers
 
 -- the line of a register
-abbrev root_words : DeclaredNames → ℕ → ℕ → Name → List Text
+abbrev pub root_words : DeclaredNames → ℕ → ℕ → Name → List Text
 root_words names p r n = word_at names.procs p ∷ register_word r ∷ name_word names n ∷ []
 
 -- the lines of the registers of a process from that one on

@@ -54,7 +54,7 @@ two_words (u ∷ []) a b long x y = absurd cc
 two_words (u ∷ v ∷ []) a b long x y = ap₂ (λ (s : Text) (t : Text). s ∷ t ∷ []) x y
 two_words (u ∷ v ∷ w ∷ ws) a b long x y = absurd (let e = eqb-true (length (u ∷ v ∷ w ∷ ws)) 2 long in omega (arith, e))
 
-three_words : (ws : List Text) (a b c : Text) → (length ws == 3) ≡ true → word_at ws 0 ≡ a → word_at ws 1 ≡ b → word_at ws 2 ≡ c → ws ≡ a ∷ b ∷ c ∷ []
+pub three_words : (ws : List Text) (a b c : Text) → (length ws == 3) ≡ true → word_at ws 0 ≡ a → word_at ws 1 ≡ b → word_at ws 2 ≡ c → ws ≡ a ∷ b ∷ c ∷ []
 three_words [] a b c long x y z = absurd cc
 three_words (u ∷ []) a b c long x y z = absurd cc
 three_words (u ∷ v ∷ []) a b c long x y z = absurd cc
