@@ -29,3 +29,4 @@ mod Begun
 mod Stages
 mod ChargesBack
 mod RowsSet
+mod Steps

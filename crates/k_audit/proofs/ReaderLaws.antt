@@ -3,7 +3,7 @@ use Rattle.k_types.specs.Trace.{Trace}
 use Rattle.k_trace.specs.Named.{DeclaredNames}
 use Rattle.k_audit.proofs.Begun.{completed_spelled}
 use Rattle.k_audit.proofs.ChargesBack.{heap_line_back}
-use Rattle.k_audit.proofs.Stages.{said}
+use Rattle.k_audit.proofs.Steps.{IsStep}
 use Rattle.k_audit.proofs.RowsSet.{rows_null}
 use Rattle.k_audit.proofs.WordsBack.{object_back}
 use Rattle.k_audit.proofs.ItsLines.{its_lines}

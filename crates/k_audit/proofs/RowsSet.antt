@@ -19,7 +19,7 @@ null_row names p r [] null = refl
 null_row names p r (None ∷ row) null = null_row names p (suc r) row (λ j inside. null (suc j) (omega (arith, inside)))
 null_row names p r (Some n ∷ row) null = absurd (let bad : Some n ≡ None = null 0 (omega arith) in cc)
 
-null_rows : (names : DeclaredNames) (p : ℕ) (rows : List (List (Option Name))) → AllByRecursion (λ row. length row ≡ 16) rows → ((i r : ℕ) → i < length rows → r < 16 → get_or (get_or rows i []) r None ≡ None) → rows_lines names p rows ≡ []
+pub null_rows : (names : DeclaredNames) (p : ℕ) (rows : List (List (Option Name))) → AllByRecursion (λ row. length row ≡ 16) rows → ((i r : ℕ) → i < length rows → r < 16 → get_or (get_or rows i []) r None ≡ None) → rows_lines names p rows ≡ []
 null_rows names p [] each null = refl
 null_rows names p (row ∷ rows) each null =
     let sixteen = each.0 in

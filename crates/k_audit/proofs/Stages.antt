@@ -116,34 +116,34 @@ reading_at trace AtOver x = at Over (state_with trace x.ended x.made x.objects x
 
 -- ---- the lines that say it
 
-abbrev part1 : DeclaredNames → Parts → List (List Text)
+abbrev pub part1 : DeclaredNames → Parts → List (List Text)
 part1 names x = (codes "snapshot" ∷ codes "1" ∷ []) ∷ map (gone_words names) x.ended
 
-abbrev part2 : DeclaredNames → Parts → List (List Text)
+abbrev pub part2 : DeclaredNames → Parts → List (List Text)
 part2 names x = part1 names x ++ ((codes "made" ∷ []) ∷ made_lines names 0 x.made)
 
-abbrev part3 : DeclaredNames → Parts → List (List Text)
+abbrev pub part3 : DeclaredNames → Parts → List (List Text)
 part3 names x = part2 names x ++ ((codes "graph" ∷ []) ∷ object_lines names x.owners x.objects)
 
-abbrev part4 : DeclaredNames → Parts → List (List Text)
+abbrev pub part4 : DeclaredNames → Parts → List (List Text)
 part4 names x = part3 names x ++ ((codes "roots" ∷ []) ∷ rows_lines names 0 x.rows)
 
-abbrev part5 : DeclaredNames → Parts → List (List Text)
+abbrev pub part5 : DeclaredNames → Parts → List (List Text)
 part5 names x = part4 names x ++ ((codes "exits" ∷ []) ∷ map (exit_words names) x.exits)
 
-abbrev part6 : DeclaredNames → Parts → List (List Text)
+abbrev pub part6 : DeclaredNames → Parts → List (List Text)
 part6 names x = part5 names x ++ ((codes "shares" ∷ []) ∷ map (share_words names) x.shares)
 
-abbrev part7 : DeclaredNames → Parts → List (List Text)
+abbrev pub part7 : DeclaredNames → Parts → List (List Text)
 part7 names x = part6 names x ++ ((codes "charges" ∷ []) ∷ [])
 
-abbrev part8 : DeclaredNames → Parts → List (List Text)
+abbrev pub part8 : DeclaredNames → Parts → List (List Text)
 part8 names x = part7 names x ++ (kernel_charge_words x.kernel x.ceiling ∷ limit_lines names 0 x.uses x.maxima)
 
-abbrev part9 : DeclaredNames → Parts → List (List Text)
+abbrev pub part9 : DeclaredNames → Parts → List (List Text)
 part9 names x = part8 names x ++ process_lines names 0 x.charges
 
-abbrev part10 : DeclaredNames → Parts → List (List Text)
+abbrev pub part10 : DeclaredNames → Parts → List (List Text)
 part10 names x = part9 names x ++ heap_lines names 0 x.bytes x.phases
 
 abbrev pub said : DeclaredNames → Stage → Parts → List (List Text)
