@@ -30,3 +30,4 @@ mod Stages
 mod ChargesBack
 mod RowsSet
 mod Steps
+mod Completes

@@ -3,7 +3,7 @@ use Rattle.k_types.specs.Trace.{Trace}
 use Rattle.k_trace.specs.Named.{DeclaredNames}
 use Rattle.k_audit.proofs.Begun.{completed_spelled}
 use Rattle.k_audit.proofs.ChargesBack.{heap_line_back}
-use Rattle.k_audit.proofs.Steps.{IsStep}
+use Rattle.k_audit.proofs.Completes.{read_is_completed}
 use Rattle.k_audit.proofs.RowsSet.{rows_null}
 use Rattle.k_audit.proofs.WordsBack.{object_back}
 use Rattle.k_audit.proofs.ItsLines.{its_lines}
@@ -14,6 +14,6 @@ use Rattle.k_audit.proofs.ReadsSpelled.{spelled_is_read}
 pub reader_laws : (names : DeclaredNames) (trace : Trace) → IsHeader names trace → AreReaderLaws names trace
 reader_laws names trace header = record {
   complete = spelled_is_read names trace header;
-  sound = ?;
+  sound = read_is_completed names trace header;
   lines = its_lines names trace header;
 }

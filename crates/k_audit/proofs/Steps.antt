@@ -206,6 +206,22 @@ module _ (names : DeclaredNames) (trace : Trace) (header : IsHeader names trace)
         lines = refl;
       }) e
 
+  pub blank_good : GoodRegisters trace (blank_rows trace)
+  blank_good = record {
+    long = length-replicate {A = List (Option Name)} (process_count trace) (nulls 16);
+    each = all_blank (λ (row : List (Option Name)). length row ≡ 16) (process_count trace) (nulls 16) refl;
+    spelled = all_blank (AllByRecursion (λ (r : Option Name). IfSome r (IsSpelledName trace))) (process_count trace) (nulls 16) (all_blank (λ (r : Option Name). IfSome r (IsSpelledName trace)) 16 None tt);
+  }
+
+  blank_null : AreNullFrom 0 0 (blank_rows trace)
+  blank_null i r inside small low =
+      let long = length-replicate {A = List (Option Name)} (process_count trace) (nulls 16) in
+      ap (λ (row : List (Option Name)). get_or row r None) (get_or-replicate {A = List (Option Name)} (process_count trace) i (nulls 16) [] (omega (arith, inside, long)))
+      ∙ get_or-replicate {A = Option Name} 16 r None None small
+
+  blank_lines : rows_lines names 0 (blank_rows trace) ≡ []
+  blank_lines = null_rows names 0 (blank_rows trace) blank_good.each (λ i r inside small. blank_null i r inside small (omega arith))
+
   graph_step : (x : Parts) (line : Text) (next : Reading) → Upto2 trace x → GoodObjects trace x.owners x.objects → graph_line names trace (graph_after None x.objects) (reading_at trace AtGraph x) line ≡ Some next → Step next line (part3 names x)
   unfolding graph_line
   graph_step x line next two good e =
@@ -246,22 +262,6 @@ module _ (names : DeclaredNames) (trace : Trace) (header : IsHeader names trace)
         line_is = ap line_of (sym back.words) ∙ line_words line;
         lines = behind (part2 names x) (object_lines names x.owners x.objects) (object_lines names owners objects) (codes "graph" ∷ []) (object_words names o.0.owner o.0.object) (objects_last names x.owners x.objects o.0.owner o.0.object good.same);
       }) e
-    where
-      blank_good : GoodRegisters trace (blank_rows trace)
-      blank_good = record {
-        long = length-replicate {A = List (Option Name)} (process_count trace) (nulls 16);
-        each = all_blank (λ (row : List (Option Name)). length row ≡ 16) (process_count trace) (nulls 16) refl;
-        spelled = all_blank (AllByRecursion (λ (r : Option Name). IfSome r (IsSpelledName trace))) (process_count trace) (nulls 16) (all_blank (λ (r : Option Name). IfSome r (IsSpelledName trace)) 16 None tt);
-      }
-
-      blank_null : AreNullFrom 0 0 (blank_rows trace)
-      blank_null i r inside small low =
-          let long = length-replicate {A = List (Option Name)} (process_count trace) (nulls 16) in
-          ap (λ (row : List (Option Name)). get_or row r None) (get_or-replicate {A = List (Option Name)} (process_count trace) i (nulls 16) [] (omega (arith, inside, long)))
-          ∙ get_or-replicate {A = Option Name} 16 r None None small
-
-      blank_lines : rows_lines names 0 (blank_rows trace) ≡ []
-      blank_lines = null_rows names 0 (blank_rows trace) blank_good.each (λ i r inside small. blank_null i r inside small (omega arith))
 
   root_step : (x : Parts) (least : ℕ) (line : Text) (next : Reading) → Upto3 trace x → GoodRegisters trace x.rows → AreNullFrom 0 least x.rows → root_line names least (reading_at trace (AtRoots least) x) line ≡ Some next → Step next line (part4 names x)
   unfolding root_line set_register
@@ -306,7 +306,7 @@ module _ (names : DeclaredNames) (trace : Trace) (header : IsHeader names trace)
         words = root_words names p r n;
         line_is = ap line_of (sym back.3) ∙ line_words line;
         lines = behind (part3 names x) (rows_lines names 0 x.rows) (rows_lines names 0 rows) (codes "roots" ∷ []) (root_words names p r n)
-            (rows_set names 0 p r least n x.rows inside back.1 low good.each null ∙ ap (λ k. rows_lines names 0 x.rows ++ root_words names k r n ∷ []) (let e : 0 + p ≡ p = omega arith in e));
+            (rows_set names 0 p r least n x.rows inside back.1 (let there : least ≤ (0 + p) * 16 + r = omega (arith, low) in there) good.each null ∙ ap (λ k. rows_lines names 0 x.rows ++ root_words names k r n ∷ []) (let e : 0 + p ≡ p = omega arith in e));
       }) e
 
   exit_step : (x : Parts) (line : Text) (next : Reading) → Upto4 trace x → GoodExits trace x.exits → exit_line names trace (segment_after trace 0 x.exits) (target_after None x.exits) (reading_at trace AtExits x) line ≡ Some next → Step next line (part5 names x)
