@@ -1,7 +1,7 @@
 -- How far a reading has come: what is said so far, and that it can be completed.
-use Rattle.std.proofs.Common.{◌≡◌, ◌∙◌, ℕ, zero, suc, ◌+◌, ◌-◌, ◌*◌, ◌^◌, ◌<◌, ◌≤◌, Bool, true, false, List, [], ◌∷◌, ◌++◌, length, map, replicate, get_or, Option, Some, None, refl, sym, ap, ap₂, arith, codes, append_assoc, append-nil, length-append}
+use Rattle.std.proofs.Common.{◌≡◌, ◌∙◌, ℕ, zero, suc, ◌-◌, ◌^◌, ◌<◌, ◌≤◌, Bool, false, List, [], ◌∷◌, ◌++◌, length, map, replicate, get_or, Option, Some, None, ap, arith, length-append}
 use Rattle.std.specs.Prelude.{IfSome}
-use Rattle.std.specs.List.{AllByRecursion, flat_map}
+use Rattle.std.specs.List.{AllByRecursion}
 use Rattle.std.proofs.lemmas.List.{length-replicate}
 use Rattle.k_types.specs.declared.names.Heap.{Heap}
 use Rattle.k_types.specs.declared.names.Name.{Name}
@@ -9,18 +9,10 @@ use Rattle.k_types.specs.declared.names.Phase.{Phase}
 use Rattle.k_types.specs.declared.names.Phase.TheVariants.{Unmade}
 use Rattle.k_types.specs.Bounds.{maximum_below}
 use Rattle.k_types.specs.Sound.{IsOrdered, IsOrderedFrom}
-use Rattle.k_types.specs.State.{ExitItem, Object, Sharing, State}
+use Rattle.k_types.specs.State.{ExitItem, Object, Sharing}
 use Rattle.k_types.specs.Trace.{IsHeap, Trace, process_count, segment_count}
-use Rattle.k_words.specs.Words.{Text}
-use Rattle.k_trace.specs.Named.{DeclaredNames}
-use Rattle.k_text.specs.Report.{kernel_charge_words}
-use Rattle.k_audit.specs.Claims.{Claims, Snap}
+use Rattle.k_audit.specs.Claims.{Snap}
 use Rattle.k_audit.specs.Grammar.{AreExitsFrom, AreRisingFrom, IsAfter, IsNumber, IsSpelledExit, IsSpelledName, IsSpelledObject, IsSpelledPhase, IsSpelledShare, IsSpelledSnap, share_place}
-use Rattle.k_audit.specs.Lines.{charge_lines, exit_line as exit_words, gone_words, heap_lines, limit_lines, made_lines, object_lines, process_lines, root_lines, sections, share_words}
-use Rattle.k_audit.specs.Reading.{Reading}
-use Rattle.k_audit.specs.declared.places.Place.{Place}
-use Rattle.k_audit.specs.declared.places.Place.TheVariants.{Start, Gone, Made, Graph, Roots, Exits, Shares, Charges, Over}
-use Rattle.k_audit.proofs.Plainly.{IsHeader}
 
 -- ---- parts that can be said
 

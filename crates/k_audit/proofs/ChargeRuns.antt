@@ -1,5 +1,5 @@
 -- The charges of a spelled snapshot are read as what they say.
-use Rattle.std.proofs.Common.{◌≡◌, ◌∙◌, ℕ, zero, suc, ◌+◌, ◌-◌, ◌^◌, ◌<◌, ◌≤◌, ◌==◌, nat_le, Bool, true, false, List, [], ◌∷◌, ◌++◌, length, map, Option, Some, None, refl, sym, ap, arith, codes, append_assoc, append-nil, le-leb, leb-true, ne_eqb}
+use Rattle.std.proofs.Common.{◌≡◌, ◌∙◌, ℕ, ◌+◌, ◌-◌, ◌<◌, ◌==◌, nat_le, false, List, [], ◌∷◌, ◌++◌, length, Some, refl, ap, arith, codes, append_assoc, append-nil, le-leb, leb-true, ne_eqb}
 use Rattle.std.specs.List.{AllByRecursion}
 use Rattle.std.proofs.lemmas.Bool.{false_from_ne_true}
 use Rattle.k_types.specs.declared.names.Phase.{Phase}
@@ -8,10 +8,10 @@ use Rattle.k_types.specs.Trace.{Trace, process_count}
 use Rattle.k_words.specs.Words.{Text, word_at, words_of}
 use Rattle.k_trace.specs.Named.{DeclaredNames}
 use Rattle.k_text.specs.Report.{kernel_charge_words, limit_charge_words, process_charge_words, shared_charge_words}
-use Rattle.k_audit.specs.Claims.{Claims, Snap}
+use Rattle.k_audit.specs.Claims.{Snap}
 use Rattle.k_audit.specs.Grammar.{IsNumber, IsSpelledPhase}
 use Rattle.k_audit.specs.Lines.{heap_lines, limit_lines, process_lines}
-use Rattle.k_audit.specs.Reading.{Reading, charge_line, heap_line, kernel_line, limit_line, past_heading, process_line, read_at}
+use Rattle.k_audit.specs.Reading.{Reading, charge_line, heap_line, limit_line, past_heading, process_line, read_at}
 use Rattle.k_audit.specs.declared.places.Place.TheVariants.{Charges, Over}
 use Rattle.k_audit.proofs.LinesRead.{heap_line_read, kernel_read, limit_read, process_read}
 use Rattle.k_audit.proofs.Plainly.{IsHeader, line_of}

@@ -1,5 +1,5 @@
 -- The seventh and the eighth point by their tests.
-use Rattle.std.proofs.Common.{◌≡◌, ◌∙◌, ◌↔◌, ◌&&◌, ◌||◌, ◌==◌, ◌⊎◌, inl, inr, ℕ, zero, suc, ◌+◌, ◌-◌, ◌^◌, ◌<◌, ◌≤◌, min, Bool, true, false, cond, List, [], ◌∷◌, length, map, filter, get_or, refl, sym, ap, ap₂, subst, eq-eqb, eqb-true, le-leb, leb-true, arith}
+use Rattle.std.proofs.Common.{◌≡◌, ◌∙◌, ◌↔◌, ◌&&◌, ◌==◌, ◌⊎◌, inl, inr, ℕ, zero, suc, ◌+◌, ◌-◌, ◌^◌, ◌<◌, ◌≤◌, min, Bool, true, false, cond, List, [], ◌∷◌, length, map, filter, get_or, refl, sym, ap, ap₂, eq-eqb, eqb-true, le-leb, leb-true, arith}
 use Rattle.std.specs.List.{list_all}
 use Rattle.std.proofs.lemmas.Bool.{and_from, and_parts, cases_eq, false≢true}
 use Rattle.std.proofs.lemmas.Bool.Decides.{nat_tests}
@@ -8,8 +8,8 @@ use Rattle.k_types.specs.declared.names.Heap.TheVariants.{Kernel}
 use Rattle.k_types.specs.declared.setup.LimitRow.{LimitRow}
 use Rattle.k_types.specs.Limits.{direct_by, limits_in, max_of, use_of, use_within}
 use Rattle.k_types.specs.Numbers.{numbers_below, numbers_from}
-use Rattle.k_types.specs.Owners.{bytes_of, charge_of, owner_of, shared}
-use Rattle.k_types.specs.State.{Object, State}
+use Rattle.k_types.specs.Owners.{bytes_of, charge_of, owner_of}
+use Rattle.k_types.specs.State.{State}
 use Rattle.k_types.specs.Totals.{total}
 use Rattle.k_types.specs.Trace.{Trace, limit_of, process_count}
 use Rattle.k_types.specs.TraceRules.{AreLimits}

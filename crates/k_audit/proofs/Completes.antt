@@ -1,7 +1,6 @@
 -- What was read can be completed: at each stage, the lines so far begin a snapshot's text.
-use Rattle.std.proofs.Common.{◌≡◌, ◌∙◌, ℕ, zero, suc, ◌+◌, ◌-◌, ◌^◌, ◌<◌, ◌≤◌, true, false, List, [], ◌∷◌, ◌++◌, length, map, replicate, get_or, Option, Some, None, refl, sym, ap, ap₂, subst, arith, codes, append_assoc, append-nil}
-use Rattle.std.specs.Prelude.{IfSome, option_and_then}
-use Rattle.std.specs.List.{AllByRecursion, flat_map}
+use Rattle.std.proofs.Common.{◌≡◌, ◌∙◌, ℕ, zero, suc, ◌+◌, ◌-◌, ◌^◌, ◌<◌, true, false, List, [], ◌∷◌, ◌++◌, length, map, replicate, get_or, Option, Some, refl, sym, ap, ap₂, subst, arith, codes, append_assoc, append-nil}
+use Rattle.std.specs.List.{AllByRecursion}
 use Rattle.std.proofs.lemmas.Bool.{false≢true}
 use Rattle.std.proofs.lemmas.List.{map-append}
 use Rattle.k_types.specs.declared.names.Heap.{Heap}
@@ -13,16 +12,16 @@ use Rattle.k_types.specs.Trace.{Trace, process_count, segment_count}
 use Rattle.k_words.specs.Words.{Text, word_at}
 use Rattle.k_trace.specs.Named.{DeclaredNames}
 use Rattle.k_text.specs.Report.{kernel_charge_words, limit_charge_words, process_charge_words, shared_charge_words}
-use Rattle.k_audit.specs.Claims.{Claims, Snap}
+use Rattle.k_audit.specs.Claims.{Snap}
 use Rattle.k_audit.specs.Lines.{charge_lines, exit_line as exit_words, gone_words, heap_lines, limit_lines, made_lines, made_words, object_lines, process_lines, root_lines, share_words, snap_lines}
-use Rattle.k_audit.specs.Reading.{Reading, is_over, read_line, unread}
+use Rattle.k_audit.specs.Reading.{Reading, is_over, read_line}
 use Rattle.k_audit.proofs.Begun.{GoodCharges, GoodEnded, GoodExits, GoodHeaps, GoodLimits, GoodMade, GoodObjects, GoodRegisters, GoodRest, GoodShares, IsGood, completed, completed_spelled}
 use Rattle.k_audit.proofs.Plainly.{IsHeader, line_of}
 use Rattle.k_audit.proofs.RootRuns.{all_rows, rows_lines}
-use Rattle.k_audit.proofs.Runs.{Begins, CompletesRead, line_bytes, run}
-use Rattle.k_audit.proofs.Stages.{Parts, Stage, AtStart, AtGone, AtMade, AtGraph, AtRoots, AtExits, AtShares, AtKernel, AtLimits, AtProcesses, AtHeaps, AtOver, blank_rows, part1, part2, part3, part4, part5, part6, part7, part8, part9, part10, reading_at, said}
+use Rattle.k_audit.proofs.Runs.{Begins, CompletesRead, run}
+use Rattle.k_audit.proofs.Stages.{Parts, Stage, AtStart, AtGone, AtMade, AtGraph, AtRoots, AtExits, AtShares, AtKernel, AtLimits, AtProcesses, AtHeaps, AtOver, part1, part2, part3, part4, part5, part6, part7, part8, part9, part10, reading_at, said}
 use Rattle.k_audit.proofs.WordsBack.{and_then_some}
-use Rattle.k_audit.proofs.Steps.{Good, IsStep, Upto2, Upto3, Upto4, Upto5, Upto6, Upto7, Upto8, Upto9, Upto10, blank_good, step}
+use Rattle.k_audit.proofs.Steps.{Good, Upto4, blank_good, step}
 
 -- ---- lists that are longer
 

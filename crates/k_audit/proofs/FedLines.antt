@@ -9,7 +9,7 @@ use Rattle.k_trace.specs.Named.{DeclaredNames}
 use Rattle.k_audit.specs.Claims.{Snap}
 use Rattle.std.proofs.lemmas.Bool.{false≢true}
 use Rattle.k_audit.specs.Reading.{HasRead, Reading, end_of, is_over, is_whole, read_line, read_lines}
-use Rattle.k_audit.specs.Verdicts.{fed_lines, onto_fed}
+use Rattle.k_audit.specs.Verdicts.{fed_lines}
 
 -- ---- a line and what stands behind it
 

@@ -1,5 +1,5 @@
 -- The fifth point by its test.
-use Rattle.std.proofs.Common.{◌≡◌, ◌∙◌, ◌↔◌, ◌&&◌, ◌||◌, ◌==◌, ◌⊎◌, ℕ, ◌<◌, ◌≤◌, Bool, true, false, not, List, [], ◌∷◌, length, get_or, Option, Some, None, refl, sym, ap, subst, inl, inr, eq-eqb, eqb-true, arith}
+use Rattle.std.proofs.Common.{◌≡◌, ◌∙◌, ◌↔◌, ◌&&◌, ◌||◌, ◌==◌, ℕ, Bool, true, false, not, List, [], ◌∷◌, get_or, Option, Some, None, refl, sym, ap, subst, inl, inr, eq-eqb, eqb-true, arith}
 use Rattle.std.specs.Prelude.{IsTrue, IsFalse}
 use Rattle.std.specs.List.{list_all, list_any}
 use Rattle.std.proofs.lemmas.Bool.{and_from, and_parts, false≢true, false_from_ne_true, not-true, not_from_false, or_cases, or_left, or_right}
@@ -11,7 +11,7 @@ use Rattle.k_types.specs.declared.names.Phase.TheVariants.{Unmade, Populating, F
 use Rattle.k_types.specs.Names.{among, leads_to}
 use Rattle.k_types.specs.Owners.{is_absorbed, phase_of, shared, user}
 use Rattle.k_types.specs.Sound.{AreGone, IsSized}
-use Rattle.k_types.specs.State.{ExitItem, Scan, Sharing, State, has_exit, has_share, in_registers, scan_of}
+use Rattle.k_types.specs.State.{Scan, Sharing, State, has_exit, has_share, in_registers, scan_of}
 use Rattle.k_types.specs.Steps.{has_sharer}
 use Rattle.k_types.specs.Trace.{Trace, process_count}
 use Rattle.k_base.proofs.NameTests.{name_eq_refl}

@@ -1,9 +1,8 @@
 -- The lines of a snapshot's text are those that it has: none of them has a line feed.
-use Rattle.std.proofs.Common.{◌≡◌, ◌∙◌, ◌&&◌, ℕ, zero, suc, ◌+◌, ◌*◌, ◌^◌, ◌<◌, ◌≤◌, Bool, true, false, not, eqb, List, [], ◌∷◌, ◌++◌, length, map, get_or, Option, Some, None, refl, sym, ap, arith, codes, append_assoc}
+use Rattle.std.proofs.Common.{◌≡◌, ◌∙◌, ℕ, suc, ◌+◌, ◌^◌, ◌<◌, ◌≤◌, Bool, true, false, not, eqb, List, [], ◌∷◌, ◌++◌, length, map, get_or, Option, Some, None, refl, ap, arith, append_assoc}
 use Rattle.std.specs.Prelude.{IfSome}
 use Rattle.std.specs.List.{AllByRecursion, list_all}
 use Rattle.std.proofs.lemmas.Bool.{and_from, and_parts}
-use Rattle.std.proofs.lemmas.Bool.Decides.{nat_tests}
 use Rattle.std.proofs.lemmas.List.Folds.{list_all-append}
 use Rattle.k_types.specs.declared.names.Heap.{Heap}
 use Rattle.k_types.specs.declared.names.Name.{Name}
@@ -11,15 +10,14 @@ use Rattle.k_types.specs.declared.names.Phase.{Phase}
 use Rattle.k_types.specs.Bounds.{maximum_below}
 use Rattle.k_types.specs.State.{ExitItem, Object, Sharing}
 use Rattle.k_types.specs.Trace.{IsHeap, Trace, process_count, segment_count}
-use Rattle.k_words.specs.Words.{Text, line_text, text_of}
+use Rattle.k_words.specs.Words.{Text, text_of}
 use Rattle.k_trace.specs.Named.{DeclaredNames}
-use Rattle.k_text.specs.Report.{kernel_charge_words}
 use Rattle.k_history.proofs.Visible.{has_no_feed, is_plain, joined_no_feed}
 use Rattle.k_audit.specs.Claims.{Snap}
 use Rattle.k_audit.specs.Grammar.{IsNumber, IsSpelledExit, IsSpelledName, IsSpelledObject, IsSpelledPhase, IsSpelledShare, IsSpelledSnap}
-use Rattle.k_audit.specs.Lines.{charge_lines, exit_line as exit_words, gone_words, heap_lines, limit_lines, made_lines, object_lines, process_lines, root_lines, share_words, snap_lines, snap_text}
+use Rattle.k_audit.specs.Lines.{charge_lines, exit_line as exit_words, gone_words, heap_lines, limit_lines, made_lines, object_lines, process_lines, root_lines, share_words, snap_lines}
 use Rattle.k_audit.specs.Reading.{is_whole}
-use Rattle.k_audit.specs.Verdicts.{fed_lines, onto_fed}
+use Rattle.k_audit.specs.Verdicts.{fed_lines}
 use Rattle.k_audit.proofs.Plainly.{IsHeader, exit_plain, gone_plain, heap_line_plain, kernel_plain, limit_line_plain, line_of, made_plain, object_line_plain, process_line_plain, root_plain, share_plain}
 use Rattle.k_audit.proofs.RootRuns.{all_rows, row_lines, rows_lines}
 use Rattle.k_audit.proofs.Runs.{HasItsLines}

@@ -1,6 +1,6 @@
 -- Each line of a snapshot is read as what it says.
-use Rattle.std.proofs.Common.{◌≡◌, ◌∙◌, ◌&&◌, ◌==◌, ℕ, zero, suc, ◌+◌, ◌-◌, ◌*◌, ◌^◌, ◌<◌, ◌≤◌, nat_le, nat_lt, Bool, true, false, cond, List, [], ◌∷◌, ◌++◌, length, map, get_or, Option, Some, None, is_none, refl, sym, ap, subst, inl, inr, arith, codes, decimal, append_assoc, append-nil, eq-eqb, le-leb, lt-ltb, length-append}
-use Rattle.std.specs.Prelude.{IfSome, option_and_then, option_map}
+use Rattle.std.proofs.Common.{◌≡◌, ◌∙◌, ◌==◌, ℕ, ◌+◌, ◌*◌, ◌^◌, ◌<◌, ◌≤◌, nat_lt, true, false, List, [], ◌∷◌, ◌++◌, length, map, Option, Some, None, is_none, refl, sym, ap, inl, inr, arith, codes, decimal, append_assoc, append-nil, eq-eqb, le-leb, lt-ltb, length-append}
+use Rattle.std.specs.Prelude.{IfSome, option_map}
 use Rattle.std.specs.List.{AllByRecursion, list_any}
 use Rattle.std.specs.Str.{bytes_eq}
 use Rattle.std.proofs.lemmas.Bool.{and_from, false≢true, false_from_ne_true, or_left, or_right}
@@ -28,7 +28,7 @@ use Rattle.k_history.proofs.SpelledWords.{heap_word_read, name_word_read, object
 use Rattle.k_history.proofs.Visible.{read_back}
 use Rattle.k_audit.specs.Grammar.{IsAfter, IsExitAfter, IsSpelledContent, IsSpelledExit, IsSpelledName, IsSpelledObject, IsSpelledPhase, IsSpelledShare, share_place}
 use Rattle.k_audit.specs.Lines.{exit_line as exit_words, gone_words, made_words, share_words}
-use Rattle.k_audit.specs.Reading.{Owned, Reading, Root, add_exit, add_gone, add_heap, add_kernel, add_limit, add_made, add_object, add_process, add_root, add_share, bare_phase, content_of, contents_at, exit_line, exit_of, gone_line, gone_of, graph_line, head_of, heap_line, is_after, is_exit_after, kernel_line, limit_line, made_line, made_of, object_of, object_with, pair_at, phase_of_words, phase_with, process_line, reference_of, root_line, root_of, root_place, share_line, share_of, spelled_name, type_of_word}
+use Rattle.k_audit.specs.Reading.{Reading, add_exit, add_gone, add_heap, add_kernel, add_limit, add_made, add_object, add_process, add_root, add_share, bare_phase, content_of, contents_at, exit_line, exit_of, gone_line, gone_of, graph_line, head_of, heap_line, is_after, is_exit_after, kernel_line, limit_line, made_line, made_of, object_of, object_with, pair_at, phase_of_words, phase_with, process_line, reference_of, root_line, root_of, share_line, share_of, spelled_name, type_of_word}
 use Rattle.k_audit.proofs.Plainly.{IsHeader, exit_plain, gone_plain, heap_known, heap_line_plain, kernel_plain, limit_line_plain, line_of, made_plain, name_known, not_heading, object_line_plain, proc_read, process_line_plain, root_plain, share_plain, shared_read, type_read}
 
 pub itself : (w : Text) → bytes_eq w w ≡ true

@@ -1,5 +1,5 @@
 -- The sixth point by its test.
-use Rattle.std.proofs.Common.{◌≡◌, ◌≢◌, ◌∙◌, ◌↔◌, ◌&&◌, ◌||◌, ◌==◌, ℕ, Bool, true, false, not, List, refl, sym, ap, subst, eq-eqb, eqb-true}
+use Rattle.std.proofs.Common.{◌≡◌, ◌∙◌, ◌↔◌, ◌&&◌, ◌||◌, ℕ, Bool, true, false, List, refl, sym, ap, subst, eq-eqb, eqb-true}
 use Rattle.std.specs.Prelude.{IsTrue, IsFalse}
 use Rattle.std.specs.List.{list_all}
 use Rattle.std.proofs.lemmas.Bool.{and_from, and_parts, false≢true, false_from_ne_true}
@@ -9,7 +9,7 @@ use Rattle.k_types.specs.declared.names.Name.{Name}
 use Rattle.k_types.specs.declared.names.Pid.{Pid}
 use Rattle.k_types.specs.declared.names.Phase.{Phase}
 use Rattle.k_types.specs.declared.names.Phase.TheVariants.{Unmade, Populating, Frozen, Absorbed}
-use Rattle.k_types.specs.Names.{among, heap_eq, name_eq}
+use Rattle.k_types.specs.Names.{among, name_eq}
 use Rattle.k_types.specs.Owners.{owner_of, phase_of, shared}
 use Rattle.k_types.specs.Sound.{ArePhases, IsSized}
 use Rattle.k_types.specs.State.{Object, Sharing, State, has, has_share}

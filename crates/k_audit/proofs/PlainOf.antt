@@ -1,5 +1,5 @@
 -- What a text can say has the shape that the lists ask for.
-use Rattle.std.proofs.Common.{◌≡◌, ◌∙◌, ℕ, suc, ◌+◌, ◌-◌, ◌^◌, ◌<◌, ◌≤◌, List, [], ◌∷◌, ◌++◌, length, map, replicate, Option, Some, None, ap, arith, codes, length-append}
+use Rattle.std.proofs.Common.{◌≡◌, suc, ◌-◌, ◌^◌, ◌<◌, ◌≤◌, List, [], ◌∷◌, ◌++◌, length, map, Option, Some, None, ap, arith, codes, length-append}
 use Rattle.std.specs.List.{AllByRecursion, join_with_byte}
 use Rattle.std.proofs.lemmas.List.{length-map, length-replicate}
 use Rattle.k_types.specs.declared.names.Field.{Field}
@@ -9,8 +9,8 @@ use Rattle.k_types.specs.declared.names.Phase.{Phase}
 use Rattle.k_types.specs.declared.names.Phase.TheVariants.{Unmade, Populating, Frozen, Absorbed}
 use Rattle.k_types.specs.declared.names.TypeId.{TypeId}
 use Rattle.k_types.specs.Known.{IsKnownPhase}
-use Rattle.k_types.specs.Sound.{AreNames, AreNumbered, kinds_by}
-use Rattle.k_types.specs.State.{Content, ExitItem, Object, State, field_kind}
+use Rattle.k_types.specs.Sound.{AreNumbered, kinds_by}
+use Rattle.k_types.specs.State.{Object, field_kind}
 use Rattle.k_types.specs.Trace.{Trace}
 use Rattle.k_words.specs.Words.{Text, line_text, text_of}
 use Rattle.k_trace.specs.Named.{DeclaredNames}

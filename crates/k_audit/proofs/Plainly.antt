@@ -1,5 +1,5 @@
 -- The words of a snapshot's lines are visible bytes, so that each line is read as its words.
-use Rattle.std.proofs.Common.{◌≡◌, ◌∙◌, ◌&&◌, ℕ, zero, suc, ◌+◌, ◌^◌, ◌<◌, ◌≤◌, Bool, true, false, not, eqb, List, [], ◌∷◌, ◌++◌, length, map, Option, Some, None, refl, sym, ap, arith, codes, decimal, length-append}
+use Rattle.std.proofs.Common.{◌≡◌, ◌∙◌, ◌&&◌, ℕ, ◌^◌, ◌<◌, Bool, true, false, not, eqb, List, [], ◌∷◌, length, map, Option, Some, None, refl, sym, ap, arith, length-append}
 use Rattle.std.specs.Prelude.{IfSome}
 use Rattle.std.specs.List.{AllByRecursion, list_all, join_with_byte}
 use Rattle.std.specs.Str.{bytes_eq}
@@ -8,26 +8,24 @@ use Rattle.std.proofs.lemmas.List.Folds.{list_all-append}
 use Rattle.k_types.specs.declared.names.Heap.{Heap}
 use Rattle.k_types.specs.declared.names.Heap.TheVariants.{Kernel, User, Shared}
 use Rattle.k_types.specs.declared.names.Name.{Name}
-use Rattle.k_types.specs.declared.names.Pid.{Pid}
 use Rattle.k_types.specs.declared.names.Phase.{Phase}
 use Rattle.k_types.specs.declared.names.Phase.TheVariants.{Unmade, Populating, Frozen, Absorbed}
-use Rattle.k_types.specs.declared.names.SharedId.{SharedId}
 use Rattle.k_types.specs.declared.names.TypeId.{TypeId}
 use Rattle.k_types.specs.State.{Content, ExitItem, Holds, Object, Refers, Sharing}
 use Rattle.k_types.specs.Trace.{IsHeap, Trace, process_count, segment_count}
-use Rattle.k_words.specs.Words.{Text, word_at, words_of}
+use Rattle.k_words.specs.Words.{Text, word_at}
 use Rattle.k_words.specs.Numbers.{register_word}
 use Rattle.k_words.proofs.Spelled.{same}
 use Rattle.k_words.proofs.Again.{has_no_space, declares-at, number_of-at}
 use Rattle.k_trace.specs.Named.{DeclaredNames}
-use Rattle.k_trace.specs.Numbered.{limit_named, proc_named, shared_named, type_named}
+use Rattle.k_trace.specs.Numbered.{proc_named, shared_named, type_named}
 use Rattle.k_trace.proofs.Pushed.{AreNames_front}
 use Rattle.k_trace.proofs.Tidy.{AreNames_back}
-use Rattle.k_text.specs.Named.{AreNamed, IsNamedHeap, heap_word, name_word, reference_word, segment_names, type_word}
+use Rattle.k_text.specs.Named.{AreNamed, IsNamedHeap, name_word, reference_word, segment_names, type_word}
 use Rattle.k_text.specs.Report.{content_word, kernel_charge_words, limit_charge_words, object_words, phase_words, process_charge_words, shared_charge_words}
 use Rattle.k_state.specs.Machines.{AreSetupRules}
 use Rattle.k_history.specs.Spelled.{AreProper, IsSpelledName as IsNameSpelled}
-use Rattle.k_history.proofs.Visible.{heap_plain, is_plain, limit_plain, object_plain, plain_words, proc_plain, read_back, segment_plain, shared_plain}
+use Rattle.k_history.proofs.Visible.{heap_plain, is_plain, limit_plain, object_plain, plain_words, proc_plain, segment_plain, shared_plain}
 use Rattle.k_audit.specs.Grammar.{IsSpelledContent, IsSpelledExit, IsSpelledName, IsSpelledObject, IsSpelledPhase, IsSpelledShare}
 use Rattle.k_audit.specs.Lines.{exit_line, gone_words, made_words, share_words}
 

@@ -1,11 +1,7 @@
 -- The laws of the reader: what is spelled is read, and what was read can be completed to what is spelled.
 use Rattle.k_types.specs.Trace.{Trace}
 use Rattle.k_trace.specs.Named.{DeclaredNames}
-use Rattle.k_audit.proofs.Begun.{completed_spelled}
-use Rattle.k_audit.proofs.ChargesBack.{heap_line_back}
 use Rattle.k_audit.proofs.Completes.{read_is_completed}
-use Rattle.k_audit.proofs.RowsSet.{rows_null}
-use Rattle.k_audit.proofs.WordsBack.{object_back}
 use Rattle.k_audit.proofs.ItsLines.{its_lines}
 use Rattle.k_audit.proofs.Plainly.{IsHeader}
 use Rattle.k_audit.proofs.Runs.{AreReaderLaws}

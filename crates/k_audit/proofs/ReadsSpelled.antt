@@ -1,5 +1,5 @@
 -- What is spelled is read: section by section, the whole snapshot.
-use Rattle.std.proofs.Common.{◌≡◌, ◌∙◌, ℕ, zero, suc, ◌+◌, ◌-◌, ◌*◌, ◌<◌, ◌≤◌, nat_lt, Bool, true, false, List, [], ◌∷◌, ◌++◌, length, map, replicate, get_or, Option, Some, None, refl, sym, ap, append_assoc, append-nil, arith, codes, ltb-true}
+use Rattle.std.proofs.Common.{◌≡◌, ◌∙◌, ℕ, suc, ◌+◌, ◌<◌, ◌≤◌, nat_lt, false, List, [], ◌∷◌, ◌++◌, length, map, replicate, get_or, Option, Some, None, refl, sym, ap, append_assoc, append-nil, arith, codes, ltb-true}
 use Rattle.std.specs.Prelude.{option_and_then}
 use Rattle.std.specs.List.{AllByRecursion}
 use Rattle.std.proofs.lemmas.Bool.{false_from_ne_true}
@@ -14,14 +14,14 @@ use Rattle.k_trace.specs.Named.{DeclaredNames}
 use Rattle.k_text.specs.Report.{kernel_charge_words}
 use Rattle.k_audit.specs.Claims.{Claims, Snap}
 use Rattle.k_audit.specs.Grammar.{IsSpelledSnap}
-use Rattle.k_audit.specs.Lines.{charge_lines, exit_line as exit_words, gone_words, heap_lines, limit_lines, made_lines, object_lines, process_lines, root_lines, share_words, snap_lines}
-use Rattle.k_audit.specs.Reading.{Reading, exit_line, gone_line, graph_line, made_line, past_heading, read_at, read_line, root_line, share_line, start_line, unread}
+use Rattle.k_audit.specs.Lines.{charge_lines, exit_line as exit_words, gone_words, heap_lines, limit_lines, made_lines, object_lines, process_lines, root_lines, share_words}
+use Rattle.k_audit.specs.Reading.{Reading, exit_line, gone_line, graph_line, made_line, read_at, root_line, share_line, start_line, unread}
 use Rattle.k_audit.specs.declared.places.Place.{Place}
 use Rattle.k_audit.specs.declared.places.Place.TheVariants.{Start, Gone, Made, Graph, Roots, Exits, Shares, Charges, Over}
 use Rattle.k_audit.proofs.ChargeRuns.{at_end, run_heaps, run_kernel, run_limits, run_processes}
 use Rattle.k_audit.proofs.Plainly.{IsHeader, line_of}
 use Rattle.k_audit.proofs.RootRuns.{all_rows, nulls, rows_lines, run_rows}
-use Rattle.k_audit.proofs.Runs.{ReadsSpelled, read_whole, run, run_append}
+use Rattle.k_audit.proofs.Runs.{ReadsSpelled, run, run_append}
 use Rattle.k_audit.proofs.SectionRuns.{after_none, gone_after, graph_after, lines_of, one_more, run_exits, run_gone, run_made, run_objects, run_shares, segment_after, shares_after, target_after}
 
 -- ---- the lines, section by section

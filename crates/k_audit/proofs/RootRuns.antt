@@ -1,11 +1,11 @@
 -- The registers of a spelled snapshot are read as what they hold.
-use Rattle.std.proofs.Common.{◌≡◌, ◌∙◌, ℕ, zero, suc, ◌+◌, ◌-◌, ◌*◌, ◌<◌, ◌≤◌, List, [], ◌∷◌, ◌++◌, length, map, replicate, get_or, set, Option, Some, None, refl, sym, ap, ap₂, arith, append_assoc, append-nil, length-append}
+use Rattle.std.proofs.Common.{◌≡◌, ◌∙◌, ℕ, suc, ◌+◌, ◌*◌, ◌<◌, ◌≤◌, List, [], ◌∷◌, ◌++◌, length, replicate, get_or, set, Option, Some, None, refl, sym, ap, ap₂, arith, append_assoc, length-append}
 use Rattle.std.specs.Prelude.{IfSome, option_and_then}
 use Rattle.std.specs.List.{AllByRecursion, flat_map}
 use Rattle.std.proofs.lemmas.List.{map-append}
 use Rattle.k_types.specs.declared.names.Name.{Name}
 use Rattle.k_types.specs.Numbers.{numbers_below, numbers_from}
-use Rattle.k_types.specs.State.{State, register}
+use Rattle.k_types.specs.State.{State}
 use Rattle.k_types.specs.Trace.{Trace, process_count}
 use Rattle.k_types.specs.Updates.{set_register}
 use Rattle.k_words.specs.Words.{Text, word_at}

@@ -1,9 +1,9 @@
 -- From the reading of lines to the texts of snapshots and the first bad line, by two laws: what is spelled is read, and what was read can
 -- be completed to what is spelled.
-use Rattle.std.proofs.Common.{◌≡◌, ◌∙◌, ◌&&◌, ◌⊎◌, ℕ, zero, suc, ◌+◌, ◌-◌, ◌<◌, ◌≤◌, Bool, true, false, cond, List, [], ◌∷◌, ◌++◌, length, map, take, drop, Option, Some, None, Result, Ok, Err, refl, sym, ap, ap₂, subst, inl, inr, arith, append_assoc, append-nil, length-append, eqb, eqb-true}
+use Rattle.std.proofs.Common.{◌≡◌, ◌∙◌, ◌&&◌, ℕ, zero, suc, ◌+◌, ◌-◌, ◌<◌, ◌≤◌, Bool, true, false, cond, List, [], ◌∷◌, ◌++◌, length, map, take, drop, Option, Some, None, Result, Ok, Err, refl, sym, ap, ap₂, subst, arith, append-nil, length-append, eqb, eqb-true}
 use Rattle.std.specs.Prelude.{option_and_then}
 use Rattle.std.specs.List.{flat_map, join_with_byte}
-use Rattle.std.proofs.lemmas.Bool.{and_parts, false≢true}
+use Rattle.std.proofs.lemmas.Bool.{false≢true}
 use Rattle.k_types.specs.Trace.{Trace}
 use Rattle.k_words.specs.Words.{Text, line_text, text_of}
 use Rattle.k_trace.specs.Named.{DeclaredNames}
@@ -12,7 +12,7 @@ use Rattle.k_audit.specs.Grammar.{IsSpelledSnap}
 use Rattle.k_audit.specs.Lines.{snap_lines, snap_text}
 use Rattle.k_audit.specs.declared.errors.SnapshotError.{SnapshotError}
 use Rattle.k_audit.specs.declared.errors.SnapshotError.TheVariants.{Bad}
-use Rattle.k_audit.specs.Reading.{Reading, ReadsSnap, end_of, is_over, is_whole, read_line, read_lines, unread}
+use Rattle.k_audit.specs.Reading.{Reading, ReadsSnap, is_over, is_whole, read_line, read_lines, unread}
 use Rattle.k_audit.specs.Verdicts.{Fits, IsBadLine, Spells, fed_lines, onto_fed}
 use Rattle.k_audit.specs.declared.places.Place.TheVariants.{Over}
 

@@ -1,24 +1,21 @@
 -- Each section of a spelled snapshot is read as what it says.
-use Rattle.std.proofs.Common.{◌≡◌, ◌∙◌, ℕ, zero, suc, ◌+◌, ◌-◌, ◌*◌, ◌^◌, ◌<◌, ◌≤◌, ◌==◌, nat_le, nat_lt, Bool, true, false, cond, List, [], ◌∷◌, ◌++◌, length, map, Option, Some, None, refl, sym, ap, subst, arith, codes, append_assoc, append-nil, le-leb, leb-true, ne_eqb}
+use Rattle.std.proofs.Common.{◌≡◌, ◌∙◌, ℕ, ◌+◌, ◌^◌, ◌<◌, List, [], ◌∷◌, ◌++◌, length, map, Option, Some, None, refl, sym, ap, arith, append_assoc, append-nil}
 use Rattle.std.specs.Prelude.{option_and_then}
-use Rattle.std.specs.List.{AllByRecursion, join_with_byte}
-use Rattle.std.proofs.lemmas.Bool.{false_from_ne_true}
+use Rattle.std.specs.List.{AllByRecursion}
 use Rattle.k_types.specs.declared.names.Heap.{Heap}
 use Rattle.k_types.specs.declared.names.Name.{Name}
-use Rattle.k_types.specs.declared.names.Phase.{Phase}
-use Rattle.k_types.specs.Bounds.{maximum_below}
 use Rattle.k_types.specs.Sound.{IsOrdered, IsOrderedFrom}
-use Rattle.k_types.specs.State.{ExitItem, Object, Sharing, State}
+use Rattle.k_types.specs.State.{ExitItem, Object, Sharing}
 use Rattle.k_types.specs.Trace.{IsHeap, Trace, process_count, segment_count, segment_of}
-use Rattle.k_words.specs.Words.{Text, word_at}
+use Rattle.k_words.specs.Words.{Text}
 use Rattle.k_trace.specs.Named.{DeclaredNames}
-use Rattle.k_text.specs.Report.{limit_charge_words, object_words, process_charge_words, shared_charge_words}
-use Rattle.k_audit.specs.Claims.{Claims, Snap}
-use Rattle.k_audit.specs.Grammar.{AreExitsFrom, AreRisingFrom, IsAfter, IsNumber, IsSpelledExit, IsSpelledObject, IsSpelledPhase, IsSpelledShare, share_place}
-use Rattle.k_audit.specs.Lines.{exit_line as exit_words, gone_words, heap_lines, limit_lines, made_lines, made_words, object_lines, process_lines, share_words}
-use Rattle.k_audit.specs.Reading.{Reading, charge_line, read_at, read_line}
-use Rattle.k_audit.specs.declared.places.Place.TheVariants.{Start, Gone, Made, Graph, Roots, Exits, Shares, Charges, Over}
-use Rattle.k_audit.proofs.LinesRead.{exit_read, gone_read, heap_line_read, kernel_read, limit_read, made_read, object_line_read, process_read, share_read}
+use Rattle.k_text.specs.Report.{object_words}
+use Rattle.k_audit.specs.Claims.{Snap}
+use Rattle.k_audit.specs.Grammar.{AreExitsFrom, AreRisingFrom, IsAfter, IsSpelledExit, IsSpelledObject, IsSpelledShare, share_place}
+use Rattle.k_audit.specs.Lines.{exit_line as exit_words, gone_words, made_lines, made_words, object_lines, share_words}
+use Rattle.k_audit.specs.Reading.{Reading, read_at, read_line}
+use Rattle.k_audit.specs.declared.places.Place.TheVariants.{Gone, Made, Graph, Exits, Shares}
+use Rattle.k_audit.proofs.LinesRead.{exit_read, gone_read, made_read, object_line_read, share_read}
 use Rattle.k_audit.proofs.Plainly.{IsHeader, line_of}
 use Rattle.k_audit.proofs.Runs.{run}
 

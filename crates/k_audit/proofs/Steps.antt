@@ -1,26 +1,24 @@
 -- Each line that fits leads from one stage of a reading to the next, and is the line of what it adds.
-use Rattle.std.proofs.Common.{◌≡◌, ◌∙◌, ◌&&◌, ◌||◌, ◌==◌, ◌⊎◌, inl, inr, ℕ, zero, suc, ◌+◌, ◌-◌, ◌*◌, ◌^◌, ◌<◌, ◌≤◌, nat_le, nat_lt, Bool, true, false, cond, List, [], ◌∷◌, ◌++◌, length, length-set, map, replicate, get_or, set, Option, Some, None, refl, sym, ap, ap₂, subst, arith, codes, append_assoc, append-nil, length-append, eqb-true, leb-true, ltb-false, ltb-true}
+use Rattle.std.proofs.Common.{◌≡◌, ◌∙◌, ◌&&◌, ◌==◌, inl, inr, ℕ, zero, suc, ◌+◌, ◌*◌, ◌^◌, ◌<◌, ◌≤◌, nat_le, nat_lt, Bool, true, false, cond, List, [], ◌∷◌, ◌++◌, length, length-set, map, replicate, get_or, set, Option, Some, None, refl, sym, ap, ap₂, subst, arith, codes, append_assoc, append-nil, length-append, eqb-true, leb-true, ltb-false, ltb-true}
 use Rattle.std.specs.Prelude.{IfSome}
 use Rattle.std.specs.List.{AllByRecursion}
 use Rattle.std.specs.Str.{bytes_eq}
-use Rattle.std.proofs.lemmas.Bool.{and_parts, false≢true, or_cases}
+use Rattle.std.proofs.lemmas.Bool.{and_parts, or_cases}
 use Rattle.std.proofs.lemmas.List.{get_or-replicate, length-replicate, map-append}
-use Rattle.k_types.specs.declared.names.Heap.{Heap}
 use Rattle.k_types.specs.declared.names.Name.{Name}
-use Rattle.k_types.specs.declared.names.Phase.{Phase}
-use Rattle.k_types.specs.State.{ExitItem, Object, Sharing, State}
+use Rattle.k_types.specs.State.{ExitItem, Object}
 use Rattle.k_types.specs.Trace.{Trace, process_count, segment_count, segment_of}
 use Rattle.k_types.specs.Updates.{set_register}
 use Rattle.k_words.specs.Words.{Text, word_at, words_of}
 use Rattle.k_words.proofs.Spelled.{same}
 use Rattle.k_trace.specs.Named.{DeclaredNames}
 use Rattle.k_text.specs.Report.{kernel_charge_words, limit_charge_words, object_words, process_charge_words, shared_charge_words}
-use Rattle.k_history.proofs.Options.{branch, if_some, map_some, some_is}
-use Rattle.k_audit.specs.Grammar.{AreExitsFrom, AreRisingFrom, IsAfter, IsExitAfter, IsNumber, IsSpelledName, share_place}
+use Rattle.k_history.proofs.Options.{if_some, map_some, some_is}
+use Rattle.k_audit.specs.Grammar.{IsAfter, IsExitAfter, IsNumber, IsSpelledName, share_place}
 use Rattle.k_audit.specs.Lines.{exit_line as exit_words, gone_words, heap_lines, limit_lines, made_lines, made_words, object_lines, process_lines, share_words}
-use Rattle.k_audit.specs.Reading.{Owned, Reading, Root, add_exit, add_gone, add_heap, add_kernel, add_limit, add_made, add_object, add_process, add_root, add_share, at_place, charge_line, exit_line, exit_of, gone_line, gone_of, graph_line, is_after, is_exit_after, made_line, made_of, object_of, past_heading, read_at, read_line, root_line, root_of, root_place, share_line, share_of, start_line}
+use Rattle.k_audit.specs.Reading.{Reading, add_exit, add_gone, add_object, add_root, add_share, at_place, charge_line, exit_line, exit_of, gone_line, gone_of, graph_line, is_after, is_exit_after, made_line, made_of, object_of, past_heading, read_at, read_line, root_line, root_of, root_place, share_line, share_of, start_line}
 use Rattle.k_audit.specs.declared.places.Place.{Place}
-use Rattle.k_audit.specs.declared.places.Place.TheVariants.{Start, Gone, Made, Graph, Roots, Exits, Shares, Charges, Over}
+use Rattle.k_audit.specs.declared.places.Place.TheVariants.{Gone, Made, Graph, Roots, Exits, Shares, Charges, Over}
 use Rattle.k_audit.proofs.Begun.{AreAfter, GoodCharges, GoodEnded, GoodExits, GoodHeaps, GoodLimits, GoodMade, GoodObjects, GoodRegisters, GoodShares}
 use Rattle.k_audit.proofs.ChargeRuns.{at_end, at_heap, at_limit, at_process}
 use Rattle.k_audit.proofs.ChargesBack.{heap_line_back, kernel_back, limit_back, process_back}
@@ -29,7 +27,7 @@ use Rattle.k_audit.proofs.Plainly.{IsHeader, line_of}
 use Rattle.k_audit.proofs.RootRuns.{nulls, root_words, rows_lines}
 use Rattle.k_audit.proofs.RowsSet.{AreNullFrom, null_rows, rows_null, rows_set, rows_sixteen, rows_spelled}
 use Rattle.k_audit.proofs.Stages.{Parts, Stage, AtStart, AtGone, AtMade, AtGraph, AtRoots, AtExits, AtShares, AtKernel, AtLimits, AtProcesses, AtHeaps, AtOver, all_last, at, blank_rows, claims_with, exits_last, gone_after, gone_last, graph_after, graph_last, heaps_last, limits_last, made_last, objects_last, part1, part2, part3, part4, part5, part6, part7, part8, part9, part10, processes_last, reading_at, rising_last, said, segment_after, segment_last, shares_after, shares_last, shares_rise, state_with, target_after, target_last}
-use Rattle.k_audit.proofs.WordsBack.{IsOwned, and_then_some, exit_back, gone_back, line_words, made_back, object_back, root_back, share_back}
+use Rattle.k_audit.proofs.WordsBack.{and_then_some, exit_back, gone_back, line_words, made_back, object_back, root_back, share_back}
 
 -- ---- what holds at each stage
 

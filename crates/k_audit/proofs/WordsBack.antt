@@ -1,9 +1,9 @@
 -- What a line was read as is spelled so.
-use Rattle.std.proofs.Common.{◌≡◌, ◌∙◌, ◌&&◌, ◌==◌, ℕ, zero, suc, ◌+◌, ◌-◌, ◌*◌, ◌^◌, ◌<◌, ◌≤◌, nat_le, nat_lt, Bool, true, false, cond, List, [], ◌∷◌, ◌++◌, length, length-append, drop, map, get_or, Option, Some, None, is_none, refl, sym, ap, ap₂, subst, inl, inr, arith, codes, decimal, eqb-true, leb-true, ltb-true}
+use Rattle.std.proofs.Common.{◌≡◌, ◌∙◌, ◌&&◌, ◌==◌, ℕ, ◌+◌, ◌^◌, ◌<◌, ◌≤◌, nat_lt, Bool, true, false, cond, List, [], ◌∷◌, length, length-append, drop, map, get_or, Option, Some, None, is_none, refl, sym, ap, ap₂, subst, arith, codes, decimal, eqb-true, ltb-true}
 use Rattle.std.specs.Prelude.{IfSome, option_and_then, option_map}
-use Rattle.std.specs.List.{AllByRecursion, join_with_byte}
+use Rattle.std.specs.List.{AllByRecursion}
 use Rattle.std.specs.Str.{bytes_eq}
-use Rattle.std.proofs.lemmas.Bool.{and_parts, false≢true}
+use Rattle.std.proofs.lemmas.Bool.{and_parts}
 use Rattle.std.proofs.lemmas.List.{drop_more}
 use Rattle.std.proofs.lemmas.List.Splits.{join_with_byte-slice_split}
 use Rattle.k_base.proofs.Numbered.{drop_all}
@@ -13,12 +13,11 @@ use Rattle.k_types.specs.declared.names.Heap.{Heap}
 use Rattle.k_types.specs.declared.names.Heap.TheVariants.{Kernel, User, Shared}
 use Rattle.k_types.specs.declared.names.Name.{Name}
 use Rattle.k_types.specs.declared.names.Pid.{Pid}
-use Rattle.k_types.specs.declared.names.SharedId.{SharedId}
 use Rattle.k_types.specs.declared.names.TypeId.{TypeId}
 use Rattle.k_types.specs.Names.{directory, name_eq}
 use Rattle.k_types.specs.Sound.{kinds_by}
-use Rattle.k_types.specs.State.{Content, ExitItem, Holds, Object, Refers, Sharing, field_kind}
-use Rattle.k_types.specs.Trace.{IsHeap, Trace, process_count, segment_count}
+use Rattle.k_types.specs.State.{Content, ExitItem, Holds, Refers, Sharing, field_kind}
+use Rattle.k_types.specs.Trace.{IsHeap, Trace, process_count}
 use Rattle.k_words.specs.Words.{Text, word_at, words_of}
 use Rattle.k_words.specs.Numbers.{below_of, is_below, is_register, register, register_of, register_word, value}
 use Rattle.k_words.specs.Names.{declares, number_of}

@@ -1,5 +1,5 @@
 -- The answer of the audit, computed.
-use Rattle.std.specs.Prelude.{ℕ, not, Bool, Option, Some, None, Result, Ok, Err, length, if◌then◌else◌}
+use Rattle.std.specs.Prelude.{ℕ, not, Some, Result, Ok, Err, length, if◌then◌else◌}
 use Rattle.std.specs.List.{list_all}
 use Rattle.k_types.specs.Numbers.{numbers_below}
 use Rattle.k_types.specs.Owners.{owner_of}

@@ -1,16 +1,16 @@
 -- The lines of a snapshot, and its text. The words of objects, registers, exit items and charges are those of a report.
-use Rattle.std.specs.Prelude.{ℕ, ◌+◌, List, [], ◌∷◌, ◌++◌, map, length, slice_index_or, decimal, codes}
+use Rattle.std.specs.Prelude.{ℕ, ◌+◌, List, [], ◌∷◌, map, decimal, codes}
 use Rattle.std.specs.List.{flat_map}
 use Rattle.k_types.specs.declared.names.Heap.{Heap}
 use Rattle.k_types.specs.declared.names.Phase.{Phase}
-use Rattle.k_types.specs.Numbers.{numbers_below, numbers_from}
+use Rattle.k_types.specs.Numbers.{numbers_below}
 use Rattle.k_types.specs.State.{State, Object, ExitItem, Sharing}
 use Rattle.k_types.specs.Trace.{Trace, process_count}
 use Rattle.k_words.specs.Words.{Text, text_of, word_at}
 use Rattle.k_trace.specs.Named.{DeclaredNames}
 use Rattle.k_text.specs.Named.{segment_names}
 use Rattle.k_text.specs.Report.{object_words, roots_of_process, exit_words, kernel_charge_words, limit_charge_words, process_charge_words, shared_charge_words}
-use Rattle.k_audit.specs.Claims.{Claims, Snap}
+use Rattle.k_audit.specs.Claims.{Snap}
 
 -- The line of a heading.
 abbrev pub heading : Text → List Text

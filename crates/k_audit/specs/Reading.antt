@@ -4,7 +4,6 @@ use Rattle.std.specs.Str.{bytes_eq}
 use Rattle.k_types.specs.declared.names.Name.{Name}
 use Rattle.k_types.specs.declared.names.Heap.{Heap}
 use Rattle.k_types.specs.declared.names.Pid.{Pid}
-use Rattle.k_types.specs.declared.names.SharedId.{SharedId}
 use Rattle.k_types.specs.declared.names.TypeId.{TypeId}
 use Rattle.k_types.specs.declared.names.Field.{Field}
 use Rattle.k_types.specs.declared.names.Field.TheVariants.{Ref, Int}
@@ -13,7 +12,7 @@ use Rattle.k_types.specs.declared.names.Phase.TheVariants.{Unmade, Populating, F
 use Rattle.k_types.specs.Bounds.{maximum_below, register_count}
 use Rattle.k_types.specs.Names.{directory, name_eq, name_lt}
 use Rattle.k_types.specs.Sound.{kinds_by}
-use Rattle.k_types.specs.State.{State, Object, ExitItem, Sharing, Content, Holds, Refers}
+use Rattle.k_types.specs.State.{Object, ExitItem, Sharing, Content, Holds, Refers}
 use Rattle.k_types.specs.Trace.{Trace, process_count, segment_count, segment_of}
 use Rattle.k_types.specs.Updates.{set_register}
 use Rattle.k_words.specs.Words.{Text, word_at, words_of}

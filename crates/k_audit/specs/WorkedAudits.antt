@@ -2,7 +2,7 @@
 use Rattle.std.specs.Prelude.{List, [], ◌∷◌, ◌++◌, codes}
 use Rattle.k_words.specs.Words.{Text}
 use Rattle.k_trace.specs.Named.{NamedTrace}
-use Rattle.k_text.specs.Worked.{barrier, every_sharer_pays, of_lines}
+use Rattle.k_text.specs.Worked.{of_lines}
 use Rattle.k_audit.specs.Answering.{answer_to}
 use Rattle.k_audit.specs.declared.verdicts.Verdict.{Verdict}
 

@@ -1,4 +1,4 @@
-use Rattle.std.proofs.Common.{◌≡◌, [], ℕ, Option, subst, sym}
+use Rattle.std.proofs.Common.{[], ℕ, Option, subst, sym}
 use Rattle.k_types.specs.Trace.{trace_of}
 use Rattle.k_audit.specs.Judged.{IsJudged}
 use Rattle.k_audit.specs.Verdicts.{IsBadLine}

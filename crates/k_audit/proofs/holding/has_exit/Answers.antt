@@ -1,4 +1,4 @@
-use Rattle.std.proofs.Common.{◌≡◌, List, ap, ◌∙◌, get_or, length, subst, ◌≤◌, ◌<◌, ltb-true, arith}
+use Rattle.std.proofs.Common.{List, ap, ◌∙◌, get_or, length, subst, ◌≤◌, ◌<◌, ltb-true, arith}
 use Rattle.std.proofs.lemmas.Bool.{false_from_ne_true}
 use Rattle.k_types.specs.State.{ExitItem}
 use Rattle.k_audit.proofs.ExitPlaces.{found_there, none_past}

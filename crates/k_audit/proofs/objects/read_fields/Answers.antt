@@ -1,4 +1,4 @@
-use Rattle.std.proofs.Common.{◌≡◌, ◌∙◌, ◌+◌, ◌<◌, ◌≤◌, ◌==◌, [], ◌∷◌, List, Option, None, true, false, ap, ap₂, sym, map, get_or, length, length-append, eq-eqb, ne_eqb, arith}
+use Rattle.std.proofs.Common.{◌≡◌, ◌∙◌, ◌+◌, ◌<◌, ◌≤◌, ◌==◌, [], ◌∷◌, None, true, false, ap, ap₂, sym, map, get_or, length, length-append, eq-eqb, ne_eqb, arith}
 use Rattle.std.specs.Prelude.{option_map}
 use Rattle.std.proofs.lemmas.List.{map-append}
 use Rattle.k_types.specs.declared.names.Field.TheVariants.{Ref}

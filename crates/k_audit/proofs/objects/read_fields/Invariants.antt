@@ -1,4 +1,4 @@
-use Rattle.std.proofs.Common.{◌≡◌, ◌+◌, ◌++◌, ◌≤◌, drop, length, map}
+use Rattle.std.proofs.Common.{◌≡◌, ◌+◌, ◌++◌, drop, length, map}
 use Rattle.std.specs.Prelude.{[], option_map}
 use Rattle.k_types.specs.Sound.{kinds_by}
 use Rattle.k_types.specs.Trace.{trace_of}

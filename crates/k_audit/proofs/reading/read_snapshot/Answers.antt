@@ -1,4 +1,4 @@
-use Rattle.std.proofs.Common.{◌≡◌, ◌∙◌, ◌+◌, ◌-◌, ◌<◌, ◌≤◌, [], ℕ, true, false, Option, Some, Result, Ok, ap, sym, subst, take, drop, length, eqb-true, arith}
+use Rattle.std.proofs.Common.{◌≡◌, ◌∙◌, ◌+◌, ◌-◌, ◌<◌, [], ℕ, true, false, Result, Ok, ap, sym, take, drop, length, eqb-true, arith}
 use Rattle.std.proofs.lemmas.Bool.Decides.{nat_tests}
 use Rattle.k_types.specs.Trace.{trace_of}
 use Rattle.k_audit.specs.Claims.{Snap}

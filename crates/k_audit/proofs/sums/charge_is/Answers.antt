@@ -1,5 +1,5 @@
-use Rattle.std.proofs.Common.{◌==◌, ap, sym, ◌∙◌, ◌<◌, ◌≤◌, ◌^◌, subst, ℕ, le_trans}
-use Rattle.k_types.specs.Limits.{limits_in, max_of, use_of}
+use Rattle.std.proofs.Common.{◌==◌, ap, ◌∙◌, ◌<◌, ◌^◌, subst, ℕ, le_trans}
+use Rattle.k_types.specs.Limits.{limits_in, max_of}
 use Rattle.k_types.specs.Owners.{charge_of}
 use Rattle.k_types.specs.Trace.{limit_of}
 use Rattle.k_audit.proofs.ClaimsLaw.{charge_at_most, not_cut}

@@ -1,4 +1,4 @@
-use Rattle.std.proofs.Common.{◌≡◌, ◌-◌, ◌==◌, get_or, length}
+use Rattle.std.proofs.Common.{◌≡◌, ◌-◌, ◌==◌, get_or}
 use Rattle.std.specs.List.{list_all}
 use Rattle.k_types.specs.Numbers.{numbers_from}
 use Rattle.k_types.specs.Owners.{charge_of}

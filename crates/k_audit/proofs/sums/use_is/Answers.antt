@@ -1,4 +1,4 @@
-use Rattle.std.proofs.Common.{◌==◌, ap, sym, ◌∙◌, ◌<◌, ◌^◌, subst, ℕ}
+use Rattle.std.proofs.Common.{◌==◌, ap, ◌<◌, ◌^◌, subst, ℕ}
 use Rattle.k_types.specs.Limits.{limits_in, max_of, use_of}
 use Rattle.k_audit.proofs.ClaimsLaw.{not_cut}
 use Rattle.k_audit.proofs.sums.use_is.Goals as goal

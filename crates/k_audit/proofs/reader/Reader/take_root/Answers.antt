@@ -1,4 +1,4 @@
-use Rattle.std.proofs.Common.{◌≡◌, ◌∙◌, ◌≤◌, ap, sym, subst, arith, length, Some}
+use Rattle.std.proofs.Common.{◌∙◌, ◌≤◌, ap, sym, arith, Some}
 use Rattle.std.specs.Prelude.{option_map}
 use Rattle.k_audit.specs.Items.{root}
 use Rattle.k_audit.specs.Reading.{Reading, Root, root_place}
