@@ -31,3 +31,4 @@ mod ChargesBack
 mod RowsSet
 mod Steps
 mod Completes
+mod VerdictLaws

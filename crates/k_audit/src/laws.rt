@@ -1,5 +1,13 @@
 //! Worked snapshots, and what the audit answers of them.
 ghost use Rattle.std.specs.Prelude.{◌≡◌, ◌++◌, ◌∷◌, [], codes};
+ghost use Rattle.k_types.specs.Trace.{Trace};
+ghost use Rattle.k_words.specs.Words.{Text};
+ghost use Rattle.k_trace.specs.Named.{DeclaredNames};
+ghost use Rattle.k_text.specs.Named.{AreNamed};
+ghost use Rattle.k_history.specs.Spelled.{AreProper};
+ghost use Rattle.k_state.specs.Machines.{AreSetupRules};
+ghost use Rattle.k_audit.specs.Verdicts.{IsVerdict};
+ghost use Rattle.k_audit.specs.declared.verdicts.Verdict.{Verdict};
 ghost use Rattle.k_text.specs.Worked.{barrier, every_sharer_pays, of_lines};
 ghost use Rattle.k_audit.specs.Answering.{answer_to};
 ghost use Rattle.k_audit.specs.WorkedAudits.{audited, barrier_snapshot, one_exit_less, one_share_less, sharing_front, sharing_snapshot};
@@ -27,4 +35,13 @@ pub fn barrier_audit_row()
 pub fn last_lines_audit_row()
     ensures missing { audited every_sharer_pays sharing_front ≡ Line 18 }
     ensures feed { answer_to every_sharer_pays.names every_sharer_pays.trace (of_lines sharing_front ++ codes "p2 s") ≡ Line 18 }
+{}
+
+/// The bytes deserve one verdict alone, and it is the one that the definitions compute, over a header whose setup keeps the rules and
+/// whose names can be told apart.
+pub fn verdicts_are_one()
+    ensures one { (names : DeclaredNames) (trace : Trace) (bytes : Text) (a b : Verdict) → AreSetupRules trace → AreNamed names trace → AreProper names
+        → IsVerdict names trace bytes a → IsVerdict names trace bytes b → a ≡ b }
+    ensures computed { (names : DeclaredNames) (trace : Trace) (bytes : Text) → AreSetupRules trace → AreNamed names trace → AreProper names
+        → IsVerdict names trace bytes (answer_to names trace bytes) }
 {}
