@@ -402,16 +402,17 @@ module _ (names : DeclaredNames) (trace : Trace) (header : IsHeader names trace)
       let five = six.0 in
       let four = five.0 in
       let three = four.0 in
-      let two = three.0 in
-      ( rw
-        ( full 0 x.made (segment_count trace) two.2
-        , full 0 x.uses (length trace.limits) eight.2
-        , full 0 x.maxima (length trace.limits) (eight.1.same ∙ eight.2)
-        , full 0 x.charges (process_count trace) nine.2
-        , full 0 x.bytes trace.shared_heaps good.2
-        , full Unmade x.phases trace.shared_heaps (good.1.same ∙ good.2)
-        ) refl
-      , refl )
+      let two = three.0 in (
+        rw (
+          full 0 x.made (segment_count trace) two.2,
+          full 0 x.uses (length trace.limits) eight.2,
+          full 0 x.maxima (length trace.limits) (eight.1.same ∙ eight.2),
+          full 0 x.charges (process_count trace) nine.2,
+          full 0 x.bytes trace.shared_heaps good.2,
+          full Unmade x.phases trace.shared_heaps (good.1.same ∙ good.2),
+        ) refl,
+        refl,
+      )
 
   no_parts : Parts
   no_parts = record { ended = []; made = []; owners = []; objects = []; rows = []; exits = []; shares = []; kernel = 0; ceiling = 0; uses = []; maxima = []; charges = []; bytes = []; phases = [] }

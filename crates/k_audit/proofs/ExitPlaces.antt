@@ -14,7 +14,7 @@ use Rattle.k_audit.specs.Tests.{exit_lt}
 
 -- ---- the order
 
-abbrev seg : Trace → ExitItem → ℕ
+abbrev pub seg : Trace → ExitItem → ℕ
 seg trace e = segment_of trace e.heap
 
 exit_cases : (trace : Trace) (a b : ExitItem) → exit_lt trace a b ≡ true → IsExitAfter trace (seg trace a) (Some a.target) b
@@ -26,7 +26,7 @@ exit_cases trace a b lt =
           inr (eqb-true (seg trace a) (seg trace b) parts.0, parts.1)
     ]
 
-exit_from : (trace : Trace) (a b : ExitItem) → IsExitAfter trace (seg trace a) (Some a.target) b → exit_lt trace a b ≡ true
+pub exit_from : (trace : Trace) (a b : ExitItem) → IsExitAfter trace (seg trace a) (Some a.target) b → exit_lt trace a b ≡ true
 exit_from trace a b (inl below) = or_left (nat_lt (seg trace a) (seg trace b)) ((seg trace a == seg trace b) && name_lt a.target b.target) (lt-ltb (seg trace a) (seg trace b) below)
 exit_from trace a b (inr same) =
     or_right (nat_lt (seg trace a) (seg trace b)) ((seg trace a == seg trace b) && name_lt a.target b.target)
@@ -38,10 +38,10 @@ after_trans trace a b c (inl x) (inr y) = inl (let same = y.0 in omega (arith, x
 after_trans trace a b c (inr x) (inl y) = inl (let same = x.0 in omega (arith, same, y))
 after_trans trace a b c (inr x) (inr y) = inr (x.0 ∙ y.0, name_lt_trans a.target b.target c.target x.1 y.1)
 
-exit_trans : (trace : Trace) (a b c : ExitItem) → exit_lt trace a b ≡ true → exit_lt trace b c ≡ true → exit_lt trace a c ≡ true
+pub exit_trans : (trace : Trace) (a b c : ExitItem) → exit_lt trace a b ≡ true → exit_lt trace b c ≡ true → exit_lt trace a c ≡ true
 exit_trans trace a b c x y = exit_from trace a c (after_trans trace a b c (exit_cases trace a b x) (exit_cases trace b c y))
 
-exit_irrefl : (trace : Trace) (a : ExitItem) → exit_lt trace a a ≡ true → ⊥
+pub exit_irrefl : (trace : Trace) (a : ExitItem) → exit_lt trace a a ≡ true → ⊥
 exit_irrefl trace a lt =
     elim (exit_cases trace a a lt) [
       | inl below ↦ absurd (omega (arith, below))
@@ -49,10 +49,10 @@ exit_irrefl trace a lt =
     ]
 
 -- the two exit items are one
-abbrev is_same : ExitItem → ExitItem → Bool
+abbrev pub is_same : ExitItem → ExitItem → Bool
 is_same e w = heap_eq e.heap w.heap && name_eq e.target w.target
 
-same_is : (e w : ExitItem) → is_same e w ≡ true → e ≡ w
+pub same_is : (e w : ExitItem) → is_same e w ≡ true → e ≡ w
 same_is e w same =
     let parts = and_parts (heap_eq e.heap w.heap) (name_eq e.target w.target) same in
     ap₂ (λ (h : Heap) (n : Name). let x : ExitItem = record { heap = h; target = n } in x) (heap_eq-true e.heap w.heap parts.0) (name_eq-true e.target w.target parts.1)

@@ -32,3 +32,4 @@ mod RowsSet
 mod Steps
 mod Completes
 mod VerdictLaws
+mod Shaped

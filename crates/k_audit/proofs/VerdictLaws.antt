@@ -1,10 +1,9 @@
 -- The bytes deserve one verdict, and it is the one that the definitions compute.
-use Rattle.std.proofs.Common.{◌≡◌, ◌∙◌, ◌↔◌, ◌⊎◌, inl, inr, ℕ, ◌<◌, ◌≤◌, Bool, true, false, not, cond, List, [], length, Option, Some, None, Result, Ok, Err, refl, sym, ap, subst, arith}
+use Rattle.std.proofs.Common.{◌≡◌, ◌∙◌, inl, inr, ℕ, ◌<◌, ◌≤◌, Bool, true, false, not, cond, List, length, Option, Some, None, Result, Ok, Err, refl, sym, ap, subst, arith}
 use Rattle.std.specs.List.{list_all}
 use Rattle.std.proofs.lemmas.Bool.{false≢true}
 use Rattle.k_types.specs.Numbers.{numbers_below}
 use Rattle.k_types.specs.Owners.{owner_of}
-use Rattle.k_types.specs.Sound.{AreNumbered}
 use Rattle.k_types.specs.State.{State}
 use Rattle.k_types.specs.Trace.{Trace}
 use Rattle.k_words.specs.Words.{Text}
@@ -12,10 +11,9 @@ use Rattle.k_trace.specs.Named.{DeclaredNames}
 use Rattle.k_audit.specs.Agreeing.{claims_agree}
 use Rattle.k_audit.specs.Answering.{answer_to, point_of, verdict_of}
 use Rattle.k_audit.specs.Claims.{Snap}
-use Rattle.k_audit.specs.Grammar.{IsSpelledSnap}
 use Rattle.k_audit.specs.Reading.{Reading, is_whole, read_lines, unread}
 use Rattle.k_audit.specs.Tests.{exit_leaves, is_numbered, nothing_dangles, nothing_left, object_guarded, phases_agree, use_fits}
-use Rattle.k_audit.specs.Verdicts.{HoldsAt, IsBadLine, IsBadPoint, IsLowestFalse, IsSoundText, IsVerdict, Spells, fed_lines}
+use Rattle.k_audit.specs.Verdicts.{HoldsAt, IsBadLine, IsBadPoint, IsSoundText, IsVerdict, Spells, fed_lines}
 use Rattle.k_audit.specs.declared.verdicts.Verdict.{Verdict}
 use Rattle.k_audit.specs.declared.verdicts.Verdict.TheVariants.{Sound, Line, Point}
 use Rattle.k_audit.proofs.ClaimsLaw.{claims_law, uses_law}
@@ -29,7 +27,7 @@ use Rattle.k_audit.proofs.NumberedLaw.{numbered_law}
 use Rattle.k_audit.proofs.PhasesLaw.{phases_law}
 use Rattle.k_audit.proofs.Plainly.{IsHeader}
 use Rattle.k_audit.proofs.ReaderLaws.{reader_laws}
-use Rattle.k_audit.proofs.Runs.{err_is_bad, line_bytes, ok_is_spelled, read_whole, run}
+use Rattle.k_audit.proofs.Runs.{err_is_bad, ok_is_spelled, read_whole, run}
 
 -- numbers of which neither is below the other are the same
 neither : (n m : ℕ) → (n < m → ⊥) → (m < n → ⊥) → n ≡ m
@@ -37,10 +35,10 @@ neither n m not_less not_more =
     elim (order n m) as (λ o. n ≡ m) [
       | inl less ↦ absurd (not_less less)
       | inr least ↦
-        elim (order m n) as (λ o. n ≡ m) [
-          | inl more ↦ absurd (not_more more)
-          | inr most ↦ omega (arith, least, most)
-        ]
+          elim (order m n) as (λ o. n ≡ m) [
+            | inl more ↦ absurd (not_more more)
+            | inr most ↦ omega (arith, least, most)
+          ]
     ]
 
 -- the snapshot that was read

@@ -1,12 +1,14 @@
 //! Worked snapshots, and what the audit answers of them.
-ghost use Rattle.std.specs.Prelude.{◌≡◌, ◌++◌, ◌∷◌, [], codes};
+ghost use Rattle.std.specs.Prelude.{◌≡◌, ◌↔◌, ◌++◌, ◌∷◌, [], codes};
+ghost use Rattle.k_types.specs.Sound.{IsSound};
 ghost use Rattle.k_types.specs.Trace.{Trace};
 ghost use Rattle.k_words.specs.Words.{Text};
 ghost use Rattle.k_trace.specs.Named.{DeclaredNames};
 ghost use Rattle.k_text.specs.Named.{AreNamed};
 ghost use Rattle.k_history.specs.Spelled.{AreProper};
 ghost use Rattle.k_state.specs.Machines.{AreSetupRules};
-ghost use Rattle.k_audit.specs.Verdicts.{IsVerdict};
+ghost use Rattle.k_audit.specs.Claims.{Snap, claims_of};
+ghost use Rattle.k_audit.specs.Verdicts.{IsVerdict, Spells};
 ghost use Rattle.k_audit.specs.declared.verdicts.Verdict.{Verdict};
 ghost use Rattle.k_text.specs.Worked.{barrier, every_sharer_pays, of_lines};
 ghost use Rattle.k_audit.specs.Answering.{answer_to};
@@ -44,4 +46,10 @@ pub fn verdicts_are_one()
         → IsVerdict names trace bytes a → IsVerdict names trace bytes b → a ≡ b }
     ensures computed { (names : DeclaredNames) (trace : Trace) (bytes : Text) → AreSetupRules trace → AreNamed names trace → AreProper names
         → IsVerdict names trace bytes (answer_to names trace bytes) }
+{}
+
+/// A text is found sound exactly where it is that of a snapshot that says a sound state, and claims what is so of it.
+pub fn sound_texts_say_sound_states()
+    ensures { (names : DeclaredNames) (trace : Trace) (bytes : Text) → IsVerdict names trace bytes Sound
+        ↔ ((snap : Snap) × Spells names trace bytes snap × IsSound trace snap.state × (snap.claims ≡ claims_of trace snap.state)) }
 {}

@@ -23,5 +23,8 @@ mod verdicts;
 mod words;
 
 pub use auditing::audit;
-pub use laws::{barrier_audit_row, every_sharer_pays_audit_row, last_lines_audit_row};
+pub use laws::{
+    barrier_audit_row, every_sharer_pays_audit_row, last_lines_audit_row,
+    sound_texts_say_sound_states, verdicts_are_one,
+};
 pub use verdicts::Verdict;
