@@ -33,3 +33,4 @@ mod Steps
 mod Completes
 mod VerdictLaws
 mod Shaped
+mod Written

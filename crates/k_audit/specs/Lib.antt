@@ -13,3 +13,4 @@ pub mod WorkedAudits
 pub mod Judged
 pub mod Tests
 pub mod Places
+pub mod Snapshots

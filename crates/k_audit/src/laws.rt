@@ -1,13 +1,16 @@
 //! Worked snapshots, and what the audit answers of them.
 ghost use Rattle.std.specs.Prelude.{◌≡◌, ◌↔◌, ◌++◌, ◌∷◌, [], codes};
-ghost use Rattle.k_types.specs.Sound.{IsSound};
+ghost use Rattle.k_types.specs.Sound.{IsSized, IsSound};
+ghost use Rattle.k_types.specs.State.{State};
 ghost use Rattle.k_types.specs.Trace.{Trace};
 ghost use Rattle.k_words.specs.Words.{Text};
 ghost use Rattle.k_trace.specs.Named.{DeclaredNames};
 ghost use Rattle.k_text.specs.Named.{AreNamed};
 ghost use Rattle.k_history.specs.Spelled.{AreProper};
 ghost use Rattle.k_state.specs.Machines.{AreSetupRules};
-ghost use Rattle.k_audit.specs.Claims.{Snap, claims_of};
+ghost use Rattle.k_audit.specs.Claims.{Snap, claims_of, snap_of};
+ghost use Rattle.k_audit.specs.Lines.{snap_text};
+ghost use Rattle.k_audit.specs.Snapshots.{snapshot_text};
 ghost use Rattle.k_audit.specs.Verdicts.{IsVerdict, Spells};
 ghost use Rattle.k_audit.specs.declared.verdicts.Verdict.{Verdict};
 ghost use Rattle.k_text.specs.Worked.{barrier, every_sharer_pays, of_lines};
@@ -52,4 +55,9 @@ pub fn verdicts_are_one()
 pub fn sound_texts_say_sound_states()
     ensures { (names : DeclaredNames) (trace : Trace) (bytes : Text) → IsVerdict names trace bytes Sound
         ↔ ((snap : Snap) × Spells names trace bytes snap × IsSound trace snap.state × (snap.claims ≡ claims_of trace snap.state)) }
+{}
+
+/// The text that is written of a state is that of the snapshot that says the state, with its lists in order, and claims what is so of it.
+pub fn written_texts_are_those_of_snapshots()
+    ensures { (names : DeclaredNames) (trace : Trace) (st : State) → IsSized trace st → snap_text names trace (snap_of trace st) ≡ snapshot_text names trace st }
 {}

@@ -25,6 +25,6 @@ mod words;
 pub use auditing::audit;
 pub use laws::{
     barrier_audit_row, every_sharer_pays_audit_row, last_lines_audit_row,
-    sound_texts_say_sound_states, verdicts_are_one,
+    sound_texts_say_sound_states, verdicts_are_one, written_texts_are_those_of_snapshots,
 };
 pub use verdicts::Verdict;
