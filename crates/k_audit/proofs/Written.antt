@@ -131,9 +131,6 @@ max_at [] (x ∷ maxima) m same inside = absurd (omega (arith, same))
 max_at (row ∷ rows) (x ∷ maxima) zero same inside = refl
 max_at (row ∷ rows) (x ∷ maxima) (suc m) same inside = max_at rows maxima m (omega (arith, same)) (omega (arith, inside))
 
-joined : {xs ys rest more : List (List Text)} → xs ≡ ys → rest ≡ more → xs ++ rest ≡ ys ++ more
-joined same behind = ap₂ (λ (ls ms : List (List Text)). ls ++ ms) same behind
-
 flatten : (a b c d e f g h : List (List Text)) → a ++ (b ++ (c ++ (d ++ (e ++ (f ++ (g ++ h)))))) ≡ ((((((a ++ b) ++ c) ++ d) ++ e) ++ f) ++ g) ++ h
 flatten a b c d e f g h =
     sym (append_assoc (((((a ++ b) ++ c) ++ d) ++ e) ++ f) g h
@@ -165,40 +162,20 @@ module _ (names : DeclaredNames) (trace : Trace) (st : State) (sized : IsSized t
       let ss = map (shared_charge_line names trace st) (numbers_below trace.shared_heaps) in
       rw (limits_are, processes_from names trace st 0 (process_count trace), heaps_are) (sym (append_assoc (k ∷ ms) ps (ss ++ [])) ∙ ap (λ (ls : List (List Text)). ((k ∷ ms) ++ ps) ++ ls) (append-nil ss))
 
-  -- ---- the sections
-
-  gone_is : (codes "snapshot" ∷ codes "1" ∷ []) ∷ map (gone_words names) (ended_in_order trace st) ≡ (codes "snapshot" ∷ codes "1" ∷ []) ∷ gone_lines names trace st
-  unfolding gone_lines
-  gone_is = ap (λ (ls : List (List Text)). (codes "snapshot" ∷ codes "1" ∷ []) ∷ ls) (gone_are names trace st (numbers_below (process_count trace)))
-
-  made_is : (codes "made" ∷ []) ∷ made_numbers names 0 st.made ≡ made_lines names trace st
-  unfolding made_lines
-  made_is = ap (λ (ls : List (List Text)). (codes "made" ∷ []) ∷ ls) (made_are names trace st sized.made)
-
-  graph_is : (codes "graph" ∷ []) ∷ object_lines names (map (λ o. owner_of trace st o.name.seg.0) st.objects) st.objects ≡ graph_lines names trace st
-  unfolding graph_lines
-  graph_is = ap (λ (ls : List (List Text)). (codes "graph" ∷ []) ∷ ls) (objects_are names trace st st.objects)
-
-  roots_is : (codes "roots" ∷ []) ∷ root_lines names trace (still trace st) ≡ roots_lines names trace st
-  unfolding roots_lines
-  roots_is = ap (λ (ls : List (List Text)). (codes "roots" ∷ []) ∷ ls) (roots_are names trace st)
-
-  exits_is : (codes "exits" ∷ []) ∷ map (exit_line names) (exits_in_order trace st) ≡ exits_lines names trace st
-  unfolding exits_lines
-  exits_is = ap (λ (ls : List (List Text)). (codes "exits" ∷ []) ∷ ls) (exits_are names trace st)
-
-  shares_is : (codes "shares" ∷ []) ∷ map (share_words names) (shares_in_order trace st) ≡ shares_lines names trace st
-  unfolding shares_lines
-  shares_is = ap (λ (ls : List (List Text)). (codes "shares" ∷ []) ∷ ls) (shares_are names trace st)
-
-  charges_is : (codes "charges" ∷ []) ∷ charge_lines names (snap_of trace st) ≡ charges_lines names trace st
-  unfolding charges_lines
-  charges_is = ap (λ (ls : List (List Text)). (codes "charges" ∷ []) ∷ ls) charges_are
+  -- a section whose heading is that, and what stands behind it
+  section : (h : List Text) (xs ys rest more : List (List Text)) → xs ≡ ys → rest ≡ more → (h ∷ xs) ++ rest ≡ (h ∷ ys) ++ more
+  section h xs ys rest more same behind = ap₂ (λ (ls ms : List (List Text)). (h ∷ ls) ++ ms) same behind
 
   pub lines_are : snap_lines names trace (snap_of trace st) ≡ snapshot_lines names trace st
-  unfolding snapshot_lines
+  unfolding snapshot_lines gone_lines made_lines graph_lines roots_lines exits_lines shares_lines charges_lines
   lines_are =
-      joined gone_is (joined made_is (joined graph_is (joined roots_is (joined exits_is (joined shares_is (joined charges_is refl))))))
+      section (codes "snapshot" ∷ codes "1" ∷ []) _ _ _ _ (gone_are names trace st (numbers_below (process_count trace)))
+      (section (codes "made" ∷ []) _ _ _ _ (made_are names trace st sized.made)
+      (section (codes "graph" ∷ []) _ _ _ _ (objects_are names trace st st.objects)
+      (section (codes "roots" ∷ []) _ _ _ _ (roots_are names trace st)
+      (section (codes "exits" ∷ []) _ _ _ _ (exits_are names trace st)
+      (section (codes "shares" ∷ []) _ _ _ _ (shares_are names trace st)
+      (section (codes "charges" ∷ []) _ _ _ _ charges_are refl))))))
       ∙ flatten ((codes "snapshot" ∷ codes "1" ∷ []) ∷ gone_lines names trace st) (made_lines names trace st) (graph_lines names trace st) (roots_lines names trace st) (exits_lines names trace st) (shares_lines names trace st) (charges_lines names trace st) ((codes "end" ∷ []) ∷ [])
 
   pub text_is : snap_text names trace (snap_of trace st) ≡ snapshot_text names trace st
