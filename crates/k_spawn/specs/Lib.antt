@@ -1,0 +1,9 @@
+pub mod Scripts
+pub mod Translation
+pub mod Reasons
+pub mod Timely
+pub mod Judgement
+pub mod Spelling
+pub mod Tree
+pub mod Agreement
+pub mod Worked

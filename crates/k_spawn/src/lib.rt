@@ -1,0 +1,15 @@
+//! Scripts: traces in which processes make and end child processes.
+//!
+//! A [`Script`] is a header, children and lines. Its bytes are judged line by line, with the reason of the first bad line; a header
+//! line is judged as that of a trace. Its translation is a trace of the second version. The tree machine has the processes and
+//! limits of the header and of the children that were spawned. Below stands `k_trace`, whose definitions judge what scripts and
+//! traces have in common.
+#![tactic(auto)]
+
+mod laws;
+mod reasons;
+mod script;
+
+pub use laws::reaped_first_row;
+pub use reasons::ScriptReason;
+pub use script::{Deed, ScriptLine};
