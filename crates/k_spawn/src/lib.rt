@@ -10,6 +10,6 @@ mod laws;
 mod reasons;
 mod script;
 
-pub use laws::reaped_first_row;
+pub use laws::{full_child_row, reaped_child_row, strangers_row, whole_tree_row};
 pub use reasons::ScriptReason;
 pub use script::{Deed, ScriptLine};
