@@ -1,7 +1,7 @@
 -- The script of one child, computed.
 use Rattle.std.proofs.Common.{◌≡◌, refl, Ok}
 use Rattle.k_text.proofs.Machine.{machine}
-use Rattle.k_spawn.specs.Scripts.{reaped_within}
+use Rattle.k_spawn.specs.Families.{reaped_within}
 use Rattle.k_spawn.specs.Judgement.{judgement, IsBad}
 use Rattle.k_spawn.specs.Worked.{tree_text, text_by_tree, words_by_tree, full_child, full_child_text, full_child_replies, full_child_report, reaps_itself_text, goes_on_text, spawns_itself_text}
 use Rattle.k_spawn.proofs.Opened.{judging}

@@ -1,3 +1,4 @@
 pub mod Opened
 pub mod FullChild
 pub mod WholeTree
+pub mod Reaped

@@ -1,7 +1,7 @@
 -- The script of children of children, computed.
 use Rattle.std.proofs.Common.{◌≡◌, refl, Ok}
 use Rattle.k_text.proofs.Machine.{machine}
-use Rattle.k_spawn.specs.Scripts.{reaped_within}
+use Rattle.k_spawn.specs.Families.{reaped_within}
 use Rattle.k_spawn.specs.Judgement.{judgement}
 use Rattle.k_spawn.specs.Worked.{tree_text, text_by_tree, whole_tree, whole_tree_text, whole_tree_report}
 use Rattle.k_spawn.proofs.Opened.{judging}

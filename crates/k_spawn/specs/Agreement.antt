@@ -12,12 +12,13 @@ use Rattle.k_types.specs.Names.{among}
 use Rattle.k_types.specs.Owners.{charge_of}
 use Rattle.k_types.specs.State.{State, opening}
 use Rattle.k_types.specs.Steps.{run}
-use Rattle.k_types.specs.Trace.{Trace}
+use Rattle.k_types.specs.Trace.{Trace, process_count}
 use Rattle.k_trace.specs.Words.{Text}
 use Rattle.k_trace.specs.Rules.{IsTrace}
 use Rattle.k_spawn.specs.declared.script.Deed.{Deed}
 use Rattle.k_spawn.specs.declared.script.ScriptLine.{ScriptLine}
-use Rattle.k_spawn.specs.Scripts.{Script, header_count, is_child, children, limit_for, reaped_with}
+use Rattle.k_spawn.specs.Families.{is_child, children}
+use Rattle.k_spawn.specs.Scripts.{Script, family, limit_for}
 use Rattle.k_spawn.specs.Translation.{translation, operations_of_deed}
 use Rattle.k_spawn.specs.Judgement.{judgement}
 use Rattle.k_spawn.specs.Tree.{Tree, first_tree, trace_there, reply_in_tree, tree_after, tree_after_lines}
@@ -59,11 +60,11 @@ replies_in (Closing ∷ events) = replies_in events
 
 -- the process is one of the header, or a child that is there
 abbrev pub is_there : Script → List ℕ → ℕ → Bool
-is_there s there p = not (is_child s p) || among p there
+is_there s there p = not (is_child (family s) p) || among p there
 
 -- the limit is one of the header, or that of a child that is there
 abbrev pub is_limit_there : Script → List ℕ → ℕ → Bool
-is_limit_there s there m = nat_lt m (length s.header.trace.limits) || among (header_count s + (m - length s.header.trace.limits)) there
+is_limit_there s there m = nat_lt m (length s.header.trace.limits) || among (process_count s.header.trace + (m - length s.header.trace.limits)) there
 
 -- what the translation has of a child that is not there: null registers, no charge, no share, and the maximum 0
 pub record IsAbsent (s : Script) (c : ℕ) (x : State) : Type 0 where
@@ -82,7 +83,7 @@ pub record IsSameTree (s : Script) (t : Tree) (x : State) : Type 0 where
   pub shares : x.shares ≡ t.state.shares
   pub phases : x.phases ≡ t.state.phases
   pub uses : (m : ℕ) → m < length (translated s).limits → IsTrue (is_limit_there s t.there m) → use_of (translated s) x m ≡ use_of (trace_there s t.there) t.state m
-  pub absent : (c : ℕ) → IsTrue (among c (children s)) → IsFalse (among c t.there) → IsAbsent s c x
+  pub absent : (c : ℕ) → IsTrue (among c (children (family s))) → IsFalse (among c t.there) → IsAbsent s c x
 
 -- the line changes the use of no limit but that of its process and those below it
 abbrev pub StaysBelow : Script → ScriptLine → State → Type 0
@@ -104,7 +105,7 @@ pub record AgreesWithTree (s : Script) : Type 0 where
   pub filed : file_order (translated s) ≡ events_of_lines s (opening (translated s)) s.lines ++ last_events (translated s) (state_after_lines s s.lines)
   pub same : (first rest : List ScriptLine) → s.lines ≡ first ++ rest → IsSameTree s (tree_before s first) (state_after_lines s first)
   pub alike : (first rest : List ScriptLine) (l : ScriptLine) → s.lines ≡ first ++ l ∷ rest → AnswersAlike s (tree_before s first) (state_after_lines s first) l
-  pub below : (first rest : List ScriptLine) (l : ScriptLine) → s.lines ≡ first ++ l ∷ rest → IsTrue (is_child s l.pid.0) → StaysBelow s l (state_after_lines s first)
+  pub below : (first rest : List ScriptLine) (l : ScriptLine) → s.lines ≡ first ++ l ∷ rest → IsTrue (is_child (family s) l.pid.0) → StaysBelow s l (state_after_lines s first)
 
 -- of every script that bytes are, the translation is a trace, which agrees with the tree machine
 abbrev pub TreesAgree : Type 0

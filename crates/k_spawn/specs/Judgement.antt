@@ -22,9 +22,8 @@ use Rattle.k_spawn.specs.declared.script.Deed.{Deed}
 use Rattle.k_spawn.specs.declared.script.Deed.TheVariants.{Does, Spawns, Reaps}
 use Rattle.k_spawn.specs.declared.script.ScriptLine.{ScriptLine}
 use Rattle.k_spawn.specs.Reasons.{reason_number, demands, also}
-use Rattle.k_spawn.specs.Scripts.{Script, process_names, limit_names}
-use Rattle.k_spawn.specs.Timely.{has_left, operations_so_far, is_of_parent, is_running, is_due}
-use Rattle.k_spawn.specs.Translation.{operations_of_deed}
+use Rattle.k_spawn.specs.Scripts.{Script, family, process_names, limit_names}
+use Rattle.k_spawn.specs.Timely.{weight, has_left, operations_so_far, is_of_parent, is_running, is_due}
 
 -- what the lines so far say, and where the next one stands. After a child the place is still that of the processes
 pub record SoFar : Type 0 where
@@ -115,10 +114,10 @@ deed_of s ws =
 unfoldable pub deed_line : Script → Text → Deed → Judged
 deed_line s name deed =
     demands (OfTrace Undeclared) (declares (process_names s) name)
-    (demands (OfTrace TooMany) (nat_le (operations_so_far s + length (operations_of_deed s deed)) most_operations)
-    (demands (OfTrace AfterExit) (not (has_left s (number_of (process_names s) name)))
-    (demands Stranger (is_of_parent s (number_of (process_names s) name) deed)
-    (demands Untimely (is_running s (number_of (process_names s) name) && is_due s deed)
+    (demands (OfTrace TooMany) (nat_le (operations_so_far (family s) s.lines + weight (family s) deed) most_operations)
+    (demands (OfTrace AfterExit) (not (has_left s.lines (number_of (process_names s) name)))
+    (demands Stranger (is_of_parent (family s) (number_of (process_names s) name) deed)
+    (demands Untimely (is_running (family s) s.lines (number_of (process_names s) name) && is_due (family s) s.lines deed)
     (leads Operations (with_line s (number_of (process_names s) name) deed))))))
 
 -- and the reason of its words where they are none

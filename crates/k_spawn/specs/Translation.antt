@@ -11,7 +11,9 @@ use Rattle.k_trace.specs.Named.{NamedTrace}
 use Rattle.k_spawn.specs.declared.script.Deed.{Deed}
 use Rattle.k_spawn.specs.declared.script.Deed.TheVariants.{Does, Spawns, Reaps}
 use Rattle.k_spawn.specs.declared.script.ScriptLine.{ScriptLine}
-use Rattle.k_spawn.specs.Scripts.{Script, header_count, children, parent_of, limit_for, process_names, limit_names, reaped_with}
+use Rattle.k_types.specs.Trace.{process_count}
+use Rattle.k_spawn.specs.Families.{children, parent_of, reaped_with}
+use Rattle.k_spawn.specs.Scripts.{Script, family, limit_for, process_names, limit_names}
 
 -- the limit of a process
 abbrev pub limit_id : Script → ℕ → LimitId
@@ -25,11 +27,11 @@ ending s c = Kill (record { 0 = c }) ∷ Resize (limit_id s c) 0 ∷ []
 abbrev pub operations_of_deed : Script → Deed → List Op
 operations_of_deed s (Does op) = op ∷ []
 operations_of_deed s (Spawns c max) = Resize (limit_id s c.0) max ∷ []
-operations_of_deed s (Reaps c) = flat_map (ending s) (reaped_with s c.0)
+operations_of_deed s (Reaps c) = flat_map (ending s) (reaped_with (family s) c.0)
 
 -- the limit of a child: hard, of maximum 0, under the limit of its parent
 abbrev pub child_row : Script → ℕ → LimitRow
-child_row s c = record { parent = Some (limit_id s (parent_of s c)); hard = true; max = 0 }
+child_row s c = record { parent = Some (limit_id s (parent_of (family s) c)); hard = true; max = 0 }
 
 -- the operations of a process in some lines
 abbrev pub operations_in : Script → List ScriptLine → ℕ → List Op
@@ -45,9 +47,9 @@ translation s = record {
   names = record s.header.names { limits = limit_names s; procs = process_names s };
   trace = record s.header.trace {
     version = 2;
-    limits = s.header.trace.limits ++ map (child_row s) (children s);
-    procs = s.header.trace.procs ++ map (limit_id s) (children s);
-    operations = map (operations_in s s.lines) (numbers_below (header_count s + length s.parents));
+    limits = s.header.trace.limits ++ map (child_row s) (children (family s));
+    procs = s.header.trace.procs ++ map (limit_id s) (children (family s));
+    operations = map (operations_in s s.lines) (numbers_below (process_count s.header.trace + length s.parents));
     order = order_of s s.lines;
   };
 }

@@ -16,7 +16,8 @@ use Rattle.k_types.specs.Updates.{set_max}
 use Rattle.k_spawn.specs.declared.script.Deed.{Deed}
 use Rattle.k_spawn.specs.declared.script.Deed.TheVariants.{Does, Spawns, Reaps}
 use Rattle.k_spawn.specs.declared.script.ScriptLine.{ScriptLine}
-use Rattle.k_spawn.specs.Scripts.{Script, children, limit_for, reaped_with}
+use Rattle.k_spawn.specs.Families.{children, reaped_with}
+use Rattle.k_spawn.specs.Scripts.{Script, family, limit_for}
 use Rattle.k_spawn.specs.Translation.{child_row, translation}
 
 -- a state of the tree machine: a state of the one-thread machine, and the children that are there
@@ -34,7 +35,7 @@ row_there s there c = if among c there then child_row s c else taken_out
 
 -- the trace whose steps the tree machine takes while these children are there
 abbrev pub trace_there : Script → List ℕ → Trace
-trace_there s there = record (translation s).trace { limits = s.header.trace.limits ++ map (row_there s there) (children s) }
+trace_there s there = record (translation s).trace { limits = s.header.trace.limits ++ map (row_there s there) (children (family s)) }
 
 -- before the first line no child is there
 abbrev pub first_tree : Script → Tree
@@ -80,7 +81,7 @@ reply_in_tree s t p (Reaps c) = Done
 abbrev pub tree_after : Script → Tree → ℕ → Deed → Tree
 tree_after s t p (Does op) = record t { state = run (trace_there s t.there) t.state (events_of (trace_there s t.there) t.state p (Some op)) }
 tree_after s t p (Spawns c max) = after_spawn s c.0 (given (full_at s t p max) max) t
-tree_after s t p (Reaps c) = after_reaps s t (reaped_with s c.0)
+tree_after s t p (Reaps c) = after_reaps s t (reaped_with (family s) c.0)
 
 -- what lines leave
 abbrev pub tree_after_lines : Script → Tree → List ScriptLine → Tree

@@ -6,10 +6,15 @@
 //! traces have in common.
 #![tactic(auto)]
 
+mod course;
+mod errors;
+mod family;
 mod laws;
 mod reasons;
 mod script;
 
+pub use errors::ScriptError;
+pub use family::Family;
 pub use laws::{full_child_row, reaped_child_row, strangers_row, whole_tree_row};
 pub use reasons::ScriptReason;
 pub use script::{Deed, ScriptLine};
