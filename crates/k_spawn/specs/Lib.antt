@@ -1,6 +1,7 @@
 pub mod Families
 pub mod Scripts
 pub mod Translation
+pub mod Translated
 pub mod Reasons
 pub mod Timely
 pub mod Courses

@@ -1,8 +1,11 @@
 -- What a call that can run out of memory answers.
-use Rattle.std.specs.Prelude.{◌≡◌, ℕ, List, length, Result, Ok, Err}
-use Rattle.k_io.specs.declared.errors.NoMemory.{NoMemory}
+use Rattle.std.specs.Prelude.{◌≡◌, ℕ, ◌||◌, IsTrue, List, length, Option, Some, None, Result, Ok, Err, if◌then◌else◌, codes}
+use Rattle.std.specs.Str.{bytes_eq}
 use Rattle.k_types.specs.declared.names.Pid.{Pid}
-use Rattle.k_trace.specs.Words.{Text}
+use Rattle.k_trace.specs.declared.errors.LineError.{LineError}
+use Rattle.k_trace.specs.declared.errors.LineError.TheVariants as trace
+use Rattle.k_trace.specs.Words.{Text, word_at}
+use Rattle.k_trace.specs.Names.{declares}
 use Rattle.k_trace.specs.declared.place.Place.{Place}
 use Rattle.k_trace.specs.declared.place.Place.TheVariants.{Version, Kernel, Operations}
 use Rattle.k_trace.specs.Judgement.{SoFar as TraceSoFar, BadLine}
@@ -11,11 +14,11 @@ use Rattle.k_spawn.specs.declared.errors.ScriptLineError.{ScriptLineError}
 use Rattle.k_spawn.specs.declared.errors.ScriptLineError.TheVariants as line
 use Rattle.k_spawn.specs.declared.errors.ScriptError.{ScriptError}
 use Rattle.k_spawn.specs.declared.errors.ScriptError.TheVariants as script
-use Rattle.k_spawn.specs.declared.script.Deed.{Deed}
-use Rattle.k_spawn.specs.declared.script.ScriptLine.{ScriptLine}
 use Rattle.k_spawn.specs.Courses.{Course}
-use Rattle.k_spawn.specs.Scripts.{Script}
-use Rattle.k_spawn.specs.Judgement.{SoFar, Judged, IsBad}
+use Rattle.k_spawn.specs.declared.reasons.ScriptReason.TheVariants.{OfTrace}
+use Rattle.k_spawn.specs.Reasons.{lower}
+use Rattle.k_spawn.specs.Scripts.{Script, process_names}
+use Rattle.k_spawn.specs.Judgement.{SoFar, Judged, IsBad, has_no_child, process_named}
 
 -- the place at which the reader of the header stands
 abbrev pub header_place : Place → Place
@@ -30,6 +33,24 @@ pub record IsReader (place : Place) (header : TraceSoFar) (child_names : List Te
   pub behind : course.family.first ≡ length header.said.names.procs
   pub listed : length header.said.names.procs ≡ length header.said.trace.procs
   pub named : length child_names ≡ length course.family.parents
+
+-- the header may grow here
+abbrev pub IsHeaderPlace : Place → Type 0
+IsHeaderPlace place = (place ≡ Version → ⊥) × (place ≡ Operations → ⊥)
+
+-- the line declares no process behind a child
+abbrev pub IsOfHeader : Script → List Text → Type 0
+IsOfHeader s ws = IsTrue (has_no_child s || bytes_eq (word_at ws 0) (codes "shared"))
+
+-- the process of that name, where one is declared
+abbrev pub process_of_name : Script → Text → Option Pid
+process_of_name s w = if declares (process_names s) w then Some (process_named s w) else None
+
+-- that reason applies beside the answer; the lower one counts
+abbrev pub IsAlsoRefused : Reason → Result (Unit {0}) LineError → ScriptLineError → Type 0
+IsAlsoRefused reason (Ok done) e = e ≡ line.Bad (OfTrace reason)
+IsAlsoRefused reason (Err (trace.NoMemory refused)) e = e ≡ line.NoMemory refused
+IsAlsoRefused reason (Err (trace.Bad other)) e = e ≡ line.Bad (lower (OfTrace reason) (OfTrace other))
 
 -- memory ran out, or the line is bad by that reason
 abbrev pub RefusesLine : ScriptLineError → Judged → Type 0

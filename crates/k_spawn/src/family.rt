@@ -1,5 +1,5 @@
 //! Processes and their children.
-ghost use Rattle.std.specs.Prelude.{◌≡◌, ◌<◌, ◌≤◌, ◌+◌, ◌++◌, ◌∷◌, [], length, map, IfOk, OnOk, OnErr};
+ghost use Rattle.std.specs.Prelude.{◌≡◌, ◌<◌, ◌≤◌, ◌+◌, ◌++◌, ◌∷◌, [], length, map, slice_index_or, IfOk, OnOk, OnErr};
 ghost use Rattle.k_spawn.specs.Families.{is_child, is_parent, reaped_within, reaped_with};
 
 use k_io::{NoMemory, push};
@@ -69,6 +69,14 @@ impl Family {
         ensures { result ≡ length self.now.parents }
     {
         self.parents.len()
+    }
+
+    /// The parent of the child at that place.
+    pub fn parent_at(&self, place: usize) -> Pid
+        requires { place < length self.now.parents }
+        ensures { result ≡ slice_index_or self.now.parents place result }
+    {
+        self.parents[place]
     }
 
     /// Whether the process is a child.

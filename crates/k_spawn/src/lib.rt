@@ -10,11 +10,16 @@ mod course;
 mod errors;
 mod family;
 mod laws;
+mod reader;
+mod reading;
 mod reasons;
 mod script;
+mod translation;
 
 pub use errors::ScriptError;
 pub use family::Family;
 pub use laws::{full_child_row, reaped_child_row, strangers_row, whole_tree_row};
+pub use reading::read_script;
 pub use reasons::ScriptReason;
-pub use script::{Deed, ScriptLine};
+pub use script::{Deed, Script, ScriptLine};
+pub use translation::translate;

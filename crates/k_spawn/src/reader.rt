@@ -1,0 +1,371 @@
+//! What the lines so far say, and the step to the next line.
+ghost use Rattle.std.specs.Prelude.{◌≡◌, ◌<◌, length, IfSome, IfOk};
+ghost use Rattle.k_trace.specs.Words.{words_of};
+ghost use Rattle.k_trace.specs.Judgement.{has_process};
+ghost use Rattle.k_spawn.specs.declared.errors.ScriptLineError.TheVariants.{Bad};
+ghost use Rattle.k_spawn.specs.declared.reasons.ScriptReason.TheVariants.{OfTrace};
+ghost use Rattle.k_spawn.specs.Courses.{IsDeedOf};
+ghost use Rattle.k_spawn.specs.Judgement.{start, is_child_word, version_line, header_line, child_line, spawn_form, reap_form, deed_of, deed_line, operation_line, later_line, line_of_procs, line_in, judged_line};
+ghost use Rattle.k_spawn.specs.Outcome.{IsJudged, IsAlsoRefused, IsHeaderPlace, IsOfHeader, process_of_name};
+ghost use Rattle.k_spawn.specs.Scripts.{family, process_names};
+
+use crate::course::{Course, weight_of};
+use crate::errors::ScriptLineError;
+use crate::reasons::ScriptReason;
+use crate::script::{Deed, Script};
+use k_io::NoMemory;
+use k_trace::{LineError, Place, Reader, Reason, read_op};
+use k_types::{
+    MAXIMUM_BELOW, MOST_LIMITS, MOST_LINE_BYTES, MOST_OPERATIONS, MOST_PROCESSES, Pid,
+};
+use k_words::{
+    NameList, after_word, are_words, is, is_keyword, is_name, is_printable, number, word, word_count,
+};
+use std::alloc::Global;
+use std::marker::Model;
+
+/// What the lines so far say. The header is read by the reader of traces.
+pub struct ScriptReader {
+    place: Place,
+    header: Reader,
+    child_names: NameList,
+    course: Course,
+}
+
+impl Drop for ScriptReader {
+    fn drop(self) {
+        let ScriptReader {
+            place: _,
+            header: _,
+            child_names: _,
+            course: _,
+        } = self;
+    }
+}
+
+impl Model for ScriptReader {
+    ghost use Rattle.k_spawn.specs.Judgement.{SoFar};
+    ghost use Rattle.k_spawn.specs.Outcome.{IsReader};
+
+    ghost Value = { SoFar };
+
+    ghost view = { λ r. record {
+      place = r.place;
+      said = record {
+        header = r.header.said;
+        child_names = r.child_names;
+        parents = r.course.family.parents;
+        lines = r.course.lines;
+      };
+    } };
+
+    ghost invariant = { λ r. IsReader r.place r.header r.child_names r.course };
+}
+
+/// Bad by a reason of traces.
+fn bad(reason: Reason) -> ScriptLineError
+    ensures { result ≡ Bad (OfTrace reason) }
+{
+    ScriptLineError::Bad(ScriptReason::OfTrace(reason))
+}
+
+/// Whether the word is reserved in scripts beside those of traces.
+fn is_child_word(word: &[u8]) -> bool
+    ensures { result ≡ is_child_word word.now }
+{
+    is(word, b"child")
+}
+
+/// The answer to a header line, to which that reason applies too; the lower one counts.
+fn also(reason: Reason, answer: Result<(), LineError>) -> ScriptLineError
+    ensures { IsAlsoRefused reason answer result }
+{
+    match answer {
+        Err(LineError::NoMemory(refused)) => ScriptLineError::NoMemory(refused),
+        Err(LineError::Bad(other)) => {
+            if other.number() < reason.number() {
+                bad(other)
+            } else {
+                bad(reason)
+            }
+        }
+        Ok(()) => bad(reason),
+    }
+}
+
+impl ScriptReader {
+    pub fn new(alloc: Global) -> ScriptReader
+        ensures { result ≡ start }
+    {
+        ScriptReader {
+            place: Place::Version,
+            header: Reader::past_version(alloc),
+            child_names: NameList::new(alloc),
+            course: Course::new(alloc),
+        }
+    }
+
+    /// How many processes there are, children among them.
+    fn process_count(&self) -> usize
+        ensures { result ≡ length (process_names self.now.said) }
+    {
+        self.header.names().proc_count() + self.child_names.len()
+    }
+
+    /// The number of the process of that name.
+    fn process_named(&self, name: &[u8]) -> Option<Pid>
+        ensures number { result ≡ process_of_name self.now.said name.now }
+        ensures known { IfSome result (λ pid. pid.0 < length (process_names self.now.said)) }
+        ensures few { IfSome result (λ pid. pid.0 < 64) }
+    {
+        if let Some(pid) = self.header.names().proc_named(name) {
+            return Some(pid);
+        }
+        match self.child_names.number(name) {
+            Some(place) => Some(Pid((self.header.names().proc_count() + place) as u32)),
+            None => None,
+        }
+    }
+
+    #[tactic(auto, unfolding(crate::specs::Judgement::version_line, crate::specs::Reasons::demands))]
+    fn version_line(&mut self, line: &[u8]) -> Result<(), ScriptLineError>
+        requires { self.old.place ≡ Place.Version }
+        ensures { IsJudged result self.new (version_line self.old.said (words_of line.now)) }
+    {
+        if word_count(line) != 2 || !is(word(line, 0), b"spawn") || !is(word(line, 1), b"1") {
+            return Err(bad(Reason::NoForm));
+        }
+        self.place = Place::Kernel;
+        Ok(())
+    }
+
+    /// A line that a trace may have before its operations.
+    #[tactic(auto, unfolding(crate::specs::Judgement::header_line, crate::specs::Reasons::also))]
+    fn header_line(&mut self, alloc: Global, line: &[u8]) -> Result<(), ScriptLineError>
+        requires place { IsHeaderPlace self.old.place }
+        requires line { IsOfHeader self.old.said (words_of line.now) }
+        ensures { IsJudged result self.new (header_line self.old.place self.old.said (words_of line.now)) }
+    {
+        let name = word(line, 1);
+        let reserved = is_child_word(name);
+        let taken = self.child_names.declares(name);
+        let answer = self.header.line_in(alloc, line);
+        if reserved {
+            return Err(also(Reason::NoName, answer));
+        }
+        if taken {
+            return Err(also(Reason::NameTaken, answer));
+        }
+        match answer {
+            Ok(()) => {}
+            Err(LineError::NoMemory(refused)) => return Err(ScriptLineError::NoMemory(refused)),
+            Err(LineError::Bad(reason)) => return Err(bad(reason)),
+        }
+        if self.course.child_count() == 0 {
+            self.course.set_first(self.header.names().proc_count() as u32);
+        }
+        self.place = self.header.place();
+        Ok(())
+    }
+
+    #[tactic(auto, unfolding(crate::specs::Judgement::child_line, crate::specs::Reasons::demands))]
+    fn child_line(&mut self, alloc: Global, line: &[u8]) -> Result<(), ScriptLineError>
+        requires { self.old.place ≡ Place.Procs }
+        ensures { IsJudged result self.new (child_line self.old.said (words_of line.now)) }
+    {
+        if word_count(line) != 3 {
+            return Err(bad(Reason::NoForm));
+        }
+        let name = word(line, 1);
+        if !is_name(name) || is_child_word(name) {
+            return Err(bad(Reason::NoName));
+        }
+        if self.process_named(name).is_some() || self.header.names().limit_named(name).is_some() {
+            return Err(bad(Reason::NameTaken));
+        }
+        let Some(parent) = self.process_named(word(line, 2)) else {
+            return Err(bad(Reason::Undeclared));
+        };
+        let limits = self.header.names().limit_count() + self.child_names.len();
+        if self.process_count() >= MOST_PROCESSES || limits >= MOST_LIMITS {
+            return Err(bad(Reason::TooMany));
+        }
+        self.child_names.declare(alloc, name)?;
+        self.course.add_child(parent)?;
+        Ok(())
+    }
+
+    #[tactic(auto, unfolding(crate::specs::Judgement::spawn_form, k_trace::specs::Demands::demands))]
+    fn spawn_form(&self, line: &[u8]) -> Result<Deed, Reason>
+        ensures deed { result ≡ spawn_form self.now.said (words_of line.now) }
+        ensures known { IfOk result (λ deed. IsDeedOf (family self.now.said) deed) }
+    {
+        if word_count(line) != 3 {
+            return Err(Reason::NoForm);
+        }
+        let Some(max) = number(word(line, 2), MAXIMUM_BELOW as u128) else {
+            return Err(Reason::NoNumber);
+        };
+        let Some(child) = self.process_named(word(line, 1)) else {
+            return Err(Reason::Undeclared);
+        };
+        Ok(Deed::Spawns { child, max })
+    }
+
+    #[tactic(auto, unfolding(crate::specs::Judgement::reap_form, k_trace::specs::Demands::demands))]
+    fn reap_form(&self, line: &[u8]) -> Result<Deed, Reason>
+        ensures deed { result ≡ reap_form self.now.said (words_of line.now) }
+        ensures known { IfOk result (λ deed. IsDeedOf (family self.now.said) deed) }
+    {
+        if word_count(line) != 2 {
+            return Err(Reason::NoForm);
+        }
+        let Some(child) = self.process_named(word(line, 1)) else {
+            return Err(Reason::Undeclared);
+        };
+        Ok(Deed::Reaps { child })
+    }
+
+    /// What the words after a process's name say that it does.
+    #[tactic(auto, unfolding(crate::specs::Judgement::deed_of, k_trace::specs::Forms::op_in, k_trace::specs::Demands::demands))]
+    fn deed_of(&self, line: &[u8]) -> Result<Deed, Reason>
+        ensures deed { result ≡ deed_of self.now.said (words_of line.now) }
+        ensures known { IfOk result (λ deed. IsDeedOf (family self.now.said) deed) }
+    {
+        let verb = word(line, 0);
+        if is(verb, b"spawn") {
+            return self.spawn_form(line);
+        }
+        if is(verb, b"reap") {
+            return self.reap_form(line);
+        }
+        if is(verb, b"kill") || is(verb, b"resize") {
+            return Err(Reason::NoForm);
+        }
+        match read_op(self.header.names(), line) {
+            Ok(op) => Ok(Deed::Does(op)),
+            Err(reason) => Err(reason),
+        }
+    }
+
+    #[tactic(auto, unfolding(crate::specs::Judgement::deed_line, crate::specs::Reasons::demands))]
+    fn deed_line(&mut self, alloc: Global, name: &[u8], deed: Deed) -> Result<(), ScriptLineError>
+        requires { IsDeedOf (family self.old.said) deed }
+        ensures { IsJudged result self.new (deed_line self.old.said name.now deed) }
+    {
+        let Some(pid) = self.process_named(name) else {
+            return Err(bad(Reason::Undeclared));
+        };
+        let reaped = self.course.reaped_by(alloc, deed)?;
+        if self.course.operation_count() + weight_of(deed, &reaped) > MOST_OPERATIONS {
+            return Err(bad(Reason::TooMany));
+        }
+        if self.course.has_left(pid) {
+            return Err(bad(Reason::AfterExit));
+        }
+        if !self.course.is_of_parent(pid, deed) {
+            return Err(ScriptLineError::Bad(ScriptReason::Stranger));
+        }
+        if !self.course.is_running(pid) || !self.course.is_due(deed) {
+            return Err(ScriptLineError::Bad(ScriptReason::Untimely));
+        }
+        self.course.push(pid, deed, &reaped)?;
+        self.place = Place::Operations;
+        Ok(())
+    }
+
+    #[tactic(auto, unfolding(crate::specs::Judgement::operation_line))]
+    fn operation_line(&mut self, alloc: Global, line: &[u8]) -> Result<(), ScriptLineError>
+        ensures { IsJudged result self.new (operation_line self.old.said (words_of line.now)) }
+    {
+        let Some(rest) = after_word(line) else {
+            return Err(bad(Reason::NoForm));
+        };
+        match self.deed_of(rest) {
+            Ok(deed) => self.deed_line(alloc, word(line, 0), deed),
+            Err(reason) => Err(bad(reason)),
+        }
+    }
+
+    #[tactic(auto, unfolding(crate::specs::Judgement::later_line))]
+    fn later_line(&mut self, alloc: Global, line: &[u8]) -> Result<(), ScriptLineError>
+        requires { IsHeaderPlace self.old.place }
+        ensures { IsJudged result self.new (later_line self.old.place self.old.said (words_of line.now)) }
+    {
+        let first = word(line, 0);
+        if is(first, b"shared") {
+            return self.header_line(alloc, line);
+        }
+        if is_keyword(first) || is_child_word(first) {
+            return Err(bad(Reason::NoForm));
+        }
+        self.operation_line(alloc, line)
+    }
+
+    #[tactic(auto, unfolding(crate::specs::Judgement::line_of_procs))]
+    fn line_of_procs(&mut self, alloc: Global, line: &[u8]) -> Result<(), ScriptLineError>
+        requires { self.old.place ≡ Place.Procs }
+        ensures { IsJudged result self.new (line_of_procs self.old.said (words_of line.now)) }
+    {
+        let first = word(line, 0);
+        if is(first, b"proc") && self.course.child_count() == 0 {
+            return self.header_line(alloc, line);
+        }
+        if is_child_word(first) {
+            return self.child_line(alloc, line);
+        }
+        self.later_line(alloc, line)
+    }
+
+    #[tactic(auto, unfolding(crate::specs::Judgement::line_in))]
+    fn line_in(&mut self, alloc: Global, line: &[u8]) -> Result<(), ScriptLineError>
+        ensures { IsJudged result self.new (line_in self.old.place self.old.said (words_of line.now)) }
+    {
+        match self.place {
+            Place::Version => self.version_line(line),
+            Place::Kernel | Place::Types | Place::Limits => self.header_line(alloc, line),
+            Place::Procs => self.line_of_procs(alloc, line),
+            Place::Shared => self.later_line(alloc, line),
+            Place::Operations => self.operation_line(alloc, line),
+        }
+    }
+
+    /// Takes the next line.
+    #[tactic(auto, unfolding(crate::specs::Judgement::judged_line, crate::specs::Reasons::demands))]
+    pub fn take(&mut self, alloc: Global, line: &[u8]) -> Result<(), ScriptLineError>
+        ensures { IsJudged result self.new (judged_line self.old line.now) }
+    {
+        if line.len() > MOST_LINE_BYTES {
+            return Err(bad(Reason::LongLine));
+        }
+        if !is_printable(line) {
+            return Err(bad(Reason::Unprintable));
+        }
+        if !are_words(line) {
+            return Err(bad(Reason::NoForm));
+        }
+        self.line_in(alloc, line)
+    }
+
+    /// Whether a limit and a process were read.
+    pub fn has_process(&self) -> bool
+        ensures { result ≡ has_process self.now.place }
+    {
+        matches!(self.place, Place::Procs | Place::Shared | Place::Operations)
+    }
+
+    /// The script that all lines say.
+    pub fn finish(self, alloc: Global) -> Result<Script, NoMemory>
+        ensures { IfOk result (λ script. script ≡ self.said) }
+    {
+        let ScriptReader {
+            place: _,
+            header,
+            child_names,
+            course,
+        } = self;
+        let header = header.finish(alloc)?;
+        let (family, lines) = course.into_parts();
+        Ok(Script::new(header, child_names, family, lines))
+    }
+}
