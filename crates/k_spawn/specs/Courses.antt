@@ -44,10 +44,11 @@ IsDeedOf f (Reaps c) = c.0 < f.first + length f.parents
 abbrev pub AreMarked : List Bool → List Bool → List Pid → Type 0
 AreMarked old new pids = (p : ℕ) → p < 64 → slice_index_or new p false ≡ (slice_index_or old p false || among p (map (λ pid. pid.0) pids))
 
--- the marks and the count are those of the lines
+-- the marks and the count are those of the lines, and there are few processes
 pub record IsKept (f : Family) (lines : List ScriptLine) (spawned reaped left : List Bool) (operations : ℕ) : Type 0 where
   pub of_spawned : (p : ℕ) → p < 64 → slice_index_or spawned p false ≡ was_spawned lines p
   pub of_reaped : (p : ℕ) → p < 64 → slice_index_or reaped p false ≡ was_reaped f lines p
   pub of_left : (p : ℕ) → p < 64 → slice_index_or left p false ≡ has_left lines p
   pub counted : operations ≡ operations_so_far f lines
   pub few : operations ≤ most_operations
+  pub processes : f.first + length f.parents ≤ 64

@@ -1,5 +1,5 @@
 -- Processes and their children. Processes are numbered through: those of the header first, then the children.
-use Rattle.std.specs.Prelude.{ℕ, zero, suc, ◌-◌, ◌==◌, ◌&&◌, nat_le, Bool, List, [], ◌∷◌, ◌++◌, filter, length, slice_index_or}
+use Rattle.std.specs.Prelude.{ℕ, zero, suc, ◌<◌, ◌≤◌, ◌+◌, ◌-◌, ◌==◌, ◌&&◌, nat_le, Bool, List, [], ◌∷◌, ◌++◌, filter, length, slice_index_or}
 use Rattle.std.specs.List.{flat_map}
 use Rattle.k_types.specs.declared.names.Pid.{Pid}
 use Rattle.k_types.specs.Numbers.{numbers_from}
@@ -41,3 +41,8 @@ reaped_within f (suc depth) p = flat_map (reaped_within f depth) (children_of f 
 -- the list of a child: whom its reaping ends, in order
 abbrev pub reaped_with : Family → ℕ → List ℕ
 reaped_with f p = reaped_within f (length f.parents) p
+
+-- there are at most 64 processes, and each parent stands before its child
+pub record IsFamily (f : Family) : Type 0 where
+  pub few : f.first + length f.parents ≤ 64
+  pub before : (k : ℕ) → k < length f.parents → (slice_index_or f.parents k (record { 0 = 0 })).0 < f.first + k

@@ -1,5 +1,5 @@
 -- What a call that can run out of memory answers.
-use Rattle.std.specs.Prelude.{◌≡◌, ℕ, ◌||◌, IsTrue, List, length, Option, Some, None, Result, Ok, Err, if◌then◌else◌, codes}
+use Rattle.std.specs.Prelude.{◌≡◌, ℕ, ◌||◌, IsTrue, List, [], length, Option, Some, None, Result, Ok, Err, if◌then◌else◌, codes}
 use Rattle.std.specs.Str.{bytes_eq}
 use Rattle.k_types.specs.declared.names.Pid.{Pid}
 use Rattle.k_trace.specs.declared.errors.LineError.{LineError}
@@ -25,14 +25,28 @@ abbrev pub header_place : Place → Place
 header_place Version = Kernel
 header_place place = place
 
--- what is kept beside what the lines say: while there is no line the header's reader stands at the header's place; the children stand
--- behind the header's processes, and each has a name
-pub record IsReader (place : Place) (header : TraceSoFar) (child_names : List Text) (course : Course) : Type 0 where
-  pub stands : (place ≡ Operations → ⊥) → header.place ≡ header_place place
-  pub no_line : (place ≡ Operations → ⊥) → length course.lines ≡ 0
-  pub behind : course.family.first ≡ length header.said.names.procs
-  pub listed : length header.said.names.procs ≡ length header.said.trace.procs
-  pub named : length child_names ≡ length course.family.parents
+-- what a reader holds
+pub record ReaderState : Type 0 where
+  pub place : Place
+  pub header : TraceSoFar
+  pub child_names : List Text
+  pub course : Course
+
+-- what the lines that it has taken say
+abbrev pub so_far : ReaderState → SoFar
+so_far r = record {
+  place = r.place;
+  said = record { header = r.header.said; child_names = r.child_names; parents = r.course.family.parents; lines = r.course.lines };
+}
+
+-- its parts belong together: while there is no line the header's reader stands at the header's place; the children stand behind the
+-- header's processes, and each has a name
+pub record IsReader (r : ReaderState) : Type 0 where
+  pub stands : (r.place ≡ Operations → ⊥) → r.header.place ≡ header_place r.place
+  pub no_line : (r.place ≡ Operations → ⊥) → r.course.lines ≡ []
+  pub behind : r.course.family.first ≡ length r.header.said.names.procs
+  pub listed : length r.header.said.trace.procs ≡ length r.header.said.names.procs
+  pub named : length r.child_names ≡ length r.course.family.parents
 
 -- the header may grow here
 abbrev pub IsHeaderPlace : Place → Type 0

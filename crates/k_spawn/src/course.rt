@@ -74,6 +74,7 @@ impl Course {
     pub fn add_child(&mut self, parent: Pid) -> Result<(), NoMemory>
         requires no_line { self.old.lines ≡ [] }
         requires few { self.old.family.first + length self.old.family.parents < 64 }
+        requires before { parent.0 < self.old.family.first + length self.old.family.parents }
         ensures { OnOk result (self.new ≡ with_child self.old parent) }
     {
         self.family.add(parent)
@@ -81,9 +82,27 @@ impl Course {
 
     /// How many children there are.
     pub fn child_count(&self) -> usize
-        ensures { result ≡ length self.now.family.parents }
+        ensures count { result ≡ length self.now.family.parents }
+        ensures few { self.now.family.first + result ≤ 64 }
     {
         self.family.len()
+    }
+
+    /// How many processes there are, children among them.
+    pub fn process_count(&self) -> usize
+        ensures count { result ≡ self.now.family.first + length self.now.family.parents }
+        ensures few { result ≤ 64 }
+    {
+        self.family.process_count()
+    }
+
+    /// The process of the child at that place.
+    pub fn child_at(&self, place: usize) -> Pid
+        requires { place < length self.now.family.parents }
+        ensures process { result.0 ≡ self.now.family.first + place }
+        ensures few { result.0 < 64 }
+    {
+        self.family.child_at(place)
     }
 
     /// Whether a line is an exit of the process.

@@ -1,6 +1,6 @@
 //! Processes and their children.
-ghost use Rattle.std.specs.Prelude.{◌≡◌, ◌<◌, ◌≤◌, ◌+◌, ◌++◌, ◌∷◌, [], length, map, slice_index_or, IfOk, OnOk, OnErr};
-ghost use Rattle.k_spawn.specs.Families.{is_child, is_parent, reaped_within, reaped_with};
+ghost use Rattle.std.specs.Prelude.{◌≡◌, ◌<◌, ◌≤◌, ◌+◌, ◌++◌, ◌∷◌, [], length, map, slice_index_or, IfOk, IsTrue, OnOk, OnErr};
+ghost use Rattle.k_spawn.specs.Families.{is_child, is_parent, place_of, reaped_within, reaped_with};
 
 use k_io::{NoMemory, push};
 use k_types::Pid;
@@ -9,7 +9,7 @@ use std::marker::Model;
 
 /// The processes of a script: how many stand in the header, and the parent of each child behind them.
 ///
-/// There are at most 64 of them together.
+/// There are at most 64 of them together, and each parent stands before its child.
 pub struct Family {
     first: u32,
     parents: Vec<Pid>,
@@ -25,14 +25,13 @@ impl Drop for Family {
 }
 
 impl Model for Family {
-    ghost use Rattle.std.specs.Prelude.{◌≤◌, ◌+◌, length};
-    ghost use Rattle.k_spawn.specs.Families.{Family};
+    ghost use Rattle.k_spawn.specs.Families.{Family, IsFamily};
 
     ghost Value = { Family };
 
     ghost view = { λ f. record { first = f.first; parents = f.parents.items } };
 
-    ghost invariant = { λ f. f.first + length f.parents.items ≤ 64 };
+    ghost invariant = { λ f. IsFamily (record { first = f.first; parents = f.parents.items }) };
 }
 
 impl Family {
@@ -58,6 +57,7 @@ impl Family {
     /// Adds a child of that process.
     pub(crate) fn add(&mut self, parent: Pid) -> Result<(), NoMemory>
         requires few { self.old.first + length self.old.parents < 64 }
+        requires before { parent.0 < self.old.first + length self.old.parents }
         ensures ok { OnOk result (self.new ≡ record self.old { parents = self.old.parents ++ parent ∷ [] }) }
         ensures unchanged { OnErr result (self.new ≡ self.old) }
     {
@@ -66,15 +66,34 @@ impl Family {
 
     /// How many children there are.
     pub fn len(&self) -> usize
-        ensures { result ≡ length self.now.parents }
+        ensures count { result ≡ length self.now.parents }
+        ensures few { self.now.first + result ≤ 64 }
     {
         self.parents.len()
+    }
+
+    /// How many processes there are, children among them.
+    pub fn process_count(&self) -> usize
+        ensures count { result ≡ self.now.first + length self.now.parents }
+        ensures few { result ≤ 64 }
+    {
+        self.first as usize + self.parents.len()
+    }
+
+    /// The process of the child at that place.
+    pub fn child_at(&self, place: usize) -> Pid
+        requires { place < length self.now.parents }
+        ensures process { result.0 ≡ self.now.first + place }
+        ensures few { result.0 < 64 }
+    {
+        Pid(self.first + place as u32)
     }
 
     /// The parent of the child at that place.
     pub fn parent_at(&self, place: usize) -> Pid
         requires { place < length self.now.parents }
-        ensures { result ≡ slice_index_or self.now.parents place result }
+        ensures parent { result ≡ slice_index_or self.now.parents place result }
+        ensures before { result.0 < self.now.first + place }
     {
         self.parents[place]
     }
@@ -86,6 +105,15 @@ impl Family {
         self.first <= pid.0
     }
 
+    /// The place of a child among the children.
+    pub fn place_of(&self, child: Pid) -> usize
+        requires child { IsTrue (is_child self.now child.0) }
+        ensures place { result ≡ place_of self.now child.0 }
+        ensures within { self.now.first + result ≡ child.0 }
+    {
+        (child.0 - self.first) as usize
+    }
+
     /// Whether the first process is the parent of the second, which is a child.
     pub fn is_parent(&self, pid: Pid, child: Pid) -> bool
         requires { child.0 < self.now.first + length self.now.parents }
@@ -94,7 +122,7 @@ impl Family {
         if !self.is_child(child) {
             return false;
         }
-        self.parents[(child.0 - self.first) as usize].0 == pid.0
+        self.parents[self.place_of(child)].0 == pid.0
     }
 
     /// Adds the list of a process to another list, where the tree below the process is at most so deep.

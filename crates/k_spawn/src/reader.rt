@@ -1,13 +1,13 @@
 //! What the lines so far say, and the step to the next line.
-ghost use Rattle.std.specs.Prelude.{◌≡◌, ◌<◌, length, IfSome, IfOk};
+ghost use Rattle.std.specs.Prelude.{◌≡◌, ◌<◌, ◌+◌, length, IfSome, IfOk, OnOk};
 ghost use Rattle.k_trace.specs.Words.{words_of};
 ghost use Rattle.k_trace.specs.Judgement.{has_process};
 ghost use Rattle.k_spawn.specs.declared.errors.ScriptLineError.TheVariants.{Bad};
 ghost use Rattle.k_spawn.specs.declared.reasons.ScriptReason.TheVariants.{OfTrace};
 ghost use Rattle.k_spawn.specs.Courses.{IsDeedOf};
 ghost use Rattle.k_spawn.specs.Judgement.{start, is_child_word, version_line, header_line, child_line, spawn_form, reap_form, deed_of, deed_line, operation_line, later_line, line_of_procs, line_in, judged_line};
-ghost use Rattle.k_spawn.specs.Outcome.{IsJudged, IsAlsoRefused, IsHeaderPlace, IsOfHeader, process_of_name};
-ghost use Rattle.k_spawn.specs.Scripts.{family, process_names};
+ghost use Rattle.k_spawn.specs.Outcome.{IsJudged, IsReader, IsAlsoRefused, IsHeaderPlace, IsOfHeader, process_of_name, so_far};
+ghost use Rattle.k_spawn.specs.Scripts.{process_names};
 
 use crate::course::{Course, weight_of};
 use crate::errors::ScriptLineError;
@@ -44,22 +44,11 @@ impl Drop for ScriptReader {
 }
 
 impl Model for ScriptReader {
-    ghost use Rattle.k_spawn.specs.Judgement.{SoFar};
-    ghost use Rattle.k_spawn.specs.Outcome.{IsReader};
+    ghost use Rattle.k_spawn.specs.Outcome.{ReaderState};
 
-    ghost Value = { SoFar };
+    ghost Value = { ReaderState };
 
-    ghost view = { λ r. record {
-      place = r.place;
-      said = record {
-        header = r.header.said;
-        child_names = r.child_names;
-        parents = r.course.family.parents;
-        lines = r.course.lines;
-      };
-    } };
-
-    ghost invariant = { λ r. IsReader r.place r.header r.child_names r.course };
+    ghost view = { λ r. record { place = r.place; header = r.header; child_names = r.child_names; course = r.course } };
 }
 
 /// Bad by a reason of traces.
@@ -95,7 +84,8 @@ fn also(reason: Reason, answer: Result<(), LineError>) -> ScriptLineError
 
 impl ScriptReader {
     pub fn new(alloc: Global) -> ScriptReader
-        ensures { result ≡ start }
+        ensures start { so_far result ≡ start }
+        ensures ready { IsReader result }
     {
         ScriptReader {
             place: Place::Version,
@@ -107,30 +97,34 @@ impl ScriptReader {
 
     /// How many processes there are, children among them.
     fn process_count(&self) -> usize
-        ensures { result ≡ length (process_names self.now.said) }
+        requires { IsReader self.now }
+        ensures { result ≡ length (process_names (so_far self.now).said) }
     {
-        self.header.names().proc_count() + self.child_names.len()
+        self.course.process_count()
     }
 
     /// The number of the process of that name.
     fn process_named(&self, name: &[u8]) -> Option<Pid>
-        ensures number { result ≡ process_of_name self.now.said name.now }
-        ensures known { IfSome result (λ pid. pid.0 < length (process_names self.now.said)) }
+        requires { IsReader self.now }
+        ensures number { result ≡ process_of_name (so_far self.now).said name.now }
+        ensures known { IfSome result (λ pid. pid.0 < self.now.course.family.first + length self.now.course.family.parents) }
         ensures few { IfSome result (λ pid. pid.0 < 64) }
     {
         if let Some(pid) = self.header.names().proc_named(name) {
             return Some(pid);
         }
         match self.child_names.number(name) {
-            Some(place) => Some(Pid((self.header.names().proc_count() + place) as u32)),
+            Some(place) => Some(self.course.child_at(place)),
             None => None,
         }
     }
 
     #[tactic(auto, unfolding(crate::specs::Judgement::version_line, crate::specs::Reasons::demands))]
     fn version_line(&mut self, line: &[u8]) -> Result<(), ScriptLineError>
-        requires { self.old.place ≡ Place.Version }
-        ensures { IsJudged result self.new (version_line self.old.said (words_of line.now)) }
+        requires ready { IsReader self.old }
+        requires place { self.old.place ≡ Place.Version }
+        ensures judged { IsJudged result (so_far self.new) (version_line (so_far self.old).said (words_of line.now)) }
+        ensures ready { OnOk result (IsReader self.new) }
     {
         if word_count(line) != 2 || !is(word(line, 0), b"spawn") || !is(word(line, 1), b"1") {
             return Err(bad(Reason::NoForm));
@@ -142,9 +136,11 @@ impl ScriptReader {
     /// A line that a trace may have before its operations.
     #[tactic(auto, unfolding(crate::specs::Judgement::header_line, crate::specs::Reasons::also))]
     fn header_line(&mut self, alloc: Global, line: &[u8]) -> Result<(), ScriptLineError>
+        requires ready { IsReader self.old }
         requires place { IsHeaderPlace self.old.place }
-        requires line { IsOfHeader self.old.said (words_of line.now) }
-        ensures { IsJudged result self.new (header_line self.old.place self.old.said (words_of line.now)) }
+        requires line { IsOfHeader (so_far self.old).said (words_of line.now) }
+        ensures judged { IsJudged result (so_far self.new) (header_line self.old.place (so_far self.old).said (words_of line.now)) }
+        ensures ready { OnOk result (IsReader self.new) }
     {
         let name = word(line, 1);
         let reserved = is_child_word(name);
@@ -170,8 +166,10 @@ impl ScriptReader {
 
     #[tactic(auto, unfolding(crate::specs::Judgement::child_line, crate::specs::Reasons::demands))]
     fn child_line(&mut self, alloc: Global, line: &[u8]) -> Result<(), ScriptLineError>
-        requires { self.old.place ≡ Place.Procs }
-        ensures { IsJudged result self.new (child_line self.old.said (words_of line.now)) }
+        requires ready { IsReader self.old }
+        requires place { self.old.place ≡ Place.Procs }
+        ensures judged { IsJudged result (so_far self.new) (child_line (so_far self.old).said (words_of line.now)) }
+        ensures ready { OnOk result (IsReader self.new) }
     {
         if word_count(line) != 3 {
             return Err(bad(Reason::NoForm));
@@ -186,7 +184,7 @@ impl ScriptReader {
         let Some(parent) = self.process_named(word(line, 2)) else {
             return Err(bad(Reason::Undeclared));
         };
-        let limits = self.header.names().limit_count() + self.child_names.len();
+        let limits = self.header.names().limit_count() + self.course.child_count();
         if self.process_count() >= MOST_PROCESSES || limits >= MOST_LIMITS {
             return Err(bad(Reason::TooMany));
         }
@@ -197,8 +195,9 @@ impl ScriptReader {
 
     #[tactic(auto, unfolding(crate::specs::Judgement::spawn_form, k_trace::specs::Demands::demands))]
     fn spawn_form(&self, line: &[u8]) -> Result<Deed, Reason>
-        ensures deed { result ≡ spawn_form self.now.said (words_of line.now) }
-        ensures known { IfOk result (λ deed. IsDeedOf (family self.now.said) deed) }
+        requires { IsReader self.now }
+        ensures deed { result ≡ spawn_form (so_far self.now).said (words_of line.now) }
+        ensures known { IfOk result (λ deed. IsDeedOf self.now.course.family deed) }
     {
         if word_count(line) != 3 {
             return Err(Reason::NoForm);
@@ -214,8 +213,9 @@ impl ScriptReader {
 
     #[tactic(auto, unfolding(crate::specs::Judgement::reap_form, k_trace::specs::Demands::demands))]
     fn reap_form(&self, line: &[u8]) -> Result<Deed, Reason>
-        ensures deed { result ≡ reap_form self.now.said (words_of line.now) }
-        ensures known { IfOk result (λ deed. IsDeedOf (family self.now.said) deed) }
+        requires { IsReader self.now }
+        ensures deed { result ≡ reap_form (so_far self.now).said (words_of line.now) }
+        ensures known { IfOk result (λ deed. IsDeedOf self.now.course.family deed) }
     {
         if word_count(line) != 2 {
             return Err(Reason::NoForm);
@@ -229,8 +229,9 @@ impl ScriptReader {
     /// What the words after a process's name say that it does.
     #[tactic(auto, unfolding(crate::specs::Judgement::deed_of, k_trace::specs::Forms::op_in, k_trace::specs::Demands::demands))]
     fn deed_of(&self, line: &[u8]) -> Result<Deed, Reason>
-        ensures deed { result ≡ deed_of self.now.said (words_of line.now) }
-        ensures known { IfOk result (λ deed. IsDeedOf (family self.now.said) deed) }
+        requires { IsReader self.now }
+        ensures deed { result ≡ deed_of (so_far self.now).said (words_of line.now) }
+        ensures known { IfOk result (λ deed. IsDeedOf self.now.course.family deed) }
     {
         let verb = word(line, 0);
         if is(verb, b"spawn") {
@@ -250,8 +251,10 @@ impl ScriptReader {
 
     #[tactic(auto, unfolding(crate::specs::Judgement::deed_line, crate::specs::Reasons::demands))]
     fn deed_line(&mut self, alloc: Global, name: &[u8], deed: Deed) -> Result<(), ScriptLineError>
-        requires { IsDeedOf (family self.old.said) deed }
-        ensures { IsJudged result self.new (deed_line self.old.said name.now deed) }
+        requires ready { IsReader self.old }
+        requires known { IsDeedOf self.old.course.family deed }
+        ensures judged { IsJudged result (so_far self.new) (deed_line (so_far self.old).said name.now deed) }
+        ensures ready { OnOk result (IsReader self.new) }
     {
         let Some(pid) = self.process_named(name) else {
             return Err(bad(Reason::Undeclared));
@@ -276,7 +279,9 @@ impl ScriptReader {
 
     #[tactic(auto, unfolding(crate::specs::Judgement::operation_line))]
     fn operation_line(&mut self, alloc: Global, line: &[u8]) -> Result<(), ScriptLineError>
-        ensures { IsJudged result self.new (operation_line self.old.said (words_of line.now)) }
+        requires { IsReader self.old }
+        ensures judged { IsJudged result (so_far self.new) (operation_line (so_far self.old).said (words_of line.now)) }
+        ensures ready { OnOk result (IsReader self.new) }
     {
         let Some(rest) = after_word(line) else {
             return Err(bad(Reason::NoForm));
@@ -289,8 +294,10 @@ impl ScriptReader {
 
     #[tactic(auto, unfolding(crate::specs::Judgement::later_line))]
     fn later_line(&mut self, alloc: Global, line: &[u8]) -> Result<(), ScriptLineError>
-        requires { IsHeaderPlace self.old.place }
-        ensures { IsJudged result self.new (later_line self.old.place self.old.said (words_of line.now)) }
+        requires ready { IsReader self.old }
+        requires place { IsHeaderPlace self.old.place }
+        ensures judged { IsJudged result (so_far self.new) (later_line self.old.place (so_far self.old).said (words_of line.now)) }
+        ensures ready { OnOk result (IsReader self.new) }
     {
         let first = word(line, 0);
         if is(first, b"shared") {
@@ -304,8 +311,10 @@ impl ScriptReader {
 
     #[tactic(auto, unfolding(crate::specs::Judgement::line_of_procs))]
     fn line_of_procs(&mut self, alloc: Global, line: &[u8]) -> Result<(), ScriptLineError>
-        requires { self.old.place ≡ Place.Procs }
-        ensures { IsJudged result self.new (line_of_procs self.old.said (words_of line.now)) }
+        requires ready { IsReader self.old }
+        requires place { self.old.place ≡ Place.Procs }
+        ensures judged { IsJudged result (so_far self.new) (line_of_procs (so_far self.old).said (words_of line.now)) }
+        ensures ready { OnOk result (IsReader self.new) }
     {
         let first = word(line, 0);
         if is(first, b"proc") && self.course.child_count() == 0 {
@@ -319,7 +328,9 @@ impl ScriptReader {
 
     #[tactic(auto, unfolding(crate::specs::Judgement::line_in))]
     fn line_in(&mut self, alloc: Global, line: &[u8]) -> Result<(), ScriptLineError>
-        ensures { IsJudged result self.new (line_in self.old.place self.old.said (words_of line.now)) }
+        requires { IsReader self.old }
+        ensures judged { IsJudged result (so_far self.new) (line_in self.old.place (so_far self.old).said (words_of line.now)) }
+        ensures ready { OnOk result (IsReader self.new) }
     {
         match self.place {
             Place::Version => self.version_line(line),
@@ -333,7 +344,9 @@ impl ScriptReader {
     /// Takes the next line.
     #[tactic(auto, unfolding(crate::specs::Judgement::judged_line, crate::specs::Reasons::demands))]
     pub fn take(&mut self, alloc: Global, line: &[u8]) -> Result<(), ScriptLineError>
-        ensures { IsJudged result self.new (judged_line self.old line.now) }
+        requires { IsReader self.old }
+        ensures judged { IsJudged result (so_far self.new) (judged_line (so_far self.old) line.now) }
+        ensures ready { OnOk result (IsReader self.new) }
     {
         if line.len() > MOST_LINE_BYTES {
             return Err(bad(Reason::LongLine));
@@ -356,7 +369,8 @@ impl ScriptReader {
 
     /// The script that all lines say.
     pub fn finish(self, alloc: Global) -> Result<Script, NoMemory>
-        ensures { IfOk result (λ script. script ≡ self.said) }
+        requires { IsReader self }
+        ensures { IfOk result (λ script. script ≡ (so_far self).said) }
     {
         let ScriptReader {
             place: _,

@@ -1,10 +1,10 @@
 //! A script is read, line by line, from its bytes.
-ghost use Rattle.std.specs.Prelude.{◌≡◌, ◌≤◌, ◌+◌, Ok, length, IfOk, IfErr};
+ghost use Rattle.std.specs.Prelude.{◌≡◌, ◌≤◌, ◌+◌, Ok, length, IfOk, IfErr, OnOk};
 ghost use Rattle.k_types.specs.Bounds.{most_trace_bytes};
 ghost use Rattle.k_trace.specs.Words.{lines_of};
 ghost use Rattle.k_trace.specs.Rules.{IsTrace};
 ghost use Rattle.k_spawn.specs.Judgement.{judged_lines, judgement};
-ghost use Rattle.k_spawn.specs.Outcome.{ReadsLines, IsRefused};
+ghost use Rattle.k_spawn.specs.Outcome.{IsReader, ReadsLines, IsRefused, so_far};
 ghost use Rattle.k_spawn.specs.Translation.{translation};
 
 use crate::errors::{ScriptError, ScriptLineError};
@@ -17,8 +17,10 @@ use std::alloc::Global;
 
 /// Takes the lines one after the other. The answer is the number that the next line would have.
 fn read_lines(alloc: Global, reader: &mut ScriptReader, bytes: &[u8]) -> Result<u32, ScriptError>
-    requires { length bytes.now ≤ most_trace_bytes }
-    ensures { ReadsLines result reader.new (judged_lines 1 reader.old (lines_of bytes.now)) (length (lines_of bytes.now) + 1) }
+    requires few { length bytes.now ≤ most_trace_bytes }
+    requires ready { IsReader reader.old }
+    ensures read { ReadsLines result (so_far reader.new) (judged_lines 1 (so_far reader.old) (lines_of bytes.now)) (length (lines_of bytes.now) + 1) }
+    ensures ready { OnOk result (IsReader reader.new) }
 {
     let mut rest = bytes;
     let mut number: u32 = 1;

@@ -88,12 +88,10 @@ impl Script {
         requires { pid.0 < process_count self.now.header.trace + length self.now.parents }
         ensures { result.0 ≡ limit_for self.now pid.0 }
     {
-        let first = self.header.setup.procs.len();
-        let at = pid.0 as usize;
-        if at < first {
-            self.header.setup.procs[at]
+        if self.family.is_child(pid) {
+            LimitId((self.header.setup.limits.len() + self.family.place_of(pid)) as u32)
         } else {
-            LimitId((self.header.setup.limits.len() + (at - first)) as u32)
+            self.header.setup.procs[pid.0 as usize]
         }
     }
 }

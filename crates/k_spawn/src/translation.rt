@@ -35,10 +35,9 @@ fn limits(alloc: Global, script: &Script) -> Result<Vec<LimitRow>, NoMemory>
 fn processes(alloc: Global, script: &Script) -> Result<Vec<LimitId>, NoMemory>
     ensures { IfOk result (λ procs. procs.items ≡ script.now.header.trace.procs ++ map (limit_id script.now) (children (family script.now))) }
 {
-    let first = script.header.setup.procs.len();
     let mut procs = script.header.setup.procs.as_slice().to_vec(alloc)?;
     for place in 0..script.family.len() {
-        push(&mut procs, script.limit_of(Pid((first + place) as u32)))?;
+        push(&mut procs, script.limit_of(script.family.child_at(place)))?;
     }
     Ok(procs)
 }

@@ -233,7 +233,8 @@ impl Names {
 
     /// How many types were declared.
     pub fn type_count(&self) -> usize
-        ensures { result ≡ length self.now.types }
+        ensures count { result ≡ length self.now.types }
+        ensures few { result ≤ 256 }
     {
         self.types.len()
     }
@@ -246,7 +247,8 @@ impl Names {
 
     /// How many limits were declared.
     pub fn limit_count(&self) -> usize
-        ensures { result ≡ length self.now.limits }
+        ensures count { result ≡ length self.now.limits }
+        ensures few { result ≤ 128 }
     {
         self.limits.len()
     }
@@ -273,7 +275,8 @@ impl Names {
 
     /// How many shared heaps were declared.
     pub fn shared_count(&self) -> usize
-        ensures { result ≡ length self.now.shared }
+        ensures count { result ≡ length self.now.shared }
+        ensures few { result ≤ 64 }
     {
         self.shared.len()
     }

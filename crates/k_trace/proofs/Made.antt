@@ -1,0 +1,25 @@
+-- Names that are made from lists of them.
+use Rattle.std.proofs.Common.{◌≡◌, ◌∙◌, ℕ, ◌+◌, ◌<◌, false, List, [], ◌∷◌, ◌++◌, length, map, drop, sym, ap, subst, append_assoc}
+use Rattle.std.proofs.lemmas.List.{at_drop_more}
+use Rattle.k_words.specs.Words.{Text, word_at}
+use Rattle.k_words.specs.Names.{declares}
+use Rattle.k_trace.specs.Numbered.{AllShort}
+use Rattle.k_trace.specs.Rules.{AreNames}
+use Rattle.k_trace.proofs.Runs.{fresh_at}
+use Rattle.k_trace.proofs.Short.{name_is_short}
+
+-- no name that is one is long
+pub names_are_short : (names : List Text) → AreNames names → AllShort names
+names_are_short names all i inside = name_is_short (word_at names i) (all.each i inside)
+
+module _ (names list : List Text) (n : ℕ) (inside : n < length names) (made : list ++ drop n names ≡ names) where
+  here : list ++ word_at names n ∷ drop (n + 1) names ≡ names
+  here = sym (at_drop_more (λ ls. list ++ ls) names n [] inside) ∙ made
+
+  -- the next name was not declared
+  pub next_is_new : AreNames names → declares list (word_at names n) ≡ false
+  next_is_new all = fresh_at list (word_at names n) (drop (n + 1) names) (subst AreNames (sym here) all)
+
+  -- with the next name
+  pub next_made : (list ++ word_at names n ∷ []) ++ drop (n + 1) names ≡ names
+  next_made = append_assoc list (word_at names n ∷ []) (drop (n + 1) names) ∙ here
