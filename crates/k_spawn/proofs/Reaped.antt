@@ -1,7 +1,7 @@
 -- The list of a child, gathered child by child.
-use Rattle.std.proofs.Common.{◌≡◌, ◌∙◌, ℕ, zero, suc, ◌+◌, ◌-◌, ◌<◌, ◌==◌, Bool, true, false, cond, List, [], ◌∷◌, ◌++◌, filter, length, map, refl, sym, ap, slice_index_or, arith, append_assoc, append-nil}
+use Rattle.std.proofs.Common.{◌≡◌, ◌∙◌, ℕ, zero, suc, ◌+◌, ◌-◌, ◌<◌, ◌≤◌, ◌==◌, Bool, true, false, cond, List, [], ◌∷◌, ◌++◌, filter, length, map, refl, sym, ap, slice_index_or, arith, append_assoc, append-nil, subst}
 use Rattle.std.proofs.lemmas.Bool.{eqb-true, eq-eqb}
-use Rattle.std.specs.List.{flat_map}
+use Rattle.std.specs.List.{flat_map, AllByRecursion}
 use Rattle.k_types.specs.declared.names.Pid.{Pid}
 use Rattle.k_types.specs.Numbers.{numbers_from}
 use Rattle.k_spawn.specs.Families.{Family, parent_of, children_of, reaped_within}
@@ -69,6 +69,12 @@ same_within [] k x d inside here = absurd (omega (arith, inside))
 same_within (y ∷ ys) zero x d inside here = sym here
 same_within (y ∷ ys) (suc k) x d inside here = same_within ys k x d (omega (arith, inside)) here
 
+-- the parent of the child at a place
+pub parent_here : (f : Family) (k : ℕ) (here : Pid) → k < length f.parents → here ≡ slice_index_or f.parents k here → parent_of f (f.first + k) ≡ here.0
+parent_here f k here inside is =
+    let place : f.first + k - f.first ≡ k = omega arith in
+    ap (λ i. (slice_index_or f.parents i (record { 0 = 0 })).0) place ∙ ap (λ (it : Pid). it.0) (same_within f.parents k here (record { 0 = 0 }) inside is)
+
 differs : (a b : ℕ) → (a ≡ b → ⊥) → (a == b) ≡ false
 differs a b apart = elim (a == b) as (λ x. (a == b) ≡ x → x ≡ false) [
   | true ↦ λ e. absurd (apart (eqb-true a b e))
@@ -99,3 +105,31 @@ pub list_done : (f : Family) (depth p k : ℕ) (old list : List ℕ) → 0 < dep
 list_done f depth p k old list some done kept =
     let whole : old ++ lists_from f (depth - 1) p 0 ≡ list = kept ∙ ap (λ ls. list ++ ls) (lists_end f (depth - 1) p k done) ∙ append-nil list in
     ap (λ ls. ls ++ p ∷ []) (sym whole) ∙ append_assoc old (lists_from f (depth - 1) p 0) (p ∷ []) ∙ ap (λ ls. old ++ ls) (sym (list_at f depth p some))
+
+-- the numbers in a list are below a bound
+abbrev pub AreBelow : ℕ → List ℕ → Type 0
+AreBelow bound ns = AllByRecursion (λ n. n < bound) ns
+
+below_append : (bound : ℕ) (ns ms : List ℕ) → AreBelow bound ns → AreBelow bound ms → AreBelow bound (ns ++ ms)
+below_append bound [] ms all more = more
+below_append bound (n ∷ ns) ms all more = (all.0, below_append bound ns ms all.1 more)
+
+gathered_below : (bound : ℕ) (g : ℕ → List ℕ) (test : ℕ → Bool) (first n : ℕ) → ((q : ℕ) → q < bound → AreBelow bound (g q)) → first + n ≤ bound → AreBelow bound (gathered g test first n)
+gathered_below bound g test first zero each room = tt
+gathered_below bound g test first (suc n) each room =
+    let rest = gathered_below bound g test (suc first) n each (omega (arith, room)) in
+    subst (AreBelow bound) (sym (gathered_step g test first n)) (elim (test first) as (λ b. AreBelow bound (cond b (g first ++ gathered g test (suc first) n) (gathered g test (suc first) n))) [
+      | true ↦ below_append bound (g first) _ (each first (omega (arith, room))) rest
+      | false ↦ rest
+    ])
+
+-- whom the reaping of a process ends are processes
+pub reaped_below : (f : Family) (depth p : ℕ) → p < f.first + length f.parents → AreBelow (f.first + length f.parents) (reaped_within f depth p)
+unfolding reaped_within
+reaped_below f zero p inside = tt
+reaped_below f (suc depth) p inside =
+    below_append _ _ (p ∷ []) (gathered_below (f.first + length f.parents) (reaped_within f depth) (λ c. parent_of f c == p) f.first (length f.parents) (reaped_below f depth) (omega arith)) (inside, tt)
+
+pub below_more : (a b : ℕ) (ns : List ℕ) → a ≤ b → AreBelow a ns → AreBelow b ns
+below_more a b [] le all = tt
+below_more a b (n ∷ ns) le all = (omega (arith, le, all.0), below_more a b ns le all.1)

@@ -1,5 +1,5 @@
 -- What a call that can run out of memory answers.
-use Rattle.std.specs.Prelude.{◌≡◌, ℕ, ◌||◌, IsTrue, List, [], length, Option, Some, None, Result, Ok, Err, if◌then◌else◌, codes}
+use Rattle.std.specs.Prelude.{◌≡◌, ◌≢◌, ℕ, ◌||◌, nat_lt, Bool, false, IsTrue, List, [], length, Option, Some, None, Result, Ok, Err, if◌then◌else◌, codes}
 use Rattle.std.specs.Str.{bytes_eq}
 use Rattle.k_types.specs.declared.names.Pid.{Pid}
 use Rattle.k_trace.specs.declared.errors.LineError.{LineError}
@@ -8,6 +8,7 @@ use Rattle.k_trace.specs.Words.{Text, word_at}
 use Rattle.k_trace.specs.Names.{declares}
 use Rattle.k_trace.specs.declared.place.Place.{Place}
 use Rattle.k_trace.specs.declared.place.Place.TheVariants.{Version, Kernel, Operations}
+use Rattle.k_trace.specs.Named.{NamedTrace}
 use Rattle.k_trace.specs.Judgement.{SoFar as TraceSoFar, BadLine}
 use Rattle.k_trace.specs.declared.reasons.Reason.{Reason}
 use Rattle.k_spawn.specs.declared.errors.ScriptLineError.{ScriptLineError}
@@ -20,32 +21,39 @@ use Rattle.k_spawn.specs.Reasons.{lower}
 use Rattle.k_spawn.specs.Scripts.{Script, process_names}
 use Rattle.k_spawn.specs.Judgement.{SoFar, Judged, IsBad, has_no_child, process_named}
 
--- the place at which the reader of the header stands
-abbrev pub header_place : Place → Place
-header_place Version = Kernel
-header_place place = place
-
--- what a reader holds
+-- what a reader holds: whether the first line was read, what the header says, the names of the children, and the children and lines
 pub record ReaderState : Type 0 where
-  pub place : Place
+  pub begun : Bool
   pub header : TraceSoFar
   pub child_names : List Text
   pub course : Course
 
+-- where the next line stands
+abbrev pub place_now : ReaderState → Place
+place_now r = if r.begun then (if nat_lt 0 (length r.course.lines) then Operations else r.header.place) else Version
+
 -- what the lines that it has taken say
 abbrev pub so_far : ReaderState → SoFar
 so_far r = record {
-  place = r.place;
+  place = place_now r;
   said = record { header = r.header.said; child_names = r.child_names; parents = r.course.family.parents; lines = r.course.lines };
 }
 
--- its parts belong together: while there is no line the header's reader stands at the header's place; the children stand behind the
--- header's processes, and each has a name
+-- each of what is declared has a name
+pub record IsNamed (t : NamedTrace) : Type 0 where
+  pub types : length t.names.types ≡ length t.trace.types
+  pub limits : length t.names.limits ≡ length t.trace.limits
+  pub procs : length t.names.procs ≡ length t.trace.procs
+  pub shared : length t.names.shared ≡ t.trace.shared_heaps
+
+-- its parts belong together: the header's reader is past the first line; the children stand behind the header's processes, and each has
+-- a name
 pub record IsReader (r : ReaderState) : Type 0 where
-  pub stands : (r.place ≡ Operations → ⊥) → r.header.place ≡ header_place r.place
-  pub no_line : (r.place ≡ Operations → ⊥) → r.course.lines ≡ []
-  pub behind : r.course.family.first ≡ length r.header.said.names.procs
-  pub listed : length r.header.said.trace.procs ≡ length r.header.said.names.procs
+  pub past : r.header.place ≢ Version
+  pub begins : r.begun ≡ false → r.header.place ≡ Kernel
+  pub waits : r.begun ≡ false → r.course.lines ≡ []
+  pub header : IsNamed r.header.said
+  pub behind : r.course.family.first ≡ length r.header.said.trace.procs
   pub named : length r.child_names ≡ length r.course.family.parents
 
 -- the header may grow here

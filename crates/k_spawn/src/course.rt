@@ -1,5 +1,6 @@
 //! The lines of a script, and what they say of each process.
-ghost use Rattle.std.specs.Prelude.{◌≡◌, ◌<◌, ◌≤◌, ◌+◌, [], length, map, IfOk, OnOk};
+ghost use Rattle.std.specs.Prelude.{◌≡◌, ◌<◌, ◌≤◌, ◌+◌, [], length, map, nat_lt, IfOk, OnOk};
+ghost use Rattle.std.specs.List.{AllByRecursion};
 ghost use Rattle.k_types.specs.Bounds.{most_operations};
 ghost use Rattle.k_spawn.specs.Courses.{with_child, with_deed, reaped_by, weight_by, IsDeedOf, AreMarked};
 ghost use Rattle.k_spawn.specs.Timely.{weight, has_left, operations_so_far, is_of_parent, is_running, is_due};
@@ -105,6 +106,13 @@ impl Course {
         self.family.child_at(place)
     }
 
+    /// Whether there is a line.
+    pub fn has_lines(&self) -> bool
+        ensures { result ≡ nat_lt 0 (length self.now.lines) }
+    {
+        !self.lines.is_empty()
+    }
+
     /// Whether a line is an exit of the process.
     pub fn has_left(&self, pid: Pid) -> bool
         requires { pid.0 < 64 }
@@ -151,7 +159,9 @@ impl Course {
 
     /// Whom the deed reaps, in order; nobody where it is no reaping.
     pub fn reaped_by(&self, alloc: Global, deed: Deed) -> Result<Vec<Pid>, NoMemory>
-        ensures { IfOk result (λ list. map (λ it. it.0) list.items ≡ reaped_by self.now.family deed) }
+        requires { IsDeedOf self.now.family deed }
+        ensures list { IfOk result (λ list. map (λ it. it.0) list.items ≡ reaped_by self.now.family deed) }
+        ensures known { IfOk result (λ list. AllByRecursion (λ p. p < 64) (map (λ it. it.0) list.items)) }
     {
         match deed {
             Deed::Does(_) | Deed::Spawns { child: _, max: _ } => Ok(Vec::new(alloc)),
@@ -171,6 +181,7 @@ impl Course {
         requires process { pid.0 < 64 }
         requires known { IsDeedOf self.old.family deed }
         requires reaped { map (λ it. it.0) reaped.now ≡ reaped_by self.old.family deed }
+        requires few { AllByRecursion (λ p. p < 64) (map (λ it. it.0) reaped.now) }
         requires room { operations_so_far self.old.family self.old.lines + weight self.old.family deed ≤ most_operations }
         ensures { OnOk result (self.new ≡ with_deed self.old pid deed) }
     {
@@ -217,11 +228,10 @@ pub fn weight_of(deed: Deed, reaped: &[Pid]) -> usize
 
 /// Marks these processes.
 fn mark(marks: &mut [bool; 64], pids: &[Pid])
+    requires { AllByRecursion (λ p. p < 64) (map (λ it. it.0) pids.now) }
     ensures { AreMarked marks.old marks.new pids.now }
 {
     for pid in pids {
-        if (pid.0 as usize) < marks.len() {
-            marks[pid.0 as usize] = true;
-        }
+        marks[pid.0 as usize] = true;
     }
 }

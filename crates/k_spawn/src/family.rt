@@ -1,5 +1,6 @@
 //! Processes and their children.
 ghost use Rattle.std.specs.Prelude.{◌≡◌, ◌<◌, ◌≤◌, ◌+◌, ◌++◌, ◌∷◌, [], length, map, slice_index_or, IfOk, IsTrue, OnOk, OnErr};
+ghost use Rattle.std.specs.List.{AllByRecursion};
 ghost use Rattle.k_spawn.specs.Families.{is_child, is_parent, place_of, reaped_within, reaped_with};
 
 use k_io::{NoMemory, push};
@@ -108,8 +109,10 @@ impl Family {
     /// The place of a child among the children.
     pub fn place_of(&self, child: Pid) -> usize
         requires child { IsTrue (is_child self.now child.0) }
+        requires known { child.0 < self.now.first + length self.now.parents }
         ensures place { result ≡ place_of self.now child.0 }
-        ensures within { self.now.first + result ≡ child.0 }
+        ensures within { result < length self.now.parents }
+        ensures few { result < 64 }
     {
         (child.0 - self.first) as usize
     }
@@ -146,7 +149,10 @@ impl Family {
     ///
     /// `NoMemory` where the list finds no room.
     pub fn reaped_with(&self, alloc: Global, child: Pid) -> Result<Vec<Pid>, NoMemory>
-        ensures { IfOk result (λ list. map (λ it. it.0) list.items ≡ reaped_with self.now child.0) }
+        requires { child.0 < self.now.first + length self.now.parents }
+        ensures list { IfOk result (λ list. map (λ it. it.0) list.items ≡ reaped_with self.now child.0) }
+        ensures known { IfOk result (λ list. AllByRecursion (λ p. p < self.now.first + length self.now.parents) (map (λ it. it.0) list.items)) }
+        ensures few { self.now.first + length self.now.parents ≤ 64 }
     {
         let mut list = Vec::new(alloc);
         self.add_reaped(self.parents.len(), child, &mut list)?;

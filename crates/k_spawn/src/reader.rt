@@ -6,7 +6,7 @@ ghost use Rattle.k_spawn.specs.declared.errors.ScriptLineError.TheVariants.{Bad}
 ghost use Rattle.k_spawn.specs.declared.reasons.ScriptReason.TheVariants.{OfTrace};
 ghost use Rattle.k_spawn.specs.Courses.{IsDeedOf};
 ghost use Rattle.k_spawn.specs.Judgement.{start, is_child_word, version_line, header_line, child_line, spawn_form, reap_form, deed_of, deed_line, operation_line, later_line, line_of_procs, line_in, judged_line};
-ghost use Rattle.k_spawn.specs.Outcome.{IsJudged, IsReader, IsAlsoRefused, IsHeaderPlace, IsOfHeader, process_of_name, so_far};
+ghost use Rattle.k_spawn.specs.Outcome.{IsJudged, IsReader, IsAlsoRefused, IsHeaderPlace, IsOfHeader, place_now, process_of_name, so_far};
 ghost use Rattle.k_spawn.specs.Scripts.{process_names};
 
 use crate::course::{Course, weight_of};
@@ -26,7 +26,7 @@ use std::marker::Model;
 
 /// What the lines so far say. The header is read by the reader of traces.
 pub struct ScriptReader {
-    place: Place,
+    begun: bool,
     header: Reader,
     child_names: NameList,
     course: Course,
@@ -35,7 +35,7 @@ pub struct ScriptReader {
 impl Drop for ScriptReader {
     fn drop(self) {
         let ScriptReader {
-            place: _,
+            begun: _,
             header: _,
             child_names: _,
             course: _,
@@ -48,7 +48,7 @@ impl Model for ScriptReader {
 
     ghost Value = { ReaderState };
 
-    ghost view = { λ r. record { place = r.place; header = r.header; child_names = r.child_names; course = r.course } };
+    ghost view = { λ r. record { begun = r.begun; header = r.header; child_names = r.child_names; course = r.course } };
 }
 
 /// Bad by a reason of traces.
@@ -88,10 +88,23 @@ impl ScriptReader {
         ensures ready { IsReader result }
     {
         ScriptReader {
-            place: Place::Version,
+            begun: false,
             header: Reader::past_version(alloc),
             child_names: NameList::new(alloc),
             course: Course::new(alloc),
+        }
+    }
+
+    /// Where the next line stands.
+    fn place(&self) -> Place
+        ensures { result ≡ place_now self.now }
+    {
+        if !self.begun {
+            Place::Version
+        } else if self.course.has_lines() {
+            Place::Operations
+        } else {
+            self.header.place()
         }
     }
 
@@ -122,14 +135,14 @@ impl ScriptReader {
     #[tactic(auto, unfolding(crate::specs::Judgement::version_line, crate::specs::Reasons::demands))]
     fn version_line(&mut self, line: &[u8]) -> Result<(), ScriptLineError>
         requires ready { IsReader self.old }
-        requires place { self.old.place ≡ Place.Version }
+        requires place { place_now self.old ≡ Place.Version }
         ensures judged { IsJudged result (so_far self.new) (version_line (so_far self.old).said (words_of line.now)) }
         ensures ready { OnOk result (IsReader self.new) }
     {
         if word_count(line) != 2 || !is(word(line, 0), b"spawn") || !is(word(line, 1), b"1") {
             return Err(bad(Reason::NoForm));
         }
-        self.place = Place::Kernel;
+        self.begun = true;
         Ok(())
     }
 
@@ -137,9 +150,9 @@ impl ScriptReader {
     #[tactic(auto, unfolding(crate::specs::Judgement::header_line, crate::specs::Reasons::also))]
     fn header_line(&mut self, alloc: Global, line: &[u8]) -> Result<(), ScriptLineError>
         requires ready { IsReader self.old }
-        requires place { IsHeaderPlace self.old.place }
+        requires place { IsHeaderPlace (place_now self.old) }
         requires line { IsOfHeader (so_far self.old).said (words_of line.now) }
-        ensures judged { IsJudged result (so_far self.new) (header_line self.old.place (so_far self.old).said (words_of line.now)) }
+        ensures judged { IsJudged result (so_far self.new) (header_line (place_now self.old) (so_far self.old).said (words_of line.now)) }
         ensures ready { OnOk result (IsReader self.new) }
     {
         let name = word(line, 1);
@@ -160,14 +173,13 @@ impl ScriptReader {
         if self.course.child_count() == 0 {
             self.course.set_first(self.header.names().proc_count() as u32);
         }
-        self.place = self.header.place();
         Ok(())
     }
 
     #[tactic(auto, unfolding(crate::specs::Judgement::child_line, crate::specs::Reasons::demands))]
     fn child_line(&mut self, alloc: Global, line: &[u8]) -> Result<(), ScriptLineError>
         requires ready { IsReader self.old }
-        requires place { self.old.place ≡ Place.Procs }
+        requires place { place_now self.old ≡ Place.Procs }
         ensures judged { IsJudged result (so_far self.new) (child_line (so_far self.old).said (words_of line.now)) }
         ensures ready { OnOk result (IsReader self.new) }
     {
@@ -273,7 +285,6 @@ impl ScriptReader {
             return Err(ScriptLineError::Bad(ScriptReason::Untimely));
         }
         self.course.push(pid, deed, &reaped)?;
-        self.place = Place::Operations;
         Ok(())
     }
 
@@ -295,8 +306,8 @@ impl ScriptReader {
     #[tactic(auto, unfolding(crate::specs::Judgement::later_line))]
     fn later_line(&mut self, alloc: Global, line: &[u8]) -> Result<(), ScriptLineError>
         requires ready { IsReader self.old }
-        requires place { IsHeaderPlace self.old.place }
-        ensures judged { IsJudged result (so_far self.new) (later_line self.old.place (so_far self.old).said (words_of line.now)) }
+        requires place { IsHeaderPlace (place_now self.old) }
+        ensures judged { IsJudged result (so_far self.new) (later_line (place_now self.old) (so_far self.old).said (words_of line.now)) }
         ensures ready { OnOk result (IsReader self.new) }
     {
         let first = word(line, 0);
@@ -312,7 +323,7 @@ impl ScriptReader {
     #[tactic(auto, unfolding(crate::specs::Judgement::line_of_procs))]
     fn line_of_procs(&mut self, alloc: Global, line: &[u8]) -> Result<(), ScriptLineError>
         requires ready { IsReader self.old }
-        requires place { self.old.place ≡ Place.Procs }
+        requires place { place_now self.old ≡ Place.Procs }
         ensures judged { IsJudged result (so_far self.new) (line_of_procs (so_far self.old).said (words_of line.now)) }
         ensures ready { OnOk result (IsReader self.new) }
     {
@@ -329,10 +340,10 @@ impl ScriptReader {
     #[tactic(auto, unfolding(crate::specs::Judgement::line_in))]
     fn line_in(&mut self, alloc: Global, line: &[u8]) -> Result<(), ScriptLineError>
         requires { IsReader self.old }
-        ensures judged { IsJudged result (so_far self.new) (line_in self.old.place (so_far self.old).said (words_of line.now)) }
+        ensures judged { IsJudged result (so_far self.new) (line_in (place_now self.old) (so_far self.old).said (words_of line.now)) }
         ensures ready { OnOk result (IsReader self.new) }
     {
-        match self.place {
+        match self.place() {
             Place::Version => self.version_line(line),
             Place::Kernel | Place::Types | Place::Limits => self.header_line(alloc, line),
             Place::Procs => self.line_of_procs(alloc, line),
@@ -362,9 +373,9 @@ impl ScriptReader {
 
     /// Whether a limit and a process were read.
     pub fn has_process(&self) -> bool
-        ensures { result ≡ has_process self.now.place }
+        ensures { result ≡ has_process (place_now self.now) }
     {
-        matches!(self.place, Place::Procs | Place::Shared | Place::Operations)
+        matches!(self.place(), Place::Procs | Place::Shared | Place::Operations)
     }
 
     /// The script that all lines say.
@@ -373,7 +384,7 @@ impl ScriptReader {
         ensures { IfOk result (λ script. script ≡ (so_far self).said) }
     {
         let ScriptReader {
-            place: _,
+            begun: _,
             header,
             child_names,
             course,
