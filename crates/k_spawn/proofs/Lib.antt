@@ -5,3 +5,4 @@ pub mod Reaped
 pub mod Copied
 pub mod Gathered
 pub mod Marks
+pub mod Numbering

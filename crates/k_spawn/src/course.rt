@@ -1,7 +1,8 @@
 //! The lines of a script, and what they say of each process.
-ghost use Rattle.std.specs.Prelude.{◌≡◌, ◌<◌, ◌≤◌, ◌+◌, [], length, map, nat_lt, IfOk, OnOk};
+ghost use Rattle.std.specs.Prelude.{◌≡◌, ◌<◌, ◌≤◌, ◌+◌, ◌||◌, [], length, map, nat_lt, IfOk, OnOk};
 ghost use Rattle.std.specs.List.{AllByRecursion};
 ghost use Rattle.k_types.specs.Bounds.{most_operations};
+ghost use Rattle.k_types.specs.TraceRules.{is_exit};
 ghost use Rattle.k_spawn.specs.Courses.{with_child, with_deed, reaped_by, weight_by, IsDeedOf, AreMarked};
 ghost use Rattle.k_spawn.specs.Timely.{weight, has_left, operations_so_far, is_of_parent, is_running, is_due};
 
@@ -171,7 +172,8 @@ impl Course {
 
     /// How many operations the lines become.
     pub fn operation_count(&self) -> usize
-        ensures { result ≡ operations_so_far self.now.family self.now.lines }
+        ensures count { result ≡ operations_so_far self.now.family self.now.lines }
+        ensures few { result ≤ most_operations }
     {
         self.operations
     }
@@ -190,7 +192,7 @@ impl Course {
         match deed {
             Deed::Does(op) => {
                 let at = pid.0 as usize;
-                self.left[at] = self.left[at] || matches!(op, Op::Exit);
+                self.left[at] = leaves(self.left[at], op);
             }
             Deed::Spawns { child, max: _ } => self.spawned[child.0 as usize] = true,
             Deed::Reaps { child: _ } => mark(&mut self.reaped, reaped),
@@ -215,9 +217,15 @@ impl Course {
     }
 }
 
+/// Whether a process has left, where it did this operation last.
+fn leaves(left: bool, op: Op) -> bool
+    ensures { result ≡ (left || is_exit op) }
+{
+    left || matches!(op, Op::Exit)
+}
+
 /// How many operations a deed becomes that reaps these.
 pub fn weight_of(deed: Deed, reaped: &[Pid]) -> usize
-    requires { length reaped.now ≤ 64 }
     ensures { result ≡ weight_by deed (length reaped.now) }
 {
     match deed {

@@ -272,7 +272,7 @@ impl ScriptReader {
             return Err(bad(Reason::Undeclared));
         };
         let reaped = self.course.reaped_by(alloc, deed)?;
-        if self.course.operation_count() + weight_of(deed, &reaped) > MOST_OPERATIONS {
+        if weight_of(deed, &reaped) > MOST_OPERATIONS - self.course.operation_count() {
             return Err(bad(Reason::TooMany));
         }
         if self.course.has_left(pid) {
