@@ -1,14 +1,19 @@
 -- The operations that lines become, process by process.
-use Rattle.std.proofs.Common.{◌≡◌, ◌∙◌, ℕ, zero, suc, ◌+◌, ◌<◌, ◌≤◌, ◌==◌, Bool, true, false, cond, List, [], ◌∷◌, ◌++◌, length, map, refl, sym, ap, ap₂, arith, append_assoc, append-nil, slice_set, slice_index_or}
+use Rattle.std.proofs.Common.{◌≡◌, ◌∙◌, ℕ, zero, suc, ◌+◌, ◌<◌, ◌≤◌, ◌==◌, Bool, true, false, cond, List, [], ◌∷◌, ◌++◌, length, map, refl, sym, ap, ap₂, arith, append_assoc, append-nil, slice_set, slice_index_or, get_or, drop, subst}
 use Rattle.std.proofs.lemmas.Bool.{eqb-true, eq-eqb}
-use Rattle.std.specs.List.{AllByRecursion}
+use Rattle.std.proofs.lemmas.List.{at_drop_more, at_drop_all, length-append, length-map}
+use Rattle.std.specs.List.{AllByRecursion, flat_map}
+use Rattle.k_types.specs.declared.names.Pid.{Pid}
+use Rattle.k_types.specs.declared.op.Op.TheVariants.{Kill, Resize}
 use Rattle.k_types.specs.declared.op.Op.{Op}
 use Rattle.k_types.specs.Numbers.{numbers_from, numbers_below}
 use Rattle.k_trace.specs.OperationLists.{OperationLists, no_operations, with_no_operations, with_operation}
 use Rattle.k_spawn.specs.declared.script.ScriptLine.{ScriptLine}
-use Rattle.k_spawn.specs.Scripts.{Script}
+use Rattle.k_types.specs.Trace.{process_count}
+use Rattle.k_spawn.specs.Families.{children}
+use Rattle.k_spawn.specs.Scripts.{Script, family}
 use Rattle.k_spawn.specs.Translated.{idle, with_lines, with_operations}
-use Rattle.k_spawn.specs.Translation.{operations_in, operations_of_deed, order_of}
+use Rattle.k_spawn.specs.Translation.{ending, limit_id, operations_in, operations_of_deed, order_of, translation}
 
 -- operations of the process alone
 abbrev only : ℕ → List Op → ℕ → List Op
@@ -60,8 +65,9 @@ lists f n order = record { operations = map f (numbers_below n); order = order }
 
 one_added : (f : ℕ → List Op) (n p : ℕ) (order : List ℕ) (op : Op) → p < n → with_operation (lists f n order) p op ≡ lists (added f p (op ∷ [])) n (order ++ p ∷ [])
 one_added f n p order op inside =
+    let at : 0 + p ≡ p = omega arith in
     ap (λ (ls : List (List Op)). let o : OperationLists = record { operations = ls; order = order ++ p ∷ [] } in o)
-    (ap (λ (ops : List Op). slice_set (map f (numbers_below n)) p (ops ++ op ∷ [])) (mapped_at f 0 n p inside) ∙ mapped_set f 0 n p (op ∷ []) inside)
+    (ap (λ (ops : List Op). slice_set (map f (numbers_below n)) p (ops ++ op ∷ [])) (mapped_at f 0 n p inside) ∙ mapped_set f 0 n p (op ∷ []) inside ∙ ap (λ q. map (added f q (op ∷ [])) (numbers_below n)) at)
 
 map_same : (f g : ℕ → List Op) (ns : List ℕ) → ((q : ℕ) → f q ≡ g q) → map f ns ≡ map g ns
 map_same f g [] same = refl
@@ -119,3 +125,45 @@ idle_next n = let e : n + 1 ≡ suc n = omega arith in ap idle e
 -- the operations that the lines of a script become, process by process, and their order
 pub lines_are_listed : (s : Script) (n : ℕ) (lines : List ScriptLine) → AllByRecursion (λ l. l.pid.0 < n) lines → with_lines s (idle n) lines ≡ lists (operations_in s lines) n (order_of s lines)
 lines_are_listed s n lines all = ap (λ o. with_lines s o lines) (idle_is n) ∙ lines_added s (λ q. []) n [] lines all
+
+-- the end of one child more
+pub endings_step : (s : Script) (o : OperationLists) (p : ℕ) (reaped : List Pid) (i : ℕ) (d : Pid) → i < length reaped
+    → with_operations (with_operation (with_operation o p (Kill (get_or reaped i d))) p (Resize (limit_id s (get_or reaped i d).0) 0)) p (flat_map (λ it. ending s it.0) (drop (i + 1) reaped))
+      ≡ with_operations o p (flat_map (λ it. ending s it.0) (drop i reaped))
+unfolding with_operations
+endings_step s o p reaped i d inside = sym (at_drop_more (λ (ls : List Pid). with_operations o p (flat_map (λ it. ending s it.0) ls)) reaped i d inside)
+
+-- all ends
+pub endings_end : (s : Script) (o : OperationLists) (p : ℕ) (reaped : List Pid) (i : ℕ) → length reaped ≤ i → with_operations o p (flat_map (λ it. ending s it.0) (drop i reaped)) ≡ o
+unfolding with_operations
+endings_end s o p reaped i done = at_drop_all (λ (ls : List Pid). with_operations o p (flat_map (λ it. ending s it.0) ls)) reaped i done
+
+-- one line more
+pub lines_step : (s : Script) (o : OperationLists) (lines : List ScriptLine) (i : ℕ) (d : ScriptLine) → i < length lines
+    → with_lines s (with_operations o (get_or lines i d).pid.0 (operations_of_deed s (get_or lines i d).deed)) (drop (i + 1) lines) ≡ with_lines s o (drop i lines)
+unfolding with_lines
+lines_step s o lines i d inside = sym (at_drop_more (with_lines s o) lines i d inside)
+
+-- all lines
+pub lines_end : (s : Script) (o : OperationLists) (lines : List ScriptLine) (i : ℕ) → length lines ≤ i → with_lines s o (drop i lines) ≡ o
+unfolding with_lines
+lines_end s o lines i done = at_drop_all (with_lines s o) lines i done
+
+-- what holds of all that are left holds of the next one, and of those behind
+pub next_holds : {A : Type 0} (P : A → Type 0) (xs : List A) (i : ℕ) (d : A) → i < length xs → AllByRecursion P (drop i xs) → P (get_or xs i d) × AllByRecursion P (drop (i + 1) xs)
+next_holds P [] i d inside all = absurd (omega (arith, inside))
+next_holds P (y ∷ ys) zero d inside all = (all.0, all.1)
+next_holds P (y ∷ ys) (suc i) d inside all =
+    let rest = next_holds P ys i d (omega (arith, inside)) all in
+    let behind : suc (i + 1) ≡ suc i + 1 = omega arith in
+    (rest.0, subst (λ n. AllByRecursion P (drop n (y ∷ ys))) behind rest.1)
+
+-- the processes of the translation
+pub processes_are : (s : Script) → process_count (translation s).trace ≡ process_count s.header.trace + length s.parents
+processes_are s =
+    length-append s.header.trace.procs (map (limit_id s) (children (family s)))
+    ∙ ap (λ n. process_count s.header.trace + n) (length-map (children (family s)) (limit_id s) ∙ many (process_count s.header.trace) (length s.parents))
+  where
+    many : (first n : ℕ) → length (numbers_from first n) ≡ n
+    many first zero = refl
+    many first (suc n) = ap suc (many (suc first) n)

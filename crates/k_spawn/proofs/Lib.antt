@@ -6,3 +6,4 @@ pub mod Copied
 pub mod Gathered
 pub mod Marks
 pub mod Numbering
+pub mod Headers

@@ -6,28 +6,39 @@ use Rattle.k_types.specs.declared.names.Pid.{Pid}
 use Rattle.k_trace.specs.Words.{Text}
 use Rattle.k_trace.specs.Names.{declares, number_of, numbered}
 
+-- the number of a name where the first of the list is tested
+abbrev numbered_by : Bool → ℕ → ℕ
+numbered_by b rest = cond (not b) (1 + rest) 0
+
+first_step : (b : Bool) (rest xs : ℕ) → (b ≡ false → rest ≡ xs) → numbered_by b rest ≡ numbered_by b xs
+first_step true rest xs same = refl
+first_step false rest xs same = ap (λ n. 1 + n) (same refl)
+
+second_step : (b : Bool) (rest more : ℕ) → b ≡ false → rest ≡ more → numbered_by b rest ≡ 1 + more
+second_step true rest more unknown same = absurd (false≢true (sym unknown))
+second_step false rest more unknown same = ap (λ n. 1 + n) same
+
+or_second : (a b : Bool) → (a || b) ≡ true → a ≡ false → b ≡ true
+or_second true b e f = absurd (false≢true (sym f))
+or_second false b e f = e
+
+or_none : (a b : Bool) → (a || b) ≡ false → (a ≡ false) × (b ≡ false)
+or_none true b e = absurd (false≢true (sym e))
+or_none false b e = (refl, e)
+
 -- the number of a name that one of the first list is
 number_first : (xs ys : List Text) (w : Text) → declares xs w ≡ true → number_of (xs ++ ys) w ≡ number_of xs w
 number_first [] ys w known = absurd (false≢true known)
-number_first (x ∷ xs) ys w known = by_test (bytes_eq w x) refl
-  where
-    by_test : (b : Bool) → bytes_eq w x ≡ b → number_of ((x ∷ xs) ++ ys) w ≡ number_of (x ∷ xs) w
-    by_test true e = ap (λ b. cond (not b) (1 + number_of (xs ++ ys) w) 0) e ∙ sym (ap (λ b. cond (not b) (1 + number_of xs w) 0) e)
-    by_test false e =
-        ap (λ b. cond (not b) (1 + number_of (xs ++ ys) w) 0) e
-        ∙ ap (λ n. 1 + n) (number_first xs ys w (sym (ap (λ b. b || declares xs w) e) ∙ known))
-        ∙ sym (ap (λ b. cond (not b) (1 + number_of xs w) 0) e)
+number_first (x ∷ xs) ys w known =
+    first_step (bytes_eq w x) (number_of (xs ++ ys) w) (number_of xs w) (λ other. number_first xs ys w (or_second (bytes_eq w x) (declares xs w) known other))
 
 -- and of one that only the second list has
 number_second : (xs ys : List Text) (w : Text) → declares xs w ≡ false → number_of (xs ++ ys) w ≡ length xs + number_of ys w
 number_second [] ys w unknown = omega arith
-number_second (x ∷ xs) ys w unknown = by_test (bytes_eq w x) refl
-  where
-    by_test : (b : Bool) → bytes_eq w x ≡ b → number_of ((x ∷ xs) ++ ys) w ≡ length (x ∷ xs) + number_of ys w
-    by_test true e = absurd (false≢true (sym unknown ∙ ap (λ b. b || declares xs w) e))
-    by_test false e =
-        let rest = number_second xs ys w (sym (ap (λ b. b || declares xs w) e) ∙ unknown) in
-        ap (λ b. cond (not b) (1 + number_of (xs ++ ys) w) 0) e ∙ omega (arith, rest)
+number_second (x ∷ xs) ys w unknown =
+    let parts = or_none (bytes_eq w x) (declares xs w) unknown in
+    let grouped : 1 + (length xs + number_of ys w) ≡ length (x ∷ xs) + number_of ys w = omega arith in
+    second_step (bytes_eq w x) (number_of (xs ++ ys) w) (length xs + number_of ys w) parts.0 (number_second xs ys w parts.1) ∙ grouped
 
 declares_both : (xs ys : List Text) (w : Text) → declares (xs ++ ys) w ≡ (declares xs w || declares ys w)
 declares_both [] ys w = refl

@@ -123,12 +123,12 @@ impl ScriptReader {
         ensures known { IfSome result (λ pid. pid.0 < self.now.course.family.first + length self.now.course.family.parents) }
         ensures few { IfSome result (λ pid. pid.0 < 64) }
     {
-        if let Some(pid) = self.header.names().proc_named(name) {
-            return Some(pid);
-        }
-        match self.child_names.number(name) {
-            Some(place) => Some(self.course.child_at(place)),
-            None => None,
+        match self.header.names().proc_named(name) {
+            Some(pid) => Some(pid),
+            None => match self.child_names.number(name) {
+                Some(place) => Some(self.course.child_at(place)),
+                None => None,
+            },
         }
     }
 
