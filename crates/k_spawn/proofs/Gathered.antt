@@ -3,7 +3,11 @@ use Rattle.std.proofs.Common.{◌≡◌, ◌∙◌, ℕ, zero, suc, ◌+◌, ◌
 use Rattle.std.proofs.lemmas.Bool.{eqb-true, eq-eqb}
 use Rattle.std.proofs.lemmas.List.{at_drop_more, at_drop_all, length-append, length-map}
 use Rattle.std.specs.List.{AllByRecursion, flat_map}
+use Rattle.k_types.specs.declared.names.Field.{Field}
+use Rattle.k_types.specs.declared.names.LimitId.{LimitId}
 use Rattle.k_types.specs.declared.names.Pid.{Pid}
+use Rattle.k_types.specs.declared.setup.LimitRow.{LimitRow}
+use Rattle.k_trace.specs.Named.{DeclaredNames, NamedTrace}
 use Rattle.k_types.specs.declared.op.Op.TheVariants.{Kill, Resize}
 use Rattle.k_types.specs.declared.op.Op.{Op}
 use Rattle.k_types.specs.Numbers.{numbers_from, numbers_below}
@@ -12,8 +16,12 @@ use Rattle.k_spawn.specs.declared.script.ScriptLine.{ScriptLine}
 use Rattle.k_types.specs.Trace.{process_count}
 use Rattle.k_spawn.specs.Families.{children}
 use Rattle.k_spawn.specs.Scripts.{Script, family}
-use Rattle.k_spawn.specs.Translated.{idle, with_lines, with_operations}
+use Rattle.k_spawn.specs.Translated.{IsLineOf, idle, with_lines, with_operations}
 use Rattle.k_spawn.specs.Translation.{ending, limit_id, operations_in, operations_of_deed, order_of, translation}
+
+row_length : (first n : ℕ) → length (numbers_from first n) ≡ n
+row_length first zero = refl
+row_length first (suc n) = ap suc (row_length (suc first) n)
 
 -- operations of the process alone
 abbrev only : ℕ → List Op → ℕ → List Op
@@ -117,6 +125,15 @@ idle_is zero = refl
 idle_is (suc n) =
     ap with_no_operations (idle_is n) ∙ ap (λ (ls : List (List Op)). let o : OperationLists = record { operations = ls; order = [] } in o) (nothing_more 0 n)
 
+-- no process
+pub idle_none : no_operations ≡ idle 0
+unfolding idle
+idle_none = refl
+
+-- as many lists as processes
+pub idle_length : (n : ℕ) → length (idle n).operations ≡ n
+idle_length n = ap (λ (o : OperationLists). length o.operations) (idle_is n) ∙ length-map (numbers_below n) (λ q. let ops : List Op = [] in ops) ∙ row_length 0 n
+
 -- one process more
 pub idle_next : (n : ℕ) → idle (n + 1) ≡ with_no_operations (idle n)
 unfolding idle
@@ -162,8 +179,29 @@ next_holds P (y ∷ ys) (suc i) d inside all =
 pub processes_are : (s : Script) → process_count (translation s).trace ≡ process_count s.header.trace + length s.parents
 processes_are s =
     length-append s.header.trace.procs (map (limit_id s) (children (family s)))
-    ∙ ap (λ n. process_count s.header.trace + n) (length-map (children (family s)) (limit_id s) ∙ many (process_count s.header.trace) (length s.parents))
-  where
-    many : (first n : ℕ) → length (numbers_from first n) ≡ n
-    many first zero = refl
-    many first (suc n) = ap suc (many (suc first) n)
+    ∙ ap (λ n. process_count s.header.trace + n) (length-map (children (family s)) (limit_id s) ∙ row_length (process_count s.header.trace) (length s.parents))
+
+-- one operation
+pub one_operation : (o : OperationLists) (p : ℕ) (op : Op) → with_operation o p op ≡ with_operations o p (op ∷ [])
+unfolding with_operations
+one_operation o p op = refl
+
+-- the ends of children, by their numbers
+pub endings_by_number : (s : Script) (pids : List Pid) → flat_map (λ (it : Pid). ending s it.0) pids ≡ flat_map (ending s) (map (λ (it : Pid). it.0) pids)
+endings_by_number s [] = refl
+endings_by_number s (pid ∷ pids) = ap (λ ops. ending s pid.0 ++ ops) (endings_by_number s pids)
+
+pub below_by_number : (n : ℕ) (pids : List Pid) → AllByRecursion (λ p. p < n) (map (λ (it : Pid). it.0) pids) → AllByRecursion (λ (it : Pid). it.0 < n) pids
+below_by_number n [] all = tt
+below_by_number n (pid ∷ pids) all = (all.0, below_by_number n pids all.1)
+
+pub processes_below : (s : Script) (lines : List ScriptLine) → AllByRecursion (IsLineOf s) lines → AllByRecursion (λ (l : ScriptLine). l.pid.0 < process_count s.header.trace + length s.parents) lines
+processes_below s [] all = tt
+processes_below s (l ∷ ls) all = (all.0.process, processes_below s ls all.1)
+
+-- a trace of the translation's parts is the translation
+pub translated_is : (s : Script) (names : DeclaredNames) (ceiling dir_fields shared : ℕ) (types : List (List Field)) (limits : List LimitRow) (procs : List LimitId) (operations : List (List Op)) (order : List ℕ)
+    → names ≡ (translation s).names → ceiling ≡ s.header.trace.ceiling → dir_fields ≡ s.header.trace.dir_fields → shared ≡ s.header.trace.shared_heaps → types ≡ s.header.trace.types
+    → limits ≡ (translation s).trace.limits → procs ≡ (translation s).trace.procs → operations ≡ (translation s).trace.operations → order ≡ (translation s).trace.order
+    → (let t : NamedTrace = record { names = names; trace = record { version = 2; ceiling = ceiling; dir_fields = dir_fields; types = types; limits = limits; procs = procs; shared_heaps = shared; operations = operations; order = order } } in t) ≡ translation s
+translated_is s names ceiling dir_fields shared types limits procs operations order a b c d e f g h k = rw (a, b, c, d, e, f, g, h, k) refl
