@@ -1,7 +1,9 @@
 -- What a header line keeps.
-use Rattle.std.proofs.Common.{◌≡◌, ◌≢◌, ◌∙◌, ℕ, ◌+◌, List, [], ◌∷◌, ◌++◌, length, Ok, sym, ap, subst, arith, Result}
+use Rattle.std.proofs.Common.{◌≡◌, ◌≢◌, ◌∙◌, ℕ, ◌+◌, ◌==◌, ◌||◌, nat_lt, Bool, true, false, cond, codes, refl, List, [], ◌∷◌, ◌++◌, length, Ok, sym, ap, subst, arith, Result}
+use Rattle.std.proofs.lemmas.Bool.{false≢true, eqb-true}
 use Rattle.std.proofs.lemmas.Grind.{common_steps}
-use Rattle.k_trace.specs.Words.{Text}
+use Rattle.std.specs.Str.{bytes_eq}
+use Rattle.k_trace.specs.Words.{Text, word_at}
 use Rattle.k_trace.specs.Named.{NamedTrace}
 use Rattle.k_trace.specs.declared.place.Place.{Place}
 use Rattle.k_trace.specs.declared.place.Place.TheVariants.{Version, Kernel, Types, Limits, Procs, Shared, Operations}
@@ -9,7 +11,8 @@ use Rattle.k_trace.specs.Judgement.{SoFar, line_in}
 use Rattle.k_trace.proofs.OpForms.{AreNamed}
 use Rattle.k_trace.proofs.Found.{step_found}
 use Rattle.k_trace.proofs.Steps.{at_place, Step, OfVersion, OfKernel, OfType, OfRoot, OfLimit, OfProc, OfShared, OfOperation}
-use Rattle.k_spawn.specs.Outcome.{IsNamed}
+use Rattle.k_spawn.specs.Outcome.{ReaderState, IsNamed, IsHeaderPlace, IsOfHeader, place_now}
+use Rattle.k_spawn.specs.Scripts.{Script}
 
 -- a place that is not the first line's
 abbrev IsLater : Place → Type 0
@@ -50,3 +53,29 @@ pub header_kept : (c d : SoFar) (ws : List Text) → IsNamed c.said → line_in 
 header_kept c d ws n good =
     let s = step_found c d ws (are_named c.said n) good in
     (later_step c d ws s, named_step c d ws n s)
+
+procs_step : (c d : SoFar) (ws : List Text) → bytes_eq (word_at ws 0) (codes "shared") ≡ true → Step c ws d → d.said.trace.procs ≡ c.said.trace.procs
+procs_step c d ws shared (OfVersion s) = ap (λ (x : SoFar). x.said.trace.procs) s.after
+procs_step c d ws shared (OfKernel s) = ap (λ (x : SoFar). x.said.trace.procs) s.after
+procs_step c d ws shared (OfType s) = ap (λ (x : SoFar). x.said.trace.procs) s.after
+procs_step c d ws shared (OfRoot s) = ap (λ (x : SoFar). x.said.trace.procs) s.after
+procs_step c d ws shared (OfLimit s) = ap (λ (x : SoFar). x.said.trace.procs) s.after
+procs_step c d ws shared (OfProc s) = absurd (false≢true (sym (ap (λ (w : List Text). bytes_eq (word_at w 0) (codes "shared")) s.words) ∙ shared))
+procs_step c d ws shared (OfShared s) = ap (λ (x : SoFar). x.said.trace.procs) s.after
+procs_step c d ws shared (OfOperation s) = ap (λ (x : SoFar). x.said.trace.procs) s.after
+
+-- after the line of a shared heap the processes are the same
+pub procs_kept : (c d : SoFar) (ws : List Text) → IsNamed c.said → bytes_eq (word_at ws 0) (codes "shared") ≡ true → line_in c.place c.said ws ≡ Ok d → d.said.trace.procs ≡ c.said.trace.procs
+procs_kept c d ws n shared good = procs_step c d ws shared (step_found c d ws (are_named c.said n) good)
+
+-- where the header may grow the first line was read
+pub has_begun : (r : ReaderState) → IsHeaderPlace (place_now r) → r.begun ≡ false → ⊥
+has_begun r here e = here.0 (ap (λ b. cond b (cond (nat_lt 0 (length r.course.lines)) Operations r.header.place) Version) e)
+
+-- where there is a child, the line is that of a shared heap
+pub is_shared : (s : Script) (ws : List Text) → IsOfHeader s ws → (length s.parents ≡ 0 → ⊥) → bytes_eq (word_at ws 0) (codes "shared") ≡ true
+is_shared s ws line some = by_test (length s.parents == 0) refl
+  where
+    by_test : (b : Bool) → (length s.parents == 0) ≡ b → bytes_eq (word_at ws 0) (codes "shared") ≡ true
+    by_test true e = absurd (some (eqb-true _ _ e))
+    by_test false e = sym (ap (λ b. b || bytes_eq (word_at ws 0) (codes "shared")) e) ∙ line

@@ -7,3 +7,4 @@ pub mod Gathered
 pub mod Marks
 pub mod Numbering
 pub mod Headers
+pub mod Judging
