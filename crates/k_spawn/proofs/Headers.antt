@@ -1,17 +1,17 @@
 -- What a header line keeps.
 use Rattle.std.proofs.Common.{◌≡◌, ◌≢◌, ◌∙◌, ℕ, ◌+◌, ◌==◌, ◌||◌, nat_lt, Bool, true, false, cond, codes, refl, List, [], ◌∷◌, ◌++◌, length, Ok, sym, ap, subst, arith, Result}
-use Rattle.std.proofs.lemmas.Bool.{false≢true, eqb-true}
+use Rattle.std.proofs.lemmas.Bool.{false≢true, eqb-true, eq-eqb}
 use Rattle.std.proofs.lemmas.Grind.{common_steps}
 use Rattle.std.specs.Str.{bytes_eq}
 use Rattle.k_trace.specs.Words.{Text, word_at}
 use Rattle.k_trace.specs.Named.{NamedTrace}
 use Rattle.k_trace.specs.declared.place.Place.{Place}
 use Rattle.k_trace.specs.declared.place.Place.TheVariants.{Version, Kernel, Types, Limits, Procs, Shared, Operations}
-use Rattle.k_trace.specs.Judgement.{SoFar, line_in}
+use Rattle.k_trace.specs.Judgement.{SoFar, has_process, line_in}
 use Rattle.k_trace.proofs.OpForms.{AreNamed}
 use Rattle.k_trace.proofs.Found.{step_found}
 use Rattle.k_trace.proofs.Steps.{at_place, Step, OfVersion, OfKernel, OfType, OfRoot, OfLimit, OfProc, OfShared, OfOperation}
-use Rattle.k_spawn.specs.Outcome.{ReaderState, IsNamed, IsHeaderPlace, IsOfHeader, place_now}
+use Rattle.k_spawn.specs.Outcome.{ReaderState, IsNamed, IsReader, IsHeaderPlace, IsOfHeader, place_now, so_far}
 use Rattle.k_spawn.specs.Scripts.{Script}
 
 -- a place that is not the first line's
@@ -79,3 +79,45 @@ is_shared s ws line some = by_test (length s.parents == 0) refl
     by_test : (b : Bool) → (length s.parents == 0) ≡ b → bytes_eq (word_at ws 0) (codes "shared") ≡ true
     by_test true e = absurd (some (eqb-true _ _ e))
     by_test false e = sym (ap (λ b. b || bytes_eq (word_at ws 0) (codes "shared")) e) ∙ line
+
+late_step : (c d : SoFar) (ws : List Text) → has_process c.place ≡ true → Step c ws d → has_process d.place ≡ true
+late_step c d ws late (OfVersion s) = absurd (false≢true (sym (ap has_process s.at) ∙ late))
+late_step c d ws late (OfKernel s) = absurd (false≢true (sym (ap has_process s.at) ∙ late))
+late_step c d ws late (OfType s) = absurd (false≢true (sym (ap has_process s.at) ∙ late))
+late_step c d ws late (OfRoot s) = absurd (false≢true (sym (ap has_process s.at) ∙ late))
+late_step c d ws late (OfLimit s) = absurd (false≢true (sym (ap has_process s.at) ∙ late))
+late_step c d ws late (OfProc s) = ap (λ (x : SoFar). has_process x.place) s.after
+late_step c d ws late (OfShared s) = ap (λ (x : SoFar). has_process x.place) s.after
+late_step c d ws late (OfOperation s) = ap (λ (x : SoFar). has_process x.place) s.after
+
+not_false : (b : Bool) → (b ≡ false → ⊥) → b ≡ true
+not_false true h = refl
+not_false false h = absurd (h refl)
+
+-- behind a process there stays one
+pub still_late : (c d : SoFar) (ws : List Text) → IsNamed c.said → (has_process c.place ≡ false → ⊥) → line_in c.place c.said ws ≡ Ok d → has_process d.place ≡ false → ⊥
+still_late c d ws n late good e = false≢true (sym e ∙ late_step c d ws (not_false (has_process c.place) late) (step_found c d ws (are_named c.said n) good))
+
+-- where the header may grow, or an operation stands, the first line was read
+pub begun_here : (r : ReaderState) → IsHeaderPlace (place_now r) → r.begun ≡ true
+begun_here r here = not_false r.begun (has_begun r here)
+
+pub begun_at : (r : ReaderState) → (place_now r ≡ Version → ⊥) → r.begun ≡ true
+begun_at r late = not_false r.begun (λ e. late (ap (λ b. cond b (cond (nat_lt 0 (length r.course.lines)) Operations r.header.place) Version) e))
+
+-- the header's place, where there is no line
+pub place_is : (r : ReaderState) (place : Place) → place_now r ≡ place → place ≢ Version → place ≢ Operations → r.header.place ≡ place
+place_is r place at early late = by_test (nat_lt 0 (length r.course.lines)) refl
+  where
+    now : cond (nat_lt 0 (length r.course.lines)) Operations r.header.place ≡ place
+    now = sym (ap (λ b. cond b (cond (nat_lt 0 (length r.course.lines)) Operations r.header.place) Version) (begun_at r (λ e. early (sym at ∙ e)))) ∙ at
+
+    by_test : (b : Bool) → nat_lt 0 (length r.course.lines) ≡ b → r.header.place ≡ place
+    by_test true e = absurd (late (sym now ∙ ap (λ x. cond x Operations r.header.place) e))
+    by_test false e = sym (ap (λ x. cond x Operations r.header.place) e) ∙ now
+
+-- no child stands before a process
+pub no_child_before : (r : ReaderState) (place : Place) (ws : List Text) → IsReader r → place_now r ≡ place → place ≢ Version → place ≢ Operations → has_process place ≡ false → IsOfHeader (so_far r).said ws
+no_child_before r place ws ready at early late none =
+    let nobody = ready.grown (ap has_process (place_is r place at early late) ∙ none) in
+    ap (λ b. b || bytes_eq (word_at ws 0) (codes "shared")) (eq-eqb (length r.course.family.parents) 0 nobody)

@@ -8,3 +8,4 @@ pub mod Marks
 pub mod Numbering
 pub mod Headers
 pub mod Judging
+pub mod Deeds

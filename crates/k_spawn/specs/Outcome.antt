@@ -9,7 +9,7 @@ use Rattle.k_trace.specs.Names.{declares}
 use Rattle.k_trace.specs.declared.place.Place.{Place}
 use Rattle.k_trace.specs.declared.place.Place.TheVariants.{Version, Kernel, Operations}
 use Rattle.k_trace.specs.Named.{NamedTrace}
-use Rattle.k_trace.specs.Judgement.{SoFar as TraceSoFar, BadLine}
+use Rattle.k_trace.specs.Judgement.{SoFar as TraceSoFar, BadLine, has_process}
 use Rattle.k_trace.specs.declared.reasons.Reason.{Reason}
 use Rattle.k_spawn.specs.declared.errors.ScriptLineError.{ScriptLineError}
 use Rattle.k_spawn.specs.declared.errors.ScriptLineError.TheVariants as line
@@ -47,7 +47,7 @@ pub record IsNamed (t : NamedTrace) : Type 0 where
   pub shared : length t.names.shared ≡ t.trace.shared_heaps
 
 -- its parts belong together: the header's reader is past the first line; the children stand behind the header's processes, and each has
--- a name
+-- a name; and there is none before a process
 pub record IsReader (r : ReaderState) : Type 0 where
   pub past : r.header.place ≢ Version
   pub begins : r.begun ≡ false → r.header.place ≡ Kernel
@@ -55,6 +55,7 @@ pub record IsReader (r : ReaderState) : Type 0 where
   pub header : IsNamed r.header.said
   pub behind : r.course.family.first ≡ length r.header.said.trace.procs
   pub named : length r.child_names ≡ length r.course.family.parents
+  pub grown : has_process r.header.place ≡ false → length r.course.family.parents ≡ 0
 
 -- the header may grow here
 abbrev pub IsHeaderPlace : Place → Type 0

@@ -1,5 +1,5 @@
 //! What the lines so far say, and the step to the next line.
-ghost use Rattle.std.specs.Prelude.{◌≡◌, ◌<◌, ◌+◌, length, IfSome, IfOk, OnOk};
+ghost use Rattle.std.specs.Prelude.{◌≡◌, ◌<◌, ◌+◌, length, true, IfSome, IfOk, OnOk};
 ghost use Rattle.k_trace.specs.Words.{words_of};
 ghost use Rattle.k_trace.specs.Judgement.{has_process};
 ghost use Rattle.k_spawn.specs.declared.errors.ScriptLineError.TheVariants.{Bad};
@@ -264,6 +264,7 @@ impl ScriptReader {
     #[tactic(auto, unfolding(crate::specs::Judgement::deed_line, crate::specs::Reasons::demands))]
     fn deed_line(&mut self, alloc: Global, name: &[u8], deed: Deed) -> Result<(), ScriptLineError>
         requires ready { IsReader self.old }
+        requires begun { self.old.begun ≡ true }
         requires known { IsDeedOf self.old.course.family deed }
         ensures judged { IsJudged result (so_far self.new) (deed_line (so_far self.old).said name.now deed) }
         ensures ready { OnOk result (IsReader self.new) }
@@ -290,16 +291,17 @@ impl ScriptReader {
 
     #[tactic(auto, unfolding(crate::specs::Judgement::operation_line))]
     fn operation_line(&mut self, alloc: Global, line: &[u8]) -> Result<(), ScriptLineError>
-        requires { IsReader self.old }
+        requires ready { IsReader self.old }
+        requires begun { self.old.begun ≡ true }
         ensures judged { IsJudged result (so_far self.new) (operation_line (so_far self.old).said (words_of line.now)) }
         ensures ready { OnOk result (IsReader self.new) }
     {
-        let Some(rest) = after_word(line) else {
-            return Err(bad(Reason::NoForm));
-        };
-        match self.deed_of(rest) {
-            Ok(deed) => self.deed_line(alloc, word(line, 0), deed),
-            Err(reason) => Err(bad(reason)),
+        match after_word(line) {
+            None => Err(bad(Reason::NoForm)),
+            Some(rest) => match self.deed_of(rest) {
+                Ok(deed) => self.deed_line(alloc, word(line, 0), deed),
+                Err(reason) => Err(bad(reason)),
+            },
         }
     }
 

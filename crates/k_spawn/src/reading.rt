@@ -1,10 +1,12 @@
 //! A script is read, line by line, from its bytes.
 ghost use Rattle.std.specs.Prelude.{◌≡◌, ◌≤◌, ◌+◌, Ok, length, IfOk, IfErr, OnOk};
+ghost use Rattle.std.specs.List.{AllByRecursion};
 ghost use Rattle.k_types.specs.Bounds.{most_trace_bytes};
 ghost use Rattle.k_trace.specs.Words.{lines_of};
 ghost use Rattle.k_trace.specs.Rules.{IsTrace};
 ghost use Rattle.k_spawn.specs.Judgement.{judged_lines, judgement};
 ghost use Rattle.k_spawn.specs.Outcome.{IsReader, ReadsLines, IsRefused, so_far};
+ghost use Rattle.k_spawn.specs.Translated.{IsLineOf};
 ghost use Rattle.k_spawn.specs.Translation.{translation};
 
 use crate::errors::{ScriptError, ScriptLineError};
@@ -53,6 +55,7 @@ fn read_lines(alloc: Global, reader: &mut ScriptReader, bytes: &[u8]) -> Result<
 pub fn read_script(alloc: Global, bytes: &[u8]) -> Result<Script, ScriptError>
     ensures ok { IfOk result (λ s. judgement bytes.now ≡ Ok s) }
     ensures rules { IfOk result (λ s. IsTrace (translation s)) }
+    ensures lines { IfOk result (λ s. AllByRecursion (IsLineOf s) s.lines) }
     ensures bad { IfErr result (λ e. IsRefused bytes.now e) }
 {
     if bytes.len() > MOST_TRACE_BYTES {
