@@ -9,3 +9,4 @@ pub mod Numbering
 pub mod Headers
 pub mod Judging
 pub mod Deeds
+pub mod Lines

@@ -8,7 +8,7 @@ use Rattle.k_spawn.specs.Judgement.{deed_line}
 use Rattle.k_spawn.specs.Outcome.{ReaderState, RefusesLine, so_far}
 use Rattle.k_spawn.specs.Scripts.{family}
 use Rattle.k_spawn.specs.Timely.{weight, has_left, operations_so_far, is_of_parent, is_running, is_due}
-use Rattle.k_spawn.proofs.Deeds.{as_tested}
+use Rattle.k_spawn.proofs.Deeds.{as_tested, line_taken, still_ready, with_more}
 use Rattle.k_spawn.proofs.Marks.{weight_is}
 use Rattle.k_spawn.proofs.reader.ScriptReader.deed_line.Goals as goal
 use Rattle.k_spawn.proofs.reader.ScriptReader.deed_line.Goals.{then-not-is_running-via-then-not-is_running, then-not-is_running-via-else-not-is_running+then-not-is_due}
@@ -94,7 +94,14 @@ returns-clause-judged c =
     let parent = sym (c.if-not-is_of_parent.ensures ∙ ap (λ f. is_of_parent f pid.0 c.args.deed) whole) in
     let now : (is_running (family s) s.lines pid.0 && is_due (family s) s.lines c.args.deed) ≡ true =
         ap (λ b. b && is_due (family s) s.lines c.args.deed) (sym (c.if-not-is_running.ensures ∙ ap (λ (x : Course). is_running x.family x.lines pid.0) course ∙ ap (λ f. is_running f s.lines pid.0) own)) ∙ sym (c.if-not-is_due.ensures ∙ ap (λ (x : Course). is_due x.family x.lines c.args.deed) course ∙ ap (λ f. is_due f s.lines c.args.deed) own) in
-    as_tested s c.args.name.now c.args.deed pid c.in-Some.ensures.number true false true true room left parent now ∙ ?
+    let new : ReaderState = record { begun = c.self.inside.begun; header = c.self.inside.header; child_names = c.self.inside.child_names; course = c.push.new.self } in
+    let grown : new ≡ with_more c.in-Some.pid c.args.deed c.args.self.now = ap (λ (k : Course). let x : ReaderState = record { begun = c.self.inside.begun; header = c.self.inside.header; child_names = c.self.inside.child_names; course = k } in x) c.in_ok-push.ensures
+        ∙ ap (with_more c.in-Some.pid c.args.deed) c.self.view_is in
+    as_tested s c.args.name.now c.args.deed pid c.in-Some.ensures.number true false true true room left parent now ∙ line_taken r new pid c.args.deed grown c.requires.begun
 
 pub returns-clause-ready : goal.returns-clause-ready
-returns-clause-ready c = ?
+returns-clause-ready c =
+    let new : ReaderState = record { begun = c.self.inside.begun; header = c.self.inside.header; child_names = c.self.inside.child_names; course = c.push.new.self } in
+    let grown : new ≡ with_more c.in-Some.pid c.args.deed c.args.self.now = ap (λ (k : Course). let x : ReaderState = record { begun = c.self.inside.begun; header = c.self.inside.header; child_names = c.self.inside.child_names; course = k } in x) c.in_ok-push.ensures
+        ∙ ap (with_more c.in-Some.pid c.args.deed) c.self.view_is in
+    still_ready c.args.self.now new c.in-Some.pid c.args.deed grown c.requires.begun c.requires.ready
