@@ -61,8 +61,8 @@ pub line_taken : (r new : ReaderState) (pid : Pid) (deed : Deed) → new ≡ wit
 line_taken r new pid deed grown begun =
     let line : ScriptLine = record { pid = pid; deed = deed } in
     let place : place_now (with_more pid deed r) ≡ Operations =
-        ap (λ b. cond b (cond (nat_lt 0 (length (r.course.lines ++ line ∷ []))) Operations r.header.place) Version) begun
-        ∙ ap (λ b. cond b Operations r.header.place) (some_lines r.course.lines line) in
+    ap (λ b. cond b (cond (nat_lt 0 (length (r.course.lines ++ line ∷ []))) Operations r.header.place) Version) begun
+    ∙ ap (λ b. cond b Operations r.header.place) (some_lines r.course.lines line) in
     ap (λ (p : Place). let j : Judged = Ok (record { place = p; said = (so_far (with_more pid deed r)).said }) in j) (sym place)
     ∙ ap (λ (x : ReaderState). let j : Judged = Ok (so_far x) in j) (sym grown)
 

@@ -113,7 +113,7 @@ lines_added s f n order (l ∷ ls) all =
     ap (λ o. with_lines s o ls) (all_added f n l.pid.0 order ops all.0)
     ∙ lines_added s (added f l.pid.0 ops) n (order ++ map (λ op. l.pid.0) ops) ls all.1
     ∙ same_lists (λ q. added f l.pid.0 ops q ++ operations_in s ls q) (λ q. f q ++ operations_in s (l ∷ ls) q) n _ _
-      (λ q. append_assoc (f q) (only l.pid.0 ops q) (operations_in s ls q)) (append_assoc order (map (λ op. l.pid.0) ops) (order_of s ls))
+    (λ q. append_assoc (f q) (only l.pid.0 ops q) (operations_in s ls q)) (append_assoc order (map (λ op. l.pid.0) ops) (order_of s ls))
 
 nothing_more : (first n : ℕ) → map (λ (q : ℕ). let ops : List Op = [] in ops) (numbers_from first n) ++ [] ∷ [] ≡ map (λ (q : ℕ). let ops : List Op = [] in ops) (numbers_from first (suc n))
 nothing_more first zero = refl
@@ -146,7 +146,7 @@ lines_are_listed s n lines all = ap (λ o. with_lines s o lines) (idle_is n) ∙
 -- the end of one child more
 pub endings_step : (s : Script) (o : OperationLists) (p : ℕ) (reaped : List Pid) (i : ℕ) (d : Pid) → i < length reaped
     → with_operations (with_operation (with_operation o p (Kill (get_or reaped i d))) p (Resize (limit_id s (get_or reaped i d).0) 0)) p (flat_map (λ it. ending s it.0) (drop (i + 1) reaped))
-      ≡ with_operations o p (flat_map (λ it. ending s it.0) (drop i reaped))
+    ≡ with_operations o p (flat_map (λ it. ending s it.0) (drop i reaped))
 unfolding with_operations
 endings_step s o p reaped i d inside = sym (at_drop_more (λ (ls : List Pid). with_operations o p (flat_map (λ it. ending s it.0) ls)) reaped i d inside)
 

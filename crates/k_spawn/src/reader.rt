@@ -15,11 +15,10 @@ use crate::reasons::ScriptReason;
 use crate::script::{Deed, Script};
 use k_io::NoMemory;
 use k_trace::{LineError, Place, Reader, Reason, read_op};
-use k_types::{
-    MAXIMUM_BELOW, MOST_LIMITS, MOST_LINE_BYTES, MOST_OPERATIONS, MOST_PROCESSES, Pid,
-};
+use k_types::{MAXIMUM_BELOW, MOST_LIMITS, MOST_LINE_BYTES, MOST_OPERATIONS, MOST_PROCESSES, Pid};
 use k_words::{
-    NameList, after_word, are_words, is, is_keyword, is_name, is_printable, number, word, word_count,
+    NameList, after_word, are_words, is, is_keyword, is_name, is_printable, number, word,
+    word_count,
 };
 use std::alloc::Global;
 use std::marker::Model;
@@ -171,7 +170,8 @@ impl ScriptReader {
             Err(LineError::Bad(reason)) => return Err(bad(reason)),
         }
         if self.course.child_count() == 0 {
-            self.course.set_first(self.header.names().proc_count() as u32);
+            self.course
+                .set_first(self.header.names().proc_count() as u32);
         }
         Ok(())
     }
@@ -377,7 +377,10 @@ impl ScriptReader {
     pub fn has_process(&self) -> bool
         ensures { result ≡ has_process (place_now self.now) }
     {
-        matches!(self.place(), Place::Procs | Place::Shared | Place::Operations)
+        matches!(
+            self.place(),
+            Place::Procs | Place::Shared | Place::Operations
+        )
     }
 
     /// The script that all lines say.

@@ -63,7 +63,12 @@ impl Model for Script {
 
 impl Script {
     /// The script of these parts. The children stand behind the header's processes.
-    pub(crate) fn new(header: Trace, child_names: NameList, family: Family, lines: Vec<ScriptLine>) -> Script
+    pub(crate) fn new(
+        header: Trace,
+        child_names: NameList,
+        family: Family,
+        lines: Vec<ScriptLine>,
+    ) -> Script
         requires behind { family.first ≡ length header.setup.procs.items }
         requires few { length header.setup.limits.items ≤ 128 }
         ensures { result ≡ record { header = meaning_of header; child_names = child_names; parents = family.parents; lines = lines.items } }

@@ -117,7 +117,12 @@ fn names(alloc: Global, script: &Script) -> Result<Names, NoMemory>
 }
 
 /// Adds the end of each of these children, in order, to the operations of a process.
-fn add_endings(script: &Script, pid: Pid, reaped: &[Pid], operations: &mut Operations) -> Result<(), NoMemory>
+fn add_endings(
+    script: &Script,
+    pid: Pid,
+    reaped: &[Pid],
+    operations: &mut Operations,
+) -> Result<(), NoMemory>
     requires process { pid.0 < 64 }
     requires listed { pid.0 < length operations.old.operations }
     requires known { AllByRecursion (λ it. it.0 < process_count script.now.header.trace + length script.now.parents) reaped.now }
@@ -133,7 +138,12 @@ fn add_endings(script: &Script, pid: Pid, reaped: &[Pid], operations: &mut Opera
 }
 
 /// Adds the operations that a line becomes.
-fn add_line(alloc: Global, script: &Script, line: ScriptLine, operations: &mut Operations) -> Result<(), NoMemory>
+fn add_line(
+    alloc: Global,
+    script: &Script,
+    line: ScriptLine,
+    operations: &mut Operations,
+) -> Result<(), NoMemory>
     requires line { IsLineOf script.now line }
     requires few { line.pid.0 < 64 }
     requires listed { line.pid.0 < length operations.old.operations }

@@ -19,8 +19,8 @@ loop-child-preserved c =
     let child = slice_index_or c.args.reaped.now i nobody in
     let inside : i < length c.args.reaped.now = omega arith in
     let grown : c.push-in-loop-child.new.self ≡ with_operation (with_operation o p (Kill child)) p (Resize (limit_id s child.0) 0) =
-        c.in_ok-push-2.ensures.ok ∙ ap (λ x. with_operation x p (Resize c.limit_of-limit.result 0)) c.in_ok-push.ensures.ok
-        ∙ ap (λ m. with_operation (with_operation o p (Kill child)) p (Resize (record { 0 = m }) 0)) c.limit_of-limit.ensures in
+    c.in_ok-push-2.ensures.ok ∙ ap (λ x. with_operation x p (Resize c.limit_of-limit.result 0)) c.in_ok-push.ensures.ok
+    ∙ ap (λ m. with_operation (with_operation o p (Kill child)) p (Resize (record { 0 = m }) 0)) c.limit_of-limit.ensures in
     record {
       same =
           ap (λ x. with_operations x p (flat_map (λ (it : Pid). ending s it.0) (drop (i + 1) c.args.reaped.now))) grown

@@ -18,7 +18,7 @@ pub add_endings-requires-clause-known : goal.add_endings-requires-clause-known
 add_endings-requires-clause-known c =
     let s = c.args.script.now in
     let all : c.script.inside.family.first + length c.script.inside.family.parents ≤ process_count s.header.trace + length s.parents =
-        omega (arith, c.script.invariant.0, ap (λ (x : Script). process_count x.header.trace + length x.parents) c.script.view_is) in
+    omega (arith, c.script.invariant.0, ap (λ (x : Script). process_count x.header.trace + length x.parents) c.script.view_is) in
     subst (AllByRecursion (λ (it : Pid). it.0 < process_count s.header.trace + length s.parents)) (sym c.deref.ensures.value)
     (below_by_number _ _ (below_more _ _ _ all c.in_ok-reaped-in-Reaps.ensures.known))
 
@@ -41,7 +41,7 @@ returns-in_ok-reaped-in-Reaps-clause-added c =
     let s = c.args.script.now in
     let same : c.script.inside.family ≡ family s = ap (λ n. let f : Family = record { first = n; parents = c.script.inside.family.parents } in f) c.script.invariant.0 ∙ ap family c.script.view_is in
     let whom : map (λ (it : Pid). it.0) c.deref.result.now ≡ reaped_with (family s) c.in-Reaps.child.0 =
-        ap (map (λ (it : Pid). it.0)) c.deref.ensures.value ∙ c.in_ok-reaped-in-Reaps.ensures.list ∙ ap (λ f. reaped_with f c.in-Reaps.child.0) same in
+    ap (map (λ (it : Pid). it.0)) c.deref.ensures.value ∙ c.in_ok-reaped-in-Reaps.ensures.list ∙ ap (λ f. reaped_with f c.in-Reaps.child.0) same in
     on_ok_weaker c.add_endings.result (λ added. added
     ∙ ap (with_operations c.args.operations.now c.args.line.pid.0) (endings_by_number s c.deref.result.now ∙ ap (flat_map (ending s)) whom)
     ∙ ap (λ (d : Deed). with_operations c.args.operations.now c.args.line.pid.0 (operations_of_deed s d)) (sym c.in-Reaps.is)) c.add_endings.ensures.added

@@ -11,7 +11,7 @@ returns c =
     let s = c.args.script.now in
     let n = process_count s.header.trace + length s.parents in
     let listed : c.in_ok-operations.field-0 ≡ lists (operations_in s s.lines) n (order_of s s.lines) =
-        c.in_ok-operations.ensures ∙ lines_are_listed s n s.lines (processes_below s s.lines c.requires.lines) in
+    c.in_ok-operations.ensures ∙ lines_are_listed s n s.lines (processes_below s s.lines c.requires.lines) in
     translated_is s _ _ _ _ _ _ _ _ _ c.in_ok-names.ensures
     (ap (λ (x : Script). x.header.trace.ceiling) c.script.view_is) (ap (λ (x : Script). x.header.trace.dir_fields) c.script.view_is) (ap (λ (x : Script). x.header.trace.shared_heaps) c.script.view_is)
     (c.in_ok-types.ensures ∙ ap (λ (x : Script). x.header.trace.types) c.script.view_is)

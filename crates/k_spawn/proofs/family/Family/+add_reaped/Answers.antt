@@ -19,7 +19,7 @@ loop-place-preserved t c =
     let here : c.index.result.now ≡ slice_index_or c.args.self.now.parents c.loop-place.place c.index.result.now = c.index.ensures ∙ ap (λ (ps : List Pid). slice_index_or ps c.loop-place.place c.index.result.now) parents in
     elim c.if-index-pid.branch [
       | then-index-pid+in_ok-add_reaped w ↦ kept_by_child c.args.self.now _ c.args.pid.0 c.loop-place.place c.index.result.now _ _ _ inside here c.loop-place.invariant w.if-index-pid.true
-        (ap (λ ls. map (λ (it : Pid). it.0) ls.items) w.list-is ∙ w.in_ok-add_reaped.ensures ∙ ap (λ n. map (λ (it : Pid). it.0) c.loop-place.list.items ++ reaped_within c.args.self.now (c.args.depth - 1) (n + c.loop-place.place)) first)
+          (ap (λ ls. map (λ (it : Pid). it.0) ls.items) w.list-is ∙ w.in_ok-add_reaped.ensures ∙ ap (λ n. map (λ (it : Pid). it.0) c.loop-place.list.items ++ reaped_within c.args.self.now (c.args.depth - 1) (n + c.loop-place.place)) first)
       | else-index-pid w ↦ kept_by_other c.args.self.now _ c.args.pid.0 c.loop-place.place c.index.result.now _ _ _ inside here c.loop-place.invariant w.if-index-pid.false (ap (λ ls. map (λ (it : Pid). it.0) ls.items) w.list-is)
     ]
 

@@ -22,10 +22,10 @@ returns-then-has_left-clause-judged c =
     let own : r.course.family ≡ family s = ap (λ n. let f : Family = record { first = n; parents = r.course.family.parents } in f) c.requires.ready.behind in
     let whole : c.self.inside.course.family ≡ family s = ap (λ (x : Course). x.family) course ∙ own in
     let weighs : c.weight_of.result ≡ weight (family s) c.args.deed =
-        c.weight_of.ensures ∙ weight_is (family s) c.args.deed c.deref.result.now
-        (ap (map (λ (it : Pid). it.0)) c.deref.ensures.value ∙ c.in_ok-reaped.ensures.list ∙ ap (λ f. reaped_by f c.args.deed) whole) in
+    c.weight_of.ensures ∙ weight_is (family s) c.args.deed c.deref.result.now
+    (ap (map (λ (it : Pid). it.0)) c.deref.ensures.value ∙ c.in_ok-reaped.ensures.list ∙ ap (λ f. reaped_by f c.args.deed) whole) in
     let count : c.operation_count.result ≡ operations_so_far (family s) s.lines =
-        c.operation_count.ensures.count ∙ ap (λ (x : Course). operations_so_far x.family x.lines) course ∙ ap (λ f. operations_so_far f s.lines) own in
+    c.operation_count.ensures.count ∙ ap (λ (x : Course). operations_so_far x.family x.lines) course ∙ ap (λ f. operations_so_far f s.lines) own in
     let few : operations_so_far (family s) s.lines + weight (family s) c.args.deed ≤ 200000 = omega (arith, weighs, count, c.operation_count.ensures.few) in
     let room : nat_le (operations_so_far (family s) s.lines + weight (family s) c.args.deed) 200000 ≡ true = le-leb _ _ few in
     let left = sym (c.if-has_left.ensures ∙ ap (λ (x : Course). has_left x.lines pid.0) course) in
@@ -41,10 +41,10 @@ returns-then-not-is_of_parent-clause-judged c =
     let own : r.course.family ≡ family s = ap (λ n. let f : Family = record { first = n; parents = r.course.family.parents } in f) c.requires.ready.behind in
     let whole : c.self.inside.course.family ≡ family s = ap (λ (x : Course). x.family) course ∙ own in
     let weighs : c.weight_of.result ≡ weight (family s) c.args.deed =
-        c.weight_of.ensures ∙ weight_is (family s) c.args.deed c.deref.result.now
-        (ap (map (λ (it : Pid). it.0)) c.deref.ensures.value ∙ c.in_ok-reaped.ensures.list ∙ ap (λ f. reaped_by f c.args.deed) whole) in
+    c.weight_of.ensures ∙ weight_is (family s) c.args.deed c.deref.result.now
+    (ap (map (λ (it : Pid). it.0)) c.deref.ensures.value ∙ c.in_ok-reaped.ensures.list ∙ ap (λ f. reaped_by f c.args.deed) whole) in
     let count : c.operation_count.result ≡ operations_so_far (family s) s.lines =
-        c.operation_count.ensures.count ∙ ap (λ (x : Course). operations_so_far x.family x.lines) course ∙ ap (λ f. operations_so_far f s.lines) own in
+    c.operation_count.ensures.count ∙ ap (λ (x : Course). operations_so_far x.family x.lines) course ∙ ap (λ f. operations_so_far f s.lines) own in
     let few : operations_so_far (family s) s.lines + weight (family s) c.args.deed ≤ 200000 = omega (arith, weighs, count, c.operation_count.ensures.few) in
     let room : nat_le (operations_so_far (family s) s.lines + weight (family s) c.args.deed) 200000 ≡ true = le-leb _ _ few in
     let left = sym (c.if-has_left.ensures ∙ ap (λ (x : Course). has_left x.lines pid.0) course) in
@@ -60,10 +60,10 @@ returns-then-not-is_running-clause-judged c =
     let own : r.course.family ≡ family s = ap (λ n. let f : Family = record { first = n; parents = r.course.family.parents } in f) c.requires.ready.behind in
     let whole : c.self.inside.course.family ≡ family s = ap (λ (x : Course). x.family) course ∙ own in
     let weighs : c.weight_of.result ≡ weight (family s) c.args.deed =
-        c.weight_of.ensures ∙ weight_is (family s) c.args.deed c.deref.result.now
-        (ap (map (λ (it : Pid). it.0)) c.deref.ensures.value ∙ c.in_ok-reaped.ensures.list ∙ ap (λ f. reaped_by f c.args.deed) whole) in
+    c.weight_of.ensures ∙ weight_is (family s) c.args.deed c.deref.result.now
+    (ap (map (λ (it : Pid). it.0)) c.deref.ensures.value ∙ c.in_ok-reaped.ensures.list ∙ ap (λ f. reaped_by f c.args.deed) whole) in
     let count : c.operation_count.result ≡ operations_so_far (family s) s.lines =
-        c.operation_count.ensures.count ∙ ap (λ (x : Course). operations_so_far x.family x.lines) course ∙ ap (λ f. operations_so_far f s.lines) own in
+    c.operation_count.ensures.count ∙ ap (λ (x : Course). operations_so_far x.family x.lines) course ∙ ap (λ f. operations_so_far f s.lines) own in
     let few : operations_so_far (family s) s.lines + weight (family s) c.args.deed ≤ 200000 = omega (arith, weighs, count, c.operation_count.ensures.few) in
     let room : nat_le (operations_so_far (family s) s.lines + weight (family s) c.args.deed) 200000 ≡ true = le-leb _ _ few in
     let left = sym (c.if-has_left.ensures ∙ ap (λ (x : Course). has_left x.lines pid.0) course) in
@@ -71,7 +71,7 @@ returns-then-not-is_running-clause-judged c =
     let over : (is_running (family s) s.lines pid.0 && is_due (family s) s.lines c.args.deed) ≡ false = elim c.then-not-is_running.branch [
       | then-not-is_running-via-then-not-is_running w ↦ ap (λ b. b && is_due (family s) s.lines c.args.deed) (sym (w.if-not-is_running.ensures ∙ ap (λ (x : Course). is_running x.family x.lines pid.0) course ∙ ap (λ f. is_running f s.lines pid.0) own))
       | then-not-is_running-via-else-not-is_running+then-not-is_due w ↦
-        ap (λ b. b && is_due (family s) s.lines c.args.deed) (sym (w.if-not-is_running.ensures ∙ ap (λ (x : Course). is_running x.family x.lines pid.0) course ∙ ap (λ f. is_running f s.lines pid.0) own)) ∙ sym (w.if-not-is_due.ensures ∙ ap (λ (x : Course). is_due x.family x.lines c.args.deed) course ∙ ap (λ f. is_due f s.lines c.args.deed) own)
+          ap (λ b. b && is_due (family s) s.lines c.args.deed) (sym (w.if-not-is_running.ensures ∙ ap (λ (x : Course). is_running x.family x.lines pid.0) course ∙ ap (λ f. is_running f s.lines pid.0) own)) ∙ sym (w.if-not-is_due.ensures ∙ ap (λ (x : Course). is_due x.family x.lines c.args.deed) course ∙ ap (λ f. is_due f s.lines c.args.deed) own)
     ] in
     as_tested s c.args.name.now c.args.deed pid c.in-Some.ensures.number true false true false room left parent over
 
@@ -84,24 +84,24 @@ returns-clause-judged c =
     let own : r.course.family ≡ family s = ap (λ n. let f : Family = record { first = n; parents = r.course.family.parents } in f) c.requires.ready.behind in
     let whole : c.self.inside.course.family ≡ family s = ap (λ (x : Course). x.family) course ∙ own in
     let weighs : c.weight_of.result ≡ weight (family s) c.args.deed =
-        c.weight_of.ensures ∙ weight_is (family s) c.args.deed c.deref.result.now
-        (ap (map (λ (it : Pid). it.0)) c.deref.ensures.value ∙ c.in_ok-reaped.ensures.list ∙ ap (λ f. reaped_by f c.args.deed) whole) in
+    c.weight_of.ensures ∙ weight_is (family s) c.args.deed c.deref.result.now
+    (ap (map (λ (it : Pid). it.0)) c.deref.ensures.value ∙ c.in_ok-reaped.ensures.list ∙ ap (λ f. reaped_by f c.args.deed) whole) in
     let count : c.operation_count.result ≡ operations_so_far (family s) s.lines =
-        c.operation_count.ensures.count ∙ ap (λ (x : Course). operations_so_far x.family x.lines) course ∙ ap (λ f. operations_so_far f s.lines) own in
+    c.operation_count.ensures.count ∙ ap (λ (x : Course). operations_so_far x.family x.lines) course ∙ ap (λ f. operations_so_far f s.lines) own in
     let few : operations_so_far (family s) s.lines + weight (family s) c.args.deed ≤ 200000 = omega (arith, weighs, count, c.operation_count.ensures.few) in
     let room : nat_le (operations_so_far (family s) s.lines + weight (family s) c.args.deed) 200000 ≡ true = le-leb _ _ few in
     let left = sym (c.if-has_left.ensures ∙ ap (λ (x : Course). has_left x.lines pid.0) course) in
     let parent = sym (c.if-not-is_of_parent.ensures ∙ ap (λ f. is_of_parent f pid.0 c.args.deed) whole) in
     let now : (is_running (family s) s.lines pid.0 && is_due (family s) s.lines c.args.deed) ≡ true =
-        ap (λ b. b && is_due (family s) s.lines c.args.deed) (sym (c.if-not-is_running.ensures ∙ ap (λ (x : Course). is_running x.family x.lines pid.0) course ∙ ap (λ f. is_running f s.lines pid.0) own)) ∙ sym (c.if-not-is_due.ensures ∙ ap (λ (x : Course). is_due x.family x.lines c.args.deed) course ∙ ap (λ f. is_due f s.lines c.args.deed) own) in
+    ap (λ b. b && is_due (family s) s.lines c.args.deed) (sym (c.if-not-is_running.ensures ∙ ap (λ (x : Course). is_running x.family x.lines pid.0) course ∙ ap (λ f. is_running f s.lines pid.0) own)) ∙ sym (c.if-not-is_due.ensures ∙ ap (λ (x : Course). is_due x.family x.lines c.args.deed) course ∙ ap (λ f. is_due f s.lines c.args.deed) own) in
     let new : ReaderState = record { begun = c.self.inside.begun; header = c.self.inside.header; child_names = c.self.inside.child_names; course = c.push.new.self } in
     let grown : new ≡ with_more c.in-Some.pid c.args.deed c.args.self.now = ap (λ (k : Course). let x : ReaderState = record { begun = c.self.inside.begun; header = c.self.inside.header; child_names = c.self.inside.child_names; course = k } in x) c.in_ok-push.ensures
-        ∙ ap (with_more c.in-Some.pid c.args.deed) c.self.view_is in
+    ∙ ap (with_more c.in-Some.pid c.args.deed) c.self.view_is in
     as_tested s c.args.name.now c.args.deed pid c.in-Some.ensures.number true false true true room left parent now ∙ line_taken r new pid c.args.deed grown c.requires.begun
 
 pub returns-clause-ready : goal.returns-clause-ready
 returns-clause-ready c =
     let new : ReaderState = record { begun = c.self.inside.begun; header = c.self.inside.header; child_names = c.self.inside.child_names; course = c.push.new.self } in
     let grown : new ≡ with_more c.in-Some.pid c.args.deed c.args.self.now = ap (λ (k : Course). let x : ReaderState = record { begun = c.self.inside.begun; header = c.self.inside.header; child_names = c.self.inside.child_names; course = k } in x) c.in_ok-push.ensures
-        ∙ ap (with_more c.in-Some.pid c.args.deed) c.self.view_is in
+    ∙ ap (with_more c.in-Some.pid c.args.deed) c.self.view_is in
     still_ready c.args.self.now new c.in-Some.pid c.args.deed grown c.requires.begun c.requires.ready

@@ -16,7 +16,7 @@ returns-in-Some-number-clause-number c =
     let r = c.args.self.now in
     let names = c.names.ensures ∙ ap (λ (x : ReaderState). x.header.said.names) c.self.view_is in
     let behind : c.child_at.result.0 ≡ length r.header.said.names.procs + c.in-Some-number.place =
-        omega (arith, c.child_at.ensures.process, ap (λ (x : ReaderState). x.course.family.first) c.self.view_is, c.requires.behind, c.requires.header.procs) in
+    omega (arith, c.child_at.ensures.process, ap (λ (x : ReaderState). x.course.family.first) c.self.view_is, c.requires.behind, c.requires.header.procs) in
     in_second r.header.said.names.procs r.child_names c.args.name.now c.child_at.result c.in-Some-number.place
     (c.in-None.ensures.number ∙ ap (λ (n : DeclaredNames). pid_in n.procs c.args.name.now) names)
     (c.in-Some-number.ensures.number ∙ ap (λ (x : ReaderState). numbered x.child_names c.args.name.now) c.self.view_is) behind
