@@ -76,10 +76,10 @@ impl Names {
         requires few_procs { length procs.now ≤ 64 }
         requires few_shared { length shared.now ≤ 64 }
         ensures { IfOk result (λ names. names ≡ record {
-            types = map (λ name. name.items) types.now;
-            limits = map (λ name. name.items) limits.now;
-            procs = map (λ name. name.items) procs.now;
-            shared = map (λ name. name.items) shared.now;
+          types = map (λ name. name.items) types.now;
+          limits = map (λ name. name.items) limits.now;
+          procs = map (λ name. name.items) procs.now;
+          shared = map (λ name. name.items) shared.now;
         }) }
     {
         let types = list_of(alloc, types)?;
