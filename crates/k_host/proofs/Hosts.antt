@@ -107,6 +107,11 @@ pub limit_there : (basis : Basis) (b : BookRecord) → BookServes basis b → (m
 limit_there basis b serves m inside =
     subst (λ n. m < n) (sym (ap length serves.stands.of_trace.rows ∙ length_in basis.trace.limits (replicate (length basis.trace.limits) 0))) inside
 
+-- what is no limit of the setup is none of the book's
+pub limit_not_there : (basis : Basis) (b : BookRecord) → BookServes basis b → (m : ℕ) → length basis.trace.limits ≤ m → length b.rows ≤ m
+limit_not_there basis b serves m outside =
+    subst (λ n. n ≤ m) (sym (ap length serves.stands.of_trace.rows ∙ length_in basis.trace.limits (replicate (length basis.trace.limits) 0))) outside
+
 -- whatever a call on a process alone answers
 module _ (basis : Basis) (g h : Guest) (b : BookRecord) (guest : GuestServes basis b.journal.table g) (book : BookServes basis b) where
   pub marked_kept : {A E : Type 0} (r : Result A E) → OnOk r (HasMarkedGuest basis g h) → OnErr r (h ≡ g) → KeepsPair basis g h b b

@@ -1,7 +1,9 @@
 -- What a host is asked of one of its processes.
-use Rattle.std.specs.Prelude.{ℕ, Bool, if◌then◌else◌}
+use Rattle.std.specs.Prelude.{ℕ, Bool, Option, if◌then◌else◌}
+use Rattle.k_types.specs.declared.names.Name.{Name}
 use Rattle.k_types.specs.Owners.{object_bytes}
 use Rattle.k_types.specs.Totals.{total}
+use Rattle.k_frame.specs.PartUpdates.{done_in, held_in}
 use Rattle.k_agree.specs.GivingOnTheBook.{charged}
 use Rattle.k_heap.specs.Heaps.{has_ended_in}
 use Rattle.k_guests.specs.declared.guest.Guest.{Guest}
@@ -10,6 +12,14 @@ use Rattle.k_host.specs.Hosts.{HostValue}
 -- the bytes of the process's own objects
 abbrev pub heap_bytes_of : Guest → ℕ
 heap_bytes_of g = total object_bytes g.cell.value.objects
+
+-- how many operations of the process are done
+abbrev pub done_by : Guest → ℕ
+done_by g = done_in g.cell.value.process
+
+-- what the register of the process holds
+abbrev pub held_by : ℕ → Guest → Option Name
+held_by r g = held_in g.cell.value.process r
 
 -- whether the process has ended
 abbrev pub has_ended_of : Guest → Bool

@@ -1,12 +1,14 @@
 //! What a host tells of uses, charges and registers.
-ghost use Rattle.std.specs.Prelude.{◌≡◌, ◌<◌, ◌^◌, if◌then◌else◌, length, option_map, slice_get, slice_index_or, IfErr, IfSome, None, OnErr, OnOk, OnSome};
+ghost use Rattle.std.specs.Prelude.{◌≡◌, ◌<◌, ◌≤◌, ◌^◌, if◌then◌else◌, length, option_map, slice_get, slice_index_or, IfErr, IfNone, IfSome, None, OnErr, OnOk, OnSome};
 ghost use Rattle.k_types.specs.Limits.{max_of};
+ghost use Rattle.k_types.specs.Owners.{object_bytes};
 ghost use Rattle.k_types.specs.State.{has_share};
+ghost use Rattle.k_types.specs.Totals.{total};
 ghost use Rattle.k_agree.specs.GivingOnTheBook.{charged};
 ghost use Rattle.k_limits.specs.Limits.{use_at};
 ghost use Rattle.k_book.specs.Books.{book_limits};
 ghost use Rattle.k_guests.specs.Serving.{basis_of};
-ghost use Rattle.k_host.specs.Asked.{charge_told, heap_bytes_of, has_ended_of};
+ghost use Rattle.k_host.specs.Asked.{charge_told, done_by, heap_bytes_of, held_by, has_ended_of};
 ghost use Rattle.k_host.specs.Calls.{HasMetIn, HasMetTheJournal};
 
 use crate::host::Host;
@@ -35,7 +37,10 @@ impl Host {
     }
 
     /// What the process's register holds; `None` where there is no such process or register. Constant time.
-    pub fn register(&self, pid: Pid, r: Reg) -> Option<Option<Name>> {
+    pub fn register(&self, pid: Pid, r: Reg) -> Option<Option<Name>>
+        ensures held { r.0 < 16 → result ≡ option_map (held_by r.0) (slice_get self.now.guests pid.0) }
+        ensures none { 16 ≤ r.0 → result ≡ None }
+    {
         let guest = self.guests.get(pid.0 as usize)?;
         if r.0 >= REGISTERS {
             return None;
@@ -47,7 +52,9 @@ impl Host {
     }
 
     /// How many operations of the process are done; `None` where there is no such process. Constant time.
-    pub fn done(&self, pid: Pid) -> Option<u32> {
+    pub fn done(&self, pid: Pid) -> Option<u32>
+        ensures { result ≡ option_map done_by (slice_get self.now.guests pid.0) }
+    {
         let guest = self.guests.get(pid.0 as usize)?;
         Some(guest.cell.done())
     }
@@ -61,13 +68,16 @@ impl Host {
     }
 
     /// The bytes of the kernel's heap. Constant time.
-    pub fn kernel_bytes(&self) -> u64 {
+    pub fn kernel_bytes(&self) -> u64
+        ensures { result ≡ total object_bytes self.now.kernel.value.objects }
+    {
         self.kernel.bytes()
     }
 
     /// The bytes in use at the limit; `None` where there is no such limit. Constant time.
     pub fn use_of(&self, limit: LimitId) -> Option<u64>
         ensures there { OnSome result (limit.0 < length self.now.book.rows) }
+        ensures none { IfNone result (length self.now.book.rows ≤ limit.0) }
         ensures sum { IfSome result (λ n. n ≡ use_at (book_limits self.now.book) limit.0) }
     {
         if limit.0 as usize >= self.terms.setup.limits.len() {
@@ -78,7 +88,9 @@ impl Host {
 
     /// The most bytes that may be in use at the limit; `None` where there is no such limit. Constant time.
     pub fn max_of(&self, limit: LimitId) -> Option<u64>
-        ensures { IfSome result (λ n. n ≡ max_of (book_limits self.now.book).rows limit.0) }
+        ensures there { OnSome result (limit.0 < length self.now.book.rows) }
+        ensures none { IfNone result (length self.now.book.rows ≤ limit.0) }
+        ensures max { IfSome result (λ n. n ≡ max_of (book_limits self.now.book).rows limit.0) }
     {
         if limit.0 as usize >= self.terms.setup.limits.len() {
             return None;
