@@ -7,7 +7,7 @@ use Rattle.k_types.specs.declared.names.Heap.{Heap}
 use Rattle.k_types.specs.declared.names.Heap.TheVariants.{Kernel, User, Shared}
 use Rattle.k_types.specs.declared.names.Name.{Name}
 use Rattle.k_types.specs.declared.names.CellPhase.TheVariants.{Begun}
-use Rattle.k_types.specs.declared.op.Op.TheVariants.{New, KNew, SNew, Store, Load, Move, Clear, Dir, Put, Get, Collect, KCollect, Share, Freeze, Attach, Exit, Kill, Resize}
+use Rattle.k_types.specs.declared.op.Op.TheVariants.{Collect, KCollect}
 use Rattle.k_types.specs.Agree.{BookValue, CellValue, AreMarks}
 use Rattle.k_types.specs.Cells.{BookPart, CellPart, ShownPart, part, book_part}
 use Rattle.k_types.specs.Effects.{step, after_operation, effect, after_closing}
@@ -42,22 +42,7 @@ opened trace st (Ended k a b c d) h e = absurd (cc e)
 opened trace st (Absorbed s) h e = absurd (cc e)
 opened trace st (Done pid Collect said) h e = opened_by trace st (User pid) h e
 opened trace st (Done pid KCollect said) h e = opened_by trace st Kernel h e
-opened trace st (Done pid (New r ty) said) h e = absurd (cc e)
-opened trace st (Done pid (KNew r ty) said) h e = absurd (cc e)
-opened trace st (Done pid (SNew r s ty) said) h e = absurd (cc e)
-opened trace st (Done pid (Store base i value) said) h e = absurd (cc e)
-opened trace st (Done pid (Load r base i) said) h e = absurd (cc e)
-opened trace st (Done pid (Move r from) said) h e = absurd (cc e)
-opened trace st (Done pid (Clear r) said) h e = absurd (cc e)
-opened trace st (Done pid (Dir r) said) h e = absurd (cc e)
-opened trace st (Done pid (Put base i n) said) h e = absurd (cc e)
-opened trace st (Done pid (Get base i) said) h e = absurd (cc e)
-opened trace st (Done pid (Share s) said) h e = absurd (cc e)
-opened trace st (Done pid (Freeze s root) said) h e = absurd (cc e)
-opened trace st (Done pid (Attach r s) said) h e = absurd (cc e)
-opened trace st (Done pid Exit said) h e = absurd (cc e)
-opened trace st (Done pid (Kill q) said) h e = absurd (cc e)
-opened trace st (Done pid (Resize m max) said) h e = absurd (cc e)
+opened trace st (Done pid _ said) h e = absurd (cc e)
 
 held_same : (h : Heap) (c d : CellPart) → c.process ≡ d.process → (n : Name) → held_by h c n ≡ held_by h d n
 held_same Kernel c d same n = refl

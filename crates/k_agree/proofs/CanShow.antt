@@ -22,7 +22,8 @@ use Rattle.k_frame.proofs.Sizes.{history_sized}
 use Rattle.k_base.proofs.Sums.{total_append}
 use Rattle.k_agree.specs.Agreement.{BookShows, Shows}
 use Rattle.k_agree.specs.Showing.{all_pins, book_of, cell_of, once, phase_of_scan, pin_of, row_pins, targets_of}
-use Rattle.k_agree.proofs.Openings.{at_number, past_numbers}
+use Rattle.k_agree.proofs.Openings.{past_numbers}
+use Rattle.k_base.proofs.Lists.{at_number}
 
 -- past the end of a list there is what stands for an element that is missing
 get_past : {A : Type 0} (xs : List A) (k : ℕ) (d : A) → length xs ≤ k → get_or xs k d ≡ d

@@ -15,13 +15,13 @@ use Rattle.k_types.specs.Names.{name_among, name_eq}
 use Rattle.k_types.specs.Numbers.{numbers_below}
 use Rattle.k_types.specs.Owners.{owner_of, user, object_bytes}
 use Rattle.k_types.specs.Sound.{IsSound}
-use Rattle.k_types.specs.State.{State, Object, has_exit, has_share, refers}
+use Rattle.k_types.specs.State.{State, has_exit, has_share, refers}
 use Rattle.k_types.specs.Totals.{total}
 use Rattle.k_types.specs.Trace.{Trace, limit_of, segment_count}
 use Rattle.k_types.specs.TraceRules.{AreLimits}
 use Rattle.k_types.specs.Updates.{close_scan, keep_shares, keep_exits, keep_objects}
 use Rattle.k_base.proofs.NameTests.{name_eq-true}
-use Rattle.k_base.proofs.Sums.{sum_same}
+use Rattle.k_base.proofs.Sums.{sum_same, parts_sum}
 use Rattle.k_bounds.specs.Distinct.{AreDistinctNames}
 use Rattle.k_changes.specs.BookChanges.{bytes_in, drops, has_way_into, shared_by}
 use Rattle.k_changes.specs.CellChanges.{collected}
@@ -30,14 +30,6 @@ use Rattle.k_agree.specs.Agreement.{Shows, BookShows}
 use Rattle.k_agree.specs.Ending.{dropped, freed_bytes, keeps_way, bytes_unshared, HasLeft, HasSettledWith}
 use Rattle.k_agree.proofs.Swept.{among_kept, marks, reached, reached_here, exits_are, black_exit, objects_are, kept_objects}
 use Rattle.k_agree.proofs.Shared.{ways}
-
--- what two filters of opposite tests keep is all
-parts_sum : (f : Object → ℕ) (p : Object → Bool) (xs : List Object) → total f (filter p xs) + total f (filter (λ x. not (p x)) xs) ≡ total f xs
-parts_sum f p [] = omega arith
-parts_sum f p (x ∷ xs) = elim (p x) as (λ b. total f (cond b (x ∷ filter p xs) (filter p xs)) + total f (cond (not b) (x ∷ filter (λ y. not (p y)) xs) (filter (λ y. not (p y)) xs)) ≡ f x + total f xs) [
-  | true ↦ omega (arith, parts_sum f p xs)
-  | false ↦ omega (arith, parts_sum f p xs)
-]
 
 not_kept : (e a b : Bool) → (e && a) ≡ (e && b) → (e && not a) ≡ (e && not b)
 not_kept true a b same = ap not same

@@ -23,12 +23,7 @@ use Rattle.k_tie.specs.Values.{blank_note, empty_journal}
 use Rattle.k_agree.specs.Agreement.{BookShows, Agrees, BookAgrees}
 use Rattle.k_agree.specs.Opening.{opening_cell, opening_book, serials_at_first, made_at_first, homes_at_first}
 use Rattle.k_agree.proofs.Meetings.{no_tail}
-
--- lists of numbers
-pub at_number : {A : Type 0} (f : ℕ → A) (first n k : ℕ) (d : A) → k < n → get_or (map f (numbers_from first n)) k d ≡ f (first + k)
-at_number f first zero k d h = absurd (omega arith)
-at_number f first (suc n) zero d h = ap f (omega arith)
-at_number f first (suc n) (suc k) d h = at_number f (suc first) n k d (omega (arith, h)) ∙ ap f (omega arith)
+use Rattle.k_base.proofs.Lists.{at_number}
 
 pub past_numbers : {A : Type 0} (f : ℕ → A) (first n k : ℕ) (d : A) → n ≤ k → get_or (map f (numbers_from first n)) k d ≡ d
 past_numbers f first zero k d h = refl

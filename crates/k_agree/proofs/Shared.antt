@@ -33,7 +33,7 @@ use Rattle.k_agree.proofs.Swept.{among_kept, marks, reached, reached_state, exit
 use Rattle.k_base.proofs.Lists.{any_same}
 
 -- a test that one name of the list passes
-among_any : (g : Name → Bool) (xs : List Name) (n : Name) → name_among n xs ≡ true → g n ≡ true → list_any g xs ≡ true
+pub among_any : (g : Name → Bool) (xs : List Name) (n : Name) → name_among n xs ≡ true → g n ≡ true → list_any g xs ≡ true
 among_any g [] n t u = absurd (false≢true t)
 among_any g (x ∷ xs) n t u =
     elim (or_cases (name_eq x n) (name_among n xs) t) [

@@ -1,48 +1,41 @@
 -- Segments by their numbers, one element of the list after another.
-use Rattle.std.proofs.Common.{◌≡◌, ◌≢◌, ◌==◌, ℕ, zero, suc, ◌<◌, refl, sym, ap, ap₂, ◌∙◌, inl, inr, cond, List, [], ◌∷◌, ◌++◌, length, map, get_or, set, slice_get, find, Some, None, option_map, eq-eqb, ne_eqb, arith}
+use Rattle.std.proofs.Common.{◌≡◌, ◌≢◌, ◌==◌, ℕ, zero, suc, ◌<◌, refl, sym, ap, ap₂, ◌∙◌, inl, inr, List, [], ◌∷◌, ◌++◌, length, map, get_or, set, slice_get, Some, None, option_map, arith}
 use Rattle.std.proofs.lemmas.Bool.{cases_eq, cases_lt}
 use Rattle.std.proofs.Math.Seq.{map-set_same}
-use Rattle.std.proofs.lemmas.List.Folds.{position_or_len-set, find_at}
+use Rattle.std.proofs.lemmas.List.Folds.{position_or_len-set}
 use Rattle.std.proofs.lemmas.Option.{get_or_from_slice_get, slice_get_within}
 use Rattle.k_space.specs.Segments.{SegmentValue, unmarked_segment}
 use Rattle.k_space.specs.Areas.{AreaValue, place_of, segment_at, HasDistinct, unmarked}
-use Rattle.k_space.proofs.AreaRows.{number_found, slice_get-set_same, slice_get-set_other}
+use Rattle.k_space.proofs.AreaRows.{number_found, slice_get-set_same}
 use Rattle.k_space.proofs.Numbers.{distinct_from, distinct_to, none_there, not_there}
 use Rattle.k_areas.specs.Shown.{HasNoneFrom, AreNumberedBelow}
-
-at_find : (xs : List SegmentValue) (k : ℕ) → segment_at xs k ≡ find (λ (s : SegmentValue). s.number == k) xs
-at_find xs k = sym (find_at (λ (s : SegmentValue). s.number == k) xs)
-
-pub at_cons_same : (s : SegmentValue) (ss : List SegmentValue) (k : ℕ) → s.number ≡ k → segment_at (s ∷ ss) k ≡ Some s
-at_cons_same s ss k e = at_find (s ∷ ss) k ∙ ap (λ b. cond b (Some s) (find (λ (t : SegmentValue). t.number == k) ss)) (eq-eqb s.number k e)
-
-pub at_cons_other : (s : SegmentValue) (ss : List SegmentValue) (k : ℕ) → s.number ≢ k → segment_at (s ∷ ss) k ≡ segment_at ss k
-at_cons_other s ss k ne = at_find (s ∷ ss) k ∙ ap (λ b. cond b (Some s) (find (λ (t : SegmentValue). t.number == k) ss)) (ne_eqb s.number k ne) ∙ sym (at_find ss k)
+use Rattle.k_mark.proofs.KeptMarked.{at_same, at_other}
+use Rattle.k_base.proofs.Lists.{slice_get-set_other}
 
 -- each segment changed, but for its number
 pub at_map : (f : SegmentValue → SegmentValue) → ((s : SegmentValue) → (f s).number ≡ s.number) → (xs : List SegmentValue) (k : ℕ) → segment_at (map f xs) k ≡ option_map f (segment_at xs k)
 at_map f same [] k = refl
 at_map f same (s ∷ ss) k =
     elim (cases_eq s.number k) [
-      | inl e ↦ at_cons_same (f s) (map f ss) k (same s ∙ e) ∙ sym (ap (option_map f) (at_cons_same s ss k e))
-      | inr ne ↦ at_cons_other (f s) (map f ss) k (λ e. ne (sym (same s) ∙ e)) ∙ at_map f same ss k ∙ sym (ap (option_map f) (at_cons_other s ss k ne))
+      | inl e ↦ at_same (f s) (map f ss) k (same s ∙ e) ∙ sym (ap (option_map f) (at_same s ss k e))
+      | inr ne ↦ at_other (f s) (map f ss) k (λ e. ne (sym (same s) ∙ e)) ∙ at_map f same ss k ∙ sym (ap (option_map f) (at_other s ss k ne))
     ]
 
 -- one segment more
 pub at_push_other : (xs : List SegmentValue) (s : SegmentValue) (k : ℕ) → s.number ≢ k → segment_at (xs ++ s ∷ []) k ≡ segment_at xs k
-at_push_other [] s k ne = at_cons_other s [] k ne
+at_push_other [] s k ne = at_other s [] k ne
 at_push_other (x ∷ xs) s k ne =
     elim (cases_eq x.number k) [
-      | inl e ↦ at_cons_same x (xs ++ s ∷ []) k e ∙ sym (at_cons_same x xs k e)
-      | inr d ↦ at_cons_other x (xs ++ s ∷ []) k d ∙ at_push_other xs s k ne ∙ sym (at_cons_other x xs k d)
+      | inl e ↦ at_same x (xs ++ s ∷ []) k e ∙ sym (at_same x xs k e)
+      | inr d ↦ at_other x (xs ++ s ∷ []) k d ∙ at_push_other xs s k ne ∙ sym (at_other x xs k d)
     ]
 
 pub at_push_same : (xs : List SegmentValue) (s : SegmentValue) → segment_at xs s.number ≡ None → segment_at (xs ++ s ∷ []) s.number ≡ Some s
-at_push_same [] s none = at_cons_same s [] s.number refl
+at_push_same [] s none = at_same s [] s.number refl
 at_push_same (x ∷ xs) s none =
     elim (cases_eq x.number s.number) [
-      | inl e ↦ let both : None ≡ Some x = sym none ∙ at_cons_same x xs s.number e in absurd (cc)
-      | inr d ↦ at_cons_other x (xs ++ s ∷ []) s.number d ∙ at_push_same xs s (sym (at_cons_other x xs s.number d) ∙ none)
+      | inl e ↦ let both : None ≡ Some x = sym none ∙ at_same x xs s.number e in absurd (cc)
+      | inr d ↦ at_other x (xs ++ s ∷ []) s.number d ∙ at_push_same xs s (sym (at_other x xs s.number d) ∙ none)
     ]
 
 -- another segment of the same number
@@ -74,8 +67,8 @@ head_gone s ss d = none_there ss s.number (λ i t e n. omega (arith, distinct_to
 pub none_tail : (s : SegmentValue) (ss : List SegmentValue) (bound : ℕ) → HasNoneFrom (s ∷ ss) bound → HasNoneFrom ss bound
 none_tail s ss bound none number past =
     elim (cases_eq s.number number) [
-      | inl e ↦ let both : None ≡ Some s = sym (none number past) ∙ at_cons_same s ss number e in absurd (cc)
-      | inr ne ↦ sym (at_cons_other s ss number ne) ∙ none number past
+      | inl e ↦ let both : None ≡ Some s = sym (none number past) ∙ at_same s ss number e in absurd (cc)
+      | inr ne ↦ sym (at_other s ss number ne) ∙ none number past
     ]
 
 -- a segment that is found has a number below the bound

@@ -1,7 +1,6 @@
 -- Objects of one segment put in their places among those of an area.
 use Rattle.std.proofs.Common.{◌≡◌, ◌≢◌, ◌==◌, not, ℕ, zero, suc, ◌+◌, ◌<◌, ◌≤◌, Bool, true, false, cond, refl, sym, ap, ap₂, subst, ◌∙◌, inl, inr, List, [], ◌∷◌, ◌++◌, length, filter, Option, Some, None, IsTrue, eq-eqb, ne_eqb, arith}
 use Rattle.std.proofs.lemmas.Bool.{cases_eq}
-use Rattle.std.proofs.lemmas.Bool.Decides.{nat_tests}
 use Rattle.std.proofs.lemmas.List.Elements.{filter-append}
 use Rattle.k_base.proofs.Ordered.{IsBefore, ordered_before, ordered_tail}
 use Rattle.k_types.specs.declared.names.Name.{Name}
@@ -19,12 +18,7 @@ use Rattle.k_areas.specs.Shown.{area_objects, objects_of_some, HasNoneFrom, IsTa
 use Rattle.k_areas.proofs.Shown.{placed_objects}
 use Rattle.k_areas.proofs.Found.{at_push_same, at_push_other, at_set_same, at_set_other, found_below}
 use Rattle.k_areas.proofs.Changed.{changed_area}
-
-by_segment_lt : (a b : Name) → a.seg.0 < b.seg.0 → name_lt a b ≡ true
-by_segment_lt a b low = grind (arith, nat_tests)
-
-by_serial_lt : (a b : Name) → a.seg.0 ≡ b.seg.0 → a.serial.0 < b.serial.0 → name_lt a b ≡ true
-by_serial_lt a b same low = grind (arith, nat_tests)
+use Rattle.k_base.proofs.NameTests.{by_segment_lt, by_serial_lt}
 
 -- all of the list come before the object
 abbrev AreBefore : List Object → Object → Type 0

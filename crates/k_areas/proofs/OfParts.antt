@@ -29,7 +29,7 @@ use Rattle.k_changes.specs.CellChanges.{given, with_created, with_objects, colle
 use Rattle.k_areas.specs.Shown.{area_objects, HasNoneFrom}
 use Rattle.k_areas.proofs.Shown.{at_row, any_area}
 use Rattle.k_areas.specs.Parts.{ShowsPart, ShowBoth, IsMarkedPart}
-use Rattle.k_areas.proofs.Found.{at_map, at_cons_same, at_cons_other, at_push_same, at_push_other, at_set_same, at_set_other, found_below, same_numbered, set_number, map_number, unmarked_numbers}
+use Rattle.k_areas.proofs.Found.{at_map, at_push_same, at_push_other, at_set_same, at_set_other, found_below, same_numbered, set_number, map_number, unmarked_numbers}
 use Rattle.k_areas.proofs.Changed.{same_area, swept_objects, written_area}
 use Rattle.k_areas.proofs.Joined.{placed_area, joined_area, alone_area, none_area}
 use Rattle.k_exit.specs.Exits.{ExitRow, target_marked}
@@ -39,6 +39,7 @@ use Rattle.k_areas.specs.Lists.{black_names, marked_targets}
 use Rattle.k_areas.specs.Parts.{AreExitsMarked}
 use Rattle.k_areas.proofs.Named.{black_named, marked_named}
 use Rattle.k_areas.proofs.Sums.{dead_counted, dead_weighed}
+use Rattle.k_mark.proofs.KeptMarked.{at_same, at_other}
 
 -- the serials given are those of the segment found
 made_some : (c : CellPart) (segments : List SegmentValue) (number : ℕ) (o : Option SegmentValue) → c.made number ≡ option_map made (segment_at segments number) → segment_at segments number ≡ o → c.made number ≡ option_map made o
@@ -191,7 +192,7 @@ taken_apart bound segments kernel heap s own g theirs mine none = record {
 }
   where
     alone : segment_at (s ∷ []) s.number ≡ Some s
-    alone = at_cons_same s [] s.number refl
+    alone = at_same s [] s.number refl
 
     within : s.number < bound
     within = found_below (s ∷ []) bound s.number s mine.numbered.none alone
@@ -213,7 +214,7 @@ taken_apart bound segments kernel heap s own g theirs mine none = record {
               ∙ ap₂ either_of (made_some kernel segments s.number None (theirs.given s.number) none) (made_some heap (s ∷ []) s.number (Some s) (mine.given s.number) alone)
               ∙ sym (ap (λ k. option_map made (segment_at (segments ++ s ∷ []) k)) e ∙ ap (option_map made) (at_push_same segments s none))
           | inr ne ↦
-              ap (either_of (kernel.made number)) (made_some heap (s ∷ []) number None (mine.given number) (at_cons_other s [] number (λ e. ne (sym e))))
+              ap (either_of (kernel.made number)) (made_some heap (s ∷ []) number None (mine.given number) (at_other s [] number (λ e. ne (sym e))))
               ∙ either_none (kernel.made number) ∙ theirs.given number ∙ sym (ap (option_map made) (at_push_other segments s number (λ e. ne (sym e))))
         ]
 
@@ -233,7 +234,7 @@ lives : (n : Name) (o : Option Row) → at_row (λ (x : Object). name_eq x.name 
 lives n None = refl
 lives n (Some row) = name_eq_refl n
 
-leads : (n m : Name) (o : Option Row) → at_row (λ (x : Object). name_eq x.name n && refers x m) n o ≡ some_lead_to (option_map (λ (row : Row). row.fields) o) m
+pub leads : (n m : Name) (o : Option Row) → at_row (λ (x : Object). name_eq x.name n && refers x m) n o ≡ some_lead_to (option_map (λ (row : Row). row.fields) o) m
 leads n m None = refl
 leads n m (Some row) = ap (λ b. b && refers (object_of n.seg.0 n.serial.0 row) m) (name_eq_refl n)
 

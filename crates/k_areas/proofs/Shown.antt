@@ -23,11 +23,11 @@ or_none : (a : Bool) → (a || false) ≡ a
 or_none true = refl
 or_none false = refl
 
-other_serial : (number serial : ℕ) (row : Row) (n : Name) → serial ≢ n.serial.0 → name_eq (object_of number serial row).name n ≡ false
+pub other_serial : (number serial : ℕ) (row : Row) (n : Name) → serial ≢ n.serial.0 → name_eq (object_of number serial row).name n ≡ false
 other_serial number serial row n differs =
     false_from_ne_true (name_eq (object_of number serial row).name n) (λ e. differs (ap (λ (m : Name). m.serial.0) (name_eq-true (object_of number serial row).name n e)))
 
-other_segment : (number serial : ℕ) (row : Row) (n : Name) → number ≢ n.seg.0 → name_eq (object_of number serial row).name n ≡ false
+pub other_segment : (number serial : ℕ) (row : Row) (n : Name) → number ≢ n.seg.0 → name_eq (object_of number serial row).name n ≡ false
 other_segment number serial row n differs =
     false_from_ne_true (name_eq (object_of number serial row).name n) (λ e. differs (ap (λ (m : Name). m.seg.0) (name_eq-true (object_of number serial row).name n e)))
 

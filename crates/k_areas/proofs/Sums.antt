@@ -13,8 +13,9 @@ use Rattle.k_space.specs.Segments.{Row, SegmentValue, object_of, objects_from, s
 use Rattle.k_space.specs.Areas.{AreaValue, HasDistinct, segment_at, marked_at}
 use Rattle.k_mark.specs.Sweeping.{dead_row, dead_bytes_of, dead_objects, dead_bytes}
 use Rattle.k_areas.specs.Shown.{area_objects, objects_of_some, HasNoneFrom, AreNumberedBelow}
-use Rattle.k_areas.proofs.Found.{at_cons_same, at_cons_other, distinct_tail, head_gone, none_tail, found_below}
+use Rattle.k_areas.proofs.Found.{distinct_tail, head_gone, none_tail, found_below}
 use Rattle.k_areas.proofs.Changed.{named, marked_in}
+use Rattle.k_mark.proofs.KeptMarked.{at_same, at_other}
 
 -- the sum of what is given for each number below n
 abbrev below : ℕ → (ℕ → ℕ) → ℕ
@@ -54,11 +55,11 @@ pub sum_below : (f : SegmentValue → ℕ) (segments : List SegmentValue) (bound
 sum_below f [] bound distinct none = sym (below_none bound (λ k. of_some f (segment_at [] k)) (λ k. refl))
 sum_below f (s ∷ ss) bound distinct none =
     let rest = sum_below f ss bound (distinct_tail s ss distinct) (none_tail s ss bound none) in
-    let within : s.number < bound = found_below (s ∷ ss) bound s.number s none (at_cons_same s ss s.number refl) in
-    let now : of_some f (segment_at (s ∷ ss) s.number) ≡ f s = ap (of_some f) (at_cons_same s ss s.number refl) in
+    let within : s.number < bound = found_below (s ∷ ss) bound s.number s none (at_same s ss s.number refl) in
+    let now : of_some f (segment_at (s ∷ ss) s.number) ≡ f s = ap (of_some f) (at_same s ss s.number refl) in
     let was : of_some f (segment_at ss s.number) ≡ 0 = ap (of_some f) (head_gone s ss distinct) in
     let here : of_some f (segment_at (s ∷ ss) s.number) ≡ of_some f (segment_at ss s.number) + f s = omega (arith, now, was) in
-    let more = below_more bound s.number (λ k. of_some f (segment_at ss k)) (λ k. of_some f (segment_at (s ∷ ss) k)) (f s) within (λ k ne. ap (of_some f) (at_cons_other s ss k (λ e. ne (sym e)))) here in
+    let more = below_more bound s.number (λ k. of_some f (segment_at ss k)) (λ k. of_some f (segment_at (s ∷ ss) k)) (f s) within (λ k ne. ap (of_some f) (at_other s ss k (λ e. ne (sym e)))) here in
     omega (arith, sum_by-cons f s ss, rest, more)
 
 -- what adds up over the objects of an area adds up over its segments

@@ -11,3 +11,6 @@ pub mod Numbered
 pub mod Distinct
 pub mod Ordered
 pub mod Exits
+pub mod Totals
+pub mod Owners
+pub mod Shares

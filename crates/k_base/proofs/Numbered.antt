@@ -1,10 +1,13 @@
 -- Lists of distinct numbers, and the operations that are left of a list.
-use Rattle.std.proofs.Common.{◌≡◌, ◌≢◌, ℕ, zero, suc, ◌+◌, ◌<◌, ◌≤◌, ◌==◌, Bool, true, false, cond, refl, sym, ap, ◌∙◌, inl, inr, List, [], ◌∷◌, ◌++◌, filter, length, take, drop, count_by, slice_get, Some, arith, eqb-true, eq-eqb, IsTrue, IsFalse}
+use Rattle.std.proofs.Common.{◌≡◌, ◌≢◌, ℕ, zero, suc, ◌+◌, ◌<◌, ◌≤◌, ◌==◌, Bool, true, false, cond, refl, sym, ap, ◌∙◌, inl, inr, List, [], ◌∷◌, ◌++◌, filter, length, take, drop, count_by, slice_get, Some, arith, eqb-true, eq-eqb, IsTrue, IsFalse, nat_lt, map, get_or}
 use Rattle.std.specs.List.{list_all}
 use Rattle.std.proofs.lemmas.Bool.{false≢true, cases_eq, or_cases, or_left, or_right, and_parts, and_from, false_from_ne_true}
 use Rattle.std.proofs.lemmas.List.Recursion.{is_count_by}
 use Rattle.k_types.specs.Names.{among}
 use Rattle.k_types.specs.Numbers.{numbers_below, numbers_from}
+use Rattle.std.proofs.lemmas.Bool.Decides.{nat_tests}
+use Rattle.k_types.specs.declared.names.Pid.{Pid}
+use Rattle.std.proofs.lemmas.List.{drop_more, at_drop_all}
 
 -- no number stands twice
 abbrev pub AreDistinctNumbers : List ℕ → Type 0
@@ -122,3 +125,20 @@ length_drop [] zero low none = refl
 length_drop [] (suc n) low none = absurd (omega (arith, low))
 length_drop (x ∷ xs) zero low none = absurd (cc none)
 length_drop (x ∷ xs) (suc n) low none = ap suc (length_drop xs n (omega (arith, low)) none)
+
+-- each process of the order is one of the trace's
+pub process_known : (n : ℕ) (pids : List Pid) (i : ℕ) (d : Pid) → list_all (λ p. nat_lt p n) (map (λ (pid : Pid). pid.0) pids) ≡ true → i < length pids → (get_or pids i d).0 < n
+process_known n [] i d all inside = absurd (omega arith)
+process_known n (pid ∷ pids) zero d all inside =
+    let parts = and_parts (nat_lt pid.0 n) (list_all (λ p. nat_lt p n) (map (λ (q : Pid). q.0) pids)) all in
+    grind (arith, nat_tests)
+process_known n (pid ∷ pids) (suc i) d all inside =
+    process_known n pids i d (and_parts (nat_lt pid.0 n) (list_all (λ p. nat_lt p n) (map (λ (q : Pid). q.0) pids)) all).1 (omega arith)
+
+-- the next process of what is left of the order
+pub order_next : (pids : List Pid) (i : ℕ) (d : Pid) → i < length pids →
+    map (λ (pid : Pid). pid.0) (drop i pids) ≡ (get_or pids i d).0 ∷ map (λ (pid : Pid). pid.0) (drop (i + 1) pids)
+order_next pids i d inside = ap (map (λ (pid : Pid). pid.0)) (drop_more pids i d inside)
+
+pub order_over : (pids : List Pid) (i : ℕ) → length pids ≤ i → map (λ (pid : Pid). pid.0) (drop i pids) ≡ []
+order_over pids i past = at_drop_all (map (λ (pid : Pid). pid.0)) pids i past

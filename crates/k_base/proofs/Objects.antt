@@ -1,5 +1,5 @@
 -- Look-ups in lists of objects after a change.
-use Rattle.std.proofs.Common.{◌≡◌, ℕ, ◌&&◌, ◌||◌, cond, Bool, true, false, refl, inl, inr, ap, ap₂, ◌∙◌, List, [], ◌∷◌, map, filter, Option, Some, None, is_some, option_map, arith, set, ◌⊎◌}
+use Rattle.std.proofs.Common.{◌≡◌, ℕ, ◌&&◌, ◌||◌, cond, Bool, true, false, refl, inl, inr, ap, ap₂, ◌∙◌, List, [], ◌∷◌, map, filter, Option, Some, None, is_some, option_map, arith, set, ◌⊎◌, suc, ◌+◌, length}
 use Rattle.std.specs.List.{list_any}
 use Rattle.std.proofs.lemmas.Bool.{and_from, false≢true, or_parts, or_cases, or_left, or_right}
 use Rattle.k_types.specs.declared.names.Name.{Name}
@@ -174,3 +174,10 @@ kept-written_step p n i c x xs ih =
 pub kept-written : (p : Name → Bool) (n : Name) (i : ℕ) (c : Content) (xs : List Object) → filter (λ x. p x.name) (map (object_after_write n i c) xs) ≡ map (object_after_write n i c) (filter (λ x. p x.name) xs)
 kept-written p n i c [] = refl
 kept-written p n i c (x ∷ xs) = kept-written_step p n i c x xs (kept-written p n i c xs)
+
+pub length-placed : (o : Object) (xs : List Object) → length (with_object o xs) ≡ 1 + length xs
+length-placed o [] = refl
+length-placed o (x ∷ xs) = elim (name_lt x.name o.name) as (λ b. length (cond b (x ∷ with_object o xs) (o ∷ x ∷ xs)) ≡ 1 + suc (length xs)) [
+  | true ↦ omega (arith, length-placed o xs)
+  | false ↦ omega arith
+]

@@ -4,6 +4,7 @@ use Rattle.std.proofs.lemmas.Bool.{cases_eq, false≢true}
 use Rattle.std.proofs.lemmas.List.Recursion.{is_count_by}
 use Rattle.k_types.specs.Totals.{total}
 use Rattle.k_types.specs.Numbers.{numbers_from}
+use Rattle.k_types.specs.State.{Object}
 
 abbrev pub bit : Bool → ℕ
 bit b = cond b 1 0
@@ -111,3 +112,11 @@ both_or false b false n apart = omega arith
 pub not_or_bit : (a b : Bool) → bit (not (not a || b)) ≡ cond a (bit (not b)) 0
 not_or_bit true b = refl
 not_or_bit false b = refl
+
+-- what two filters of opposite tests keep is all
+pub parts_sum : (f : Object → ℕ) (p : Object → Bool) (xs : List Object) → total f (filter p xs) + total f (filter (λ x. not (p x)) xs) ≡ total f xs
+parts_sum f p [] = omega arith
+parts_sum f p (x ∷ xs) = elim (p x) as (λ b. total f (cond b (x ∷ filter p xs) (filter p xs)) + total f (cond (not b) (x ∷ filter (λ y. not (p y)) xs) (filter (λ y. not (p y)) xs)) ≡ f x + total f xs) [
+  | true ↦ omega (arith, parts_sum f p xs)
+  | false ↦ omega (arith, parts_sum f p xs)
+]

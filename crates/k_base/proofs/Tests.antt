@@ -17,3 +17,8 @@ or_swap false b c = refl
 pub not_or : (a b : Bool) → not (not a || b) ≡ (a && not b)
 not_or true b = refl
 not_or false b = refl
+
+pub neither : (a b : Bool) → not (a || b) ≡ true → (a ≡ false) × (b ≡ false)
+neither true b e = absurd cc
+neither false true e = absurd cc
+neither false false e = (refl, refl)

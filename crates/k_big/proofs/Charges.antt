@@ -5,20 +5,10 @@ use Rattle.k_types.specs.Numbers.{numbers_from}
 use Rattle.k_types.specs.Owners.{charge_of}
 use Rattle.k_types.specs.Steps.{IsLegalHistory, state_after}
 use Rattle.k_types.specs.Totals.{total}
-use Rattle.k_types.specs.Trace.{Trace, limit_of, process_count}
+use Rattle.k_types.specs.Trace.{Trace, process_count}
 use Rattle.k_types.specs.TraceRules.{KeepsRules}
-use Rattle.k_known.proofs.Maxima.{max_small}
-use Rattle.k_laws.proofs.Laws.{uses_fit}
-use Rattle.k_solo.proofs.Known.{charge_at_most}
+use Rattle.k_solo.proofs.Known.{charge_small}
 use Rattle.k_big.specs.Summary.{HasSmallCharges}
-
-charge_small : (trace : Trace) (history : List Event) (p : ℕ) → KeepsRules trace → IsLegalHistory trace history → p < process_count trace → charge_of trace (state_after trace history) p < 2 ^ 40
-charge_small trace history p rules legal known =
-    let limited = rules.limits.limited p known in
-    let charge = charge_at_most trace (state_after trace history) p known rules.limits in
-    let used = uses_fit trace history (limit_of trace p) rules.limits legal limited in
-    let small = max_small trace history rules.limits legal (limit_of trace p) limited in
-    omega (arith, charge, used, small)
 
 sum_small : (f : ℕ → ℕ) (most first n : ℕ) → ((p : ℕ) → p < first + n → f p ≤ most) → total f (numbers_from first n) ≤ n * most
 sum_small f most first zero small = omega arith

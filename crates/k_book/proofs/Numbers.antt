@@ -1,9 +1,10 @@
 -- Lists that go by the numbers below a bound.
-use Rattle.std.proofs.Common.{◌≡◌, ℕ, zero, suc, ◌+◌, List, [], ◌∷◌, ◌++◌, map, length, refl, sym, ap, ◌∙◌, arith, append_assoc, length-append}
+use Rattle.std.proofs.Common.{◌≡◌, ℕ, zero, suc, ◌+◌, List, [], ◌∷◌, ◌++◌, map, length, sym, ap, ◌∙◌, arith, append_assoc, length-append}
 use Rattle.std.proofs.lemmas.List.{length-map}
 use Rattle.k_types.specs.declared.names.Heap.TheVariants.{Kernel}
 use Rattle.k_types.specs.Numbers.{numbers_below, numbers_from}
 use Rattle.k_types.specs.Owners.{user, shared}
+use Rattle.k_base.proofs.Lists.{numbers_length}
 
 -- the same function of one number more
 mapped_more : {A : Type 0} (f : ℕ → A) (first n : ℕ) → map f (numbers_from first (n + 1)) ≡ map f (numbers_from first n) ++ f (first + n) ∷ []
@@ -21,14 +22,10 @@ one_more xs f n =
     append_assoc xs (map f (numbers_below n)) (f n ∷ [])
     ∙ ap (λ ys. xs ++ ys) (sym (mapped_more f 0 n ∙ ap (λ m. map f (numbers_below n) ++ f m ∷ []) same))
 
-numbers_count : (first n : ℕ) → length (numbers_from first n) ≡ n
-numbers_count first zero = refl
-numbers_count first (suc n) = ap suc (numbers_count (suc first) n)
-
 -- how many heaps there are
 pub homes_count : (procs heaps : ℕ) → length (Kernel ∷ map user (numbers_below procs) ++ map shared (numbers_below heaps)) ≡ 1 + procs + heaps
 homes_count procs heaps =
     let all = length-append (Kernel ∷ map user (numbers_below procs)) (map shared (numbers_below heaps)) in
-    let users = length-map (numbers_below procs) user ∙ numbers_count 0 procs in
-    let shareds = length-map (numbers_below heaps) shared ∙ numbers_count 0 heaps in
+    let users = length-map (numbers_below procs) user ∙ numbers_length 0 procs in
+    let shareds = length-map (numbers_below heaps) shared ∙ numbers_length 0 heaps in
     omega (arith, all, users, shareds)

@@ -1,8 +1,7 @@
 -- What a book that shows a state tells of it.
-use Rattle.std.proofs.Common.{◌≡◌, ℕ, ◌+◌, ◌<◌, ◌==◌, ◌&&◌, not, Bool, List, [], ◌∷◌, map, length, find, refl, sym, ap, ◌∙◌, inl, inr, arith, slice_index, slice_index_or, eq-eqb, IsTrue, cond, nat_lt, true, false, ◌-◌, ap₂, Option, Some, None, replicate}
+use Rattle.std.proofs.Common.{◌≡◌, ℕ, ◌+◌, ◌<◌, ◌&&◌, not, Bool, List, map, length, find, refl, ap, ◌∙◌, arith, slice_index, slice_index_or, cond, nat_lt, true, false, ◌-◌, ap₂, Option, Some, None, replicate}
 use Rattle.std.proofs.Math.Path.{fun_ext}
 use Rattle.std.proofs.lemmas.List.{length-replicate}
-use Rattle.std.proofs.lemmas.Bool.{false≢true, or_cases, or_left, or_right, and_from}
 use Rattle.atomic_table.specs.Seated.{TableId}
 use Rattle.k_types.specs.declared.names.Heap.{Heap}
 use Rattle.k_types.specs.declared.names.Heap.TheVariants.{Kernel}
@@ -15,45 +14,30 @@ use Rattle.k_types.specs.Limits.{ancestors_of, direct_by, limits_in, max_of, wit
 use Rattle.k_types.specs.Names.{among}
 use Rattle.k_types.specs.Numbers.{numbers_below}
 use Rattle.k_types.specs.Owners.{bytes_of, charge_of, owner_of, phase_of, shared}
-use Rattle.k_types.specs.State.{State, Sharing, has_share}
+use Rattle.k_types.specs.State.{State, has_share}
 use Rattle.k_types.specs.Steps.{has_sharer, is_live, is_orphan}
 use Rattle.k_types.specs.Trace.{Trace, segment_count, trace_of, row_of}
 use Rattle.k_types.specs.TraceRules.{IsTree}
 use Rattle.k_base.proofs.Ancestors.{ancestors_in}
 use Rattle.k_base.proofs.Maxima.{hard_in, maxima_count, parent_in, twice_in}
-use Rattle.k_base.proofs.Tests.{same_test}
-use Rattle.k_laws.proofs.SoundSharing.{sharer_of}
 use Rattle.k_limits.specs.Laws.{AreCharges}
 use Rattle.k_limits.specs.Limits.{charged_limits, full_at, use_at, is_full_at}
 use Rattle.k_limits.proofs.MachineUses.{machine_fulls, machine_uses}
 use Rattle.k_tie.specs.Values.{empty_journal}
 use Rattle.k_agree.specs.Agreement.{BookAgrees, BookShows}
-use Rattle.k_agree.proofs.Openings.{at_number, opened_book}
+use Rattle.k_agree.proofs.Openings.{opened_book}
 use Rattle.k_shares.specs.Sharers.{is_orphan_by, lowest_orphan}
 use Rattle.k_book.specs.Books.{BookRecord, opened}
 use Rattle.k_book.specs.Machine.{IsBookOf, TellsTheMachine, TellsTheLimits}
 use Rattle.k_limits.specs.Resizes.{full_for_at}
 use Rattle.k_limits.specs.Paths.{path_from}
 use Rattle.k_types.specs.declared.names.LimitId.{LimitId}
+use Rattle.k_base.proofs.Lists.{at_number}
+use Rattle.k_base.proofs.Shares.{sharers_same}
 
 -- the element of a number below the bound
 at_below : {A : Type 0} (f : ℕ → A) (n k : ℕ) (d : A) → k < n → slice_index_or (map f (numbers_below n)) k d ≡ f k
 at_below f n k d inside = let same : 0 + k ≡ k = omega arith in at_number f 0 n k d inside ∙ ap f same
-
-some_share : (shares : List Sharing) (s : ℕ) → IsTrue (has_sharer shares s) → (p : ℕ) × IsTrue (has_share shares p s)
-some_share [] s t = absurd (false≢true t)
-some_share (e ∷ shares) s t =
-    elim (or_cases (e.heap == s) (has_sharer shares s) t) [
-      | inl here ↦ (e.process, or_left _ (has_share shares e.process s) (and_from _ _ (eq-eqb e.process e.process refl) here))
-      | inr there ↦ let rest = some_share shares s there in (rest.0, or_right _ _ rest.1)
-    ]
-
--- lists of the same shares have the same sharers
-sharers_same : (xs ys : List Sharing) → ((p s : ℕ) → has_share xs p s ≡ has_share ys p s) → (s : ℕ) → has_sharer xs s ≡ has_sharer ys s
-sharers_same xs ys same s =
-    same_test (has_sharer xs s) (has_sharer ys s)
-    (λ t. let some = some_share xs s t in sharer_of ys some.0 s (sym (same some.0 s) ∙ some.1))
-    (λ t. let some = some_share ys s t in sharer_of xs some.0 s (same some.0 s ∙ some.1))
 
 module _ (trace : Trace) (st : State) (b : BookRecord) (shows : BookShows trace st b.value) where
   shares_same : (p s : ℕ) → has_share b.value.shares p s ≡ has_share st.shares p s

@@ -7,7 +7,7 @@ use Rattle.k_types.specs.declared.names.Heap.TheVariants.{Shared}
 use Rattle.k_types.specs.declared.names.Phase.{Phase}
 use Rattle.k_types.specs.declared.names.Phase.TheVariants.{Unmade, Populating, Frozen, Absorbed}
 use Rattle.k_types.specs.declared.op.Op.{Op}
-use Rattle.k_types.specs.declared.op.Op.TheVariants.{New, KNew, SNew, Store, Load, Move, Clear, Dir, Put, Get, Collect, KCollect, Share, Freeze, Attach, Exit, Kill, Resize}
+use Rattle.k_types.specs.declared.op.Op.TheVariants.{Store, Put, Share, Freeze, Kill}
 use Rattle.k_types.specs.declared.event.Fault.{Fault}
 use Rattle.k_types.specs.declared.event.Fault.TheVariants.{Segv, NotPopulating, Taken}
 use Rattle.k_types.specs.declared.event.Event.{Event}
@@ -65,25 +65,13 @@ module _ (trace : Trace) (st : State) where
 
   effect_gone : (p : ℕ) (op : Op) → first_fault (faults trace st p op) ≡ None → total gone (effect trace p op st).phases ≡ total gone st.phases
   unfolding effect set_register create open_scan add_share set_phase after_end_of end_process clear_registers keep_shares turn_exits faults set_max
-  effect_gone p (New r ty) fine = refl
-  effect_gone p (KNew r ty) fine = refl
-  effect_gone p (SNew r s ty) fine = refl
   effect_gone p (Store base i value) fine = ap (total gone) (store_phases trace st (register st.registers p base.0) i (register st.registers p value.0))
-  effect_gone p (Load r base i) fine = refl
-  effect_gone p (Move r from) fine = refl
-  effect_gone p (Clear r) fine = refl
-  effect_gone p (Dir r) fine = refl
   effect_gone p (Put base i number) fine = ap (total gone) (put_phases trace st (register st.registers p base.0) i number)
-  effect_gone p (Get base i) fine = refl
-  effect_gone p Collect fine = refl
-  effect_gone p KCollect fine = refl
   effect_gone p (Share s) fine =
       gone_same st.phases s.0 (Populating (record { 0 = p })) refl (ap is_absorbed (is_unmade_so (phase_of st.phases s.0) (not-false _ (none_on (not (is_unmade (phase_of st.phases s.0))) (Taken s) [] fine).0)))
   effect_gone p (Freeze s root) fine = froze p s.0 (register st.registers p root.0) fine
-  effect_gone p (Attach r s) fine = refl
-  effect_gone p Exit fine = refl
   effect_gone p (Kill q) fine = ap (λ (s : State). total gone s.phases) (kill_rest trace st q.0)
-  effect_gone p (Resize m max) fine = refl
+  effect_gone p _ fine = refl
 
   pub done_gone : (p : ℕ) (op : Op) → total gone (after_operation trace p op st).phases ≡ total gone st.phases
   unfolding after_operation count_done
@@ -144,24 +132,11 @@ module _ (trace : Trace) where
 
   effect_closed : (st : State) (p : ℕ) (op : Op) → (effect trace p op st).closed ≡ st.closed
   unfolding effect set_register create open_scan add_share set_phase after_end_of end_process clear_registers keep_shares turn_exits set_max
-  effect_closed st p (New r ty) = refl
-  effect_closed st p (KNew r ty) = refl
-  effect_closed st p (SNew r s ty) = refl
   effect_closed st p (Store base i value) = store_closed st (register st.registers p base.0) i (register st.registers p value.0)
-  effect_closed st p (Load r base i) = refl
-  effect_closed st p (Move r from) = refl
-  effect_closed st p (Clear r) = refl
-  effect_closed st p (Dir r) = refl
   effect_closed st p (Put base i number) = put_closed st (register st.registers p base.0) i number
-  effect_closed st p (Get base i) = refl
-  effect_closed st p Collect = refl
-  effect_closed st p KCollect = refl
-  effect_closed st p (Share s) = refl
   effect_closed st p (Freeze s root) = freeze_closed st s.0 (register st.registers p root.0)
-  effect_closed st p (Attach r s) = refl
-  effect_closed st p Exit = refl
   effect_closed st p (Kill q) = ap (λ (s : State). s.closed) (kill_rest trace st q.0)
-  effect_closed st p (Resize m max) = refl
+  effect_closed st p _ = refl
 
   unless_closed : (f : Option Fault) (st : State) (p : ℕ) (op : Op) → (effect_unless f trace p op st).closed ≡ st.closed
   unless_closed None st p op = effect_closed st p op

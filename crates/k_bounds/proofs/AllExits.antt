@@ -2,9 +2,9 @@
 use Rattle.std.proofs.Common.{◌≡◌, ℕ, ◌+◌, ◌≤◌, Bool, true, false, cond, refl, List, [], ◌∷◌, ◌++◌, length, Option, Some, None, arith, le_refl, zero-le}
 use Rattle.k_types.specs.declared.names.Name.{Name}
 use Rattle.k_types.specs.declared.names.Heap.{Heap}
-use Rattle.k_types.specs.declared.names.Heap.TheVariants.{Kernel}
+use Rattle.k_types.specs.declared.names.Heap.TheVariants.{Kernel, Shared, User}
 use Rattle.k_types.specs.declared.op.Op.{Op}
-use Rattle.k_types.specs.declared.op.Op.TheVariants.{New, KNew, SNew, Store, Load, Move, Clear, Dir, Put, Get, Collect, KCollect, Share, Freeze, Attach, Exit, Kill, Resize}
+use Rattle.k_types.specs.declared.op.Op.TheVariants.{Store, Put, Freeze, Exit, Kill}
 use Rattle.k_types.specs.declared.event.Fault.{Fault}
 use Rattle.k_types.specs.declared.event.Event.{Event}
 use Rattle.k_types.specs.declared.event.Event.TheVariants.{Done, Ended, Absorbed, Closing}
@@ -17,9 +17,9 @@ use Rattle.k_types.specs.Replies.{first_fault, faults}
 use Rattle.k_types.specs.Updates.{count_done, set_register, create, write, add_exit, with_exit, open_scan, set_phase, add_share, keep_objects, keep_exits, keep_shares, close_scan, clear_registers, end_process, turn_exits, close, set_max}
 use Rattle.k_types.specs.Effects.{step, effect, effect_unless, after_operation, after_store, after_put, with_exit_of_store, after_freeze, after_end_of, exit_after, passes_to_kernel, leads_back, after_ended, after_absorbed, after_closing, exit_stays, stays_after_absorb, after_kill}
 use Rattle.k_types.specs.Steps.{run, state_after}
-use Rattle.k_bounds.specs.Counts.{one_if, is_store, has_stored, store_count}
-use Rattle.k_bounds.proofs.Counting.{total_turned, total_fewer, option_count}
-use Rattle.k_base.proofs.Sums.{total_push}
+use Rattle.k_bounds.specs.Counts.{one_if, is_store, has_stored, store_count, exit_count}
+use Rattle.k_bounds.proofs.Counting.{total_turned, total_fewer, option_count, one_if_low}
+use Rattle.k_base.proofs.Sums.{total_push, ones, sum_both, total_at_most}
 
 -- each exit item counts
 abbrev one : ExitItem → ℕ
@@ -78,24 +78,12 @@ module _ (trace : Trace) where
 
   effect_exits : (st : State) (p : ℕ) (op : Op) → total one (effect trace p op st).exits ≤ total one st.exits + one_if (is_store op)
   unfolding effect set_register create open_scan add_share set_phase after_end_of end_process clear_registers keep_shares turn_exits set_max
-  effect_exits st p (New r ty) = omega arith
-  effect_exits st p (KNew r ty) = omega arith
-  effect_exits st p (SNew r s ty) = omega arith
   effect_exits st p (Store base i value) = stored st (register st.registers p base.0) i (register st.registers p value.0)
-  effect_exits st p (Load r base i) = omega arith
-  effect_exits st p (Move r from) = omega arith
-  effect_exits st p (Clear r) = omega arith
-  effect_exits st p (Dir r) = omega arith
   effect_exits st p (Put base i number) = omega (arith, put st (register st.registers p base.0) i number)
-  effect_exits st p (Get base i) = omega arith
-  effect_exits st p Collect = omega arith
-  effect_exits st p KCollect = omega arith
-  effect_exits st p (Share s) = omega arith
   effect_exits st p (Freeze s root) = omega (arith, frozen st s.0 (register st.registers p root.0))
-  effect_exits st p (Attach r s) = omega arith
   effect_exits st p Exit = omega (arith, total_turned one one (exit_after trace st p) (turned st p) st.exits)
   effect_exits st p (Kill q) = omega (arith, killed st q.0)
-  effect_exits st p (Resize m max) = omega arith
+  effect_exits st p _ = omega arith
 
   unless_exits : (f : Option Fault) (st : State) (p : ℕ) (op : Op) → total one (effect_unless f trace p op st).exits ≤ total one st.exits + one_if (is_store op)
   unless_exits None st p op = effect_exits st p op
@@ -116,3 +104,17 @@ pub exits_at_most_stores : (trace : Trace) (history : List Event) → length (st
 exits_at_most_stores trace history =
     let bound = run_exits trace (opening trace) history in
     omega (arith, bound, count_is_length (state_after trace history).exits)
+
+-- an exit item is of one heap
+pub one_heap : (h : Heap) (q : ℕ) → one_if (heap_eq h (user q)) + one_if (heap_eq h Kernel) ≤ 1
+one_heap Kernel q = omega arith
+one_heap (User r) q = omega (arith, one_if_low (heap_eq (User r) (user q)))
+one_heap (Shared s) q = omega arith
+
+-- the exit items of a process's heap and of the kernel's are among all
+pub exits_together : (exits : List ExitItem) (q : ℕ) → exit_count exits (user q) + exit_count exits Kernel ≤ length exits
+exits_together exits q =
+    let both = sum_both (λ (e : ExitItem). one_if (heap_eq e.heap (user q))) (λ (e : ExitItem). one_if (heap_eq e.heap Kernel)) exits in
+    let most = total_at_most (λ (e : ExitItem). one_if (heap_eq e.heap (user q)) + one_if (heap_eq e.heap Kernel)) (λ (e : ExitItem). 1) (λ (e : ExitItem). one_heap e.heap q) exits in
+    let all = ones exits in
+    omega (arith, both, most, all)

@@ -6,7 +6,7 @@ use Rattle.k_types.specs.declared.names.Name.{Name}
 use Rattle.k_types.specs.declared.names.Pid.{Pid}
 use Rattle.k_types.specs.declared.names.Heap.{Heap}
 use Rattle.k_types.specs.declared.op.Op.{Op}
-use Rattle.k_types.specs.declared.op.Op.TheVariants.{New, KNew, SNew, Store, Load, Move, Clear, Dir, Put, Get, Collect, KCollect, Share, Freeze, Attach, Exit, Kill, Resize}
+use Rattle.k_types.specs.declared.op.Op.TheVariants.{Store, Put, Freeze, Kill}
 use Rattle.k_types.specs.declared.event.Fault.{Fault}
 use Rattle.k_types.specs.declared.event.Event.{Event}
 use Rattle.k_types.specs.declared.event.Event.TheVariants.{Done, Ended, Absorbed, Closing}
@@ -38,24 +38,11 @@ module _ (trace : Trace) where
 
   effect_done : (st : State) (p : ℕ) (op : Op) → (effect trace p op st).done ≡ st.done
   unfolding effect set_register create open_scan add_share set_phase after_end_of end_process clear_registers keep_shares turn_exits set_max
-  effect_done st p (New r ty) = refl
-  effect_done st p (KNew r ty) = refl
-  effect_done st p (SNew r s ty) = refl
   effect_done st p (Store base i value) = store_done st (register st.registers p base.0) i (register st.registers p value.0)
-  effect_done st p (Load r base i) = refl
-  effect_done st p (Move r from) = refl
-  effect_done st p (Clear r) = refl
-  effect_done st p (Dir r) = refl
   effect_done st p (Put base i number) = put_done st (register st.registers p base.0) i number
-  effect_done st p (Get base i) = refl
-  effect_done st p Collect = refl
-  effect_done st p KCollect = refl
-  effect_done st p (Share s) = refl
   effect_done st p (Freeze s root) = freeze_done st s.0 (register st.registers p root.0)
-  effect_done st p (Attach r s) = refl
-  effect_done st p Exit = refl
   effect_done st p (Kill q) = ap (λ (s : State). s.done) (kill_rest trace st q.0)
-  effect_done st p (Resize m max) = refl
+  effect_done st p _ = refl
 
   unless_done : (f : Option Fault) (st : State) (p : ℕ) (op : Op) → (effect_unless f trace p op st).done ≡ st.done
   unless_done None st p op = effect_done st p op

@@ -7,7 +7,7 @@ use Rattle.k_types.specs.declared.names.Reg.{Reg}
 use Rattle.k_types.specs.declared.names.Heap.{Heap}
 use Rattle.k_types.specs.declared.names.Heap.TheVariants.{Kernel}
 use Rattle.k_types.specs.declared.op.Op.{Op}
-use Rattle.k_types.specs.declared.op.Op.TheVariants.{New, KNew, SNew, Store, Load, Move, Clear, Dir, Put, Get, Collect, KCollect, Share, Freeze, Attach, Exit, Kill, Resize}
+use Rattle.k_types.specs.declared.op.Op.TheVariants.{Store}
 use Rattle.k_types.specs.declared.event.Fault.{Fault}
 use Rattle.k_types.specs.declared.event.Fault.TheVariants.{Foreign, NoField, WrongKind, Frozen as FrozenFault}
 use Rattle.k_types.specs.declared.event.Reply.{Reply}
@@ -72,23 +72,7 @@ module _ (trace : Trace) (st : State) (h : Heap) (apart : IsFalse (heap_eq Kerne
 
   op_cases : (pid : Pid) (op : Op) → first_fault (faults trace st pid.0 op) ≡ None → (stores_to trace st h pid.0 op ≡ 0) ⊎ StoresInto trace st h pid op
   op_cases pid (Store base i value) fine = store_cases pid base value i fine
-  op_cases pid (New r ty) fine = inl refl
-  op_cases pid (KNew r ty) fine = inl refl
-  op_cases pid (SNew r s ty) fine = inl refl
-  op_cases pid (Load r base i) fine = inl refl
-  op_cases pid (Move r from) fine = inl refl
-  op_cases pid (Clear r) fine = inl refl
-  op_cases pid (Dir r) fine = inl refl
-  op_cases pid (Put base i number) fine = inl refl
-  op_cases pid (Get base i) fine = inl refl
-  op_cases pid Collect fine = inl refl
-  op_cases pid KCollect fine = inl refl
-  op_cases pid (Share s) fine = inl refl
-  op_cases pid (Freeze s root) fine = inl refl
-  op_cases pid (Attach r s) fine = inl refl
-  op_cases pid Exit fine = inl refl
-  op_cases pid (Kill q) fine = inl refl
-  op_cases pid (Resize m max) fine = inl refl
+  op_cases pid _ fine = inl refl
 
   stores_low : (p : ℕ) (op : Op) → stores_to trace st h p op ≤ 1
   stores_low p (Store base i value) = go (register st.registers p base.0)
@@ -96,23 +80,7 @@ module _ (trace : Trace) (st : State) (h : Heap) (apart : IsFalse (heap_eq Kerne
       go : (b : Option Name) → writes_to trace st h b ≤ 1
       go None = zero-le
       go (Some x) = one_if_low (heap_eq (owner_of trace st x.seg.0) h)
-  stores_low p (New r ty) = zero-le
-  stores_low p (KNew r ty) = zero-le
-  stores_low p (SNew r s ty) = zero-le
-  stores_low p (Load r base i) = zero-le
-  stores_low p (Move r from) = zero-le
-  stores_low p (Clear r) = zero-le
-  stores_low p (Dir r) = zero-le
-  stores_low p (Put base i number) = zero-le
-  stores_low p (Get base i) = zero-le
-  stores_low p Collect = zero-le
-  stores_low p KCollect = zero-le
-  stores_low p (Share s) = zero-le
-  stores_low p (Freeze s root) = zero-le
-  stores_low p (Attach r s) = zero-le
-  stores_low p Exit = zero-le
-  stores_low p (Kill q) = zero-le
-  stores_low p (Resize m max) = zero-le
+  stores_low p _ = zero-le
 
   -- an operation adds no exit item of the heap, or it is a store into one of its objects and adds at most one
   pub done_cases : (pid : Pid) (op : Op) → (exit_count (after_operation trace pid.0 op st).exits h ≤ exit_count st.exits h)

@@ -4,7 +4,7 @@ use Rattle.k_types.specs.declared.names.Name.{Name}
 use Rattle.k_types.specs.declared.names.Heap.{Heap}
 use Rattle.k_types.specs.declared.names.Heap.TheVariants.{Kernel}
 use Rattle.k_types.specs.declared.op.Op.{Op}
-use Rattle.k_types.specs.declared.op.Op.TheVariants.{New, KNew, SNew, Store, Load, Move, Clear, Dir, Put, Get, Collect, KCollect, Share, Freeze, Attach, Exit, Kill, Resize}
+use Rattle.k_types.specs.declared.op.Op.TheVariants.{Store, Put, Freeze, Exit, Kill}
 use Rattle.k_types.specs.Names.{heap_eq, among}
 use Rattle.k_types.specs.Trace.{Trace}
 use Rattle.k_types.specs.State.{State, ExitItem, has_exit, register}
@@ -77,21 +77,9 @@ module _ (trace : Trace) (st : State) (h : Heap) where
 
   pub effect_exits : (p : ℕ) (op : Op) → IsFalse (heap_eq Kernel h) → exit_count (effect trace p op st).exits h ≤ exit_count st.exits h + stores_to trace st h p op
   unfolding effect set_register create open_scan add_share set_phase after_end_of end_process clear_registers keep_shares turn_exits set_max
-  effect_exits p (New r ty) apart = omega arith
-  effect_exits p (KNew r ty) apart = omega arith
-  effect_exits p (SNew r s ty) apart = omega arith
   effect_exits p (Store base i value) apart = stored (register st.registers p base.0) i (register st.registers p value.0)
-  effect_exits p (Load r base i) apart = omega arith
-  effect_exits p (Move r from) apart = omega arith
-  effect_exits p (Clear r) apart = omega arith
-  effect_exits p (Dir r) apart = omega arith
   effect_exits p (Put base i number) apart = omega (arith, put (register st.registers p base.0) i number)
-  effect_exits p (Get base i) apart = omega arith
-  effect_exits p Collect apart = omega arith
-  effect_exits p KCollect apart = omega arith
-  effect_exits p (Share s) apart = omega arith
   effect_exits p (Freeze s root) apart = omega (arith, frozen s.0 (register st.registers p root.0))
-  effect_exits p (Attach r s) apart = omega arith
   effect_exits p Exit apart = omega (arith, total_turned (weight h) (weight h) (exit_after trace st p) (turned p apart) st.exits)
   effect_exits p (Kill q) apart = omega (arith, killed q.0 apart)
-  effect_exits p (Resize m max) apart = omega arith
+  effect_exits p _ apart = omega arith

@@ -5,7 +5,7 @@ use Rattle.k_types.specs.declared.names.Name.{Name}
 use Rattle.k_types.specs.declared.names.TypeId.{TypeId}
 use Rattle.k_types.specs.declared.names.Heap.TheVariants.{Kernel, Shared}
 use Rattle.k_types.specs.declared.op.Op.{Op}
-use Rattle.k_types.specs.declared.op.Op.TheVariants.{New, KNew, SNew, Store, Load, Move, Clear, Dir, Put, Get, Collect, KCollect, Share, Freeze, Attach, Exit, Kill, Resize}
+use Rattle.k_types.specs.declared.op.Op.TheVariants.{New, KNew, SNew, Store, Put, Freeze, Kill}
 use Rattle.k_types.specs.declared.event.Fault.{Fault}
 use Rattle.k_types.specs.declared.event.Event.{Event}
 use Rattle.k_types.specs.declared.event.Event.TheVariants.{Done, Ended, Absorbed, Closing}
@@ -69,20 +69,10 @@ module _ (trace : Trace) where
   effect_objects st p (KNew r ty) = omega (arith, new_objects st p r.0 (segment_of trace Kernel) ty)
   effect_objects st p (SNew r s ty) = omega (arith, new_objects st p r.0 (segment_of trace (Shared s)) ty)
   effect_objects st p (Store base i value) = omega (arith, store_objects st (register st.registers p base.0) i (register st.registers p value.0))
-  effect_objects st p (Load r base i) = omega arith
-  effect_objects st p (Move r from) = omega arith
-  effect_objects st p (Clear r) = omega arith
-  effect_objects st p (Dir r) = omega arith
   effect_objects st p (Put base i number) = omega (arith, put_objects st (register st.registers p base.0) i number)
-  effect_objects st p (Get base i) = omega arith
-  effect_objects st p Collect = omega arith
-  effect_objects st p KCollect = omega arith
-  effect_objects st p (Share s) = omega arith
   effect_objects st p (Freeze s root) = omega (arith, ap (λ (xs : List Object). length xs) (freeze_objects st s.0 (register st.registers p root.0)))
-  effect_objects st p (Attach r s) = omega arith
-  effect_objects st p Exit = omega arith
   effect_objects st p (Kill q) = omega (arith, ap (λ (s : State). length s.objects) (kill_rest trace st q.0))
-  effect_objects st p (Resize m max) = omega arith
+  effect_objects st p _ = omega arith
 
   unless_objects : (f : Option Fault) (st : State) (p : ℕ) (op : Op) → length (effect_unless f trace p op st).objects ≤ length st.objects + one_if (is_allocation op)
   unless_objects None st p op = effect_objects st p op

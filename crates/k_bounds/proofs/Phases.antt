@@ -8,7 +8,7 @@ use Rattle.k_types.specs.declared.names.Heap.{Heap}
 use Rattle.k_types.specs.declared.names.Phase.{Phase}
 use Rattle.k_types.specs.declared.names.Phase.TheVariants.{Unmade, Populating, Frozen, Absorbed}
 use Rattle.k_types.specs.declared.op.Op.{Op}
-use Rattle.k_types.specs.declared.op.Op.TheVariants.{New, KNew, SNew, Store, Load, Move, Clear, Dir, Put, Get, Collect, KCollect, Share, Freeze, Attach, Exit, Kill, Resize}
+use Rattle.k_types.specs.declared.op.Op.TheVariants.{Store, Put, Share, Freeze, Kill}
 use Rattle.k_types.specs.declared.event.Fault.{Fault}
 use Rattle.k_types.specs.declared.event.Fault.TheVariants.{Taken as TakenFault}
 use Rattle.k_types.specs.Trace.{Trace}
@@ -44,18 +44,8 @@ module _ (trace : Trace) where
 
   effect_phases : (st : State) (p : ℕ) (op : Op) (s : ℕ) → first_fault (faults trace st p op) ≡ None → Phased s (phase_of st.phases s) (phase_of (effect trace p op st).phases s) (op ∷ []) p
   unfolding effect set_register create open_scan add_share set_phase after_end_of end_process clear_registers keep_shares turn_exits faults set_max
-  effect_phases st p (New r ty) s fine = Stays refl
-  effect_phases st p (KNew r ty) s fine = Stays refl
-  effect_phases st p (SNew r t ty) s fine = Stays refl
   effect_phases st p (Store base i value) s fine = Stays (ap (λ phases. phase_of phases s) (store_phases st (register st.registers p base.0) i (register st.registers p value.0)))
-  effect_phases st p (Load r base i) s fine = Stays refl
-  effect_phases st p (Move r from) s fine = Stays refl
-  effect_phases st p (Clear r) s fine = Stays refl
-  effect_phases st p (Dir r) s fine = Stays refl
   effect_phases st p (Put base i number) s fine = Stays (ap (λ phases. phase_of phases s) (put_phases st (register st.registers p base.0) i number))
-  effect_phases st p (Get base i) s fine = Stays refl
-  effect_phases st p Collect s fine = Stays refl
-  effect_phases st p KCollect s fine = Stays refl
   effect_phases st p (Share t) s fine =
       elim (get_or-set_cases st.phases t.0 s (Populating (record { 0 = p })) Unmade) [
         | inl same ↦ Stays same
@@ -64,10 +54,8 @@ module _ (trace : Trace) where
             Taken (record { 0 = p }) refl (ap (phase_of st.phases) here.0 ∙ unmade) here.1 (or_left (t.0 == s) false (eq-eqb t.0 s (sym here.0)))
       ]
   effect_phases st p (Freeze t root) s fine = freeze_phases st t.0 (register st.registers p root.0) s p (Freeze t root ∷ [])
-  effect_phases st p (Attach r t) s fine = Stays refl
-  effect_phases st p Exit s fine = Stays refl
   effect_phases st p (Kill q) s fine = Stays (ap (λ (su : State). phase_of su.phases s) (kill_rest trace st q.0))
-  effect_phases st p (Resize m max) s fine = Stays refl
+  effect_phases st p _ s fine = Stays refl
 
   unless_phases : (f : Option Fault) (st : State) (p : ℕ) (op : Op) (s : ℕ) → first_fault (faults trace st p op) ≡ f → Phased s (phase_of st.phases s) (phase_of (effect_unless f trace p op st).phases s) (op ∷ []) p
   unless_phases None st p op s e = effect_phases st p op s e

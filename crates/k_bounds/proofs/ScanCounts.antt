@@ -4,7 +4,7 @@ use Rattle.std.proofs.lemmas.Bool.{false≢true, cases_Bool}
 use Rattle.k_types.specs.declared.names.Name.{Name}
 use Rattle.k_types.specs.declared.names.Heap.{Heap}
 use Rattle.k_types.specs.declared.op.Op.{Op}
-use Rattle.k_types.specs.declared.op.Op.TheVariants.{New, KNew, SNew, Store, Load, Move, Clear, Dir, Put, Get, Collect, KCollect, Share, Freeze, Attach, Exit, Kill, Resize}
+use Rattle.k_types.specs.declared.op.Op.TheVariants.{Store, Put, Collect, KCollect, Freeze, Kill}
 use Rattle.k_types.specs.declared.event.Fault.{Fault}
 use Rattle.k_types.specs.declared.event.Event.{Event}
 use Rattle.k_types.specs.declared.event.Event.TheVariants.{Done, Ended, Absorbed as AbsorbedEvent, Closing}
@@ -37,46 +37,18 @@ module _ (trace : Trace) where
 
   effect_scans : (st : State) (p : ℕ) (op : Op) → length (effect trace p op st).scans ≡ length st.scans + one_if (begins_collection op)
   unfolding effect set_register create open_scan add_share set_phase after_end_of end_process clear_registers keep_shares turn_exits set_max
-  effect_scans st p (New r ty) = omega arith
-  effect_scans st p (KNew r ty) = omega arith
-  effect_scans st p (SNew r s ty) = omega arith
   effect_scans st p (Store base i value) = let same = ap length (store_scans st (register st.registers p base.0) i (register st.registers p value.0)) in omega arith
-  effect_scans st p (Load r base i) = omega arith
-  effect_scans st p (Move r from) = omega arith
-  effect_scans st p (Clear r) = omega arith
-  effect_scans st p (Dir r) = omega arith
   effect_scans st p (Put base i number) = let same = ap length (put_scans st (register st.registers p base.0) i number) in omega arith
-  effect_scans st p (Get base i) = omega arith
-  effect_scans st p Collect = omega arith
-  effect_scans st p KCollect = omega arith
-  effect_scans st p (Share s) = omega arith
   effect_scans st p (Freeze s root) = let same = ap length (freeze_scans st s.0 (register st.registers p root.0)) in omega arith
-  effect_scans st p (Attach r s) = omega arith
-  effect_scans st p Exit = omega arith
   effect_scans st p (Kill q) = let same = ap (λ (s : State). length s.scans) (kill_rest trace st q.0) in omega arith
-  effect_scans st p (Resize m max) = omega arith
+  effect_scans st p _ = omega arith
 
   -- a collection is never refused
   pub never_refused : (st : State) (p : ℕ) (op : Op) → IsTrue (begins_collection op) → first_fault (faults trace st p op) ≡ None
   unfolding faults first_fault
   never_refused st p Collect t = refl
   never_refused st p KCollect t = refl
-  never_refused st p (New r ty) t = absurd (false≢true t)
-  never_refused st p (KNew r ty) t = absurd (false≢true t)
-  never_refused st p (SNew r s ty) t = absurd (false≢true t)
-  never_refused st p (Store base i value) t = absurd (false≢true t)
-  never_refused st p (Load r base i) t = absurd (false≢true t)
-  never_refused st p (Move r from) t = absurd (false≢true t)
-  never_refused st p (Clear r) t = absurd (false≢true t)
-  never_refused st p (Dir r) t = absurd (false≢true t)
-  never_refused st p (Put base i number) t = absurd (false≢true t)
-  never_refused st p (Get base i) t = absurd (false≢true t)
-  never_refused st p (Share s) t = absurd (false≢true t)
-  never_refused st p (Freeze s root) t = absurd (false≢true t)
-  never_refused st p (Attach r s) t = absurd (false≢true t)
-  never_refused st p Exit t = absurd (false≢true t)
-  never_refused st p (Kill q) t = absurd (false≢true t)
-  never_refused st p (Resize m max) t = absurd (false≢true t)
+  never_refused st p _ t = absurd (false≢true t)
 
   pub done_scans : (st : State) (p : ℕ) (op : Op) → length (after_operation trace p op st).scans ≡ length st.scans + one_if (begins_collection op)
   unfolding after_operation count_done

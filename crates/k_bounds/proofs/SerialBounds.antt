@@ -4,7 +4,7 @@ use Rattle.k_types.specs.declared.names.Name.{Name}
 use Rattle.k_types.specs.declared.names.TypeId.{TypeId}
 use Rattle.k_types.specs.declared.names.Heap.TheVariants.{Kernel, Shared}
 use Rattle.k_types.specs.declared.op.Op.{Op}
-use Rattle.k_types.specs.declared.op.Op.TheVariants.{New, KNew, SNew, Store, Load, Move, Clear, Dir, Put, Get, Collect, KCollect, Share, Freeze, Attach, Exit, Kill, Resize}
+use Rattle.k_types.specs.declared.op.Op.TheVariants.{New, KNew, SNew, Store, Put, Freeze, Kill}
 use Rattle.k_types.specs.declared.event.Fault.{Fault}
 use Rattle.k_types.specs.declared.event.Event.{Event}
 use Rattle.k_types.specs.declared.event.Event.TheVariants.{Done, Ended, Absorbed, Closing}
@@ -50,20 +50,10 @@ module _ (trace : Trace) (seg : ℕ) where
   effect_made st p (KNew r ty) = made_new st p r.0 (segment_of trace Kernel) ty
   effect_made st p (SNew r s ty) = made_new st p r.0 (segment_of trace (Shared s)) ty
   effect_made st p (Store base i value) = same_made st.made _ (store_made st (register st.registers p base.0) i (register st.registers p value.0))
-  effect_made st p (Load r base i) = omega arith
-  effect_made st p (Move r from) = omega arith
-  effect_made st p (Clear r) = omega arith
-  effect_made st p (Dir r) = omega arith
   effect_made st p (Put base i number) = same_made st.made _ (put_made st (register st.registers p base.0) i number)
-  effect_made st p (Get base i) = omega arith
-  effect_made st p Collect = omega arith
-  effect_made st p KCollect = omega arith
-  effect_made st p (Share s) = omega arith
   effect_made st p (Freeze s root) = same_made st.made _ (freeze_made st s.0 (register st.registers p root.0))
-  effect_made st p (Attach r s) = omega arith
-  effect_made st p Exit = omega arith
   effect_made st p (Kill q) = same_made st.made _ (ap (λ (s : State). s.made) (kill_rest trace st q.0))
-  effect_made st p (Resize m max) = omega arith
+  effect_made st p _ = omega arith
 
   unless_made : (f : Option Fault) (st : State) (p : ℕ) (op : Op) → get_or (effect_unless f trace p op st).made seg 0 ≤ get_or st.made seg 0 + one_if (allocates_in trace seg p op)
   unless_made None st p op = effect_made st p op

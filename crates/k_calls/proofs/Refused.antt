@@ -1,5 +1,5 @@
 -- Why a call is refused: what it asks for was tested, and does not hold.
-use Rattle.std.proofs.Common.{◌≡◌, refl, sym, ◌∙◌, Bool, true, false, not, ◌||◌, IsTrue, IsFalse, ◌↔◌}
+use Rattle.std.proofs.Common.{◌≡◌, refl, sym, ◌∙◌, Bool, true, false, not, IsTrue, IsFalse, ◌↔◌}
 use Rattle.std.proofs.lemmas.Bool.{false≢true}
 use Rattle.k_calls.specs.declared.errors.HostError.{HostError}
 use Rattle.k_calls.specs.Refusals.{Lacks}
@@ -16,9 +16,3 @@ lacks_test error asked test same fails = record { error_is = refl; fails = λ ho
 pub lacks_lives : (error : HostError) (ended lives : Bool) → lives ≡ not ended → lives ≡ false → Lacks error (IsFalse ended) error
 lacks_lives error true lives same fails = record { error_is = refl; fails = λ stands. false≢true (sym stands) }
 lacks_lives error false lives same fails = absurd (false≢true (sym fails ∙ same))
-
--- an operation with no call of its own begins no collection and ends no process
-pub plain_both : (collects others : Bool) → not (collects || others) ≡ true → (collects ≡ false) × (others ≡ false)
-plain_both true others plain = absurd (false≢true plain)
-plain_both false true plain = absurd (false≢true plain)
-plain_both false false plain = (refl, refl)

@@ -3,7 +3,7 @@ use Rattle.std.proofs.Common.{◌≡◌, ℕ, zero, suc, ◌+◌, ◌-◌, ◌<�
 use Rattle.std.proofs.lemmas.List.{drop-replicate}
 use Rattle.k_types.specs.declared.names.TypeId.{TypeId}
 use Rattle.k_types.specs.declared.op.Op.{Op}
-use Rattle.k_types.specs.declared.op.Op.TheVariants.{New, KNew, SNew, Store, Load, Move, Clear, Dir, Put, Get, Collect, KCollect, Share, Freeze, Attach, Exit, Kill, Resize}
+use Rattle.k_types.specs.declared.op.Op.TheVariants.{New, KNew, SNew, Store}
 use Rattle.k_types.specs.Agree.{CellValue}
 use Rattle.k_types.specs.Cells.{BookPart, Cell, book_part, entries}
 use Rattle.k_types.specs.Counted.{counted}
@@ -82,59 +82,18 @@ module _ (basis : Basis) (bodies : List BodyValue) (n : ℕ) (stock : bodies ≡
     table_room (KNew r ty) body serial exits = record { body = has_body ty body.0 body.1; serial = serial }
     table_room (SNew r s ty) body serial exits = record { body = has_body ty body.0 body.1; serial = serial }
     table_room (Store base i value) body serial exits = exits
-    table_room (Load r base i) body serial exits = tt
-    table_room (Move r from) body serial exits = tt
-    table_room (Clear r) body serial exits = tt
-    table_room (Dir r) body serial exits = tt
-    table_room (Put base i number) body serial exits = tt
-    table_room (Get base i) body serial exits = tt
-    table_room Collect body serial exits = tt
-    table_room KCollect body serial exits = tt
-    table_room (Share s) body serial exits = tt
-    table_room (Freeze s root) body serial exits = tt
-    table_room (Attach r s) body serial exits = tt
-    table_room Exit body serial exits = tt
-    table_room (Kill q) body serial exits = tt
-    table_room (Resize m max) body serial exits = tt
+    table_room _ body serial exits = tt
 
 -- the bodies that are left once the operation has taken its own
 pub bodies_left : (x : BodyValue) (n : ℕ) (op : Op) → bodies_after op (replicate n x) ≡ replicate (n - one_if (is_allocation op)) x
 bodies_left x n (New r ty) = drop-replicate 1 n x
 bodies_left x n (KNew r ty) = drop-replicate 1 n x
 bodies_left x n (SNew r s ty) = drop-replicate 1 n x
-bodies_left x n (Store base i value) = ap (λ k. replicate k x) (omega arith)
-bodies_left x n (Load r base i) = ap (λ k. replicate k x) (omega arith)
-bodies_left x n (Move r from) = ap (λ k. replicate k x) (omega arith)
-bodies_left x n (Clear r) = ap (λ k. replicate k x) (omega arith)
-bodies_left x n (Dir r) = ap (λ k. replicate k x) (omega arith)
-bodies_left x n (Put base i number) = ap (λ k. replicate k x) (omega arith)
-bodies_left x n (Get base i) = ap (λ k. replicate k x) (omega arith)
-bodies_left x n Collect = ap (λ k. replicate k x) (omega arith)
-bodies_left x n KCollect = ap (λ k. replicate k x) (omega arith)
-bodies_left x n (Share s) = ap (λ k. replicate k x) (omega arith)
-bodies_left x n (Freeze s root) = ap (λ k. replicate k x) (omega arith)
-bodies_left x n (Attach r s) = ap (λ k. replicate k x) (omega arith)
-bodies_left x n Exit = ap (λ k. replicate k x) (omega arith)
-bodies_left x n (Kill q) = ap (λ k. replicate k x) (omega arith)
-bodies_left x n (Resize m max) = ap (λ k. replicate k x) (omega arith)
+bodies_left x n _ = ap (λ k. replicate k x) (omega arith)
 
 -- an operation takes no more bodies than there are
 pub takes_few : (basis : Basis) (n : ℕ) (op : Op) → HasItsBody basis n op → one_if (is_allocation op) ≤ n
 takes_few basis n (New r ty) body = omega (arith, body.1)
 takes_few basis n (KNew r ty) body = omega (arith, body.1)
 takes_few basis n (SNew r s ty) body = omega (arith, body.1)
-takes_few basis n (Store base i value) body = omega arith
-takes_few basis n (Load r base i) body = omega arith
-takes_few basis n (Move r from) body = omega arith
-takes_few basis n (Clear r) body = omega arith
-takes_few basis n (Dir r) body = omega arith
-takes_few basis n (Put base i number) body = omega arith
-takes_few basis n (Get base i) body = omega arith
-takes_few basis n Collect body = omega arith
-takes_few basis n KCollect body = omega arith
-takes_few basis n (Share s) body = omega arith
-takes_few basis n (Freeze s root) body = omega arith
-takes_few basis n (Attach r s) body = omega arith
-takes_few basis n Exit body = omega arith
-takes_few basis n (Kill q) body = omega arith
-takes_few basis n (Resize m max) body = omega arith
+takes_few basis n _ body = omega arith

@@ -1,5 +1,5 @@
 -- Areas that change in one segment, or in marks alone, by number.
-use Rattle.std.proofs.Common.{◌≡◌, ◌≢◌, ℕ, zero, suc, ◌+◌, ◌-◌, ◌<◌, ◌≤◌, refl, sym, ap, ap₂, subst, ◌∙◌, inl, inr, List, [], ◌∷◌, ◌++◌, length, map, get_or, set, Option, Some, None, option_map, arith}
+use Rattle.std.proofs.Common.{◌≡◌, ℕ, zero, suc, ◌+◌, ◌-◌, ◌<◌, ◌≤◌, refl, sym, ap, subst, ◌∙◌, inl, inr, List, [], ◌∷◌, ◌++◌, length, map, get_or, set, Option, Some, None, option_map, arith}
 use Rattle.std.proofs.Math.Path.{fun_ext}
 use Rattle.std.proofs.lemmas.Bool.{cases_eq}
 use Rattle.std.proofs.lemmas.List.{length-append, length-map}
@@ -15,25 +15,7 @@ use Rattle.k_areas.proofs.Found.{at_map, at_set_same, at_set_other, set_number, 
 use Rattle.k_areas.proofs.Changed.{same_area}
 use Rattle.k_areas.proofs.Named.{made_listed}
 use Rattle.k_cell.specs.Holdings.{serial_rooms_of, AreBegun}
-
--- a list over numbers of which one has another value
-past_same : {A : Type 0} (f g : ℕ → A) (first n at : ℕ) → at < first → ((i : ℕ) → i ≢ at → f i ≡ g i) → map f (numbers_from first n) ≡ map g (numbers_from first n)
-past_same f g first zero at past same = refl
-past_same f g first (suc n) at past same = ap₂ (λ x xs. x ∷ xs) (same first (λ e. omega (arith, e, past))) (past_same f g (suc first) n at (omega (arith, past)) same)
-
-set_from : {A : Type 0} (f g : ℕ → A) (first n k : ℕ) (v : A) → f (first + k) ≡ v → ((i : ℕ) → i ≢ first + k → f i ≡ g i) → map f (numbers_from first n) ≡ set (map g (numbers_from first n)) k v
-set_from f g first zero k v here same = refl
-set_from f g first (suc n) zero v here same =
-    let at : first ≡ first + 0 = omega arith in
-    ap₂ (λ x xs. x ∷ xs) (ap f at ∙ here) (past_same f g (suc first) n first (omega arith) (λ i ne. same i (λ e. ne (e ∙ sym at))))
-set_from f g first (suc n) (suc k) v here same =
-    let at : suc first + k ≡ first + suc k = omega arith in
-    ap₂ (λ x xs. x ∷ xs) (same first (λ e. omega (arith, e))) (set_from f g (suc first) n k v (ap f at ∙ here) (λ i ne. same i (λ e. ne (e ∙ sym at))))
-
-pub set_below : {A : Type 0} (f g : ℕ → A) (n k : ℕ) (v : A) → f k ≡ v → ((i : ℕ) → i ≢ k → f i ≡ g i) → map f (numbers_below n) ≡ set (map g (numbers_below n)) k v
-set_below f g n k v here same =
-    let at : 0 + k ≡ k = omega arith in
-    set_from f g 0 n k v (ap f at ∙ here) (λ i ne. same i (λ e. ne (e ∙ sym at)))
+use Rattle.k_base.proofs.Lists.{set_below}
 
 pub same_below : {A : Type 0} (f g : ℕ → A) (n : ℕ) → ((i : ℕ) → f i ≡ g i) → map f (numbers_below n) ≡ map g (numbers_below n)
 same_below f g n same = ap (λ h. map h (numbers_below n)) (fun_ext same)

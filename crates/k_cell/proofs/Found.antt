@@ -1,25 +1,18 @@
 -- An object among those of an area, by its name.
-use Rattle.std.proofs.Common.{◌≡◌, ◌≢◌, ◌⊎◌, ℕ, zero, suc, ◌+◌, ◌<◌, ◌≤◌, false, cond, refl, sym, ap, ap₂, ◌∙◌, inl, inr, List, [], ◌∷◌, get_or, find, Option, Some, None, option_map, arith}
+use Rattle.std.proofs.Common.{◌≡◌, ◌≢◌, ◌⊎◌, ℕ, zero, suc, ◌+◌, ◌<◌, ◌≤◌, cond, refl, sym, ap, ap₂, ◌∙◌, inl, inr, List, [], ◌∷◌, get_or, find, Option, Some, None, option_map, arith}
 use Rattle.std.specs.Option.{option_or}
-use Rattle.std.proofs.lemmas.Bool.{cases_eq, cases_lt, false_from_ne_true}
+use Rattle.std.proofs.lemmas.Bool.{cases_eq, cases_lt}
 use Rattle.std.proofs.lemmas.List.Folds.{find-append}
 use Rattle.k_types.specs.declared.names.Name.{Name}
 use Rattle.k_types.specs.Names.{name_eq}
 use Rattle.k_types.specs.State.{Object, fields_of, object_at}
-use Rattle.k_base.proofs.NameTests.{name_eq-true, name_eq-same}
+use Rattle.k_base.proofs.NameTests.{name_eq-same}
 use Rattle.k_space.specs.Segments.{Row, SegmentValue, object_of, objects_from, segment_objects, row_at}
 use Rattle.k_space.specs.Areas.{segment_at, row_in_segment, row_of_name}
 use Rattle.k_space.proofs.AreaRows.{number_found}
 use Rattle.k_areas.specs.Shown.{area_objects, objects_of_some, HasNoneFrom}
 use Rattle.k_cell.specs.Looks.{row_fields, row_type, type_of_some}
-
-other_serial : (number serial : ℕ) (row : Row) (n : Name) → serial ≢ n.serial.0 → name_eq (object_of number serial row).name n ≡ false
-other_serial number serial row n differs =
-    false_from_ne_true (name_eq (object_of number serial row).name n) (λ e. differs (ap (λ (m : Name). m.serial.0) (name_eq-true (object_of number serial row).name n e)))
-
-other_segment : (number serial : ℕ) (row : Row) (n : Name) → number ≢ n.seg.0 → name_eq (object_of number serial row).name n ≡ false
-other_segment number serial row n differs =
-    false_from_ne_true (name_eq (object_of number serial row).name n) (λ e. differs (ap (λ (m : Name). m.seg.0) (name_eq-true (object_of number serial row).name n e)))
+use Rattle.k_areas.proofs.Shown.{other_serial, other_segment}
 
 module _ (n : Name) where
   -- no later serial is that of the name

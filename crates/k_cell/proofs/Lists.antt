@@ -1,5 +1,5 @@
 -- Lists of objects, of fields and of exit items.
-use Rattle.std.proofs.Common.{◌≡◌, ℕ, zero, suc, ◌+◌, ◌<◌, ◌≤◌, ◌&&◌, ◌||◌, not, Bool, true, false, cond, refl, sym, ap, ap₂, ◌∙◌, List, [], ◌∷◌, ◌++◌, length, map, filter, get_or, slice_set, slice_get, Option, Some, arith}
+use Rattle.std.proofs.Common.{◌≡◌, ℕ, zero, suc, ◌+◌, ◌<◌, ◌&&◌, ◌||◌, Bool, true, false, cond, refl, sym, ap, ap₂, ◌∙◌, List, [], ◌∷◌, ◌++◌, length, map, get_or, slice_set, slice_get, Option, Some, arith}
 use Rattle.std.specs.List.{list_any}
 use Rattle.std.proofs.lemmas.Bool.{false≢true}
 use Rattle.std.proofs.lemmas.List.{length-set, map-append}
@@ -35,24 +35,6 @@ total_written n i content (x ∷ xs) = ap₂ (λ a b. a + b) (by_name (name_eq x
     by_name true = ap object_size (length-set x.fields i content)
     by_name false = refl
 
-pub total_split : (f : Object → ℕ) (p : Object → Bool) (xs : List Object) → total f (filter p xs) + total f (filter (λ x. not (p x)) xs) ≡ total f xs
-total_split f p [] = refl
-total_split f p (x ∷ xs) = by_test (p x) (total_split f p xs)
-  where
-    by_test : (b : Bool) → total f (filter p xs) + total f (filter (λ y. not (p y)) xs) ≡ total f xs →
-        total f (cond b (x ∷ filter p xs) (filter p xs)) + total f (cond (not b) (x ∷ filter (λ y. not (p y)) xs) (filter (λ y. not (p y)) xs)) ≡ f x + total f xs
-    by_test true ih = omega (arith, ih)
-    by_test false ih = omega (arith, ih)
-
-pub filter_stronger : {A : Type 0} (p q : A → Bool) → ((x : A) → p x ≡ true → q x ≡ true) → (xs : List A) → filter p (filter q xs) ≡ filter p xs
-filter_stronger p q implies [] = refl
-filter_stronger p q implies (x ∷ xs) = by_test (q x) refl (p x) refl (filter_stronger p q implies xs)
-  where
-    by_test : (b : Bool) → q x ≡ b → (a : Bool) → p x ≡ a → filter p (filter q xs) ≡ filter p xs → filter p (cond b (x ∷ filter q xs) (filter q xs)) ≡ cond a (x ∷ filter p xs) (filter p xs)
-    by_test true qs a is ih = ap₂ (λ b ys. cond b (x ∷ ys) ys) is ih
-    by_test false qs true is ih = absurd (false≢true (sym qs ∙ implies x is))
-    by_test false qs false is ih = ih
-
 -- the kind of a field
 pub ref_field : (xs : List Content) (i : ℕ) → is_ref (get_or xs i (Holds 0)) ≡ true → (target : Option Name) × (slice_get xs i ≡ Some (Refers target))
 ref_field [] i t = absurd (false≢true t)
@@ -65,16 +47,6 @@ int_field [] i within f = absurd (omega (arith, within))
 int_field (Refers r ∷ xs) zero within f = absurd (false≢true (sym f))
 int_field (Holds k ∷ xs) zero within f = (k, refl)
 int_field (x ∷ xs) (suc i) within f = int_field xs i (omega (arith, within)) f
-
-pub got_field : (xs : List Content) (i : ℕ) (c : Content) → slice_get xs i ≡ Some c → c ≡ get_or xs i (Holds 0)
-got_field [] i c e = absurd (cc)
-got_field (x ∷ xs) zero c e = cc
-got_field (x ∷ xs) (suc i) c e = got_field xs i c e
-
-pub past_field : (xs : List Content) (i : ℕ) → length xs ≤ i → get_or xs i (Holds 0) ≡ Holds 0
-past_field [] i past = refl
-past_field (x ∷ xs) zero past = absurd (omega (arith, past))
-past_field (x ∷ xs) (suc i) past = past_field xs i (omega (arith, past))
 
 -- exit items
 pub added_targets : (e : ExitList) (n : Name) → targets (with_target e n).items ≡ cond (name_among n (targets e.items)) (targets e.items) (targets e.items ++ n ∷ [])

@@ -13,13 +13,13 @@ use Rattle.k_types.specs.Owners.{object_bytes}
 use Rattle.k_types.specs.Reach.{reach_among}
 use Rattle.k_types.specs.State.{Object, refers, refers_in}
 use Rattle.k_types.specs.Totals.{total}
-use Rattle.k_base.proofs.NameTests.{name_eq_refl, name_eq-same}
-use Rattle.k_space.specs.Segments.{Color, White, Gray, Black, Row, SegmentValue, is_black, is_gray, is_marked, gray_or_black, made, object_of, some_black, some_gray, some_marked, unmarked_row, unmarked_segment}
+use Rattle.k_base.proofs.NameTests.{name_eq-same}
+use Rattle.k_space.specs.Segments.{Color, White, Gray, Black, Row, SegmentValue, is_black, is_gray, is_marked, gray_or_black, made, some_black, some_gray, some_marked, unmarked_row}
 use Rattle.k_space.specs.Areas.{AreaValue, black_at, gray_at, grayed, grayed_row, is_foreign, marked_at, row_of_name, segment_at, unmarked}
 use Rattle.k_space.proofs.AreaRows.{same_unmarked}
 use Rattle.k_exit.specs.Exits.{ExitList, ExitRow, IsTaken, has_target, target_marked, targets, unmarked as unmarked_exits}
 use Rattle.k_exit.proofs.Takes.{targets_distinct}
-use Rattle.k_mark.specs.Marking.{IsExit, IsReachedIn, refers_at, some_lead_to}
+use Rattle.k_mark.specs.Marking.{IsExit, IsReachedIn, refers_at}
 use Rattle.k_mark.specs.Sweeping.{dead_bytes, dead_objects, survivor, swept, swept_segment}
 use Rattle.k_tie.specs.Values.{NoteValue}
 use Rattle.k_agree.specs.Marking.{begun, marked}
@@ -31,27 +31,17 @@ use Rattle.k_areas.proofs.Foreign.{area_has}
 use Rattle.k_areas.proofs.Found.{at_map, map_number, same_numbered}
 use Rattle.k_areas.proofs.Looked.{black_same, gray_one, gray_swept, row_swept, row_unmarked}
 use Rattle.k_areas.proofs.Named.{black_named, gray_named, made_listed, marked_named, targets_named, unmarked_gray_empty}
-use Rattle.k_areas.proofs.OfParts.{black_reached, exits_reached, map_begun}
-use Rattle.k_areas.proofs.Shown.{any_area, at_row}
+use Rattle.k_areas.proofs.OfParts.{black_reached, exits_reached, map_begun, leads}
+use Rattle.k_areas.proofs.Shown.{any_area}
 use Rattle.k_areas.proofs.Sums.{dead_counted, dead_weighed}
 use Rattle.k_cell.specs.Changes.{HasDroppedExit, HasItsExits, HasMarked, HasRoot, with_black_alone}
 use Rattle.k_cell.specs.Holdings.{AreBegun, AreHoldings, AreMarksKept, cell_seen, holdings_seen, serial_rooms_of}
 use Rattle.k_cell.proofs.Areas.{AreAlike, alike, same_below}
-use Rattle.k_cell.proofs.Lists.{all_rows_marked, filter_stronger, none_target_marked, total_split, unmarked_targets}
+use Rattle.k_cell.proofs.Lists.{all_rows_marked, none_target_marked, unmarked_targets}
 use Rattle.k_cell.proofs.Seen.{same_cell, same_holdings}
-
--- marks are taken away once
-row_twice : (rows : List (Option Row)) → map unmarked_row (map unmarked_row rows) ≡ map unmarked_row rows
-row_twice [] = refl
-row_twice (None ∷ rows) = ap (λ rs. None ∷ rs) (row_twice rows)
-row_twice (Some row ∷ rows) = ap (λ rs. Some (record row { color = White }) ∷ rs) (row_twice rows)
-
-segment_twice : (segments : List SegmentValue) → map unmarked_segment (map unmarked_segment segments) ≡ map unmarked_segment segments
-segment_twice [] = refl
-segment_twice (s ∷ segments) = ap₂ (λ rows ss. record s { rows = rows } ∷ ss) (row_twice s.rows) (segment_twice segments)
-
-unmarked_twice : (a : AreaValue) → unmarked (unmarked a) ≡ unmarked a
-unmarked_twice a = ap (λ ss. record a { segments = ss }) (segment_twice a.segments)
+use Rattle.k_base.proofs.Lists.{filter_stronger}
+use Rattle.k_base.proofs.Sums.{parts_sum}
+use Rattle.k_space.proofs.Segs.{unmarked_twice}
 
 -- what the holdings are besides, with another area that differs in marks
 kept_alike : (bound bytes : ℕ) (phase other : CellPhase) (a b : AreaValue) (items others : List ExitRow) → AreAlike bound a b → AreHoldings bound bytes phase a items → AreMarksKept other b others → AreHoldings bound bytes other b others
@@ -123,11 +113,6 @@ pub rooted_rest : (bound : ℕ) (phase : CellPhase) (a new : AreaValue) (e : Exi
 rooted_rest bound phase a new e note n is =
     let like = alike a new (ap unmarked is ∙ grayed_same a n) bound in
     same_holdings note bound refl like.room like.rooms refl
-
--- objects marked
-leads : (n m : Name) (o : Option Row) → at_row (λ (x : Object). name_eq x.name n && refers x m) n o ≡ some_lead_to (option_map (λ (row : Row). row.fields) o) m
-leads n m None = refl
-leads n m (Some row) = ap (λ b. b && refers (object_of n.seg.0 n.serial.0 row) m) (name_eq_refl n)
 
 refers_same : (a : AreaValue) (bound : ℕ) → HasNoneFrom a.segments bound → (x n : Name) → refers_in (area_objects bound a.segments) x n ≡ refers_at a x n
 refers_same a bound none x n = any_area (λ (o : Object). name_eq o.name x && refers o n) x (λ o e. ap (λ b. b && refers o n) e) a.segments bound none ∙ leads x n (row_of_name a.segments x)
@@ -277,7 +262,7 @@ module _ (bound bytes : ℕ) (a new : AreaValue) (items : List ExitRow) (kept : 
 
   bytes_left : bytes ≡ total object_bytes (area_objects bound new.segments) + dead_bytes a
   bytes_left =
-      let parts = total_split object_bytes (λ (o : Object). name_among o.name (black_names bound a)) (area_objects bound a.segments) in
+      let parts = parts_sum object_bytes (λ (o : Object). name_among o.name (black_names bound a)) (area_objects bound a.segments) in
       let now : total object_bytes (area_objects bound new.segments) ≡ total object_bytes (filter (λ (o : Object). name_among o.name (black_names bound a)) (area_objects bound a.segments)) = ap (total object_bytes) objects_swept in
       omega (arith, kept.weighed, parts, now, dead_bytes_here)
 

@@ -15,15 +15,17 @@ use Rattle.k_exit.specs.Exits.{ExitList, ExitRow}
 use Rattle.k_tie.specs.Values.{NoteValue}
 use Rattle.k_areas.specs.Shown.{area_objects, objects_of_some, AreNumberedBelow, HasNoneFrom, IsTakenOut}
 use Rattle.k_areas.specs.Lists.{made_list}
-use Rattle.k_areas.proofs.Found.{at_cons_other, at_cons_same, at_push_other, at_push_same, found_below}
+use Rattle.k_areas.proofs.Found.{at_push_other, at_push_same, found_below}
 use Rattle.k_areas.proofs.Joined.{alone_area, joined_area, left_area, parted_area}
 use Rattle.k_areas.proofs.Named.{made_listed}
 use Rattle.k_areas.proofs.Sums.{segments_fewer}
 use Rattle.k_cell.specs.declared.rooms.HoldingRooms.{HoldingRooms}
 use Rattle.k_cell.specs.Holdings.{AreBegun, AreHoldings, HasGivenSegment, fresh_holdings, holdings_seen, serial_rooms_of, with_segment_added}
-use Rattle.k_cell.proofs.Areas.{one_segment, rooms_listed, same_below, set_below}
+use Rattle.k_cell.proofs.Areas.{one_segment, rooms_listed, same_below}
 use Rattle.k_cell.proofs.Lists.{total_joined}
 use Rattle.k_cell.proofs.Seen.{same_cell, same_holdings}
+use Rattle.k_mark.proofs.KeptMarked.{at_same, at_other}
+use Rattle.k_base.proofs.Lists.{set_below}
 
 -- one segment alone
 module _ (seg : ℕ) (rooms : HoldingRooms) (s : SegmentValue) (is : s ≡ record { number = seg; room = rooms.objects; rows = None ∷ [] }) (below : seg < rooms.bound) where
@@ -36,8 +38,8 @@ module _ (seg : ℕ) (rooms : HoldingRooms) (s : SegmentValue) (is : s ≡ recor
       at : (k : ℕ) → option_map made (segment_at (s ∷ []) k) ≡ cond (k == seg) (Some 0) None
       at k =
           elim (cases_eq k seg) [
-            | inl e ↦ ap (option_map made) (at_cons_same s [] k (ap (λ (x : SegmentValue). x.number) is ∙ sym e)) ∙ ap (λ (x : SegmentValue). Some (made x)) is ∙ sym (ap (λ b. cond b (Some 0) None) (eq-eqb k seg e))
-            | inr ne ↦ ap (option_map made) (at_cons_other s [] k (λ e. ne (sym e ∙ ap (λ (x : SegmentValue). x.number) is))) ∙ sym (ap (λ b. cond b (Some 0) None) (ne_eqb k seg ne))
+            | inl e ↦ ap (option_map made) (at_same s [] k (ap (λ (x : SegmentValue). x.number) is ∙ sym e)) ∙ ap (λ (x : SegmentValue). Some (made x)) is ∙ sym (ap (λ b. cond b (Some 0) None) (eq-eqb k seg e))
+            | inr ne ↦ ap (option_map made) (at_other s [] k (λ e. ne (sym e ∙ ap (λ (x : SegmentValue). x.number) is))) ∙ sym (ap (λ b. cond b (Some 0) None) (ne_eqb k seg ne))
           ]
 
   alone_rooms : serial_rooms_of rooms.bound (s ∷ []) ≡ map (λ k. cond (k == seg) (Some rooms.objects) None) (numbers_below rooms.bound)
@@ -47,10 +49,10 @@ module _ (seg : ℕ) (rooms : HoldingRooms) (s : SegmentValue) (is : s ≡ recor
       at k =
           elim (cases_eq k seg) [
             | inl e ↦
-                ap (option_map (λ (x : SegmentValue). x.room)) (at_cons_same s [] k (ap (λ (x : SegmentValue). x.number) is ∙ sym e)) ∙ ap (λ (x : SegmentValue). Some x.room) is
+                ap (option_map (λ (x : SegmentValue). x.room)) (at_same s [] k (ap (λ (x : SegmentValue). x.number) is ∙ sym e)) ∙ ap (λ (x : SegmentValue). Some x.room) is
                 ∙ sym (ap (λ b. cond b (Some rooms.objects) None) (eq-eqb k seg e))
             | inr ne ↦
-                ap (option_map (λ (x : SegmentValue). x.room)) (at_cons_other s [] k (λ e. ne (sym e ∙ ap (λ (x : SegmentValue). x.number) is)))
+                ap (option_map (λ (x : SegmentValue). x.room)) (at_other s [] k (λ e. ne (sym e ∙ ap (λ (x : SegmentValue). x.number) is)))
                 ∙ sym (ap (λ b. cond b (Some rooms.objects) None) (ne_eqb k seg ne))
           ]
 
@@ -65,7 +67,7 @@ module _ (seg : ℕ) (rooms : HoldingRooms) (s : SegmentValue) (is : s ≡ recor
 
   pub fresh_kept : (a : AreaValue) (items : List ExitRow) → a ≡ record { segments = s ∷ []; room = rooms.segments } → HasDistinct a.segments → AreHoldings rooms.bound 0 Idle a items
   fresh_kept a items area distinct = record {
-    numbered = record { distinct = distinct; none = λ k past. ap (λ (x : AreaValue). segment_at x.segments k) area ∙ at_cons_other s [] k (λ e. omega (arith, e, past, below, number_is)) };
+    numbered = record { distinct = distinct; none = λ k past. ap (λ (x : AreaValue). segment_at x.segments k) area ∙ at_other s [] k (λ e. omega (arith, e, past, below, number_is)) };
     begun = λ k x there. begun k x (sym (ap (λ (y : AreaValue). segment_at y.segments k) area) ∙ there);
     weighed = sym (ap (λ (x : AreaValue). total object_bytes (area_objects rooms.bound x.segments)) area ∙ ap (total object_bytes) alone_objects);
     marks = tt;
@@ -75,10 +77,10 @@ module _ (seg : ℕ) (rooms : HoldingRooms) (s : SegmentValue) (is : s ≡ recor
       begun k x there =
           elim (cases_eq s.number k) [
             | inl e ↦
-                let one : s ≡ x = one_segment (sym (at_cons_same s [] k e) ∙ there) in
+                let one : s ≡ x = one_segment (sym (at_same s [] k e) ∙ there) in
                 let long : length s.rows ≡ 1 = ap (λ (y : SegmentValue). length y.rows) is in
                 subst (λ (y : SegmentValue). 0 < length y.rows) one (omega (arith, long))
-            | inr ne ↦ let off : None ≡ Some x = sym (at_cons_other s [] k ne) ∙ there in absurd (cc)
+            | inr ne ↦ let off : None ≡ Some x = sym (at_other s [] k ne) ∙ there in absurd (cc)
           ]
 
 -- a segment more

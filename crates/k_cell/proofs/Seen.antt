@@ -196,7 +196,3 @@ pub added_seen : (bound : ℕ) (phase : CellPhase) (a : AreaValue) (e : ExitList
 added_seen bound phase a e note n idle =
     subst (λ q. holdings_seen bound q a (with_target e n) note ≡ record (holdings_seen bound q a e note) { value = with_exit_item n (cell_seen bound q a e.items) }) (sym idle)
     (same_holdings note bound (same_cell Idle refl refl (added_targets e n) refl refl refl) refl refl (added_room e n))
-
--- while no collection is open other exit items leave all in order
-pub idle_kept : (bound bytes : ℕ) (phase : CellPhase) (a : AreaValue) (items others : List ExitRow) → phase ≡ Idle → AreHoldings bound bytes phase a items → AreHoldings bound bytes phase a others
-idle_kept bound bytes phase a items others idle kept = record { numbered = kept.numbered; begun = kept.begun; weighed = kept.weighed; marks = subst (λ q. AreMarksKept q a others) (sym idle) tt }

@@ -27,10 +27,9 @@ use Rattle.k_changes.proofs.EntryCounts.{kept_and_gone, one_item}
 use Rattle.k_changes.proofs.SharedSums.{shares_sum}
 use Rattle.k_changes.proofs.WaysInto.{share_stays_so}
 use Rattle.k_base.proofs.Sums.{bit, sum_same, sum_both, same_below}
-use Rattle.k_frame.proofs.ElsewhereOther.{filter_hidden}
 use Rattle.k_frame.proofs.Kept.{has_share-kept, distinct_shares-kept, any-fewer}
 use Rattle.k_base.proofs.NameTests.{heap_eq-true}
-use Rattle.k_base.proofs.Lists.{get_mapped}
+use Rattle.k_base.proofs.Lists.{get_mapped, filter_stronger}
 
 -- the bytes of a heap are those of the objects in its cell's part
 shows : (trace : Trace) (su : State) (h : Heap) → bytes_of trace su h ≡ bytes_in (part trace su h)
@@ -70,7 +69,7 @@ module _ (trace : Trace) (st : State) (h : Heap) (sound : IsSound trace st) wher
 
   pub other_bytes : (g : Heap) → IsFalse (heap_eq g h) → bytes_of trace (after_ended trace h st) g ≡ bytes_of trace st g
   unfolding after_ended keep_objects keep_exits keep_shares close_scan bytes_by
-  other_bytes g apart = ap (total object_bytes) (filter_hidden (λ o. heap_eq (owner_of trace st o.name.seg.0) g) (λ o. survives trace st h o.name) (survives_elsewhere g apart) st.objects)
+  other_bytes g apart = ap (total object_bytes) (filter_stronger (λ o. heap_eq (owner_of trace st o.name.seg.0) g) (λ o. survives trace st h o.name) (survives_elsewhere g apart) st.objects)
 
   own_bytes : bytes_of trace (after_ended trace h st) h ≡ bytes_in (collected (part trace st h))
   own_bytes = shows trace (after_ended trace h st) h ∙ ap (λ (c : CellPart). bytes_in c) (ended_on_cell trace st h)
@@ -133,7 +132,7 @@ module _ (trace : Trace) (limits : AreLimits trace) (st : State) (p : ℕ) (soun
 
   -- the shares of another process stay
   others_hidden : (q : ℕ) → q ≢ p → filter (λ e. e.process == q) (filter (share_stays trace st (user p)) st.shares) ≡ filter (λ e. e.process == q) st.shares
-  others_hidden q ne = filter_hidden (λ (e : Sharing). e.process == q) (share_stays trace st (user p))
+  others_hidden q ne = filter_stronger (λ (e : Sharing). e.process == q) (share_stays trace st (user p))
       (λ e t. share_stays_so trace st sound p roots opened e.heap e.process
       ∙ ap (λ b. not b || stays e.heap) (ne_eqb e.process p (λ same. ne (sym (eqb-true e.process q t) ∙ same)))) st.shares
 

@@ -1,5 +1,5 @@
 -- Events that begin a collection, with the roots of the heap gray, are appended.
-use Rattle.std.proofs.Common.{◌≡◌, ◌+◌, ◌-◌, ◌<◌, ◌^◌, cond, not, refl, sym, ap, ◌∙◌, subst, List, [], ◌∷◌, length, Option, Some, option_map}
+use Rattle.std.proofs.Common.{◌≡◌, ◌-◌, ◌<◌, ◌^◌, cond, not, refl, sym, ap, ◌∙◌, subst, List, [], ◌∷◌, length, Some, option_map}
 use Rattle.std.specs.List.{list_all}
 use Rattle.std.proofs.lemmas.Bool.{and_from}
 use Rattle.k_types.specs.declared.event.Event.{Event}
@@ -12,7 +12,7 @@ use Rattle.k_types.specs.declared.names.Name.{Name}
 use Rattle.k_types.specs.declared.op.Op.TheVariants.{Collect}
 use Rattle.k_types.specs.Agree.{AreMarks, CellValue}
 use Rattle.k_types.specs.Bounds.{register_count}
-use Rattle.k_types.specs.Cells.{CellPart, ProcessPart, ShownPart, book_part, cells_touched, other_cells, part, shown}
+use Rattle.k_types.specs.Cells.{CellPart, ShownPart, book_part, cells_touched, other_cells, part, shown}
 use Rattle.k_types.specs.Effects.{step}
 use Rattle.k_types.specs.Names.{name_among}
 use Rattle.k_types.specs.Reach.{roots_of}
@@ -56,13 +56,11 @@ use Rattle.k_collect.specs.Begun.{HasBegunHeap}
 use Rattle.k_collect.specs.Collecting.{CanBeginHeap}
 use Rattle.k_collect.specs.Graying.{HasGrayed, is_root_by}
 use Rattle.k_collect.proofs.Roots.{gray_at_roots, registers_all}
+use Rattle.k_frame.proofs.Untouched.{one_counted}
 
 -- what is shown once one more operation is done
 abbrev shown_done : ShownPart → ShownPart
 shown_done s = record s { process = option_map process_with_done s.process }
-
-pub one_more : (process : Option ProcessPart) (q : ProcessPart) → process ≡ Some q → done_in (option_map process_with_done process) ≡ done_in process + 1
-one_more process q is = rw (is) refl
 
 module _ (trace : Trace) (st : State) (event : Event) (heap : Heap) (b : BookRecord) (v w : CellValue) (sound : IsSound trace st) (begins : heap_begun_by event ≡ Some heap)
     (seen : BookShows trace st b.value) (shows : Shows trace st heap v) (grayed : HasGrayed (is_root_by heap b v) (begun [] v) w) where
@@ -164,7 +162,7 @@ module _ (trace : Trace) (c : HeapRecord) (b : BookRecord) (stands : BookStands 
       event_is = refl;
       appended = record { possible = collect_possible; lawful = possible_events_are_lawful trace b.journal.list collect stands.keeps.limits stands.agrees.legal collect_possible; journal = refl; same_table = refl; book_is = refl; agrees = after.book_agrees };
       heap_goes_on = record { cell_is = refl; table = heap_stands.table; settled = heap_stands.settled; in_phase = refl; met = after.cells_met.0; agrees = after.cells_agree.0 };
-      done = one_more c.value.process _ (ap (λ (s : ShownPart). s.process) met.after.shows.part);
+      done = one_counted c.value.process _ (ap (λ (s : ShownPart). s.process) met.after.shows.part);
       gray = gray_right trace now collect heap b c.value w (sound_now before met) refl stands.agrees.shows met.after.shows grayed (ap (λ (p : CellPart). p.scan) collect_part);
     }
 

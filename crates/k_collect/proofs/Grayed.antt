@@ -1,7 +1,6 @@
 -- What has been made gray so far.
-use Rattle.std.proofs.Common.{◌≡◌, ℕ, ◌-◌, ◌<◌, ◌||◌, ◌&&◌, Bool, true, false, refl, sym, ap, ap₂, ◌∙◌, subst, List, [], ◌∷◌, ◌++◌, length, take, Option, Some, None}
+use Rattle.std.proofs.Common.{◌≡◌, ℕ, ◌-◌, ◌<◌, ◌||◌, ◌&&◌, Bool, true, false, refl, sym, ap, ap₂, ◌∙◌, subst, List, length, take, Option, Some, None}
 use Rattle.std.specs.List.{list_any}
-use Rattle.std.proofs.lemmas.List.Folds.{list_any-append}
 use Rattle.k_types.specs.declared.names.Heap.{Heap}
 use Rattle.k_types.specs.declared.names.Name.{Name}
 use Rattle.k_types.specs.Agree.{CellValue}
@@ -17,6 +16,7 @@ use Rattle.k_collect.specs.Graying.{HasBegun, HasGrayed, is_counted_at}
 use Rattle.k_collect.proofs.Walks.{IsOnWalk, distinct_walk, first_on_walk, next_on_walk, none_before, on_walk_counted, passed_before, passed_more, passed_next, walk_counts}
 use Rattle.k_types.specs.Counted.{Counted, counted}
 use Rattle.k_base.specs.Distinct.{AreDistinctNames}
+use Rattle.k_moves.proofs.Changed.{among_pushed}
 
 pub grays_none : (v : CellValue) → HasBegun v → HasGrayed (λ n. false) v v
 grays_none v begins = record { rest = begins; gray = λ n. sym (or_none (name_among n v.gray)) }
@@ -55,10 +55,6 @@ grays_same f g v w same grayed = record {
   gray = λ n. grayed.gray n ∙ ap (λ t. name_among n v.gray || (t && has v.objects n)) (same n);
 }
 
--- that name alone comes after these
-pub among_last : (names : List Name) (t n : Name) → name_among n (names ++ t ∷ []) ≡ (name_among n names || name_eq t n)
-among_last names t n = list_any-append (λ m. name_eq m n) names (t ∷ []) ∙ ap (λ b. name_among n names || b) (or_none (name_eq t n))
-
 -- what the first registers hold
 abbrev pub held_by_first : ℕ → CellValue → Name → Bool
 held_by_first count v n = list_any (λ r. leads_to r n) (take count (registers_in v.process))
@@ -75,7 +71,7 @@ module _ (v : EntryValue) (heap : Heap) (are : AreEntries v) where
       HasGrayed (λ n. name_among n (passed_before items (object_after items t))) w y
   walk_goes_on t w x y distinct there grayed root =
       grays_same (λ n. name_among n (passed_before items (Some t)) || name_eq t n) (λ n. name_among n (passed_before items (object_after items t))) w y
-      (λ n. sym (ap (name_among n) (passed_next items t distinct there) ∙ among_last (passed_before items (Some t)) t n))
+      (λ n. sym (ap (name_among n) (passed_next items t distinct there) ∙ among_pushed (passed_before items (Some t)) t n))
       (grays_one (λ n. name_among n (passed_before items (Some t))) t w x y grayed root)
 
   pub walk_ends : (w x : CellValue) → HasGrayed (λ n. name_among n (passed_before items None)) w x → HasGrayed (is_counted_at v heap) w x

@@ -52,7 +52,8 @@ use Rattle.k_commit.proofs.Setting.{process_known, process_lives}
 use Rattle.k_collect.specs.Begun.{HasBegunKernel, HasClosed}
 use Rattle.k_collect.specs.Collecting.{CanBeginKernel, CanClose}
 use Rattle.k_collect.specs.Graying.{HasGrayed, is_root_by}
-use Rattle.k_collect.proofs.Begins.{gray_right, marks_right, one_more}
+use Rattle.k_collect.proofs.Begins.{gray_right, marks_right}
+use Rattle.k_frame.proofs.Untouched.{one_counted}
 
 -- no element of which none is found passes the test
 pub none_found : {A : Type 0} (p : A → Bool) (xs : List A) → find p xs ≡ None → list_all (λ x. not (p x)) xs ≡ true
@@ -179,7 +180,7 @@ module _ (trace : Trace) (c : HeapRecord) (k : HoldingsValue) (b : BookRecord) (
       appended = record { possible = kcollect_possible; lawful = possible_events_are_lawful trace b.journal.list kcollect can.book_stands.keeps.limits can.book_stands.agrees.legal kcollect_possible; journal = refl; same_table = refl; book_is = refl; agrees = both_after.book_agrees };
       heap_goes_on = record { cell_is = refl; table = can.heap_stands.table; settled = can.heap_stands.settled; in_phase = can.heap_stands.idle; met = both_after.cells_met.0; agrees = both_after.cells_agree.0 };
       kernel_goes_on = record { kernel_is = refl; table = can.kernel_stands.table; in_phase = refl; met = both_after.cells_met.1.0; agrees = both_after.cells_agree.1.0 };
-      done = one_more c.value.process _ (ap (λ (s : ShownPart). s.process) both_met.after.shows.part);
+      done = one_counted c.value.process _ (ap (λ (s : ShownPart). s.process) both_met.after.shows.part);
       gray = gray_right trace now kcollect Kernel b k.value w (sound_now before both_met) refl can.book_stands.agrees.shows kernel_shows grayed (ap (λ (p : CellPart). p.scan) kernel_part_then);
     }
 

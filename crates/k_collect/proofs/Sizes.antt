@@ -1,5 +1,5 @@
 -- The numbers of the end of a collection fit, and what it credits is charged.
-use Rattle.std.proofs.Common.{◌≡◌, ◌+◌, ◌-◌, ◌*◌, ◌<◌, ◌≤◌, ◌^◌, ◌&&◌, not, Bool, true, false, cond, ℕ, ap, List, [], ◌∷◌, length, map, arith, get_or, IsFalse, suc, zero}
+use Rattle.std.proofs.Common.{◌≡◌, ◌+◌, ◌-◌, ◌*◌, ◌<◌, ◌≤◌, ◌^◌, ◌&&◌, not, Bool, true, false, cond, ℕ, ap, List, [], ◌∷◌, length, map, arith, get_or, IsFalse}
 use Rattle.k_types.specs.declared.names.Heap.{Heap}
 use Rattle.k_types.specs.Agree.{BookValue, CellValue}
 use Rattle.k_types.specs.Cells.{BookPart, Cell, ShownPart, book_part, part}
@@ -13,26 +13,21 @@ use Rattle.k_types.specs.Totals.{total}
 use Rattle.k_types.specs.Trace.{Trace, limit_of, process_count}
 use Rattle.k_types.specs.TraceRules.{KeepsRules}
 use Rattle.k_types.specs.declared.event.Event.{Event}
-use Rattle.k_base.proofs.Lists.{numbers_length}
+use Rattle.k_base.proofs.Lists.{numbers_length, length-kept}
 use Rattle.k_base.proofs.Sums.{total_at_most}
 use Rattle.k_bounds.specs.Counts.{has_allocated}
 use Rattle.k_bounds.proofs.Counting.{count_low, total_fewer}
 use Rattle.k_bounds.proofs.Laws.{objects_are_at_most_the_allocations}
 use Rattle.k_known.proofs.Fitting.{objects_bounded}
-use Rattle.k_laws.proofs.Closure.{length-kept}
 use Rattle.k_agree.specs.Agreement.{BookShows, Shows}
 use Rattle.k_agree.specs.Ending.{bytes_unshared, freed_bytes, freed_objects, keeps_way}
 use Rattle.k_squares.proofs.Laws.{what_is_let_go_is_counted-charges}
+use Rattle.k_commit.proofs.Fitting.{read_low}
 
 -- a sum of numbers that are at most 2 ^ 40
 sum_low : (f : ℕ → ℕ) (xs : List ℕ) → ((x : ℕ) → f x ≤ 2 ^ 40) → total f xs ≤ 2 ^ 40 * length xs
 sum_low f [] low = omega arith
 sum_low f (x ∷ xs) low = let one = low x in let rest = sum_low f xs low in omega (arith, one, rest)
-
-read_low : {A : Type 0} (f : A → ℕ) (xs : List A) (i most : ℕ) → ((x : A) → f x ≤ most) → get_or (map f xs) i 0 ≤ most
-read_low f [] i most low = omega arith
-read_low f (x ∷ xs) zero most low = low x
-read_low f (x ∷ xs) (suc i) most low = read_low f xs i most low
 
 module _ (trace : Trace) (history : List Event) (keeps : KeepsRules trace) (legal : IsLegalHistory trace history) where
   abbrev now : State

@@ -1,40 +1,16 @@
 -- The shares of a process that are dropped one by one.
-use Rattle.std.proofs.Common.{◌≡◌, ℕ, zero, suc, ◌+◌, ◌-◌, ◌<◌, ◌≤◌, ◌^◌, ◌==◌, ◌||◌, ◌&&◌, not, nat_lt, Bool, true, false, cond, refl, sym, ap, ap₂, ◌∙◌, subst, List, length, get_or, arith, add-one, eqb-true, eq-eqb}
+use Rattle.std.proofs.Common.{◌≡◌, ℕ, ◌+◌, ◌-◌, ◌<◌, ◌≤◌, ◌^◌, ◌==◌, ◌||◌, ◌&&◌, not, nat_lt, Bool, true, false, cond, refl, sym, ap, ap₂, ◌∙◌, subst, List, length, get_or, arith, eqb-true, eq-eqb}
 use Rattle.std.proofs.lemmas.Bool.{and_parts, false≢true, lt-ltb, ltb-true}
 use Rattle.k_types.specs.Agree.{BookValue, CellValue}
 use Rattle.k_types.specs.Numbers.{numbers_below}
 use Rattle.k_types.specs.State.{has_share}
-use Rattle.k_types.specs.Totals.{total}
-use Rattle.k_base.proofs.Lists.{numbers_length, numbers_push}
-use Rattle.k_base.proofs.Sums.{ones, sum_same, total_at_most, total_push}
+use Rattle.k_base.proofs.Lists.{numbers_length}
+use Rattle.k_base.proofs.Sums.{ones, sum_same, total_at_most}
 use Rattle.k_base.proofs.Tests.{same_test}
 use Rattle.k_book.specs.Books.{BookRecord}
 use Rattle.k_shares.specs.Sharers.{LosesShare}
 use Rattle.k_collect.specs.Unsharing.{CanUnshare, HasUnshared, bytes_lost, shares_lost, ways_left}
-
--- one number more in a sum
-pub total_more : (f : ℕ → ℕ) (n : ℕ) → total f (numbers_below (n + 1)) ≡ total f (numbers_below n) + f n
-total_more f n =
-    let same : 0 + n ≡ n = omega arith in
-    ap (λ k. total f (numbers_below k)) (add-one n)
-    ∙ ap (total f) (numbers_push 0 n)
-    ∙ total_push f (numbers_below n) (0 + n)
-    ∙ ap (λ k. total f (numbers_below n) + f k) same
-
-total_rises : (f : ℕ → ℕ) (n d : ℕ) → total f (numbers_below n) ≤ total f (numbers_below (n + d))
-total_rises f n zero = let same : n + 0 ≡ n = omega arith in let e = ap (λ k. total f (numbers_below k)) same in omega (arith, e)
-total_rises f n (suc d) =
-    let next : n + suc d ≡ (n + d) + 1 = omega arith in
-    let e = ap (λ k. total f (numbers_below k)) next ∙ total_more f (n + d) in
-    let less = total_rises f n d in
-    omega (arith, e, less)
-
-pub first_total : (f : ℕ → ℕ) (n m : ℕ) → n ≤ m → total f (numbers_below n) ≤ total f (numbers_below m)
-first_total f n m within =
-    let same : n + (m - n) ≡ m = omega (arith, within) in
-    let e = ap (λ k. total f (numbers_below k)) same in
-    let less = total_rises f n (m - n) in
-    omega (arith, e, less)
+use Rattle.k_base.proofs.Totals.{total_more, first_total}
 
 pub record IsUnsharing (stays : ℕ → Bool) (p : ℕ) (old now : BookRecord) (s shares bytes : ℕ) : Type 0 where
   pub rest : now ≡ record old { value = record old.value { shares = now.value.shares } }

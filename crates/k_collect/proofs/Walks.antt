@@ -1,17 +1,17 @@
 -- How far a walk over the objects of a heap has come.
 use Rattle.std.proofs.Common.{◌≡◌, ◌-◌, ◌≤◌, ◌<◌, ◌||◌, Bool, true, false, cond, refl, sym, ap, ◌∙◌, List, [], ◌∷◌, ◌++◌, length, Option, Some, None, arith, nat_lt, ltb-true}
-use Rattle.std.proofs.lemmas.Bool.{false≢true, or_left, or_right, and_parts}
+use Rattle.std.proofs.lemmas.Bool.{false≢true, and_parts}
 use Rattle.std.proofs.lemmas.List.{length-append}
 use Rattle.k_types.specs.declared.names.Heap.{Heap}
 use Rattle.k_types.specs.declared.names.Name.{Name}
 use Rattle.k_types.specs.Counted.{Counted, counted}
 use Rattle.k_types.specs.Names.{heap_eq, name_among, name_eq}
 use Rattle.k_base.specs.Distinct.{AreDistinctNames}
-use Rattle.k_base.proofs.Lists.{some_one}
-use Rattle.k_base.proofs.NameTests.{heap_eq-true, name_eq-same, name_eq-true, name_eq_refl}
+use Rattle.k_base.proofs.NameTests.{heap_eq-true, name_eq-true, name_eq_refl}
 use Rattle.k_entry.specs.Entries.{AreEntries, EntryValue, first_object, home_of, items_of, object_after, objects}
 use Rattle.k_entry.proofs.WholeWalks.{walk_distinct, walk_has}
 use Rattle.k_collect.specs.Graying.{is_counted_at}
+use Rattle.k_entry.proofs.Members.{first_among, after_among}
 
 -- the names of the items before that one; of all where there is none
 abbrev pub passed_before : List Counted → Option Name → List Name
@@ -38,19 +38,6 @@ passed_few (item ∷ items) (Some t) = elim (name_eq item.object t) as (λ b. le
   | true ↦ omega arith
   | false ↦ let rest = passed_few items (Some t) in omega (arith, rest)
 ]
-
-first_among : (items : List Counted) (u : Name) → first_object items ≡ Some u → name_among u (objects items) ≡ true
-first_among [] u e = absurd (cc)
-first_among (item ∷ items) u e = or_left _ _ (name_eq-same item.object u (some_one e))
-
-after_among : (items : List Counted) (t u : Name) → object_after items t ≡ Some u → name_among u (objects items) ≡ true
-after_among [] t u e = absurd (cc)
-after_among (item ∷ items) t u e = go (λ is. after_among items t u is) (name_eq item.object t) e
-  where
-    go : (object_after items t ≡ Some u → name_among u (objects items) ≡ true) → (b : Bool) → cond b (first_object items) (object_after items t) ≡ Some u →
-        (name_eq item.object u || name_among u (objects items)) ≡ true
-    go rest true is = or_right _ _ (first_among items u is)
-    go rest false is = or_right _ _ (rest is)
 
 pub first_on_walk : (items : List Counted) → IsOnWalk items (first_object items)
 first_on_walk items u is = first_among items u is

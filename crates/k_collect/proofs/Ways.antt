@@ -12,12 +12,13 @@ use Rattle.k_types.specs.Replies.{is_populating}
 use Rattle.k_types.specs.State.{State}
 use Rattle.k_types.specs.Trace.{Trace, process_count}
 use Rattle.k_base.proofs.Lists.{any_same}
-use Rattle.k_base.proofs.NameTests.{heap_eq_refl, name_eq-true, name_eq_refl}
+use Rattle.k_base.proofs.NameTests.{heap_eq_refl, name_eq_refl}
 use Rattle.k_base.proofs.Tests.{same_test}
 use Rattle.k_frame.proofs.OwnerOf.{owner_shared}
 use Rattle.k_agree.specs.Ending.{keeps_way, swept}
 use Rattle.k_changes.specs.BookChanges.{leads_into, registers_in}
 use Rattle.k_collect.specs.Unsharing.{has_way_by, lies_in}
+use Rattle.k_agree.proofs.Shared.{among_any}
 
 -- a segment that the shared heap owns is the heap's own
 shared_segment : (procs : ℕ) (ended : List ℕ) (phases : List Phase) (seg t : ℕ) → heap_eq (owner_of_segment procs ended phases seg) (shared t) ≡ true → seg ≡ 1 + procs + t
@@ -41,13 +42,6 @@ shared_segment procs ended phases seg t e = go (seg == 0) (nat_le seg procs) ref
         let above = leb-false seg procs high in
         omega (arith, number, above)
 
-any_at_name : (g : Name → Bool) (xs : List Name) (n : Name) → name_among n xs ≡ true → g n ≡ true → list_any g xs ≡ true
-any_at_name g [] n t u = absurd (false≢true t)
-any_at_name g (x ∷ xs) n t u = elim (or_cases (name_eq x n) (name_among n xs) t) [
-  | inl here ↦ or_left (g x) (list_any g xs) (ap g (name_eq-true x n here) ∙ u)
-  | inr there ↦ or_right (g x) (list_any g xs) (any_at_name g xs n there u)
-]
-
 -- names of which some passes the test have one that does
 some_at_name : (g : Name → Bool) (xs : List Name) → list_any g xs ≡ true → (n : Name) × (name_among n xs ≡ true) × (g n ≡ true)
 some_at_name g [] t = absurd (false≢true t)
@@ -61,7 +55,7 @@ pub any_members : (g : Name → Bool) (xs ys : List Name) → ((n : Name) → na
 any_members g xs ys same = same_test (list_any g xs) (list_any g ys) (λ t. along xs ys (λ n there. sym (same n) ∙ there) t) (λ t. along ys xs (λ n there. same n ∙ there) t)
   where
     along : (us vs : List Name) → ((n : Name) → name_among n us ≡ true → name_among n vs ≡ true) → list_any g us ≡ true → list_any g vs ≡ true
-    along us vs carry t = let n = some_at_name g us t in any_at_name g vs n.0 (carry n.0 n.1) n.2
+    along us vs carry t = let n = some_at_name g us t in among_any g vs n.0 (carry n.0 n.1) n.2
 
 module _ (trace : Trace) (st : State) (t : ℕ) (stands : IsFalse (is_absorbed (phase_of st.phases t))) where
   into_heap : (seg : ℕ) → (seg == 1 + process_count trace + t) ≡ heap_eq (owner_of trace st seg) (shared t)

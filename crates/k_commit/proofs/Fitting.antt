@@ -28,7 +28,7 @@ use Rattle.k_commit.specs.Met.{Before, BeforeWithKernel, BeforeWithShared, HaveM
 use Rattle.k_commit.specs.Rooms.{HasEventRoom}
 
 -- what is read of a list of small numbers is small
-read_low : {A : Type 0} (f : A → ℕ) (xs : List A) (i most : ℕ) → ((x : A) → f x ≤ most) → get_or (map f xs) i 0 ≤ most
+pub read_low : {A : Type 0} (f : A → ℕ) (xs : List A) (i most : ℕ) → ((x : A) → f x ≤ most) → get_or (map f xs) i 0 ≤ most
 read_low f [] i most low = omega arith
 read_low f (x ∷ xs) zero most low = low x
 read_low f (x ∷ xs) (suc i) most low = read_low f xs i most low

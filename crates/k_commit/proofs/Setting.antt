@@ -1,6 +1,5 @@
 -- A register that is set with its pin.
 use Rattle.std.proofs.Common.{◌≡◌, ◌+◌, ◌-◌, ◌<◌, ◌==◌, ◌^◌, ℕ, refl, sym, ap, subst, ◌∙◌, List, length, Option, Some, None, IsFalse, arith}
-use Rattle.std.proofs.Math.Path.{fun_ext}
 use Rattle.std.proofs.lemmas.List.{length-map}
 use Rattle.k_types.specs.declared.names.Heap.{Heap}
 use Rattle.k_types.specs.declared.names.Heap.TheVariants.{User}
@@ -22,7 +21,7 @@ use Rattle.k_entry.specs.Entries.{AreEntries}
 use Rattle.k_book.specs.Books.{BookRecord, book_pins}
 use Rattle.k_book.specs.Calls.{ChangesPins}
 use Rattle.k_book.proofs.OnPart.{moved_on}
-use Rattle.k_changes.specs.BookChanges.{owner_in, pins_by, with_pin_moved}
+use Rattle.k_changes.specs.BookChanges.{owner_in, with_pin_moved}
 use Rattle.k_changes.proofs.Laws.{the_book_tells_the_owners}
 use Rattle.k_frame.specs.PartUpdates.{held_in}
 use Rattle.k_heap.specs.Heaps.{HeapRecord, has_ended_in}
@@ -31,12 +30,6 @@ use Rattle.k_commit.specs.Changed.{CanSetRegister}
 use Rattle.k_commit.specs.Met.{Before, HaveMet}
 use Rattle.k_commit.specs.Owning.{IsOwnBySegment}
 use Rattle.k_commit.proofs.Fitting.{pins_have_room, pins_small}
-
--- a register with null has no pin to move
-pub none_moved : (own : ℕ → Heap) (p : ℕ) (b : BookPart) → with_pin_moved own p None None b ≡ b
-none_moved own p b =
-    ap (λ (pins : Name → ℕ). record b { pins = pins })
-    (fun_ext (λ n. let back : (b.pins n + pins_by own p None n) - pins_by own p None n ≡ b.pins n = omega arith in back))
 
 module _ (b t l : BookRecord) (first : ChangesPins b t) (second : ChangesPins t l) where
   pub pins_alone : l ≡ record b { value = record b.value { pins = l.value.pins } }

@@ -1,5 +1,5 @@
 -- What absorptions and the last collection of the kernel leave of processes and shared heaps.
-use Rattle.std.proofs.Common.{◌≡◌, ℕ, ◌<◌, ◌&&◌, not, Bool, true, false, cond, refl, sym, ap, ap₂, ◌∙◌, List, [], ◌∷◌, filter, find, map, arith}
+use Rattle.std.proofs.Common.{◌≡◌, ℕ, ◌<◌, ◌&&◌, not, Bool, true, false, refl, sym, ap, ap₂, ◌∙◌, List, [], ◌∷◌, find, map, arith}
 use Rattle.std.specs.List.{list_all}
 use Rattle.std.proofs.Math.Path.{fun_ext}
 use Rattle.std.proofs.lemmas.Bool.{false_from_ne_true, false≢true}
@@ -19,10 +19,7 @@ use Rattle.k_types.specs.Updates.{close, close_scan, keep_exits, keep_objects, k
 use Rattle.k_base.proofs.Numbered.{all_at_below}
 use Rattle.k_bounds.specs.Counts.{closing_count, one_if}
 use Rattle.k_bounds.proofs.AbsorbedCounts.{closings}
-
-all_kept : {A : Type 0} (p : A → Bool) → ((x : A) → p x ≡ true) → (xs : List A) → filter p xs ≡ xs
-all_kept p passes [] = refl
-all_kept p passes (x ∷ xs) = ap (λ b. cond b (x ∷ filter p xs) (filter p xs)) (passes x) ∙ ap (λ ys. x ∷ ys) (all_kept p passes xs)
+use Rattle.k_order.proofs.FileOrders.{all_kept}
 
 -- phases and shares are the same
 record HasSameSharing (st su : State) : Type 0 where

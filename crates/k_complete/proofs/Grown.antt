@@ -1,10 +1,6 @@
 -- Journals that grow.
-use Rattle.std.proofs.Common.{◌≡◌, sym, ap, ◌∙◌, List, [], ◌++◌, append_assoc}
-use Rattle.std.proofs.lemmas.List.{append-nil}
+use Rattle.std.proofs.Common.{◌≡◌, sym, ap, ◌∙◌, List, ◌++◌, append_assoc}
 use Rattle.k_types.specs.Complete.{IsPrefixOf}
-
-pub prefix_same : {A : Type 0} (xs : List A) → IsPrefixOf xs xs
-prefix_same xs = ([], append-nil xs)
 
 pub prefix_by : {A : Type 0} (xs ys rest : List A) → ys ≡ xs ++ rest → IsPrefixOf xs ys
 prefix_by xs ys rest is = (rest, sym is)

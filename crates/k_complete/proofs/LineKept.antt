@@ -33,7 +33,8 @@ use Rattle.k_complete.specs.Placed.{CanDoAt, HasDoneAt}
 use Rattle.k_complete.specs.Replaying.{CanDoLine, HasDoneLine}
 use Rattle.k_complete.proofs.Added.{adds_events_of}
 use Rattle.k_complete.proofs.EndKept.{met_stands}
-use Rattle.k_complete.proofs.PlacedKept.{got_other, got_own, only, read_there}
+use Rattle.k_complete.proofs.PlacedKept.{got_own, read_there}
+use Rattle.k_base.proofs.Lists.{slice_get-set_other, same_value}
 
 -- the first of what is left, and nothing where nothing is left
 got_first : {A : Type 0} (n : ℕ) (xs : List A) (x : A) (rest : List A) → drop n xs ≡ x ∷ rest → slice_get xs n ≡ Some x
@@ -109,7 +110,7 @@ module _ (world : WorldValue) (ps : List Process) (at : ℕ) (k : HoldingsValue)
 
     -- what is read in its place after the meeting
     pub read_met : (q : Process) → q ≡ get_or met at q → record p { cell = w } ≡ q
-    read_met q read = only (sym line_there ∙ read_there met ps at q (length-set ps at (record p { cell = w })) can.inside read)
+    read_met q read = same_value (sym line_there ∙ read_there met ps at q (length-set ps at (record p { cell = w })) can.inside read)
 
     no_next : IsNextOf world.trace w None → next_operation world.trace now p.cell.pid.0 ≡ None
     no_next none = go (among p.cell.pid.0 now.ended) refl
@@ -164,8 +165,8 @@ module _ (world : WorldValue) (ps : List Process) (at : ℕ) (k : HoldingsValue)
           processes = process_set world qs at d.process r d.stand.processes d.there t.pair.process (ap (λ (c : HeapRecord). c.pid) t.cell_is);
           rest = record { kernel = d.stand.rest.kernel; shared = d.stand.rest.shared; book = t.pair.book };
           published = λ j q found. elim (cases_eq j at) [
-            | inl is ↦ subst (λ (y : Process). y.cell.value.tail ≡ []) (only (sym (got_own qs at r d.process d.there) ∙ ap (slice_get (set qs at r)) (sym is) ∙ found)) t.settled
-            | inr other ↦ others_published j q other (sym (got_other qs at j r other) ∙ found)
+            | inl is ↦ subst (λ (y : Process). y.cell.value.tail ≡ []) (same_value (sym (got_own qs at r d.process d.there) ∙ ap (slice_get (set qs at r)) (sym is) ∙ found)) t.settled
+            | inr other ↦ others_published j q other (sym (slice_get-set_other qs at j r other) ∙ found)
           ];
           journal = by_number e.journal.list
               (adds_events_of world.trace p.cell.pid op b.journal.list e.journal.list t.pair.book.stands.agrees.legal adds_now

@@ -25,6 +25,7 @@ use Rattle.k_complete.specs.Ended.{AllStand, AreKeptBut, HasCompleted, IsKept}
 use Rattle.k_complete.specs.Placed.{CanDoAt, CanKillAt, HasDoneAt, HasKilledAt}
 use Rattle.k_complete.proofs.EndKept.{fewer_left}
 use Rattle.k_complete.proofs.Grown.{prefix_by, prefix_trans}
+use Rattle.k_base.proofs.Lists.{slice_get-set_other, same_value}
 
 -- what is written is found in its place, and any other place holds what it held
 pub got_own : {A : Type 0} (xs : List A) (k : ℕ) (x y : A) → slice_get xs k ≡ Some y → slice_get (set xs k x) k ≡ Some x
@@ -32,16 +33,6 @@ got_own [] zero x y e = absurd cc
 got_own [] (suc k) x y e = absurd cc
 got_own (z ∷ xs) zero x y e = refl
 got_own (z ∷ xs) (suc k) x y e = got_own xs k x y e
-
-pub got_other : {A : Type 0} (xs : List A) (k j : ℕ) (x : A) → j ≢ k → slice_get (set xs k x) j ≡ slice_get xs j
-got_other [] k j x ne = refl
-got_other (z ∷ xs) zero zero x ne = absurd (ne refl)
-got_other (z ∷ xs) zero (suc j) x ne = refl
-got_other (z ∷ xs) (suc k) zero x ne = refl
-got_other (z ∷ xs) (suc k) (suc j) x ne = got_other xs k j x (λ e. ne (ap suc e))
-
-pub only : {A : Type 0} {x y : A} → Some x ≡ Some y → x ≡ y
-only e = cc e
 
 -- a kill names one process
 pub same_target : {q r : Pid} → Kill q ≡ Kill r → q ≡ r
@@ -58,11 +49,11 @@ kept_same trace c = record { same = record { pid = refl; left = refl }; through 
 pub kept_by : (trace : Trace) (ps : List Process) (at : ℕ) (q : Process) → AreKeptBut trace at ps (set ps at q)
 kept_by trace ps at q j r s ne old new = elim (get_set_cases ps at j q s new) [
   | inl here ↦ absurd (ne here.0)
-  | inr there ↦ subst (λ (x : Process). IsKept trace r.cell x.cell) (only (sym old ∙ there)) (kept_same trace r.cell)
+  | inr there ↦ subst (λ (x : Process). IsKept trace r.cell x.cell) (same_value (sym old ∙ there)) (kept_same trace r.cell)
 ]
 
 pub kept_all : (trace : Trace) (ps : List Process) (at : ℕ) → AreKeptBut trace at ps ps
-kept_all trace ps at j r s ne old new = subst (λ (x : Process). IsKept trace r.cell x.cell) (only (sym old ∙ new)) (kept_same trace r.cell)
+kept_all trace ps at j r s ne old new = subst (λ (x : Process). IsKept trace r.cell x.cell) (same_value (sym old ∙ new)) (kept_same trace r.cell)
 
 -- and once more
 pub kept_on : (trace : Trace) (at : ℕ) (xs ys zs : List Process) → length ys ≡ length xs → AreKeptBut trace at xs ys → AreKeptBut trace at ys zs → AreKeptBut trace at xs zs
@@ -149,18 +140,18 @@ module _ (world : WorldValue) (ps : List Process) (at : ℕ) (p : Process) (k : 
     pub done_kill : (new : List Process) (x : HoldingsValue) (l : BookRecord) → HasKilledAt world op at q.0 p target ps new x b l → HasDoneAt world op at p ps new x ss b l
     done_kill new x l h =
         let own = process_set world ps at p h.process n.stand.processes n.there h.done.own.pair.process h.done.own.done.pid in
-        let other = got_other ps at q.0 h.process two ∙ target_there in
+        let other = slice_get-set_other ps at q.0 h.process two ∙ target_there in
         subst (λ (qs : List Process). HasDoneAt world op at p ps qs x ss b l) (sym h.new_is) (record {
           stand = record {
             processes = process_set world (set ps at h.process) q.0 target h.other own other h.done.target h.done.same.pid;
             rest = record { kernel = h.done.kernel; shared = n.stand.rest.shared; book = h.done.own.pair.book };
           };
           process = h.process;
-          there = got_other (set ps at h.process) q.0 at h.other (λ e. two (sym e)) ∙ got_own ps at h.process p n.there;
+          there = slice_get-set_other (set ps at h.process) q.0 at h.other (λ e. two (sym e)) ∙ got_own ps at h.process p n.there;
           done = h.done.own.done;
           others = λ j r s ne old found. elim (get_set_cases (set ps at h.process) q.0 j h.other s found) [
             | inl here ↦
-                let was : target ≡ r = only (sym target_there ∙ sym (ap (slice_get ps) here.0) ∙ old) in
+                let was : target ≡ r = same_value (sym target_there ∙ sym (ap (slice_get ps) here.0) ∙ old) in
                 subst (λ (y : Process). IsKept world.trace y.cell s.cell) was
                 (subst (λ (y : Process). IsKept world.trace target.cell y.cell) here.1 (record { same = h.done.same; through = h.done.through; published = λ none. h.done.published }))
             | inr there ↦ kept_by world.trace ps at h.process j r s ne old there
@@ -179,7 +170,7 @@ completed world first ps at p q k s b l a there same kept none t = record {
     processes = process_set world ps at p q a.processes there t.pair.process (ap (λ (c : HeapRecord). c.pid) t.cell_is);
     rest = record { kernel = a.rest.kernel; shared = a.rest.shared; book = t.pair.book };
   };
-  through = λ r found. subst (λ (x : Process). IsThroughWith world.trace x.cell) (only (sym (got_own ps at q p there) ∙ found)) (record {
+  through = λ r found. subst (λ (x : Process). IsThroughWith world.trace x.cell) (same_value (sym (got_own ps at q p there) ∙ found)) (record {
     published = t.settled;
     all = λ lives. ap (operations_left world.trace) t.cell_is ∙ none (sym (ap (λ (c : HeapRecord). has_ended_in c.value.process) t.cell_is) ∙ lives);
   });

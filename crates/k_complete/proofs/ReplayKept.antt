@@ -1,8 +1,6 @@
 -- All operations in the order of the file.
-use Rattle.std.proofs.Common.{◌≡◌, ℕ, zero, suc, ◌+◌, ◌<◌, ◌≤◌, nat_lt, true, refl, sym, ap, ap₂, ◌∙◌, subst, List, [], ◌∷◌, ◌++◌, append-nil, append_assoc, map, drop, get_or, length, arith, IsTrue}
+use Rattle.std.proofs.Common.{◌≡◌, ℕ, ◌+◌, ◌<◌, nat_lt, true, refl, sym, ap, ap₂, ◌∙◌, subst, List, [], ◌∷◌, ◌++◌, append-nil, append_assoc, map, get_or, length, arith, IsTrue}
 use Rattle.std.specs.List.{list_all}
-use Rattle.std.proofs.lemmas.Bool.{and_parts}
-use Rattle.std.proofs.lemmas.Bool.Decides.{nat_tests}
 use Rattle.k_types.specs.declared.event.Event.{Event}
 use Rattle.k_types.specs.declared.names.Heap.TheVariants.{User}
 use Rattle.k_types.specs.declared.names.Pid.{Pid}
@@ -12,18 +10,17 @@ use Rattle.k_types.specs.State.{State, opening}
 use Rattle.k_types.specs.Steps.{run, state_after}
 use Rattle.k_types.specs.Trace.{Trace, operations_of, process_count}
 use Rattle.k_types.specs.TraceRules.{KeepsRules}
-use Rattle.k_base.proofs.Numbered.{drop_all}
+use Rattle.k_base.proofs.Numbered.{drop_all, process_known}
 use Rattle.k_bounds.proofs.Dones.{done_count}
 use Rattle.k_frame.specs.PartUpdates.{done_in}
 use Rattle.k_frame.proofs.Histories.{run_append}
-use Rattle.k_order.proofs.FileOrders.{file_order_complete}
+use Rattle.k_order.proofs.FileOrders.{file_order_complete, order_end}
 use Rattle.k_agree.specs.Agreement.{Shows}
 use Rattle.k_agree.specs.Settled.{all_ended_in, no_orphan_in}
 use Rattle.k_book.specs.Books.{BookRecord}
 use Rattle.k_cell.specs.Holdings.{HoldingsValue}
 use Rattle.k_heap.specs.Heaps.{HeapRecord, has_ended_in}
 use Rattle.k_shared.specs.SharedHeaps.{SharedRecord}
-use Rattle.k_process.proofs.LockedKept.{drop_none}
 use Rattle.k_process.specs.Keeping.{HeapKeeps}
 use Rattle.k_process.specs.declared.process.Process.{Process}
 use Rattle.k_process.specs.Standing.{ArePublished, IsThroughWith, ProcessesStand, RestStands}
@@ -41,10 +38,6 @@ order_next : (trace : Trace) (st : State) (p : ℕ) (order : List ℕ) →
     file_order_from trace st (p ∷ order) ≡ events_of trace st p (next_operation trace st p) ++ file_order_from trace (run trace st (events_of trace st p (next_operation trace st p))) order
 unfolding file_order_from
 order_next trace st p order = refl
-
-order_end : (trace : Trace) (st : State) → file_order_from trace st [] ≡ last_events trace st
-unfolding file_order_from
-order_end trace st = refl
 
 pub files_first : (trace : Trace) (history : List Event) → history ≡ [] → Files trace history trace.order
 files_first trace history empty = record { filed = ap (λ es. es ++ file_order_from trace (state_after trace es) trace.order) empty }
@@ -64,29 +57,10 @@ files_next trace old new p order files journal =
 pub files_last : (trace : Trace) (old new : List Event) → Files trace old [] → new ≡ old ++ last_events trace (state_after trace old) → new ≡ file_order trace
 files_last trace old new files journal = journal ∙ ap (λ es. old ++ es) (sym (order_end trace (state_after trace old))) ∙ files.filed
 
--- a place of the order is a process of the trace
-pub place_known : (n : ℕ) (pids : List Pid) (i : ℕ) (d : Pid) → list_all (λ p. nat_lt p n) (map (λ (pid : Pid). pid.0) pids) ≡ true → i < length pids → (get_or pids i d).0 < n
-place_known n [] i d all inside = absurd (omega arith)
-place_known n (pid ∷ pids) zero d all inside =
-    let parts = and_parts (nat_lt pid.0 n) (list_all (λ p. nat_lt p n) (map (λ (q : Pid). q.0) pids)) all in
-    grind (arith, nat_tests)
-place_known n (pid ∷ pids) (suc i) d all inside =
-    place_known n pids i d (and_parts (nat_lt pid.0 n) (list_all (λ p. nat_lt p n) (map (λ (q : Pid). q.0) pids)) all).1 (omega arith)
-
-pub places_left : (pids : List Pid) (i : ℕ) (d : Pid) → i < length pids → map (λ (pid : Pid). pid.0) (drop i pids) ≡ (get_or pids i d).0 ∷ map (λ (pid : Pid). pid.0) (drop (i + 1) pids)
-places_left [] i d inside = absurd (omega arith)
-places_left (pid ∷ pids) zero d inside = ap (λ qs. pid.0 ∷ map (λ (q : Pid). q.0) qs) (sym (drop_none pids))
-places_left (pid ∷ pids) (suc i) d inside =
-    let e : suc i + 1 ≡ suc (i + 1) = omega arith in
-    places_left pids i d (omega arith) ∙ ap (λ n. (get_or pids i d).0 ∷ map (λ (q : Pid). q.0) (drop n (pid ∷ pids))) (sym e)
-
-pub no_places_left : (pids : List Pid) (i : ℕ) → length pids ≤ i → map (λ (pid : Pid). pid.0) (drop i pids) ≡ []
-no_places_left pids i past = ap (map (λ (pid : Pid). pid.0)) (drop_all pids i past)
-
 -- the place that comes next is a process of the trace
 pub next_known : (trace : Trace) (order : List Pid) (i : ℕ) (d : Pid) → KeepsRules trace → map (λ (pid : Pid). pid.0) order ≡ trace.order → i < length order → (get_or order i d).0 < process_count trace
 next_known trace order i d rules is inside =
-    place_known (process_count trace) order i d (subst (λ (ps : List ℕ). list_all (λ p. nat_lt p (process_count trace)) ps ≡ true) (sym is) rules.operations.ordered) inside
+    process_known (process_count trace) order i d (subst (λ (ps : List ℕ). list_all (λ p. nat_lt p (process_count trace)) ps ≡ true) (sym is) rules.operations.ordered) inside
 
 -- one line more
 pub can_do_line : (world : WorldValue) (ps : List Process) (k : HoldingsValue) (ss : List SharedRecord) (b : BookRecord) → ProcessesStand world ps → RestStands world k ss b → ArePublished ps → (n : ℕ) → n < process_count world.trace →

@@ -230,9 +230,6 @@ ended_counted : (process : Option ProcessPart) → has_ended_in process ≡ true
 ended_counted None e = absurd (false≢true e)
 ended_counted (Some q) e = e
 
-pub one_counted : (process : Option ProcessPart) (q : ProcessPart) → process ≡ Some q → done_in (option_map process_with_done process) ≡ done_in process + 1
-one_counted process q is = ap (λ (p : Option ProcessPart). done_in (option_map process_with_done p)) is ∙ sym (ap (λ (p : Option ProcessPart). done_in p + 1) is)
-
 one_ended : (process : Option ProcessPart) → has_ended_in process ≡ true → done_in (option_map process_with_done process) ≡ done_in process + 1
 one_ended None e = absurd (false≢true e)
 one_ended (Some q) e = refl

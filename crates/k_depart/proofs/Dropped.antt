@@ -1,49 +1,18 @@
 -- Shares that are dropped one by one, and the charge that is credited.
-use Rattle.std.proofs.Common.{◌≡◌, ℕ, zero, suc, ◌+◌, ◌-◌, ◌<◌, ◌≤◌, ◌==◌, ◌&&◌, not, nat_lt, Bool, true, false, cond, refl, sym, ap, ap₂, ◌∙◌, get_or, arith, add-one}
+use Rattle.std.proofs.Common.{◌≡◌, ℕ, ◌+◌, ◌-◌, ◌<◌, ◌==◌, ◌&&◌, not, nat_lt, Bool, true, false, cond, refl, sym, ap, ap₂, ◌∙◌, get_or, arith}
 use Rattle.std.proofs.lemmas.Bool.Decides.{nat_tests}
-use Rattle.k_types.specs.Numbers.{numbers_below}
 use Rattle.k_types.specs.State.{has_share}
-use Rattle.k_types.specs.Totals.{total}
-use Rattle.k_base.proofs.Lists.{numbers_push}
-use Rattle.k_base.proofs.Sums.{total_push}
 use Rattle.k_book.specs.Books.{BookRecord}
 use Rattle.k_book.specs.Calls.{ChangesShares}
 use Rattle.k_shares.specs.Sharers.{LosesShare}
 use Rattle.k_depart.specs.Charges.{bytes_if_shared, bytes_shared}
+use Rattle.k_base.proofs.Totals.{total_more, first_total}
 
 -- the shares of the process in the first heaps are dropped, and their bytes are added up
 pub record IsDropping (p : ℕ) (before b : BookRecord) (s bytes : ℕ) : Type 0 where
   pub bytes_are : bytes ≡ bytes_shared before.value p s
   pub shares : (q t : ℕ) → has_share b.value.shares q t ≡ (has_share before.value.shares q t && not ((q == p) && nat_lt t s))
   pub book_is : ChangesShares before b
-
-below_more : (f : ℕ → ℕ) (n : ℕ) → total f (numbers_below (n + 1)) ≡ total f (numbers_below n) + f n
-below_more f n =
-    let same : 0 + n ≡ n = omega arith in
-    ap (λ k. total f (numbers_below k)) (add-one n) ∙ ap (total f) (numbers_push 0 n) ∙ total_push f (numbers_below n) (0 + n) ∙ ap (λ k. total f (numbers_below n) + f k) same
-
-below_grows : (f : ℕ → ℕ) (n d : ℕ) → total f (numbers_below n) ≤ total f (numbers_below (n + d))
-below_grows f n zero = let same = ap (λ k. total f (numbers_below k)) (add_none n) in omega (arith, same)
-  where
-    add_none : (k : ℕ) → k + 0 ≡ k
-    add_none k = omega arith
-below_grows f n (suc d) =
-    let rest = below_grows f n d in
-    let more = below_more f (n + d) in
-    let same = ap (λ k. total f (numbers_below k)) (shift n d) in
-    omega (arith, rest, more, same)
-  where
-    shift : (k e : ℕ) → k + suc e ≡ (k + e) + 1
-    shift k e = omega arith
-
-below_within : (f : ℕ → ℕ) (k n : ℕ) → k ≤ n → total f (numbers_below k) ≤ total f (numbers_below n)
-below_within f k n within =
-    let grows = below_grows f k (n - k) in
-    let same = ap (λ m. total f (numbers_below m)) (back k n within) in
-    omega (arith, grows, same)
-  where
-    back : (a b : ℕ) → a ≤ b → a + (b - a) ≡ b
-    back a b le = omega (arith, le)
 
 kept_all : (x t : Bool) → (x && not (t && false)) ≡ x
 kept_all true true = refl
@@ -63,12 +32,12 @@ module _ (p : ℕ) (before b : BookRecord) (s bytes : ℕ) (d : IsDropping p bef
       ∙ ap (λ (k : BookRecord). cond (has_share before.value.shares p s) (get_or k.value.shared_bytes s 0) 0) d.book_is
 
   sum_more : bytes + bytes_if_shared b.value p s ≡ bytes_shared before.value p (s + 1)
-  sum_more = ap₂ (λ x y. x + y) d.bytes_are next_bytes ∙ sym (below_more (bytes_if_shared before.value p) s)
+  sum_more = ap₂ (λ x y. x + y) d.bytes_are next_bytes ∙ sym (total_more (bytes_if_shared before.value p) s)
 
   pub sum_fits : (heaps limit : ℕ) → s < heaps → bytes_shared before.value p heaps < limit → bytes + bytes_if_shared b.value p s < limit
   sum_fits heaps limit inside small =
       let sum = sum_more in
-      let within = below_within (bytes_if_shared before.value p) (s + 1) heaps (omega (arith, inside)) in
+      let within = first_total (bytes_if_shared before.value p) (s + 1) heaps (omega (arith, inside)) in
       omega (arith, sum, within, small)
 
   pub dropping_goes_on : (c : BookRecord) (n : ℕ) → n ≡ bytes_if_shared b.value p s → LosesShare b.value.shares c.value.shares p s → ChangesShares b c → IsDropping p before c (s + 1) (bytes + n)

@@ -50,7 +50,7 @@ use Rattle.k_moves.proofs.Idle.{unscanned}
 use Rattle.k_depart.specs.Ending.{state_with}
 use Rattle.k_depart.specs.Exiting.{HasGivenUp, HasRoomToExit, HaveMetToExit}
 use Rattle.k_depart.specs.Killing.{CanKill, HasKilled, kill_of}
-use Rattle.k_depart.proofs.Appended.{one_counted}
+use Rattle.k_frame.proofs.Untouched.{one_counted}
 
 -- a kill that touches two cells ends its target
 ends_if : (ends : Bool) (q : Pid) → cond ends (User q ∷ Kernel ∷ []) [] ≡ User q ∷ Kernel ∷ [] → ends ≡ true

@@ -1,5 +1,5 @@
 -- A process that ends, as its cell, the kernel's and the book show it before.
-use Rattle.std.proofs.Common.{◌≡◌, ℕ, zero, suc, ◌+◌, ◌<◌, ◌≤◌, ◌^◌, ◌==◌, ◌&&◌, not, true, false, refl, sym, ap, ◌∙◌, List, [], ◌∷◌, length, get_or, replicate, arith, eq-eqb, ne_eqb, Option, IsTrue, IsFalse}
+use Rattle.std.proofs.Common.{◌≡◌, ℕ, ◌+◌, ◌<◌, ◌≤◌, ◌^◌, ◌==◌, ◌&&◌, not, true, false, refl, sym, ap, ◌∙◌, List, [], ◌∷◌, length, get_or, replicate, arith, eq-eqb, ne_eqb, Option, IsTrue, IsFalse}
 use Rattle.std.proofs.lemmas.Bool.{and_from, and_parts, false≢true, not-true}
 use Rattle.k_types.specs.declared.names.Heap.{Heap}
 use Rattle.k_types.specs.declared.names.Heap.TheVariants.{Kernel, Shared, User}
@@ -8,7 +8,7 @@ use Rattle.k_types.specs.declared.names.Name.{Name}
 use Rattle.k_types.specs.declared.setup.LimitRow.{LimitRow}
 use Rattle.k_base.proofs.Maxima.{length_in}
 use Rattle.k_types.specs.Cells.{BookPart, ProcessPart, ShownPart, book_part, cells_touched, other_cells, part}
-use Rattle.k_types.specs.Limits.{direct_by, limits_in, use_within, with_maxima}
+use Rattle.k_types.specs.Limits.{direct_by, limits_in, with_maxima}
 use Rattle.k_types.specs.Names.{among, heap_eq, name_among}
 use Rattle.k_types.specs.Owners.{charge_of, object_bytes, owner_of}
 use Rattle.k_types.specs.Reach.{is_shared_heap}
@@ -45,12 +45,7 @@ use Rattle.k_depart.specs.Segments.{CanGive}
 use Rattle.k_depart.proofs.Leaving.{and_none}
 use Rattle.k_depart.proofs.Told.{cell_bytes, exits_shown, home_count, other_made, owned_made, user_numbered}
 use Rattle.k_depart.proofs.Weighed.{objects_weigh}
-
--- what is charged directly is within the use
-direct_within : (rows : List LimitRow) (direct : ℕ → ℕ) (depth m : ℕ) → 0 < depth → direct m ≤ use_within rows direct depth m
-unfolding use_within
-direct_within rows direct zero m some = absurd (omega (arith, some))
-direct_within rows direct (suc depth) m some = omega arith
+use Rattle.k_base.proofs.Charges.{direct_within}
 
 some_rows : (rows : List LimitRow) (maxima : List ℕ) → 0 < length rows → 0 < length (with_maxima rows maxima)
 some_rows [] maxima some = absurd (omega (arith, some))

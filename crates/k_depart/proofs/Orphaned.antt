@@ -26,8 +26,9 @@ use Rattle.k_shared.specs.SharedHeaps.{SharedRecord, holdings_of}
 use Rattle.k_depart.specs.Absorbing.{HaveMetToAbsorb}
 use Rattle.k_depart.specs.Exits.{AreEntered, into_segment}
 use Rattle.k_depart.specs.Segments.{CanGive}
-use Rattle.k_depart.proofs.Told.{cell_bytes, home_count, led_by_segment, other_made, owned_made, shared_numbered, sharers_are}
+use Rattle.k_depart.proofs.Told.{cell_bytes, home_count, led_by_segment, other_made, owned_made, shared_numbered}
 use Rattle.k_depart.proofs.Weighed.{objects_weigh}
+use Rattle.k_base.proofs.Shares.{sharers_same}
 
 live_stands : (phase : Phase) → is_live phase ≡ true → is_absorbed phase ≡ false
 live_stands Unmade t = refl
@@ -65,7 +66,7 @@ module _ (trace : Trace) (s : SharedRecord) (k : HoldingsValue) (b : BookRecord)
   orphan : is_orphan now s.id.0 ≡ true
   orphan =
       ap (λ phases. is_live (phase_of phases s.id.0) && not (has_sharer now.shares s.id.0)) (sym phases_are)
-      ∙ ap (λ t. is_live (phase_of b.value.phases s.id.0) && not t) (sym (sharers_are b.value.shares now.shares shares_are s.id.0))
+      ∙ ap (λ t. is_live (phase_of b.value.phases s.id.0) && not t) (sym (sharers_same b.value.shares now.shares shares_are s.id.0))
       ∙ met.orphan
 
   live : is_live (phase_of now.phases s.id.0) ≡ true

@@ -12,8 +12,7 @@ use Rattle.k_types.specs.Cells.{Cell, ShownPart, part}
 use Rattle.k_types.specs.Names.{among, heap_eq, name_among}
 use Rattle.k_types.specs.Numbers.{numbers_below}
 use Rattle.k_types.specs.Owners.{is_absorbed, object_bytes, objects_of, owner_of, owner_of_segment, phase_of, shared, user}
-use Rattle.k_types.specs.State.{Object, Sharing, State, has_exit, has_share, scan_of}
-use Rattle.k_types.specs.Steps.{has_sharer}
+use Rattle.k_types.specs.State.{Object, State, has_exit, scan_of}
 use Rattle.k_types.specs.Totals.{total}
 use Rattle.k_types.specs.Trace.{Trace, process_count, segment_count}
 use Rattle.k_base.proofs.Lists.{numbers_length}
@@ -22,8 +21,6 @@ use Rattle.k_base.proofs.Sums.{sum-filter, total_at_most}
 use Rattle.k_base.proofs.Tests.{same_test}
 use Rattle.k_frame.proofs.OwnerOf.{owner_shared}
 use Rattle.k_laws.proofs.Means.{is_own_if, own_is}
-use Rattle.k_laws.proofs.SoundSharing.{sharer_of}
-use Rattle.k_locality.proofs.SamePossible.{sharer_from}
 use Rattle.k_agree.specs.Agreement.{BookShows, Shows}
 use Rattle.k_agree.specs.GivingOnTheBook.{leading_into}
 use Rattle.k_agree.proofs.Swept.{among_kept}
@@ -42,13 +39,6 @@ book_shows_as trace st v w shows is homes = record { part = is ∙ shows.part; h
 -- a list of no segments shows none, as the empty list does
 pub none_shown : (v : CellValue) (list : List (Option ℕ)) → ((k : ℕ) → get_or list k None ≡ None) → shown_by (record v { made = list }) ≡ shown_by (record v { made = [] })
 none_shown v list none = ap (λ (made : ℕ → Option ℕ). record (shown_by v) { made = made }) (fun_ext none)
-
--- lists with the same shares have the same sharers
-pub sharers_are : (xs ys : List Sharing) → ((p s : ℕ) → has_share xs p s ≡ has_share ys p s) → (s : ℕ) → has_sharer xs s ≡ has_sharer ys s
-sharers_are xs ys same s =
-    same_test (has_sharer xs s) (has_sharer ys s)
-    (λ t. let some = sharer_from xs s t in sharer_of ys some.0 s (sym (same some.0 s) ∙ some.1))
-    (λ t. let some = sharer_from ys s t in sharer_of xs some.0 s (same some.0 s ∙ some.1))
 
 abbrev shared_number : Heap → ℕ
 shared_number Kernel = 0

@@ -1,10 +1,15 @@
 -- Members of lists, and the way along one.
-use Rattle.std.proofs.Common.{◌≡◌, ◌≢◌, ◌==◌, ◌||◌, not, ℕ, zero, suc, ◌+◌, ◌<◌, Bool, true, false, cond, refl, sym, ap, ap₂, subst, ◌∙◌, List, [], ◌∷◌, ◌++◌, length, slice_get, set, get_or, Option, Some, None, eqb-true, eq-eqb, append-nil, arith}
+use Rattle.std.proofs.Common.{◌≡◌, ◌≢◌, ◌==◌, ◌||◌, not, ℕ, zero, suc, ◌+◌, ◌<◌, Bool, true, false, cond, refl, sym, ap, ap₂, subst, ◌∙◌, List, [], ◌∷◌, ◌++◌, length, slice_get, set, get_or, Option, Some, None, eqb-true, eq-eqb, append-nil, arith, ◌-◌}
 use Rattle.std.proofs.lemmas.Bool.{false_from_ne_true, or_left, or_right}
 use Rattle.k_lists.specs.Lists.{ListsValue, AreApart, members, is_in, without}
 use Rattle.k_lists.proofs.Members.{in_at, place_of}
-use Rattle.k_lists.proofs.Members.{place_of}
 use Rattle.k_entry.specs.Slots.{since, onward}
+use Rattle.k_types.specs.declared.names.Name.{Name}
+use Rattle.k_types.specs.Counted.{Counted}
+use Rattle.k_types.specs.Names.{name_among, name_eq}
+use Rattle.k_base.proofs.Lists.{some_one}
+use Rattle.k_base.proofs.NameTests.{name_eq-same}
+use Rattle.k_entry.specs.Entries.{first_object, objects, object_after}
 
 -- no number stands in two places
 abbrev pub Once : List ℕ → Type 0
@@ -212,3 +217,16 @@ in_within v list i e = by_place v.lists list e
     by_place [] k t = absurd (cc)
     by_place (l ∷ ls) zero t = omega arith
     by_place (l ∷ ls) (suc k) t = let ih : k < length ls = by_place ls k t in omega arith
+
+pub first_among : (items : List Counted) (u : Name) → first_object items ≡ Some u → name_among u (objects items) ≡ true
+first_among [] u e = absurd (cc)
+first_among (item ∷ items) u e = or_left _ _ (name_eq-same item.object u (some_one e))
+
+pub after_among : (items : List Counted) (t u : Name) → object_after items t ≡ Some u → name_among u (objects items) ≡ true
+after_among [] t u e = absurd (cc)
+after_among (item ∷ items) t u e = go (λ is. after_among items t u is) (name_eq item.object t) e
+  where
+    go : (object_after items t ≡ Some u → name_among u (objects items) ≡ true) → (b : Bool) → cond b (first_object items) (object_after items t) ≡ Some u →
+        (name_eq item.object u || name_among u (objects items)) ≡ true
+    go rest true is = or_right _ _ (first_among items u is)
+    go rest false is = or_right _ _ (rest is)

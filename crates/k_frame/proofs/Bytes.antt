@@ -10,7 +10,7 @@ use Rattle.k_types.specs.Updates.{object_after_write}
 use Rattle.k_base.proofs.Objects.{written_name}
 
 -- an object keeps its bytes
-object_bytes-written : (x : Name) (i : ℕ) (c : Content) (o : Object) → object_bytes (object_after_write x i c o) ≡ object_bytes o
+pub object_bytes-written : (x : Name) (i : ℕ) (c : Content) (o : Object) → object_bytes (object_after_write x i c o) ≡ object_bytes o
 object_bytes-written x i c o = grind (arith, length-set o.fields i c)
 
 bytes-written_step : (own : ℕ → Heap) (h : Heap) (x : Name) (i : ℕ) (c : Content) (o : Object) (xs : List Object) →

@@ -4,7 +4,7 @@ use Rattle.std.specs.List.{list_all}
 use Rattle.std.proofs.lemmas.Bool.{false≢true, and_parts, not-true}
 use Rattle.k_types.specs.declared.names.Name.{Name}
 use Rattle.k_types.specs.declared.op.Op.{Op}
-use Rattle.k_types.specs.declared.op.Op.TheVariants.{New, KNew, SNew, Store, Load, Move, Clear, Dir, Put, Get, Collect, KCollect, Share, Freeze, Attach, Exit, Kill, Resize}
+use Rattle.k_types.specs.declared.op.Op.TheVariants.{Store, Put, Freeze, Kill, Resize}
 use Rattle.k_types.specs.declared.event.Fault.{Fault}
 use Rattle.k_types.specs.declared.event.Event.{Event}
 use Rattle.k_types.specs.declared.event.Event.TheVariants.{Done, Ended, Absorbed, Closing}
@@ -34,24 +34,12 @@ module _ (trace : Trace) where
 
   pub effect_maxima : (st : State) (p : ℕ) (op : Op) → IsFalse (is_resize op) → (effect trace p op st).maxima ≡ st.maxima
   unfolding effect set_register create open_scan add_share set_phase after_end_of end_process clear_registers keep_shares turn_exits
-  effect_maxima st p (New r ty) other = refl
-  effect_maxima st p (KNew r ty) other = refl
-  effect_maxima st p (SNew r s ty) other = refl
   effect_maxima st p (Store base i value) other = store_maxima st (register st.registers p base.0) i (register st.registers p value.0)
-  effect_maxima st p (Load r base i) other = refl
-  effect_maxima st p (Move r from) other = refl
-  effect_maxima st p (Clear r) other = refl
-  effect_maxima st p (Dir r) other = refl
   effect_maxima st p (Put base i number) other = put_maxima st (register st.registers p base.0) i number
-  effect_maxima st p (Get base i) other = refl
-  effect_maxima st p Collect other = refl
-  effect_maxima st p KCollect other = refl
-  effect_maxima st p (Share s) other = refl
   effect_maxima st p (Freeze s root) other = freeze_maxima st s.0 (register st.registers p root.0)
-  effect_maxima st p (Attach r s) other = refl
-  effect_maxima st p Exit other = refl
   effect_maxima st p (Kill q) other = ap (λ (s : State). s.maxima) (kill_rest trace st q.0)
   effect_maxima st p (Resize m max) other = absurd (false≢true (sym other))
+  effect_maxima st p _ other = refl
 
   unless_maxima : (f : Option Fault) (st : State) (p : ℕ) (op : Op) → IsFalse (is_resize op) → (effect_unless f trace p op st).maxima ≡ st.maxima
   unless_maxima None st p op other = effect_maxima st p op other

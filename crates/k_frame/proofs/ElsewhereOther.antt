@@ -19,7 +19,7 @@ use Rattle.k_base.proofs.NameTests.{heap_eq-true, heap_eq_sym}
 use Rattle.std.proofs.Math.Path.{fun_ext}
 use Rattle.k_frame.proofs.Elsewhere.{exits_of, exits_told}
 use Rattle.k_frame.proofs.Kept.{scan_closed}
-use Rattle.k_base.proofs.Lists.{get_or-set_cases}
+use Rattle.k_base.proofs.Lists.{get_or-set_cases, filter_stronger}
 
 -- owners that agree on a cell give it the same objects and the same serials
 pub owned_agree : (own own' : ℕ → Heap) (c : Cell) → ((seg : ℕ) → heap_eq (own' seg) c ≡ heap_eq (own seg) c) → (xs : List Object) → objects_of own' c xs ≡ objects_of own c xs
@@ -27,11 +27,6 @@ owned_agree own own' c agree xs = filter_agree _ _ (λ o. agree o.name.seg.0) xs
 
 pub made_agree : (own own' : ℕ → Heap) (c : Cell) → ((seg : ℕ) → heap_eq (own' seg) c ≡ heap_eq (own seg) c) → (made : List ℕ) → made_of own' made c ≡ made_of own made c
 made_agree own own' c agree made = fun_ext (λ seg. ap (λ b. cond b (Some (get_or made seg 0)) None) (agree seg))
-
--- a filter that keeps all that a second one keeps doesn't show
-pub filter_hidden : {A : Type 0} (p q : A → Bool) → ((x : A) → p x ≡ true → q x ≡ true) → (xs : List A) → filter p (filter q xs) ≡ filter p xs
-filter_hidden p q keeps [] = refl
-filter_hidden p q keeps (x ∷ xs) = grind (arith, filter_hidden p q keeps xs, keeps x)
 
 -- owners change only by the process that ended, or by the shared heap whose phase changed
 pub among-push : (ended : List ℕ) (p q : ℕ) → (p ≡ q → ⊥) → among q (ended ++ p ∷ []) ≡ among q ended
@@ -137,13 +132,13 @@ module _ (trace : Trace) (st : State) (c : Cell) where
   other h k apart t = false_from_ne_true _ (λ e. false≢true (sym apart ∙ ap (λ g. heap_eq g c) (sym (heap_eq-true k h e)) ∙ t))
 
   exits_kept : (q : ExitItem → Bool) → ((e : ExitItem) → IsTrue (heap_eq e.heap c) → IsTrue (q e)) → has_exit (filter q st.exits) c ≡ has_exit st.exits c
-  exits_kept q keeps = exits_told c (filter q st.exits) st.exits (filter_hidden (λ e. heap_eq e.heap c) q keeps st.exits)
+  exits_kept q keeps = exits_told c (filter q st.exits) st.exits (filter_stronger (λ e. heap_eq e.heap c) q keeps st.exits)
 
   pub collected_elsewhere : (h : Heap) → IsFalse (heap_eq h c) → part trace (after_ended trace h st) c ≡ part trace st c
   unfolding part after_ended keep_objects keep_exits keep_shares close_scan survives exit_stays
   collected_elsewhere h apart =
       ap₂ (λ objects exits. record (part trace (after_ended trace h st) c) { objects = objects; exits = exits })
-      (filter_hidden (λ o. heap_eq (owner_of trace st o.name.seg.0) c) (λ o. survives trace st h o.name) (λ o t. or_left _ _ (not_from_false _ (other h (owner_of trace st o.name.seg.0) apart t))) st.objects)
+      (filter_stronger (λ o. heap_eq (owner_of trace st o.name.seg.0) c) (λ o. survives trace st h o.name) (λ o t. or_left _ _ (not_from_false _ (other h (owner_of trace st o.name.seg.0) apart t))) st.objects)
       (exits_kept (exit_stays trace st h) (λ e t. or_left _ _ (not_from_false _ (other h e.heap apart t))))
       ∙ ap (λ scan. record (part trace st c) { scan = scan })
       (scan_closed h c st.scans ∙ cond-false (heap_eq c h) None (scan_of st.scans c) (heap_eq_sym c h ∙ apart))

@@ -15,3 +15,4 @@ pub mod Exact
 pub mod Bytes
 pub mod Untouched
 pub mod Laws
+pub mod Answers

@@ -4,7 +4,7 @@ use Rattle.std.proofs.Math.Path.{fun_ext}
 use Rattle.std.proofs.lemmas.Bool.{false≢true, or_cases, and_parts, false_from_ne_true}
 use Rattle.k_types.specs.declared.names.Name.{Name}
 use Rattle.k_types.specs.declared.op.Op.{Op}
-use Rattle.k_types.specs.declared.op.Op.TheVariants.{New, KNew, SNew, Store, Load, Move, Clear, Dir, Put, Get, Collect, KCollect, Share, Freeze, Attach, Exit, Kill, Resize}
+use Rattle.k_types.specs.declared.op.Op.TheVariants.{Store, Load, Move, Clear, Put, Get}
 use Rattle.k_types.specs.Totals.{total}
 use Rattle.k_types.specs.Names.{heap_eq, among, leads_to}
 use Rattle.k_types.specs.Trace.{Trace, process_count}
@@ -127,18 +127,7 @@ module _ (trace : Trace) (st : State) (p : ℕ) (known : p < process_count trace
   effect_keeps_book' (Get base i) l e = nothing_kept
   effect_keeps_book' (Move r from) l e = let both = and_parts (is_own p (register st.registers p r.0)) (is_own p (register st.registers p from.0)) l in register_keeps r.0 (register st.registers p from.0) both.1 both.0
   effect_keeps_book' (Clear r) l e = register_keeps r.0 None refl l
-  effect_keeps_book' (New r ty) l e = absurd (false≢true l)
-  effect_keeps_book' (KNew r ty) l e = absurd (false≢true l)
-  effect_keeps_book' (SNew r s ty) l e = absurd (false≢true l)
-  effect_keeps_book' (Dir r) l e = absurd (false≢true l)
-  effect_keeps_book' Collect l e = absurd (false≢true l)
-  effect_keeps_book' KCollect l e = absurd (false≢true l)
-  effect_keeps_book' (Share s) l e = absurd (false≢true l)
-  effect_keeps_book' (Freeze s root) l e = absurd (false≢true l)
-  effect_keeps_book' (Attach r s) l e = absurd (false≢true l)
-  effect_keeps_book' Exit l e = absurd (false≢true l)
-  effect_keeps_book' (Kill q) l e = absurd (false≢true l)
-  effect_keeps_book' (Resize m max) l e = absurd (false≢true l)
+  effect_keeps_book' _ l e = absurd (false≢true l)
 
 pub effect_keeps_book : (trace : Trace) (st : State) (p : ℕ) (op : Op) → p < process_count trace → IsFalse (among p st.ended) → IsTrue (is_local st p op) → first_fault (faults trace st p op) ≡ None → KeepsBook trace st (effect trace p op st)
 effect_keeps_book trace st p op known lives l e = effect_keeps_book' trace st p known lives op l e

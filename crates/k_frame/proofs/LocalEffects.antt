@@ -3,7 +3,7 @@ use Rattle.std.proofs.Common.{◌≡◌, ℕ, zero, suc, ◌+◌, ◌<◌, ◌==
 use Rattle.std.proofs.lemmas.Bool.{false≢true, or_cases, and_parts}
 use Rattle.k_types.specs.declared.names.Name.{Name}
 use Rattle.k_types.specs.declared.op.Op.{Op}
-use Rattle.k_types.specs.declared.op.Op.TheVariants.{New, KNew, SNew, Store, Load, Move, Clear, Dir, Put, Get, Collect, KCollect, Share, Freeze, Attach, Exit, Kill, Resize}
+use Rattle.k_types.specs.declared.op.Op.TheVariants.{Store, Load, Move, Clear, Put, Get}
 use Rattle.k_types.specs.declared.event.Fault.TheVariants.{WrongKind, Frozen, Segv}
 use Rattle.k_types.specs.Names.{heap_eq, among}
 use Rattle.k_types.specs.Trace.{Trace, process_count}
@@ -100,15 +100,4 @@ module _ (trace : Trace) (p : ℕ) (st su : State) (alike : Alike trace p st su)
   effect_same (Get base i) l e = alike.same
   effect_same (Move r from) l e = register_set_same r.0 _ _ (same_register trace p st su alike from.0)
   effect_same (Clear r) l e = register_set_same r.0 None None refl
-  effect_same (New r ty) l e = absurd (false≢true l)
-  effect_same (KNew r ty) l e = absurd (false≢true l)
-  effect_same (SNew r s ty) l e = absurd (false≢true l)
-  effect_same (Dir r) l e = absurd (false≢true l)
-  effect_same Collect l e = absurd (false≢true l)
-  effect_same KCollect l e = absurd (false≢true l)
-  effect_same (Share s) l e = absurd (false≢true l)
-  effect_same (Freeze s root) l e = absurd (false≢true l)
-  effect_same (Attach r s) l e = absurd (false≢true l)
-  effect_same Exit l e = absurd (false≢true l)
-  effect_same (Kill q) l e = absurd (false≢true l)
-  effect_same (Resize m max) l e = absurd (false≢true l)
+  effect_same _ l e = absurd (false≢true l)

@@ -3,7 +3,7 @@ use Rattle.std.proofs.Common.{◌≡◌, ℕ, ◌+◌, ◌==◌, ◌||◌, not, 
 use Rattle.std.proofs.lemmas.Bool.{false≢true, or_cases, and_parts}
 use Rattle.k_types.specs.declared.names.Name.{Name}
 use Rattle.k_types.specs.declared.op.Op.{Op}
-use Rattle.k_types.specs.declared.op.Op.TheVariants.{New, KNew, SNew, Store, Load, Move, Clear, Dir, Put, Get, Collect, KCollect, Share, Freeze, Attach, Exit, Kill, Resize}
+use Rattle.k_types.specs.declared.op.Op.TheVariants.{New, KNew, SNew, Store, Load, Move, Clear, Put, Get, Attach}
 use Rattle.k_types.specs.declared.event.Fault.{Fault}
 use Rattle.k_types.specs.declared.event.Fault.TheVariants.{WrongKind, Frozen, Segv, NoField}
 use Rattle.k_types.specs.declared.event.Reply.TheVariants.{Loaded, Value}
@@ -128,18 +128,7 @@ module _ (trace : Trace) (p : ℕ) (st su : State) (alike : Alike trace p st su)
   faults_same (Get base i) l = ap first_fault (number_faults_same (register st.registers p base.0) i l ∙ ap (λ b. at_base b (number_faults trace su p i)) (same_register base.0))
   faults_same (Move r from) l = refl
   faults_same (Clear r) l = refl
-  faults_same (New r ty) l = absurd (false≢true l)
-  faults_same (KNew r ty) l = absurd (false≢true l)
-  faults_same (SNew r s ty) l = absurd (false≢true l)
-  faults_same (Dir r) l = absurd (false≢true l)
-  faults_same Collect l = absurd (false≢true l)
-  faults_same KCollect l = absurd (false≢true l)
-  faults_same (Share s) l = absurd (false≢true l)
-  faults_same (Freeze s root) l = absurd (false≢true l)
-  faults_same (Attach r s) l = absurd (false≢true l)
-  faults_same Exit l = absurd (false≢true l)
-  faults_same (Kill q) l = absurd (false≢true l)
-  faults_same (Resize m max) l = absurd (false≢true l)
+  faults_same _ l = absurd (false≢true l)
 
   pub loaded_same : (b : Option Name) (i : ℕ) (old : Option Name) → IsTrue (is_local_load st p b i old) → reference_from st b i ≡ reference_from su b i
   loaded_same None i old l = refl
@@ -152,23 +141,12 @@ module _ (trace : Trace) (p : ℕ) (st su : State) (alike : Alike trace p st su)
   pub answer_same : (op : Op) → IsTrue (is_local st p op) → answer trace st p op ≡ answer trace su p op
   unfolding is_local answer
   answer_same (Load r base i) l = ap (λ v. Loaded v) (loaded_same (register st.registers p base.0) i (register st.registers p r.0) l ∙ ap (λ b. reference_from su b i) (same_register base.0))
-  answer_same (Store base i value) l = refl
-  answer_same (Put base i n) l = refl
   answer_same (Get base i) l = ap (λ v. Value v) (number_same (register st.registers p base.0) i l ∙ ap (λ b. number_from su b i) (same_register base.0))
-  answer_same (Move r from) l = refl
-  answer_same (Clear r) l = refl
   answer_same (New r ty) l = absurd (false≢true l)
   answer_same (KNew r ty) l = absurd (false≢true l)
   answer_same (SNew r s ty) l = absurd (false≢true l)
-  answer_same (Dir r) l = refl
-  answer_same Collect l = refl
-  answer_same KCollect l = refl
-  answer_same (Share s) l = refl
-  answer_same (Freeze s root) l = refl
   answer_same (Attach r s) l = absurd (false≢true l)
-  answer_same Exit l = refl
-  answer_same (Kill q) l = refl
-  answer_same (Resize m max) l = refl
+  answer_same _ l = refl
 
   pub reply_same : (op : Op) → IsTrue (is_local st p op) → reply_to trace st p op ≡ reply_to trace su p op
   unfolding reply_to

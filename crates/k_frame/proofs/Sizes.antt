@@ -8,7 +8,7 @@ use Rattle.k_types.specs.declared.names.Phase.TheVariants.{Unmade}
 use Rattle.k_types.specs.declared.names.Field.{Field}
 use Rattle.k_types.specs.declared.names.Heap.TheVariants.{Kernel}
 use Rattle.k_types.specs.declared.op.Op.{Op}
-use Rattle.k_types.specs.declared.op.Op.TheVariants.{New, KNew, SNew, Store, Load, Move, Clear, Dir, Put, Get, Collect, KCollect, Share, Freeze, Attach, Exit, Kill, Resize}
+use Rattle.k_types.specs.declared.op.Op.TheVariants.{New, KNew, SNew, Store, Load, Move, Clear, Dir, Put, Get, Share, Freeze, Attach, Exit, Kill, Resize}
 use Rattle.k_types.specs.declared.event.Fault.{Fault}
 use Rattle.k_types.specs.declared.event.Event.{Event}
 use Rattle.k_types.specs.declared.event.Event.TheVariants.{Done, Ended, Absorbed, Closing}
@@ -133,14 +133,13 @@ module _ (trace : Trace) where
   effect_sized st p (Dir r) z = register_sized st p r.0 _ z
   effect_sized st p (Put base i number) z = put_sized st _ i number z
   effect_sized st p (Get base i) z = z
-  effect_sized st p Collect z = scan_sized st _ _ z
-  effect_sized st p KCollect z = scan_sized st _ _ z
   effect_sized st p (Share s) z = share_sized _ p s.0 (phase_sized st s.0 _ z)
   effect_sized st p (Freeze s root) z = freeze_sized st s.0 _ z
   effect_sized st p (Attach r s) z = register_sized _ p r.0 _ (share_sized st p s.0 z)
   effect_sized st p Exit z = exit_sized st p z
   effect_sized st p (Kill q) z = kill_sized st q.0 z
   effect_sized st p (Resize m max) z = max_sized st m.0 max z
+  effect_sized st p _ z = scan_sized st _ _ z
 
   unless_sized : (f : Option Fault) (st : State) (p : ℕ) (op : Op) → IsSized trace st → IsSized trace (effect_unless f trace p op st)
   unless_sized None st p op z = effect_sized st p op z

@@ -6,7 +6,7 @@ use Rattle.k_types.specs.declared.names.Pid.{Pid}
 use Rattle.k_types.specs.declared.names.Name.{Name}
 use Rattle.k_types.specs.declared.names.Heap.TheVariants.{User}
 use Rattle.k_types.specs.declared.op.Op.{Op}
-use Rattle.k_types.specs.declared.op.Op.TheVariants.{New, KNew, SNew, Store, Load, Move, Clear, Dir, Put, Get, Collect, KCollect, Share, Freeze, Attach, Exit, Kill, Resize}
+use Rattle.k_types.specs.declared.op.Op.TheVariants.{New, Store, Load, Move, Clear, Dir, Put, Get, Collect, KCollect}
 use Rattle.k_types.specs.declared.event.Fault.{Fault}
 use Rattle.k_types.specs.declared.event.Reply.{Reply}
 use Rattle.k_types.specs.declared.event.Event.{Event}
@@ -62,17 +62,9 @@ local_beside trace st p (Get base i) known lives l = own_access trace st p (regi
 local_beside trace st p (Move r from) known lives l = refl
 local_beside trace st p (Clear r) known lives l = refl
 local_beside trace st p (New r ty) known lives l = refl
-local_beside trace st p (KNew r ty) known lives l = absurd (false≢true l)
-local_beside trace st p (SNew r s ty) known lives l = absurd (false≢true l)
 local_beside trace st p (Dir r) known lives l = refl
 local_beside trace st p Collect known lives l = refl
-local_beside trace st p KCollect known lives l = absurd (false≢true l)
-local_beside trace st p (Share s) known lives l = absurd (false≢true l)
-local_beside trace st p (Freeze s root) known lives l = absurd (false≢true l)
-local_beside trace st p (Attach r s) known lives l = absurd (false≢true l)
-local_beside trace st p Exit known lives l = absurd (false≢true l)
-local_beside trace st p (Kill q) known lives l = absurd (false≢true l)
-local_beside trace st p (Resize m max) known lives l = absurd (false≢true l)
+local_beside trace st p _ known lives l = absurd (false≢true l)
 
 pub local_touches : (trace : Trace) (st : State) (pid : Pid) (op : Op) (said : Reply) (c : Cell) → pid.0 < process_count trace → IsFalse (among pid.0 st.ended) → IsTrue (is_local st pid.0 op) →
     touches trace st (Done pid op said) c ≡ heap_eq (user pid.0) c
@@ -143,18 +135,7 @@ module _ (trace : Trace) (p : ℕ) where
   local_same st su (Get base i) alike l = rw (← same_register trace p st su alike base.0) l
   local_same st su (Move r from) alike l = rw (← same_register trace p st su alike r.0, ← same_register trace p st su alike from.0) l
   local_same st su (Clear r) alike l = rw (← same_register trace p st su alike r.0) l
-  local_same st su (New r ty) alike l = l
-  local_same st su (KNew r ty) alike l = l
-  local_same st su (SNew r s ty) alike l = l
-  local_same st su (Dir r) alike l = l
-  local_same st su Collect alike l = l
-  local_same st su KCollect alike l = l
-  local_same st su (Share s) alike l = l
-  local_same st su (Freeze s root) alike l = l
-  local_same st su (Attach r s) alike l = l
-  local_same st su Exit alike l = l
-  local_same st su (Kill q) alike l = l
-  local_same st su (Resize m max) alike l = l
+  local_same st su _ alike l = l
 
   pub possible_too : (st su : State) (pid : Pid) (op : Op) (said : Reply) → pid.0 ≡ p → Alike trace p st su → IsTrue (is_local st p op) →
       IsPossible trace st (Done pid op said) → IsPossible trace su (Done pid op said)

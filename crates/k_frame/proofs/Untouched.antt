@@ -1,5 +1,5 @@
 -- Events that don't touch a cell leave its part and its count of touches as they were, and its process has done nothing.
-use Rattle.std.proofs.Common.{◌≡◌, ℕ, ◌+◌, ◌==◌, cond, true, false, refl, ap, ◌∙◌, inl, inr, List, [], ◌∷◌, ◌++◌, append-nil, arith, IsFalse, IsTrue}
+use Rattle.std.proofs.Common.{◌≡◌, ℕ, ◌+◌, ◌==◌, cond, true, false, refl, ap, ◌∙◌, inl, inr, List, [], ◌∷◌, ◌++◌, append-nil, arith, IsFalse, IsTrue, sym, Option, Some, option_map}
 use Rattle.std.proofs.lemmas.Bool.{cases_Bool, or_left}
 use Rattle.k_types.specs.declared.names.Pid.{Pid}
 use Rattle.k_types.specs.declared.op.Op.{Op}
@@ -10,10 +10,11 @@ use Rattle.k_types.specs.Trace.{Trace}
 use Rattle.k_types.specs.State.{State, opening}
 use Rattle.k_types.specs.Owners.{user}
 use Rattle.k_types.specs.Effects.{step}
-use Rattle.k_types.specs.Cells.{Cell, part, touches, cells_touched}
+use Rattle.k_types.specs.Cells.{Cell, part, touches, cells_touched, ProcessPart}
 use Rattle.k_types.specs.Steps.{IsRun, run, IsLegalHistory, state_after, touch_count_from, touch_count, done_by}
 use Rattle.k_frame.proofs.FrameSteps.{frame}
 use Rattle.k_frame.proofs.Histories.{run_append, legal_rest, touches_append, done_append}
+use Rattle.k_frame.specs.PartUpdates.{done_in, process_with_done}
 
 pub part_kept : (trace : Trace) (c : Cell) (st : State) (events : List Event) → IsRun trace st events → touch_count_from trace st c events ≡ 0 → part trace (run trace st events) c ≡ part trace st c
 part_kept trace c st [] legal none = refl
@@ -71,3 +72,6 @@ idle_since trace p known rest same =
     done_append p known rest
     ∙ ap (λ ops. done_by p known ++ ops) (nothing_done trace p (state_after trace known) rest (let split = touches_append trace (opening trace) (user p) known rest in omega arith))
     ∙ append-nil (done_by p known)
+
+pub one_counted : (process : Option ProcessPart) (q : ProcessPart) → process ≡ Some q → done_in (option_map process_with_done process) ≡ done_in process + 1
+one_counted process q is = ap (λ (p : Option ProcessPart). done_in (option_map process_with_done p)) is ∙ sym (ap (λ (p : Option ProcessPart). done_in p + 1) is)

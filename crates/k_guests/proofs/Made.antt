@@ -9,9 +9,9 @@ use Rattle.k_types.specs.declared.names.Pid.{Pid}
 use Rattle.k_types.specs.declared.names.SharedId.{SharedId}
 use Rattle.k_types.specs.Numbers.{numbers_below, numbers_from}
 use Rattle.k_types.specs.Trace.{Trace, segment_count, segment_of}
-use Rattle.k_base.proofs.Lists.{numbers_length}
+use Rattle.k_base.proofs.Lists.{numbers_length, at_number}
 use Rattle.k_tie.specs.Values.{JournalValue, NoteValue, blank_note, empty_journal}
-use Rattle.k_agree.proofs.Openings.{at_number, opened_cell}
+use Rattle.k_agree.proofs.Openings.{opened_cell}
 use Rattle.k_book.specs.Books.{BookRecord, opened}
 use Rattle.k_book.proofs.Telling.{opened_agrees, opened_of}
 use Rattle.k_cell.specs.Holdings.{HoldingsValue}

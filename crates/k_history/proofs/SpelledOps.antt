@@ -8,7 +8,7 @@ use Rattle.k_types.specs.declared.names.Pid.{Pid}
 use Rattle.k_types.specs.declared.names.SharedId.{SharedId}
 use Rattle.k_types.specs.Trace.{no_row}
 use Rattle.k_types.specs.declared.op.Op.{Op}
-use Rattle.k_types.specs.declared.op.Op.TheVariants.{New, KNew, SNew, Store, Load, Move, Clear, Dir, Put, Get, Collect, KCollect, Share, Freeze, Attach, Exit, Kill, Resize}
+use Rattle.k_types.specs.declared.op.Op.TheVariants.{New, KNew, SNew, Store, Load, Move, Clear, Dir, Put, Get, Share, Freeze, Attach, Kill, Resize}
 use Rattle.k_types.specs.Steps.{in_range}
 use Rattle.k_types.specs.TraceRules.{is_spelled}
 use Rattle.k_words.specs.Words.{Text}
@@ -54,11 +54,9 @@ spelled_op t (Get base i) named h k = (ltb-true _ _ h, ltb-true _ _ k)
 spelled_op t (Share s) named h k = shared_below t s named h
 spelled_op t (Freeze s root) named h k = let p = both (ltb s.0 t.trace.shared_heaps) (ltb root.0 16) h in (shared_below t s named p.0, ltb-true _ _ p.1)
 spelled_op t (Attach r s) named h k = let p = both (ltb r.0 16) (ltb s.0 t.trace.shared_heaps) h in (ltb-true _ _ p.0, shared_below t s named p.1)
-spelled_op t Collect named h k = tt
-spelled_op t KCollect named h k = tt
-spelled_op t Exit named h k = tt
 spelled_op t (Kill q) named h k = proc_below t q named h
 spelled_op t (Resize m max) named h k = let p = both (ltb m.0 (length t.trace.limits)) (ltb max (2 ^ 40)) h in (limit_below t m named p.0, ltb-true _ _ p.1)
+spelled_op t _ named h k = tt
 
 -- The operation is one of the trace.
 record IsIn (t : NamedTrace) (op : Op) : Type 0 where
@@ -80,11 +78,9 @@ op_in t (Get base i) named h = record { ranged = lt-ltb _ _ h.0; spelled = lt-lt
 op_in t (Share s) named h = record { ranged = shared_in t s named h; spelled = refl }
 op_in t (Freeze s root) named h = record { ranged = both_are _ _ (shared_in t s named h.0) (lt-ltb _ _ h.1); spelled = refl }
 op_in t (Attach r s) named h = record { ranged = both_are _ _ (lt-ltb _ _ h.0) (shared_in t s named h.1); spelled = refl }
-op_in t Collect named h = record { ranged = refl; spelled = refl }
-op_in t KCollect named h = record { ranged = refl; spelled = refl }
-op_in t Exit named h = record { ranged = refl; spelled = refl }
 op_in t (Kill q) named h = record { ranged = proc_in t q named h; spelled = refl }
 op_in t (Resize m max) named h = record { ranged = both_are _ _ (limit_in t m named h.0) (lt-ltb _ _ h.1); spelled = lt-ltb _ _ h.1 }
+op_in t _ named h = record { ranged = refl; spelled = refl }
 
 -- A trace that declares as much as there are names.
 abbrev declared : DeclaredNames → NamedTrace

@@ -1,5 +1,5 @@
 -- What a process is charged, by its cell and the book, is what the machine charges it.
-use Rattle.std.proofs.Common.{◌≡◌, ℕ, zero, suc, ◌+◌, ◌-◌, ◌<◌, ◌≤◌, ◌^◌, ◌&&◌, ◌==◌, Bool, true, false, cond, refl, sym, ap, ap₂, ◌∙◌, subst, List, ◌++◌, filter, length, map, get_or, Some, slice_get, arith, add-one, IsFalse}
+use Rattle.std.proofs.Common.{◌≡◌, ℕ, zero, ◌+◌, ◌-◌, ◌<◌, ◌≤◌, ◌^◌, ◌&&◌, ◌==◌, Bool, true, false, cond, refl, sym, ap, ap₂, ◌∙◌, subst, List, ◌++◌, filter, length, map, get_or, Some, slice_get, arith, IsFalse}
 use Rattle.k_types.specs.declared.event.Event.{Event}
 use Rattle.k_types.specs.declared.names.Heap.{Heap}
 use Rattle.k_types.specs.Agree.{BookValue, CellValue}
@@ -11,15 +11,13 @@ use Rattle.k_types.specs.Sound.{IsSound}
 use Rattle.k_types.specs.State.{Sharing, State, has_share}
 use Rattle.k_types.specs.Steps.{IsLegalHistory, state_after}
 use Rattle.k_types.specs.Totals.{total}
-use Rattle.k_types.specs.Trace.{Trace, limit_of, process_count, segment_count}
+use Rattle.k_types.specs.Trace.{Trace, process_count, segment_count}
 use Rattle.k_types.specs.TraceRules.{KeepsRules}
-use Rattle.k_base.proofs.Lists.{numbers_push}
-use Rattle.k_base.proofs.Sums.{sum_same, total_push, zeros}
+use Rattle.k_base.proofs.Sums.{sum_same, zeros}
 use Rattle.k_laws.proofs.SoundSteps.{legal_sound}
 use Rattle.k_changes.proofs.EndsOnBook.{charge_told}
 use Rattle.k_changes.proofs.OnBook.{owner_told}
 use Rattle.k_changes.specs.BookChanges.{owner_in, shared_by}
-use Rattle.k_known.proofs.Maxima.{max_small}
 use Rattle.k_agree.specs.Agreement.{BookShows, Shows}
 use Rattle.k_agree.specs.GivingOnTheBook.{charged}
 use Rattle.k_agree.specs.Meeting.{Fits, ShowsTheJournal}
@@ -27,13 +25,14 @@ use Rattle.k_agree.proofs.GivenOnTheBook.{charge_as_told}
 use Rattle.k_agree.proofs.Meetings.{meeting}
 use Rattle.k_book.specs.Books.{BookRecord}
 use Rattle.k_heap.specs.Heaps.{has_ended_in}
-use Rattle.k_solo.proofs.Known.{charge_at_most}
+use Rattle.k_solo.proofs.Known.{charge_small}
 use Rattle.k_guests.specs.declared.guest.Guest.{Guest}
 use Rattle.k_guests.specs.Serving.{Basis, BookServes, GuestServes, KeepsPair}
 use Rattle.k_host.specs.Asked.{charge_told as told_charge}
 use Rattle.k_host.specs.Calls.{HasMetTheJournal}
 use Rattle.k_host.specs.Hosts.{HostServes, HostValue}
 use Rattle.k_host.proofs.InsideCharges.{inside_is_free}
+use Rattle.k_base.proofs.Totals.{total_more, total_rises}
 
 -- what the process is charged for the shared heap of that number, by the book
 abbrev pub for_heap : BookValue → ℕ → ℕ → ℕ
@@ -43,33 +42,14 @@ for_heap book p t = cond (has_share book.shares p t) (get_or book.shared_bytes t
 abbrev pub so_far : BookValue → CellValue → ℕ → ℕ → ℕ
 so_far book value p heaps = total object_bytes value.objects + total (for_heap book p) (numbers_below heaps)
 
-one_more : (f : ℕ → ℕ) (n : ℕ) → total f (numbers_below (n + 1)) ≡ total f (numbers_below n) + f n
-one_more f n =
-    let same : 0 + n ≡ n = omega arith in
-    ap (λ k. total f (numbers_below k)) (add-one n) ∙ ap (total f) (numbers_push 0 n) ∙ total_push f (numbers_below n) (0 + n) ∙ ap (λ k. total f (numbers_below n) + f k) same
-
-some_more : (f : ℕ → ℕ) (n d : ℕ) → total f (numbers_below n) ≤ total f (numbers_below (n + d))
-some_more f n zero = let same = ap (λ k. total f (numbers_below k)) (add_none n) in omega (arith, same)
-  where
-    add_none : (k : ℕ) → k + 0 ≡ k
-    add_none k = omega arith
-some_more f n (suc d) =
-    let rest = some_more f n d in
-    let more = one_more f (n + d) in
-    let same = ap (λ k. total f (numbers_below k)) (shift n d) in
-    omega (arith, rest, more, same)
-  where
-    shift : (k e : ℕ) → k + suc e ≡ (k + e) + 1
-    shift k e = omega arith
-
 -- one heap more
 pub goes_on : (book : BookValue) (value : CellValue) (p id bytes here : ℕ) → bytes ≡ so_far book value p id → here ≡ for_heap book p id → bytes + here ≡ so_far book value p (id + 1)
-goes_on book value p id bytes here is same = let more = one_more (for_heap book p) id in omega (arith, is, same, more)
+goes_on book value p id bytes here is same = let more = total_more (for_heap book p) id in omega (arith, is, same, more)
 
 -- what is charged for the first heaps is at most what is charged for all
 pub at_most : (book : BookValue) (value : CellValue) (p k n : ℕ) → k ≤ n → so_far book value p k ≤ so_far book value p n
 at_most book value p k n within =
-    let grows = some_more (for_heap book p) k (n - k) in
+    let grows = total_rises (for_heap book p) k (n - k) in
     let same = ap (λ m. total (for_heap book p) (numbers_below m)) (back k n within) in
     omega (arith, grows, same)
   where
@@ -92,15 +72,6 @@ charge_is trace st p value book sound shows booked = ap (λ b. cond b 0 (charged
     go : (b : Bool) → among p st.ended ≡ b → cond b 0 (charged trace book value p) ≡ charge_of trace st p
     go true gone = sym (ended_charge gone)
     go false lives = charge_as_told trace st p value book booked shows ∙ sym (charge_told trace st p sound lives)
-
--- a process is charged less than 2^40
-charge_small : (trace : Trace) (history : List Event) (p : ℕ) → KeepsRules trace → IsLegalHistory trace history → p < process_count trace → charge_of trace (state_after trace history) p < 2 ^ 40
-charge_small trace history p rules legal known =
-    let limited = rules.limits.limited p known in
-    let charge = charge_at_most trace (state_after trace history) p known rules.limits in
-    let used = (legal_sound trace history rules.limits legal).uses (limit_of trace p) limited in
-    let small = max_small trace history rules.limits legal (limit_of trace p) limited in
-    omega (arith, charge, used, small)
 
 -- its own objects have fewer bytes than that where it lives, by its cell
 objects_small : (trace : Trace) (history : List Event) (p : ℕ) (value : CellValue) → KeepsRules trace → IsLegalHistory trace history → p < process_count trace → Shows trace (state_after trace history) (user p) value →

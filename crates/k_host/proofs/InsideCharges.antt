@@ -5,7 +5,7 @@ use Rattle.k_types.specs.declared.event.Event.{Event}
 use Rattle.k_types.specs.declared.event.Event.TheVariants.{Absorbed, Closing, Done, Ended}
 use Rattle.k_types.specs.declared.event.Fault.{Fault}
 use Rattle.k_types.specs.declared.op.Op.{Op}
-use Rattle.k_types.specs.declared.op.Op.TheVariants.{New, KNew, SNew, Store, Load, Move, Clear, Dir, Put, Get, Collect, KCollect, Share, Freeze, Attach, Exit, Kill, Resize}
+use Rattle.k_types.specs.declared.op.Op.TheVariants.{Store, Load, Move, Clear, Put, Get}
 use Rattle.k_types.specs.Effects.{step}
 use Rattle.k_types.specs.Local.{AreLocal, is_local}
 use Rattle.k_types.specs.Owners.{charge_of}
@@ -23,24 +23,13 @@ use Rattle.k_laws.proofs.SoundSteps.{legal_sound, run_sound}
 -- a local operation ends no process and charges nothing
 local_is_free : (trace : Trace) (st : State) (p n : ℕ) (op : Op) → IsTrue (is_local st p op) → (ends_a_process op ≡ false) × (bytes_charged trace st n op ≡ 0)
 unfolding is_local
-local_is_free trace st p n (New r ty) local = absurd (false≢true local)
-local_is_free trace st p n (KNew r ty) local = absurd (false≢true local)
-local_is_free trace st p n (SNew r s ty) local = absurd (false≢true local)
 local_is_free trace st p n (Store base i value) local = (refl, refl)
 local_is_free trace st p n (Load r base i) local = (refl, refl)
 local_is_free trace st p n (Move r from) local = (refl, refl)
 local_is_free trace st p n (Clear r) local = (refl, refl)
-local_is_free trace st p n (Dir r) local = absurd (false≢true local)
 local_is_free trace st p n (Put base i number) local = (refl, refl)
 local_is_free trace st p n (Get base i) local = (refl, refl)
-local_is_free trace st p n Collect local = absurd (false≢true local)
-local_is_free trace st p n KCollect local = absurd (false≢true local)
-local_is_free trace st p n (Share s) local = absurd (false≢true local)
-local_is_free trace st p n (Freeze s root) local = absurd (false≢true local)
-local_is_free trace st p n (Attach r s) local = absurd (false≢true local)
-local_is_free trace st p n Exit local = absurd (false≢true local)
-local_is_free trace st p n (Kill q) local = absurd (false≢true local)
-local_is_free trace st p n (Resize m max) local = absurd (false≢true local)
+local_is_free trace st p n _ local = absurd (false≢true local)
 
 none_charged : (fault : Option Fault) (bytes : ℕ) → bytes ≡ 0 → charged_unless fault bytes ≡ 0
 none_charged None bytes none = none

@@ -1,5 +1,5 @@
 -- A kill among the processes of a host: who is killed, and what it leaves of the host.
-use Rattle.std.proofs.Common.{◌≡◌, ◌≢◌, ◌⊎◌, ◌==◌, ◌&&◌, ◌<◌, ℕ, zero, suc, refl, sym, ap, ◌∙◌, subst, Bool, true, false, cond, not, nat_lt, List, [], ◌∷◌, length, set, Some, None, slice_get, slice_set, IfErr, OnErr, Result, Ok, Err, arith, inl, inr, eqb-true}
+use Rattle.std.proofs.Common.{◌≡◌, ◌≢◌, ◌⊎◌, ◌==◌, ◌&&◌, ◌<◌, ℕ, refl, sym, ap, ◌∙◌, subst, Bool, true, false, cond, not, nat_lt, List, length, Some, None, slice_get, slice_set, IfErr, OnErr, Result, Ok, Err, arith, inl, inr, eqb-true}
 use Rattle.std.specs.Prelude.{IfOk}
 use Rattle.std.proofs.lemmas.Bool.{and_parts, eq-eqb, false≢true}
 use Rattle.std.proofs.lemmas.Bool.Decides.{nat_tests}
@@ -31,6 +31,7 @@ use Rattle.k_host.specs.Calls.{HasOperatedIn}
 use Rattle.k_host.specs.Hosts.{HostServes}
 use Rattle.k_host.specs.Killing.{AreTwoAt, HasKilledAmong, killed_among}
 use Rattle.k_host.specs.Refusals.{CanNotOperateIn, MayRefuse}
+use Rattle.k_base.proofs.Lists.{slice_get-set_other, get_there}
 
 below : (a b : ℕ) → nat_lt a b ≡ true → a < b
 below a b t = grind (arith, nat_tests)
@@ -94,24 +95,10 @@ pub either : {A E : Type 0} (P Q : A → Type 0) (r : Result A E) → IfOk r P �
 either P Q (Ok x) done = inl done
 either P Q (Err why) done = tt
 
--- an item at a place of the list
-pub there_at : {A : Type 0} (xs : List A) (n : ℕ) → n < length xs → (x : A) × (slice_get xs n ≡ Some x)
-there_at [] n inside = absurd (omega (arith, inside))
-there_at (x ∷ xs) zero inside = (x, refl)
-there_at (x ∷ xs) (suc n) inside = there_at xs n (omega (arith, inside))
-
--- a write at another place
-get_apart : {A : Type 0} (xs : List A) (i j : ℕ) (x : A) → j ≢ i → slice_get (set xs i x) j ≡ slice_get xs j
-get_apart [] i j x two = refl
-get_apart (z ∷ xs) zero zero x two = absurd (two refl)
-get_apart (z ∷ xs) zero (suc j) x two = refl
-get_apart (z ∷ xs) (suc i) zero x two = refl
-get_apart (z ∷ xs) (suc i) (suc j) x two = get_apart xs i j x (λ same. two (ap suc same))
-
 pub two_there : (gs : List Guest) (at target : ℕ) → at < length gs → target < length gs → target ≢ at → (g : Guest) × (t : Guest) × AreTwoAt gs at target g t
 two_there gs at target own other two =
-    let g = there_at gs at own in
-    let t = there_at gs target other in
+    let g = get_there gs at own in
+    let t = get_there gs target other in
     (g.0, t.0, record { own = g.1; other = t.1; two = two })
 
 -- what a kill of two processes leaves, by the places where they were found
@@ -191,7 +178,7 @@ module _ (basis : Basis) (gs : List Guest) (k : HoldingsValue) (ss : List Shared
   still own other x l (Err why) done same = nothing_changed own other x l same.0 same.1 same.2 same.3
 
   target_after : (own : Guest) → slice_get (slice_set gs at own) target ≡ Some t
-  target_after own = get_apart gs at target own places.two ∙ places.other
+  target_after own = slice_get-set_other gs at target own places.two ∙ places.other
 
   two_set : (own other : Guest) (x : HoldingsValue) (l : BookRecord) → StillServe basis g own t other x b l → HostServes (host_of basis (slice_set (slice_set gs at own) target other) x ss l)
   two_set own other x l s = record {

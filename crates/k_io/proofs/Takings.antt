@@ -1,5 +1,5 @@
 -- Writes to a sink, one after the other, for any relation that a sink tells.
-use Rattle.std.proofs.Common.{◌≡◌, ◌∙◌, ℕ, zero, suc, ◌+◌, ◌-◌, ◌<◌, ◌≤◌, List, [], ◌++◌, length, take, drop, min, Option, Some, None, sym, ap, subst, arith, append_assoc, zero-add}
+use Rattle.std.proofs.Common.{◌≡◌, ◌∙◌, ℕ, zero, suc, ◌+◌, ◌-◌, ◌≤◌, List, [], ◌++◌, length, take, drop, min, Option, Some, None, sym, subst, arith, append_assoc, zero-add}
 use Rattle.std.proofs.lemmas.List.{take-append-le, take_min, append-nil}
 use Rattle.std.specs.Io.KnownBytes.{Appends, Keeps}
 use Rattle.k_io.specs.Taking.{Takes, TakesFront}
@@ -45,15 +45,6 @@ begins_with f i (suc d) =
     let more = begins_with f i d in
     let k : suc d + i ≡ suc (d + i) = omega arith in
     (more.0 ++ f (d + i), rw (k, more.1) (append_assoc (up_to f i) more.0 (f (d + i))))
-
--- A front of the text of i, behind those below i, is a front of all n.
-pub takes_front_up_to : (f : ℕ → List ℕ) (i n : ℕ) (a b c : List ℕ → List ℕ → Type 0) → i < n → Takes a b (up_to f i) → TakesFront b c (f i) → TakesFront a c (up_to f n)
-unfolding up_to
-takes_front_up_to f i n a b c lt h k =
-    let split = begins_with f (suc i) (n - suc i) in
-    let whole : n - suc i + suc i ≡ n = omega arith in
-    let e : up_to f n ≡ up_to f (suc i) ++ split.0 = ap (up_to f) (sym whole) ∙ split.1 in
-    subst (λ (t : List ℕ). TakesFront a c t) (sym e) (takes_front_longer a c (up_to f (suc i)) split.0 (takes_front_then a b c (up_to f i) (f i) h k))
 
 -- ---- sinks that tell their bytes by an optional list
 

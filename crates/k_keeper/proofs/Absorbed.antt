@@ -1,5 +1,5 @@
 -- Absorptions of all orphans end, since no history absorbs a shared heap twice.
-use Rattle.std.proofs.Common.{◌≡◌, ◌≤◌, ◌<◌, ◌+◌, ℕ, zero, suc, refl, sym, ap, ◌∙◌, subst, List, [], ◌∷◌, ◌++◌, append-nil, append_assoc, length, length-set, map, Some, slice_get, inl, inr, arith, Result, Ok, Err, IfErr, OnErr}
+use Rattle.std.proofs.Common.{◌≡◌, ◌≤◌, ◌<◌, ◌+◌, ℕ, refl, sym, ap, ◌∙◌, subst, List, [], ◌∷◌, ◌++◌, append-nil, append_assoc, length, length-set, map, Some, slice_get, inl, inr, arith, Result, Ok, Err, IfErr, OnErr}
 use Rattle.std.proofs.lemmas.List.{length-append, map-append}
 use Rattle.std.specs.Prelude.{IfOk, MatchOption}
 use Rattle.k_types.specs.declared.event.Event.{Event}
@@ -21,6 +21,7 @@ use Rattle.k_keeper.specs.Keeping.{IsKept, left_after, needed_by_the_kernel}
 use Rattle.k_keeper.specs.Kept.{HaveAbsorbed}
 use Rattle.k_keeper.proofs.Kept.{kept_absorbed}
 use Rattle.k_keeper.proofs.Refused.{same_kept}
+use Rattle.k_base.proofs.Lists.{get_there}
 
 -- nothing is absorbed yet
 pub absorbed_none : (h : HostValue) (left : ℕ) → HaveAbsorbed h h left left
@@ -55,14 +56,9 @@ two_left h n left rest a serves enough =
     let spends = a.spends in
     omega (arith, counted, each, once, heaps, same, spends, enough)
 
-there_at : {A : Type 0} (xs : List A) (n : ℕ) → n < length xs → (x : A) × (slice_get xs n ≡ Some x)
-there_at [] n inside = absurd (omega (arith, inside))
-there_at (x ∷ xs) zero inside = (x, refl)
-there_at (x ∷ xs) (suc n) inside = there_at xs n (omega (arith, inside))
-
 module _ (h : HostValue) (left : ℕ) (kept : IsKept h left) (id : SharedId) (some : 1 ≤ left) (first : lowest_orphan h.book.value.phases h.book.value.shares ≡ Some id.0) where
   heap : (s : SharedRecord) × (slice_get h.shared id.0 ≡ Some s)
-  heap = there_at h.shared id.0 (subst (λ n. id.0 < n) (sym kept.serves.rest.heaps.count) (heap_known h.basis.trace h.book kept.serves.rest.book.stands id first))
+  heap = get_there h.shared id.0 (subst (λ n. id.0 < n) (sym kept.serves.rest.heaps.count) (heap_known h.basis.trace h.book kept.serves.rest.book.stands id first))
 
   absorb_never : (why : HostError) → CanNotAbsorb h.basis h.kernel h.book id why → ⊥
   absorb_never why (inl orphan) = orphan.fails first

@@ -21,7 +21,8 @@ use Rattle.k_host.specs.Hosts.{HostServes, HostValue}
 use Rattle.k_keeper.specs.Keeping.{IsIdle, IsKept, owed_by}
 use Rattle.k_keeper.specs.Kept.{IsAlive}
 use Rattle.k_keeper.proofs.Insides.{idle_inside}
-use Rattle.k_keeper.proofs.Sums.{each_set, get_beside, one_of, total_at}
+use Rattle.k_keeper.proofs.Sums.{each_set, one_of, total_at}
+use Rattle.k_base.proofs.Lists.{slice_get-set_other}
 
 -- what a process owes
 bit_low : (b : Bool) → (if b then 0 else 1) ≤ 1
@@ -176,7 +177,7 @@ module _ (h : HostValue) (left : ℕ) (kept : IsKept h left) where
     kernel_idle = c.way.kernel_idle;
     room =
         let first = total_at owed_by h.guests pid.0 c.before c.after c.there in
-        let second = total_at owed_by (slice_set h.guests pid.0 c.after) c.target.0 c.target_before c.target_after (get_beside h.guests pid.0 c.target.0 c.after c.two ∙ c.target_there) in
+        let second = total_at owed_by (slice_set h.guests pid.0 c.after) c.target.0 c.target_before c.target_after (slice_get-set_other h.guests pid.0 c.target.0 c.after c.two ∙ c.target_there) in
         let now : total owed_by n.guests ≡ total owed_by (slice_set (slice_set h.guests pid.0 c.after) c.target.0 c.target_after) = ap (λ (y : HostValue). total owed_by y.guests) c.host_is in
         let more = longer (h.book.journal.list ++ c.before.cell.value.tail) c.target_before.cell.value.tail n.book.journal.list event c.way.journal in
         let both = length-append h.book.journal.list c.before.cell.value.tail in

@@ -1,24 +1,22 @@
 -- Sums over a list of which an item is written.
-use Rattle.std.proofs.Common.{◌≡◌, ◌≢◌, ◌≤◌, ◌+◌, ℕ, zero, suc, refl, sym, ap, ◌∙◌, subst, List, [], ◌∷◌, length, get_or, set, Some, slice_get, arith, zero-le}
+use Rattle.std.proofs.Common.{◌≡◌, ◌≤◌, ◌+◌, ℕ, zero, suc, refl, sym, ap, ◌∙◌, subst, List, [], ◌∷◌, length, get_or, set, Some, slice_get, arith, zero-le}
 use Rattle.std.proofs.lemmas.Option.{slice_get-get_or, slice_get_within}
 use Rattle.k_types.specs.Totals.{total}
 use Rattle.k_base.proofs.Sums.{total_set}
-
-some_same : {A : Type 0} {y z : A} → Some y ≡ Some z → y ≡ z
-some_same e = cc e
+use Rattle.k_base.proofs.Lists.{same_value}
 
 -- an item that is written over another
 pub total_at : {A : Type 0} (f : A → ℕ) (xs : List A) (n : ℕ) (x y : A) → slice_get xs n ≡ Some x → total f (set xs n y) + f x ≡ total f xs + f y
 total_at f xs n x y at =
     let inside = slice_get_within xs n x at in
     let read : Some (get_or xs n x) ≡ Some x = sym (slice_get-get_or xs n x inside) ∙ at in
-    let same : get_or xs n x ≡ x = some_same read in
+    let same : get_or xs n x ≡ x = same_value read in
     subst (λ z. total f (set xs n y) + f z ≡ total f xs + f y) same (total_set f xs n y x inside)
 
 -- one item is no more than all
 pub one_of : {A : Type 0} (f : A → ℕ) (xs : List A) (n : ℕ) (x : A) → slice_get xs n ≡ Some x → f x ≤ total f xs
 one_of f [] n x at = absurd (cc at)
-one_of f (y ∷ ys) zero x at = let same : f y ≡ f x = ap f (some_same at) in omega (arith, same)
+one_of f (y ∷ ys) zero x at = let same : f y ≡ f x = ap f (same_value at) in omega (arith, same)
 one_of f (y ∷ ys) (suc n) x at = omega (arith, one_of f ys n x at)
 
 -- items of at most one each
@@ -29,15 +27,7 @@ total_low f (x ∷ xs) low = omega (arith, low zero x refl, total_low f xs (λ k
 -- what all items are is what they are once another one is written
 pub each_set : {A : Type 0} (P : A → Type 0) (xs : List A) (i : ℕ) (w : A) → ((k : ℕ) (x : A) → slice_get xs k ≡ Some x → P x) → P w → (k : ℕ) (x : A) → slice_get (set xs i w) k ≡ Some x → P x
 each_set P [] i w all now k x there = all k x there
-each_set P (y ∷ ys) zero w all now zero x there = subst P (some_same there) now
+each_set P (y ∷ ys) zero w all now zero x there = subst P (same_value there) now
 each_set P (y ∷ ys) zero w all now (suc k) x there = all (suc k) x there
 each_set P (y ∷ ys) (suc i) w all now zero x there = all zero x there
 each_set P (y ∷ ys) (suc i) w all now (suc k) x there = each_set P ys i w (λ j z at. all (suc j) z at) now k x there
-
--- an item beside one that is written
-pub get_beside : {A : Type 0} (xs : List A) (i j : ℕ) (x : A) → j ≢ i → slice_get (set xs i x) j ≡ slice_get xs j
-get_beside [] i j x two = refl
-get_beside (z ∷ xs) zero zero x two = absurd (two refl)
-get_beside (z ∷ xs) zero (suc j) x two = refl
-get_beside (z ∷ xs) (suc i) zero x two = refl
-get_beside (z ∷ xs) (suc i) (suc j) x two = get_beside xs i j x (λ same. two (ap suc same))

@@ -7,7 +7,6 @@ use Rattle.k_types.specs.declared.names.Heap.TheVariants.{Kernel, Shared}
 use Rattle.k_types.specs.declared.names.Phase.{Phase}
 use Rattle.k_types.specs.declared.names.Phase.TheVariants.{Unmade, Populating, Frozen, Absorbed}
 use Rattle.k_types.specs.declared.op.Op.{Op}
-use Rattle.k_types.specs.declared.op.Op.TheVariants.{New, KNew, SNew, Store, Load, Move, Clear, Dir, Put, Get, Collect, KCollect, Share, Freeze, Attach, Exit, Kill, Resize}
 use Rattle.k_types.specs.declared.event.Event.{Event}
 use Rattle.k_types.specs.declared.event.Event.TheVariants.{Done, Ended, Absorbed as AbsorbedEvent, Closing}
 use Rattle.k_types.specs.declared.event.Fault.{Fault}
@@ -25,28 +24,8 @@ use Rattle.k_types.specs.Sound.{IsSound}
 use Rattle.k_base.proofs.NameTests.{heap_eq-true}
 use Rattle.k_base.proofs.Numbered.{all_at_below}
 use Rattle.k_kept.specs.Kept.{HasEndOf, IsPaidFor}
-use Rattle.k_locality.proofs.SamePossible.{sharer_from}
-
-no_refusal : (trace : Trace) (st : State) (p : ℕ) (op : Op) (fault : Fault) → answer trace st p op ≡ Refused fault → ⊥
-unfolding answer
-no_refusal trace st p (New r ty) fault e = cc e
-no_refusal trace st p (KNew r ty) fault e = cc e
-no_refusal trace st p (SNew r s ty) fault e = cc e
-no_refusal trace st p (Store base i value) fault e = cc e
-no_refusal trace st p (Load r base i) fault e = cc e
-no_refusal trace st p (Move r from) fault e = cc e
-no_refusal trace st p (Clear r) fault e = cc e
-no_refusal trace st p (Dir r) fault e = cc e
-no_refusal trace st p (Put base i number) fault e = cc e
-no_refusal trace st p (Get base i) fault e = cc e
-no_refusal trace st p Collect fault e = cc e
-no_refusal trace st p KCollect fault e = cc e
-no_refusal trace st p (Share s) fault e = cc e
-no_refusal trace st p (Freeze s root) fault e = cc e
-no_refusal trace st p (Attach r s) fault e = cc e
-no_refusal trace st p Exit fault e = cc e
-no_refusal trace st p (Kill q) fault e = cc e
-no_refusal trace st p (Resize m max) fault e = cc e
+use Rattle.k_base.proofs.Shares.{sharer_from}
+use Rattle.k_frame.proofs.Answers.{no_refusal}
 
 pub refused_counts : (trace : Trace) (st : State) (p : ℕ) (op : Op) (fault : Fault) → reply_to trace st p op ≡ Refused fault → after_operation trace p op st ≡ count_done p st
 unfolding reply_to after_operation

@@ -22,7 +22,7 @@ use Rattle.k_types.specs.Effects.{after_absorbed, after_closing, after_ended, af
 use Rattle.k_types.specs.Steps.{IsPossible, has_sharer, is_live}
 use Rattle.k_types.specs.Sound.{IsSound}
 use Rattle.k_laws.specs.Charges.{bytes_added, is_done_by}
-use Rattle.k_frame.proofs.ElsewhereOther.{absorbed_elsewhere, collected_elsewhere, filter_hidden}
+use Rattle.k_frame.proofs.ElsewhereOther.{absorbed_elsewhere, collected_elsewhere}
 use Rattle.k_frame.proofs.Kept.{any-fewer, distinct_shares-kept}
 use Rattle.k_base.proofs.NameTests.{heap_eq-true}
 use Rattle.k_base.proofs.Sums.{bit, sum_both, sum_same}
@@ -33,6 +33,7 @@ use Rattle.k_changes.proofs.SharedSums.{shares_sum}
 use Rattle.k_kept.specs.Kept.{Credits, bytes_dropped, is_end_of, is_kill_of}
 use Rattle.k_kept.proofs.EndNumbers.{numbers_are_right}
 use Rattle.k_types.specs.declared.event.Fault.{Fault}
+use Rattle.k_base.proofs.Lists.{filter_stronger}
 
 -- a sum over some shares of what is the same for every heap but one that nobody shares
 sum_apart : (f g : ℕ → ℕ) (q s : ℕ) (shares : List Sharing) → IsFalse (has_sharer shares s) → ((t : ℕ) → t ≢ s → f t ≡ g t) →
@@ -64,7 +65,7 @@ module _ (trace : Trace) (st : State) where
   -- shares of a process whose heap is not the collected one stay
   shares_hidden : (h : Heap) (q : ℕ) → IsFalse (heap_eq h (user q)) → filter (λ e. e.process == q) (filter (share_stays trace st h) st.shares) ≡ filter (λ e. e.process == q) st.shares
   shares_hidden h q apart =
-      filter_hidden (λ e. e.process == q) (share_stays trace st h) (λ e own. share_apart h e (ap (λ k. heap_eq h (user k)) (eqb-true e.process q own) ∙ apart)) st.shares
+      filter_stronger (λ e. e.process == q) (share_stays trace st h) (λ e own. share_apart h e (ap (λ k. heap_eq h (user k)) (eqb-true e.process q own) ∙ apart)) st.shares
 
 module _ (trace : Trace) (st : State) (sound : IsSound trace st) where
   scanned_apart : (h : Heap) (t : ℕ) → IsTrue (is_scanned st.scans h) → IsFalse (heap_eq h (shared t))

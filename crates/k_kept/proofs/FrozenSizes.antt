@@ -8,7 +8,7 @@ use Rattle.k_types.specs.declared.names.Heap.TheVariants.{Kernel}
 use Rattle.k_types.specs.declared.names.Phase.{Phase}
 use Rattle.k_types.specs.declared.names.Phase.TheVariants.{Unmade, Populating, Frozen}
 use Rattle.k_types.specs.declared.op.Op.{Op}
-use Rattle.k_types.specs.declared.op.Op.TheVariants.{New, KNew, SNew, Store, Load, Move, Clear, Dir, Put, Get, Collect, KCollect, Share, Freeze, Attach, Exit, Kill, Resize}
+use Rattle.k_types.specs.declared.op.Op.TheVariants.{New, KNew, SNew, Store, Put, Share, Freeze, Exit, Kill}
 use Rattle.k_types.specs.declared.event.Event.{Event}
 use Rattle.k_types.specs.declared.event.Event.TheVariants.{Done, Ended, Absorbed, Closing}
 use Rattle.k_types.specs.declared.event.Fault.{Fault}
@@ -121,17 +121,10 @@ module _ (trace : Trace) where
       phase = ap (λ (su : State). phase_of su.phases s) (store_rest trace st (register st.registers p base.0) i (register st.registers p value.0));
       bytes = store_bytes st (register st.registers p base.0) i (register st.registers p value.0) (shared s);
     }
-    effect_stays (Load r base i) fine = record { phase = refl; bytes = refl }
-    effect_stays (Move r from) fine = record { phase = refl; bytes = refl }
-    effect_stays (Clear r) fine = record { phase = refl; bytes = refl }
-    effect_stays (Dir r) fine = record { phase = refl; bytes = refl }
     effect_stays (Put base i number) fine = record {
       phase = ap (λ (su : State). phase_of su.phases s) (put_rest st (register st.registers p base.0) i number);
       bytes = put_bytes st (register st.registers p base.0) i number (shared s);
     }
-    effect_stays (Get base i) fine = record { phase = refl; bytes = refl }
-    effect_stays Collect fine = record { phase = refl; bytes = refl }
-    effect_stays KCollect fine = record { phase = refl; bytes = refl }
     effect_stays (Share t) fine =
         let unmade = is_unmade_so (phase_of st.phases t.0) (not-false _ (none_on (not (is_unmade (phase_of st.phases t.0))) (Taken t) [] fine).0) in
         record {
@@ -139,10 +132,9 @@ module _ (trace : Trace) where
           bytes = phase_bytes st t.0 (Populating (record { 0 = p })) (shared s) (sym (ap is_absorbed unmade));
         }
     effect_stays (Freeze t root') fine = freeze_stays t.0 (register st.registers p root'.0) fine
-    effect_stays (Attach r t) fine = record { phase = refl; bytes = refl }
     effect_stays Exit fine = exit_stays_frozen
     effect_stays (Kill q) fine = kill_stays_frozen q.0
-    effect_stays (Resize m max) fine = record { phase = refl; bytes = refl }
+    effect_stays _ fine = record { phase = refl; bytes = refl }
 
     unless_stays : (f : Option Fault) (op : Op) → first_fault (faults trace st p op) ≡ f → StaysFrozen trace st (effect_unless f trace p op st) s
     unless_stays None op e = effect_stays op e

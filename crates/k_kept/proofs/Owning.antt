@@ -7,7 +7,7 @@ use Rattle.k_types.specs.declared.names.Heap.TheVariants.{Kernel}
 use Rattle.k_types.specs.declared.names.Phase.{Phase}
 use Rattle.k_types.specs.declared.names.Phase.TheVariants.{Unmade, Populating, Frozen, Absorbed}
 use Rattle.k_types.specs.declared.op.Op.{Op}
-use Rattle.k_types.specs.declared.op.Op.TheVariants.{New, KNew, SNew, Store, Load, Move, Clear, Dir, Put, Get, Collect, KCollect, Share, Freeze, Attach, Exit, Kill, Resize}
+use Rattle.k_types.specs.declared.op.Op.TheVariants.{Store, Put, Share, Freeze, Exit, Kill}
 use Rattle.k_types.specs.declared.event.Event.{Event}
 use Rattle.k_types.specs.declared.event.Event.TheVariants.{Done, Ended, Absorbed as AbsorbedEvent, Closing}
 use Rattle.k_types.specs.declared.event.Fault.{Fault}
@@ -37,24 +37,12 @@ module _ (trace : Trace) where
 
   effect_ended : (st : State) (p : ℕ) (op : Op) (q : ℕ) → IsTrue (among q st.ended) → IsTrue (among q (effect trace p op st).ended)
   unfolding effect set_register create open_scan add_share set_phase after_end_of end_process clear_registers keep_shares turn_exits set_max
-  effect_ended st p (New r ty) q t = t
-  effect_ended st p (KNew r ty) q t = t
-  effect_ended st p (SNew r s ty) q t = t
   effect_ended st p (Store base i value) q t = ap (λ (s : State). among q s.ended) (store_rest trace st (register st.registers p base.0) i (register st.registers p value.0)) ∙ t
-  effect_ended st p (Load r base i) q t = t
-  effect_ended st p (Move r from) q t = t
-  effect_ended st p (Clear r) q t = t
-  effect_ended st p (Dir r) q t = t
   effect_ended st p (Put base i number) q t = ap (λ (s : State). among q s.ended) (put_rest st (register st.registers p base.0) i number) ∙ t
-  effect_ended st p (Get base i) q t = t
-  effect_ended st p Collect q t = t
-  effect_ended st p KCollect q t = t
-  effect_ended st p (Share s) q t = t
   effect_ended st p (Freeze s root) q t = ap (λ (s : State). among q s.ended) (freeze_rest st s.0 (register st.registers p root.0)) ∙ t
-  effect_ended st p (Attach r s) q t = t
   effect_ended st p Exit q t = list_any-append (λ m. m == q) st.ended (p ∷ []) ∙ or_left (among q st.ended) _ t
   effect_ended st p (Kill k) q t = killed_ended st k.0 q t
-  effect_ended st p (Resize m max) q t = t
+  effect_ended st p _ q t = t
 
   unless_ended : (f : Option Fault) (st : State) (p : ℕ) (op : Op) (q : ℕ) → IsTrue (among q st.ended) → IsTrue (among q (effect_unless f trace p op st).ended)
   unless_ended None st p op q t = effect_ended st p op q t
@@ -96,26 +84,14 @@ module _ (trace : Trace) where
 
   effect_absorbed : (st : State) (p : ℕ) (op : Op) (s : ℕ) → first_fault (faults trace st p op) ≡ None → IsTrue (is_absorbed (phase_of st.phases s)) → IsTrue (is_absorbed (phase_of (effect trace p op st).phases s))
   unfolding effect set_register create open_scan add_share set_phase after_end_of end_process clear_registers keep_shares turn_exits faults set_max
-  effect_absorbed st p (New r ty) s fine t = t
-  effect_absorbed st p (KNew r ty) s fine t = t
-  effect_absorbed st p (SNew r u ty) s fine t = t
   effect_absorbed st p (Store base i value) s fine t = ap (λ (s' : State). is_absorbed (phase_of s'.phases s)) (store_rest trace st (register st.registers p base.0) i (register st.registers p value.0)) ∙ t
-  effect_absorbed st p (Load r base i) s fine t = t
-  effect_absorbed st p (Move r from) s fine t = t
-  effect_absorbed st p (Clear r) s fine t = t
-  effect_absorbed st p (Dir r) s fine t = t
   effect_absorbed st p (Put base i number) s fine t = ap (λ (s' : State). is_absorbed (phase_of s'.phases s)) (put_rest st (register st.registers p base.0) i number) ∙ t
-  effect_absorbed st p (Get base i) s fine t = t
-  effect_absorbed st p Collect s fine t = t
-  effect_absorbed st p KCollect s fine t = t
   effect_absorbed st p (Share u) s fine t =
       set_absorbed st.phases u.0 (Populating (record { 0 = p })) s
       (ap is_absorbed (is_unmade_so (phase_of st.phases u.0) (not-false _ (none_on (not (is_unmade (phase_of st.phases u.0))) (Taken u) [] fine).0))) t
   effect_absorbed st p (Freeze u root) s fine t = freeze_absorbed st p u.0 (register st.registers p root.0) s fine t
-  effect_absorbed st p (Attach r u) s fine t = t
-  effect_absorbed st p Exit s fine t = t
   effect_absorbed st p (Kill q) s fine t = ap (λ (s' : State). is_absorbed (phase_of s'.phases s)) (kill_rest trace st q.0) ∙ t
-  effect_absorbed st p (Resize m max) s fine t = t
+  effect_absorbed st p _ s fine t = t
 
   unless_absorbed : (f : Option Fault) (st : State) (p : ℕ) (op : Op) (s : ℕ) → first_fault (faults trace st p op) ≡ f → IsTrue (is_absorbed (phase_of st.phases s)) → IsTrue (is_absorbed (phase_of (effect_unless f trace p op st).phases s))
   unless_absorbed None st p op s e t = effect_absorbed st p op s e t

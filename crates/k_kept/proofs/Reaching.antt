@@ -11,7 +11,7 @@ use Rattle.k_types.specs.declared.names.Pid.{Pid}
 use Rattle.k_types.specs.declared.names.Phase.{Phase}
 use Rattle.k_types.specs.declared.names.Phase.TheVariants.{Unmade, Populating, Frozen, Absorbed}
 use Rattle.k_types.specs.declared.op.Op.{Op}
-use Rattle.k_types.specs.declared.op.Op.TheVariants.{New, KNew, SNew, Store, Load, Move, Clear, Dir, Put, Get, Collect, KCollect, Share, Freeze, Attach, Exit, Kill, Resize}
+use Rattle.k_types.specs.declared.op.Op.TheVariants.{Store, Load, Put, Get, Share, Freeze, Attach, Exit, Kill}
 use Rattle.k_types.specs.declared.event.Event.{Event}
 use Rattle.k_types.specs.declared.event.Event.TheVariants.{Done, Ended, Absorbed as AbsorbedEvent, Closing}
 use Rattle.k_types.specs.declared.event.Fault.{Fault}
@@ -34,11 +34,11 @@ use Rattle.k_frame.proofs.Kept.{has_share-kept}
 use Rattle.k_frame.proofs.Rest.{freeze_rest, put_rest, store_rest}
 use Rattle.k_frame.proofs.Untouched.{none_touch, untouched}
 use Rattle.k_frame.specs.PartUpdates.{held_in}
-use Rattle.k_laws.proofs.SoundSharing.{sharer_of}
 use Rattle.k_laws.proofs.SoundSteps.{legal_sound}
 use Rattle.k_kept.specs.Kept.{KeepsOrGives}
 use Rattle.k_kept.specs.Reached.{StaysOrEnds, StaysOrTurns}
 use Rattle.k_kept.proofs.Owning.{owner_after, stays_ended}
+use Rattle.k_base.proofs.Shares.{sharer_of}
 
 -- a share of another process leaves whether the process has one
 added_apart : (shares : List Sharing) (q p t s : ℕ) → IsFalse (q == p) → has_share (shares ++ record { process = q; heap = t } ∷ []) p s ≡ has_share shares p s
@@ -81,24 +81,14 @@ module _ (trace : Trace) (p s : ℕ) where
   effect_shares : (st : State) (q : ℕ) (op : Op) → IsFalse (q == p) → first_fault (faults trace st q op) ≡ None → IsFalse (list_any (λ c. heap_eq c (user p)) (other_cells trace st q op)) →
       shares_of (effect trace q op st) ≡ shares_of st
   unfolding shares_of effect set_register create open_scan set_max set_phase faults other_cells
-  effect_shares st q (New r ty) apart e u = refl
-  effect_shares st q (KNew r ty) apart e u = refl
-  effect_shares st q (SNew r t ty) apart e u = refl
   effect_shares st q (Store base i value) apart e u = ap (λ (su : State). has_share su.shares p s) (store_rest trace st (register st.registers q base.0) i (register st.registers q value.0))
-  effect_shares st q (Load r base i) apart e u = refl
-  effect_shares st q (Move r from) apart e u = refl
-  effect_shares st q (Clear r) apart e u = refl
-  effect_shares st q (Dir r) apart e u = refl
   effect_shares st q (Put base i number) apart e u = ap (λ (su : State). has_share su.shares p s) (put_rest st (register st.registers q base.0) i number)
-  effect_shares st q (Get base i) apart e u = refl
-  effect_shares st q Collect apart e u = refl
-  effect_shares st q KCollect apart e u = refl
   effect_shares st q (Share t) apart e u = add_apart (set_phase t.0 (Populating (record { 0 = q })) st) q t.0 apart
   effect_shares st q (Freeze t root) apart e u = ap (λ (su : State). has_share su.shares p s) (freeze_rest st t.0 (register st.registers q root.0))
   effect_shares st q (Attach r t) apart e u = add_apart st q t.0 apart
   effect_shares st q Exit apart e u = exit_apart st q apart
   effect_shares st q (Kill k) apart e u = kill_apart st q k.0 (not-false _ (none_on (not (is_above trace q k.0)) (ProcNotBelow k) [] e).0) u
-  effect_shares st q (Resize m max) apart e u = refl
+  effect_shares st q _ apart e u = refl
 
   unless_shares : (f : Option Fault) (st : State) (q : ℕ) (op : Op) → IsFalse (q == p) → first_fault (faults trace st q op) ≡ f → IsFalse (list_any (λ c. heap_eq c (user p)) (other_cells trace st q op)) →
       shares_of (effect_unless f trace q op st) ≡ shares_of st
@@ -201,24 +191,12 @@ module _ (trace : Trace) (known rest : List Event) (p : ℕ) (limits : AreLimits
 
   pub cells_turn_once : (op : Op) → ((q : Pid) → op ≢ Kill q) → StaysOrTurns (other_cells trace before p op) (other_cells trace after p op)
   unfolding other_cells
-  cells_turn_once (New r ty) other = inl refl
-  cells_turn_once (KNew r ty) other = inl refl
-  cells_turn_once (SNew r s ty) other = inl refl
   cells_turn_once (Store base i value) other = through base.0
   cells_turn_once (Load r base i) other = through base.0
-  cells_turn_once (Move r from) other = inl refl
-  cells_turn_once (Clear r) other = inl refl
-  cells_turn_once (Dir r) other = inl refl
   cells_turn_once (Put base i number) other = through base.0
   cells_turn_once (Get base i) other = through base.0
-  cells_turn_once Collect other = inl refl
-  cells_turn_once KCollect other = inl refl
-  cells_turn_once (Share s) other = inl refl
-  cells_turn_once (Freeze s root) other = inl refl
-  cells_turn_once (Attach r s) other = inl refl
-  cells_turn_once Exit other = inl refl
   cells_turn_once (Kill q) other = absurd (other q refl)
-  cells_turn_once (Resize m max) other = inl refl
+  cells_turn_once _ other = inl refl
 
 -- where who has ended stays ended, cells that an operation has of one that lives stay, or go with its end
 ends_once : (cells : List Cell) (may gone gone' : Bool) → (IsTrue gone → IsTrue gone') →

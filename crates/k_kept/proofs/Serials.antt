@@ -4,7 +4,7 @@ use Rattle.std.proofs.lemmas.Bool.{and_parts, or_cases, false≢true, false_from
 use Rattle.k_types.specs.declared.names.Name.{Name}
 use Rattle.k_types.specs.declared.names.TypeId.{TypeId}
 use Rattle.k_types.specs.declared.op.Op.{Op}
-use Rattle.k_types.specs.declared.op.Op.TheVariants.{New, KNew, SNew, Store, Load, Move, Clear, Dir, Put, Get, Collect, KCollect, Share, Freeze, Attach, Exit, Kill, Resize}
+use Rattle.k_types.specs.declared.op.Op.TheVariants.{New, KNew, SNew, Store, Put, Freeze, Kill}
 use Rattle.k_types.specs.declared.event.Event.{Event}
 use Rattle.k_types.specs.declared.event.Event.TheVariants.{Done, Ended, Absorbed, Closing}
 use Rattle.k_types.specs.declared.event.Fault.{Fault}
@@ -69,25 +69,15 @@ module _ (trace : Trace) where
   effect_gives st p (Store base i value) =
       same_gives st _ (ap (λ (s : State). s.made) (store_rest trace st (register st.registers p base.0) i (register st.registers p value.0)))
       (store_back st (register st.registers p base.0) i (register st.registers p value.0))
-  effect_gives st p (Load r base i) = same_gives st _ refl (λ n t. t)
-  effect_gives st p (Move r from) = same_gives st _ refl (λ n t. t)
-  effect_gives st p (Clear r) = same_gives st _ refl (λ n t. t)
-  effect_gives st p (Dir r) = same_gives st _ refl (λ n t. t)
   effect_gives st p (Put base i number) =
       same_gives st _ (ap (λ (s : State). s.made) (put_rest st (register st.registers p base.0) i number)) (put_back st (register st.registers p base.0) i number)
-  effect_gives st p (Get base i) = same_gives st _ refl (λ n t. t)
-  effect_gives st p Collect = same_gives st _ refl (λ n t. t)
-  effect_gives st p KCollect = same_gives st _ refl (λ n t. t)
-  effect_gives st p (Share s) = same_gives st _ refl (λ n t. t)
   effect_gives st p (Freeze s root) =
       let rest = freeze_rest st s.0 (register st.registers p root.0) in
       same_gives st _ (ap (λ (s : State). s.made) rest) (λ n t. ap (λ (s : State). has s.objects n) (sym rest) ∙ t)
-  effect_gives st p (Attach r s) = same_gives st _ refl (λ n t. t)
-  effect_gives st p Exit = same_gives st _ refl (λ n t. t)
   effect_gives st p (Kill q) =
       let rest = kill_rest trace st q.0 in
       same_gives st _ (ap (λ (s : State). s.made) rest) (λ n t. ap (λ (s : State). has s.objects n) (sym rest) ∙ t)
-  effect_gives st p (Resize m max) = same_gives st _ refl (λ n t. t)
+  effect_gives st p _ = same_gives st _ refl (λ n t. t)
 
   unless_gives : (f : Option Fault) (st : State) (p : ℕ) (op : Op) → GivesSerials st (effect_unless f trace p op st)
   unless_gives None st p op = effect_gives st p op

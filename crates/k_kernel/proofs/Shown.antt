@@ -8,8 +8,8 @@ use Rattle.k_tie.specs.Values.{NoteValue}
 use Rattle.k_cell.specs.declared.rooms.HoldingRooms.{HoldingRooms}
 use Rattle.k_cell.specs.Changes.{with_body}
 use Rattle.k_cell.specs.Holdings.{HasSerialLeft, fresh_cell, fresh_holdings}
-use Rattle.k_cell.proofs.Areas.{set_below}
 use Rattle.k_kernel.specs.Kernels.{opened_kernel, segments_of}
+use Rattle.k_base.proofs.Lists.{set_below}
 
 -- what is listed for the number 0
 first_listed : (f : ℕ → Option ℕ) (n : ℕ) → 0 < n → get_or (map f (numbers_below n)) 0 None ≡ f 0

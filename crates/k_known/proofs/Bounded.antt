@@ -3,7 +3,7 @@ use Rattle.std.proofs.Common.{ℕ, ◌+◌, ◌≤◌, ◌==◌, not, Bool, true
 use Rattle.std.proofs.lemmas.List.{length-append}
 use Rattle.k_types.specs.declared.names.Heap.{Heap}
 use Rattle.k_types.specs.declared.op.Op.{Op}
-use Rattle.k_types.specs.declared.op.Op.TheVariants.{New, KNew, SNew, Store, Load, Move, Clear, Dir, Put, Get, Collect, KCollect, Share, Freeze, Attach, Exit, Kill, Resize}
+use Rattle.k_types.specs.declared.op.Op.TheVariants.{Store, Put, Share, Freeze, Attach, Exit, Kill}
 use Rattle.k_types.specs.declared.event.Event.{Event}
 use Rattle.k_types.specs.declared.event.Event.TheVariants.{Done, Ended, Absorbed, Closing}
 use Rattle.k_types.specs.declared.event.Fault.{Fault}
@@ -19,13 +19,13 @@ use Rattle.k_types.specs.Effects.{after_absorbed, after_closing, after_end_of, a
 use Rattle.k_types.specs.Steps.{IsLegalHistory, run, state_after}
 use Rattle.k_frame.proofs.Histories.{legal_front, legal_rest}
 use Rattle.k_frame.proofs.Rest.{freeze_rest, put_rest, store_rest}
-use Rattle.k_laws.proofs.Closure.{length-kept}
 use Rattle.k_bounds.specs.Counts.{is_operation, one_if, operation_count}
 use Rattle.k_bounds.proofs.AllExits.{exits_at_most_stores}
 use Rattle.k_bounds.proofs.Counting.{total_fewer}
 use Rattle.k_kept.proofs.EndNumbers.{numbers_are_right}
 use Rattle.k_known.specs.Fits.{AreEndNumbers, HasFewFields}
 use Rattle.k_known.proofs.Fitting.{objects_bounded}
+use Rattle.k_base.proofs.Lists.{length-kept}
 
 module _ (trace : Trace) where
   added : (b : Bool) (shares : List Sharing) (e : Sharing) → length (cond b shares (shares ++ e ∷ [])) ≤ length shares + 1
@@ -41,24 +41,14 @@ module _ (trace : Trace) where
 
   effect_shares : (st : State) (p : ℕ) (op : Op) → length (effect trace p op st).shares ≤ length st.shares + 1
   unfolding effect set_register create open_scan add_share set_phase after_end_of end_process clear_registers keep_shares turn_exits set_max
-  effect_shares st p (New r ty) = omega arith
-  effect_shares st p (KNew r ty) = omega arith
-  effect_shares st p (SNew r s ty) = omega arith
   effect_shares st p (Store base i value) = let same = ap (λ (s : State). length s.shares) (store_rest trace st (register st.registers p base.0) i (register st.registers p value.0)) in omega (arith, same)
-  effect_shares st p (Load r base i) = omega arith
-  effect_shares st p (Move r from) = omega arith
-  effect_shares st p (Clear r) = omega arith
-  effect_shares st p (Dir r) = omega arith
   effect_shares st p (Put base i number) = let same = ap (λ (s : State). length s.shares) (put_rest st (register st.registers p base.0) i number) in omega (arith, same)
-  effect_shares st p (Get base i) = omega arith
-  effect_shares st p Collect = omega arith
-  effect_shares st p KCollect = omega arith
   effect_shares st p (Share s) = added (has_share st.shares p s.0) st.shares (record { process = p; heap = s.0 })
   effect_shares st p (Freeze s root) = let same = ap (λ (s : State). length s.shares) (freeze_rest st s.0 (register st.registers p root.0)) in omega (arith, same)
   effect_shares st p (Attach r s) = added (has_share st.shares p s.0) st.shares (record { process = p; heap = s.0 })
   effect_shares st p Exit = let fewer = length-kept (λ (e : Sharing). not (e.process == p)) st.shares in omega (arith, fewer)
   effect_shares st p (Kill q) = omega (arith, killed_shares st q.0)
-  effect_shares st p (Resize m max) = omega arith
+  effect_shares st p _ = omega arith
 
   unless_shares : (f : Option Fault) (st : State) (p : ℕ) (op : Op) → length (effect_unless f trace p op st).shares ≤ length st.shares + 1
   unless_shares None st p op = effect_shares st p op

@@ -8,7 +8,7 @@ use Rattle.k_types.specs.declared.names.Field.{Field}
 use Rattle.k_types.specs.declared.names.Field.TheVariants.{Int, Ref}
 use Rattle.k_types.specs.declared.names.Heap.TheVariants.{Kernel, Shared}
 use Rattle.k_types.specs.declared.op.Op.{Op}
-use Rattle.k_types.specs.declared.op.Op.TheVariants.{New, KNew, SNew, Store, Load, Move, Clear, Dir, Put, Get, Collect, KCollect, Share, Freeze, Attach, Exit, Kill, Resize}
+use Rattle.k_types.specs.declared.op.Op.TheVariants.{New, KNew, SNew, Store, Put, Freeze, Kill}
 use Rattle.k_types.specs.declared.event.Event.{Event}
 use Rattle.k_types.specs.declared.event.Event.TheVariants.{Done, Ended, Absorbed, Closing}
 use Rattle.k_types.specs.declared.event.Fault.{Fault}
@@ -101,21 +101,11 @@ module _ (trace : Trace) where
   effect_small st p (KNew r ty) spelled all = new_small st (segment_of trace Kernel) ty all
   effect_small st p (SNew r s ty) spelled all = new_small st (segment_of trace (Shared s)) ty all
   effect_small st p (Store base i value) spelled all = stored_small st (register st.registers p base.0) i (register st.registers p value.0) all
-  effect_small st p (Load r base i) spelled all = all
-  effect_small st p (Move r from) spelled all = all
-  effect_small st p (Clear r) spelled all = all
-  effect_small st p (Dir r) spelled all = all
   effect_small st p (Put base i number) spelled all =
       put_small st (register st.registers p base.0) i number (ltb-true number (2 ^ 64) (and_parts (nat_lt i most_fields) (nat_lt number (2 ^ 64)) spelled).1) all
-  effect_small st p (Get base i) spelled all = all
-  effect_small st p Collect spelled all = all
-  effect_small st p KCollect spelled all = all
-  effect_small st p (Share s) spelled all = all
   effect_small st p (Freeze s root) spelled all = subst HaveSmall (sym (ap (λ (su : State). su.objects) (freeze_rest st s.0 (register st.registers p root.0)))) all
-  effect_small st p (Attach r s) spelled all = all
-  effect_small st p Exit spelled all = all
   effect_small st p (Kill q) spelled all = subst HaveSmall (sym (ap (λ (su : State). su.objects) (kill_rest trace st q.0))) all
-  effect_small st p (Resize m max) spelled all = all
+  effect_small st p _ spelled all = all
 
   unless_small : (f : Option Fault) (st : State) (p : ℕ) (op : Op) → IsTrue (is_spelled op) → HaveSmall st.objects → HaveSmall (effect_unless f trace p op st).objects
   unless_small None st p op spelled all = effect_small st p op spelled all

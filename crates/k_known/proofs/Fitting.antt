@@ -7,7 +7,7 @@ use Rattle.k_types.specs.declared.names.TypeId.{TypeId}
 use Rattle.k_types.specs.declared.names.Field.TheVariants.{Ref}
 use Rattle.k_types.specs.declared.names.Heap.TheVariants.{Shared}
 use Rattle.k_types.specs.declared.op.Op.{Op}
-use Rattle.k_types.specs.declared.op.Op.TheVariants.{New, KNew, SNew, Store, Load, Move, Clear, Dir, Put, Get, Collect, KCollect, Share, Freeze, Attach, Exit, Kill, Resize}
+use Rattle.k_types.specs.declared.op.Op.TheVariants.{New, KNew, SNew, Store, Put, Freeze, Kill}
 use Rattle.k_types.specs.declared.event.Event.{Event}
 use Rattle.k_types.specs.declared.event.Event.TheVariants.{Done, Ended, Absorbed, Closing}
 use Rattle.k_types.specs.declared.event.Fault.{Fault}
@@ -20,21 +20,21 @@ use Rattle.k_types.specs.TraceRules.{AreLimits}
 use Rattle.k_types.specs.State.{Object, Refers, Holds, State, field_kind, fresh, has, object_at, register}
 use Rattle.k_types.specs.Owners.{object_bytes, owner_of, user}
 use Rattle.k_types.specs.Replies.{faults, first_fault}
-use Rattle.k_types.specs.Updates.{add_exit, add_share, clear_registers, close, close_scan, count_done, create, end_process, keep_exits, keep_objects, keep_shares, next_name, object_after_write, open_scan, set_phase, set_register, turn_exits, with_object, write, set_max}
+use Rattle.k_types.specs.Updates.{add_exit, add_share, clear_registers, close, close_scan, count_done, create, end_process, keep_exits, keep_objects, keep_shares, next_name, object_after_write, open_scan, set_phase, set_register, turn_exits, write, set_max}
 use Rattle.k_types.specs.Effects.{after_absorbed, after_closing, after_end_of, after_ended, after_freeze, after_operation, after_put, after_store, effect, effect_unless, step, survives, with_exit_of_store, after_kill}
 use Rattle.k_types.specs.Steps.{IsLegalHistory, IsPossible, in_range, state_after}
 use Rattle.k_types.specs.Sound.{IsOrdered, IsOrderedFrom, IsSized, IsTyped, kinds_by}
 use Rattle.k_base.proofs.NameTests.{name_eq-true, name_eq_refl, name_lt_irrefl, name_lt_trans}
-use Rattle.k_base.proofs.Objects.{has_found}
+use Rattle.k_base.proofs.Objects.{has_found, length-placed}
 use Rattle.k_frame.proofs.Histories.{history_induction, state_next}
 use Rattle.k_frame.proofs.Rest.{freeze_rest, put_rest, store_rest, kill_rest}
 use Rattle.k_frame.proofs.Sizes.{history_sized}
-use Rattle.k_laws.proofs.Closure.{length-kept}
 use Rattle.k_laws.proofs.SoundSteps.{legal_sound}
 use Rattle.k_known.specs.Fits.{AreAtMostTheSerials, FitsItsType, HasFewFields, serials_given}
 use Rattle.k_base.proofs.Sums.{total_set}
 use Rattle.k_base.proofs.Ordered.{ordered_tail}
 use Rattle.std.proofs.lemmas.List.{length-map}
+use Rattle.k_base.proofs.Lists.{length-kept}
 
 -- the object has few fields
 few_by : (trace : Trace) → HasFewFields trace → (ty : Option TypeId) → length (kinds_by trace ty) ≤ most_fields
@@ -80,13 +80,6 @@ few_bytes (x ∷ xs) all = omega (arith, all.0, few_bytes xs all.1)
 abbrev Within : State → Type 0
 Within st = length st.objects ≤ serials_given st
 
-length-placed : (o : Object) (xs : List Object) → length (with_object o xs) ≡ 1 + length xs
-length-placed o [] = refl
-length-placed o (x ∷ xs) = elim (name_lt x.name o.name) as (λ b. length (cond b (x ∷ with_object o xs) (o ∷ x ∷ xs)) ≡ 1 + suc (length xs)) [
-  | true ↦ omega (arith, length-placed o xs)
-  | false ↦ omega arith
-]
-
 module _ (trace : Trace) where
   same_within : (st after : State) → length after.objects ≤ length st.objects → after.made ≡ st.made → Within st → Within after
   same_within st after fewer made within = let same = ap (total (λ given. given)) made in omega (arith, fewer, same, within)
@@ -122,25 +115,15 @@ module _ (trace : Trace) where
       new_within st (segment_of trace (Shared s)) ty (omega (arith, sized.made, inside)) within
   effect_within st p (Store base i value) sized known ranged within =
       same_within st (after_store trace (register st.registers p base.0) i (register st.registers p value.0) st) (omega (arith, stored_length st (register st.registers p base.0) i (register st.registers p value.0))) (ap (λ (s : State). s.made) (store_rest trace st (register st.registers p base.0) i (register st.registers p value.0))) within
-  effect_within st p (Load r base i) sized known ranged within = within
-  effect_within st p (Move r from) sized known ranged within = within
-  effect_within st p (Clear r) sized known ranged within = within
-  effect_within st p (Dir r) sized known ranged within = within
   effect_within st p (Put base i number) sized known ranged within =
       same_within st (after_put (register st.registers p base.0) i number st) (omega (arith, put_length st (register st.registers p base.0) i number)) (ap (λ (s : State). s.made) (put_rest st (register st.registers p base.0) i number)) within
-  effect_within st p (Get base i) sized known ranged within = within
-  effect_within st p Collect sized known ranged within = within
-  effect_within st p KCollect sized known ranged within = within
-  effect_within st p (Share s) sized known ranged within = within
   effect_within st p (Freeze s root) sized known ranged within =
       let rest = freeze_rest st s.0 (register st.registers p root.0) in
       same_within st (after_freeze s.0 (register st.registers p root.0) st) (omega (arith, ap (λ (s : State). length s.objects) rest)) (ap (λ (s : State). s.made) rest) within
-  effect_within st p (Attach r s) sized known ranged within = within
-  effect_within st p Exit sized known ranged within = within
   effect_within st p (Kill q) sized known ranged within =
       let rest = kill_rest trace st q.0 in
       same_within st (after_kill trace q.0 st) (omega (arith, ap (λ (s : State). length s.objects) rest)) (ap (λ (s : State). s.made) rest) within
-  effect_within st p (Resize m max) sized known ranged within = within
+  effect_within st p _ sized known ranged within = within
 
   unless_within : (f : Option Fault) (st : State) (p : ℕ) (op : Op) → IsSized trace st → p < process_count trace → IsTrue (in_range trace op) → Within st → Within (effect_unless f trace p op st)
   unless_within None st p op sized known ranged within = effect_within st p op sized known ranged within

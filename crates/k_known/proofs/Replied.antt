@@ -11,7 +11,7 @@ use Rattle.k_types.specs.declared.names.Phase.{Phase}
 use Rattle.k_types.specs.declared.names.Phase.TheVariants.{Unmade, Populating, Frozen, Absorbed}
 use Rattle.k_types.specs.declared.setup.LimitRow.{LimitRow}
 use Rattle.k_types.specs.declared.op.Op.{Op}
-use Rattle.k_types.specs.declared.op.Op.TheVariants.{New, KNew, SNew, Store, Load, Move, Clear, Dir, Put, Get, Collect, KCollect, Share, Freeze, Attach, Exit, Kill, Resize}
+use Rattle.k_types.specs.declared.op.Op.TheVariants.{New, KNew, SNew, Store, Load, Dir, Put, Get, Share, Freeze, Attach, Kill, Resize}
 use Rattle.k_types.specs.declared.event.Fault.{Fault}
 use Rattle.k_types.specs.declared.event.Fault.TheVariants.{NotPopulating, Segv}
 use Rattle.k_types.specs.declared.event.Reply.{Reply}
@@ -28,10 +28,10 @@ use Rattle.k_types.specs.Sound.{IsSound}
 use Rattle.k_types.specs.Known.{IsKnownFault, IsKnownName, IsKnownReply}
 use Rattle.k_base.proofs.Maxima.{length_in, tree_in}
 use Rattle.k_base.proofs.NameTests.{name_eq_refl}
-use Rattle.k_frame.proofs.OwnerOf.{owner_known}
 use Rattle.k_laws.proofs.SoundStore.{register_holds}
 use Rattle.k_base.proofs.Lists.{if_some, found_holds}
 use Rattle.k_base.proofs.Objects.{refers_found}
+use Rattle.k_base.proofs.Owners.{owner_known}
 
 -- the limits on a path are the trace's
 all_above : (n : ℕ) (path : ℕ → List ℕ) (hard : Bool) (parent : Option LimitId) → ((q : LimitId) → parent ≡ Some q → AllByRecursion (λ k. k < n) (path q.0)) →
@@ -90,7 +90,7 @@ refused_known trace [] reply all known = known
 refused_known trace (Some f ∷ fs) reply all known = all.0
 refused_known trace (None ∷ fs) reply all known = refused_known trace fs reply all.1 known
 
-leads_from : (content : List Content) (i : ℕ) (y : Name) → reference (get_or content i (Holds 0)) ≡ Some y → IsTrue (list_any (content_leads_to y) content)
+pub leads_from : (content : List Content) (i : ℕ) (y : Name) → reference (get_or content i (Holds 0)) ≡ Some y → IsTrue (list_any (content_leads_to y) content)
 leads_from [] i y e = absurd (cc e)
 leads_from (Refers r ∷ content) zero y e = or_left _ _ (ap (λ m. leads_to m y) e ∙ name_eq_refl y)
 leads_from (Holds n ∷ content) zero y e = absurd (cc e)
@@ -176,15 +176,11 @@ module _ (trace : Trace) (st : State) (rules : AreLimits trace) (sound : IsSound
   reply_known (Load r base i) ranged =
       refused_known trace (at_base (register st.registers p base.0) (load_faults trace st p i)) _
       (load_known (register st.registers p base.0) i (in_register base.0)) (loaded_known (register st.registers p base.0) i)
-  reply_known (Move r from) ranged = refused_known trace [] _ tt tt
-  reply_known (Clear r) ranged = refused_known trace [] _ tt tt
   reply_known (Dir r) ranged = refused_known trace [] _ tt (omega arith)
   reply_known (Put base i number) ranged =
       refused_known trace (at_base (register st.registers p base.0) (number_faults trace st p i)) _ (number_known (register st.registers p base.0) i (in_register base.0)) tt
   reply_known (Get base i) ranged =
       refused_known trace (at_base (register st.registers p base.0) (number_faults trace st p i)) _ (number_known (register st.registers p base.0) i (in_register base.0)) tt
-  reply_known Collect ranged = refused_known trace [] _ tt tt
-  reply_known KCollect ranged = refused_known trace [] _ tt tt
   reply_known (Share s) ranged = refused_known trace (fault_where _ _ ∷ []) _ (where_known trace _ _ (ltb-true _ _ ranged), tt) tt
   reply_known (Freeze s root) ranged =
       let inside = ltb-true _ _ (and_parts (nat_lt s.0 trace.shared_heaps) (nat_lt root.0 register_count) ranged).0 in
@@ -198,9 +194,9 @@ module _ (trace : Trace) (st : State) (rules : AreLimits trace) (sound : IsSound
       let inside = ltb-true _ _ (and_parts (nat_lt r.0 register_count) (nat_lt s.0 trace.shared_heaps) ranged).1 in
       refused_known trace (fault_where _ _ ∷ (cond (has_share st.shares p s.0) None (size_fault trace st p (bytes_of trace st (Shared s)))) ∷ []) _
       (where_known trace _ _ inside, (shared_size (has_share st.shares p s.0) (bytes_of trace st (Shared s)), tt)) (root_known s.0)
-  reply_known Exit ranged = refused_known trace [] _ tt tt
   reply_known (Kill q) ranged = refused_known trace (fault_where _ _ ∷ []) _ (where_known trace _ _ (ltb-true _ _ ranged), tt) tt
   reply_known (Resize m max) ranged =
       let inside = ltb-true _ _ (and_parts (nat_lt m.0 (length trace.limits)) (nat_lt max maximum_below) ranged).0 in
       refused_known trace ((cond (may_resize trace p m.0) (limit_fault (full_for trace st m.0 max)) None) ∷ fault_where _ _ ∷ fault_where _ _ ∷ []) _
       (grown_known m.0 max inside (may_resize trace p m.0), (where_known trace _ _ inside, (where_known trace _ _ inside, tt))) tt
+  reply_known _ ranged = refused_known trace [] _ tt tt

@@ -6,34 +6,12 @@ use Rattle.k_types.specs.declared.event.Reply.{Reply}
 use Rattle.k_types.specs.declared.event.Reply.TheVariants.{Refused}
 use Rattle.k_types.specs.declared.names.Pid.{Pid}
 use Rattle.k_types.specs.declared.op.Op.{Op}
-use Rattle.k_types.specs.declared.op.Op.TheVariants.{New, KNew, SNew, Store, Load, Move, Clear, Dir, Put, Get, Collect, KCollect, Share, Freeze, Attach, Exit, Kill, Resize}
 use Rattle.k_types.specs.Effects.{after_operation, effect_unless, step}
 use Rattle.k_types.specs.Replies.{answer, faults, first_fault, refused_or, reply_to}
 use Rattle.k_types.specs.State.{State}
 use Rattle.k_types.specs.Trace.{Trace}
 use Rattle.k_types.specs.Updates.{count_done}
-
--- what an operation is answered where no fault applies is no refusal
-never_refused : (trace : Trace) (st : State) (p : ℕ) (op : Op) (fault : Fault) → answer trace st p op ≡ Refused fault → ⊥
-unfolding answer
-never_refused trace st p (New r ty) fault e = cc e
-never_refused trace st p (KNew r ty) fault e = cc e
-never_refused trace st p (SNew r s ty) fault e = cc e
-never_refused trace st p (Store base i value) fault e = cc e
-never_refused trace st p (Load r base i) fault e = cc e
-never_refused trace st p (Move r from) fault e = cc e
-never_refused trace st p (Clear r) fault e = cc e
-never_refused trace st p (Dir r) fault e = cc e
-never_refused trace st p (Put base i number) fault e = cc e
-never_refused trace st p (Get base i) fault e = cc e
-never_refused trace st p Collect fault e = cc e
-never_refused trace st p KCollect fault e = cc e
-never_refused trace st p (Share s) fault e = cc e
-never_refused trace st p (Freeze s root) fault e = cc e
-never_refused trace st p (Attach r s) fault e = cc e
-never_refused trace st p Exit fault e = cc e
-never_refused trace st p (Kill q) fault e = cc e
-never_refused trace st p (Resize m max) fault e = cc e
+use Rattle.k_frame.proofs.Answers.{no_refusal}
 
 -- where there is a fault the effect is left out
 left_out : (trace : Trace) (st : State) (p : ℕ) (op : Op) (fault : Fault) (first : Option Fault) (reply : Reply) → (reply ≡ Refused fault → ⊥) →
@@ -46,4 +24,4 @@ pub refused_stays : (trace : Trace) (st : State) (pid : Pid) (op : Op) (fault : 
 unfolding step after_operation reply_to
 refused_stays trace st pid op fault e =
     ap (λ (su : State). count_done pid.0 su)
-    (left_out trace st pid.0 op fault (first_fault (faults trace st pid.0 op)) (answer trace st pid.0 op) (never_refused trace st pid.0 op fault) e)
+    (left_out trace st pid.0 op fault (first_fault (faults trace st pid.0 op)) (answer trace st pid.0 op) (no_refusal trace st pid.0 op fault) e)

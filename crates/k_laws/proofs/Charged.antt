@@ -9,7 +9,7 @@ use Rattle.k_types.specs.declared.names.Heap.TheVariants.{Kernel, Shared}
 use Rattle.k_types.specs.declared.names.Phase.{Phase}
 use Rattle.k_types.specs.declared.names.Phase.TheVariants.{Unmade, Populating, Frozen}
 use Rattle.k_types.specs.declared.op.Op.{Op}
-use Rattle.k_types.specs.declared.op.Op.TheVariants.{New, KNew, SNew, Store, Load, Move, Clear, Dir, Put, Get, Collect, KCollect, Share, Freeze, Attach, Exit, Kill, Resize}
+use Rattle.k_types.specs.declared.op.Op.TheVariants.{New, KNew, SNew, Store, Put, Share, Freeze, Attach, Exit, Kill}
 use Rattle.k_types.specs.declared.event.Fault.{Fault}
 use Rattle.k_types.specs.declared.event.Fault.TheVariants.{Segv, NotPopulating, Taken}
 use Rattle.k_types.specs.declared.event.Reply.{Reply}
@@ -144,14 +144,7 @@ module _ (trace : Trace) (st : State) (p : ℕ) (sound : IsSound trace st) (know
       let phase = is_populating_by (phase_of st.phases s.0) p (not-false _ (none_on (not (is_populating (phase_of st.phases s.0) p)) (NotPopulating s) _ fine).0) in
       snew_charge s.0 phase.0 ty phase.1 phase.2 q
   effect_charges (Store base i value) other fine q = nothing_more _ _ (q == p) (store_charge (register st.registers p base.0) i (register st.registers p value.0) q)
-  effect_charges (Load r base i) other fine q = nothing_more _ _ (q == p) refl
-  effect_charges (Move r from) other fine q = nothing_more _ _ (q == p) refl
-  effect_charges (Clear r) other fine q = nothing_more _ _ (q == p) refl
-  effect_charges (Dir r) other fine q = nothing_more _ _ (q == p) refl
   effect_charges (Put base i number) other fine q = nothing_more _ _ (q == p) (put_charge (register st.registers p base.0) i number q)
-  effect_charges (Get base i) other fine q = nothing_more _ _ (q == p) refl
-  effect_charges Collect other fine q = nothing_more _ _ (q == p) refl
-  effect_charges KCollect other fine q = nothing_more _ _ (q == p) refl
   effect_charges (Share s) other fine q =
       share_charge s.0 q (record { 0 = p }) (is_unmade_so (phase_of st.phases s.0) (not-false _ (none_on (not (is_unmade (phase_of st.phases s.0))) (Taken s) [] fine).0))
   effect_charges (Freeze s root) other fine q = nothing_more _ _ (q == p) (go (register st.registers p root.0) fine)
@@ -166,7 +159,7 @@ module _ (trace : Trace) (st : State) (p : ℕ) (sound : IsSound trace st) (know
   effect_charges (Attach r s) other fine q = attach_charge s.0 q
   effect_charges Exit other fine q = absurd (false≢true (sym other))
   effect_charges (Kill k) other fine q = absurd (false≢true (sym other))
-  effect_charges (Resize m max) other fine q = nothing_more _ _ (q == p) refl
+  effect_charges _ other fine q = nothing_more _ _ (q == p) refl
 
   pub operation_charges : (op : Op) → IsFalse (ends_a_process op) → (q : ℕ) → charge_of trace (after_operation trace p op st) q ≡ charge_of trace st q + bytes_added trace st p op * bit (q == p)
   unfolding after_operation count_done

@@ -1,5 +1,5 @@
 -- A closure of as many folds as there are objects is closed.
-use Rattle.std.proofs.Common.{◌≡◌, ℕ, zero, suc, ◌<◌, ◌≤◌, ◌⊎◌, ◌&&◌, ◌||◌, Bool, true, refl, sym, ap, ◌∙◌, inl, inr, List, [], ◌∷◌, length, filter, arith, le_refl, zero-le}
+use Rattle.std.proofs.Common.{◌≡◌, ℕ, zero, suc, ◌<◌, ◌≤◌, ◌⊎◌, ◌&&◌, ◌||◌, Bool, true, refl, sym, ap, ◌∙◌, inl, inr, List, [], ◌∷◌, length, filter, arith, zero-le}
 use Rattle.std.specs.List.{list_any, AllByRecursion}
 use Rattle.std.proofs.lemmas.Bool.{and_parts, and_from, or_left, or_right}
 use Rattle.k_types.specs.declared.names.Name.{Name}
@@ -7,6 +7,7 @@ use Rattle.k_types.specs.State.{Object, has, refers, refers_in}
 use Rattle.k_types.specs.Reach.{next_fold, closure}
 use Rattle.k_base.proofs.NameTests.{name_eq_refl}
 use Rattle.k_base.proofs.Objects.{has-kept, refers_in-kept, referred}
+use Rattle.k_base.proofs.Lists.{length-kept}
 
 kept_or_more_step : {A : Type 0} (p q : A → Bool) (x : A) (xs : List A) → (p x ≡ true → q x ≡ true) →
     (filter p xs ≡ filter q xs) ⊎ (length (filter p xs) < length (filter q xs)) →
@@ -18,10 +19,6 @@ pub kept_or_more : {A : Type 0} (p q : A → Bool) (xs : List A) → AllByRecurs
     (filter p xs ≡ filter q xs) ⊎ (length (filter p xs) < length (filter q xs))
 kept_or_more p q [] all = inl refl
 kept_or_more p q (x ∷ xs) all = kept_or_more_step p q x xs all.0 (kept_or_more p q xs all.1)
-
-pub length-kept : {A : Type 0} (p : A → Bool) (xs : List A) → length (filter p xs) ≤ length xs
-length-kept p [] = le_refl 0
-length-kept p (x ∷ xs) = grind (arith, length-kept p xs)
 
 all_weaker : {A : Type 0} (P Q : A → Type 0) → ((x : A) → P x → Q x) → (xs : List A) → AllByRecursion P xs → AllByRecursion Q xs
 all_weaker P Q weaker [] all = tt

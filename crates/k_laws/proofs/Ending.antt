@@ -27,14 +27,14 @@ use Rattle.k_laws.specs.Changes.{MayAbsorb, MayExit}
 use Rattle.k_laws.specs.Charges.{is_done_by, bytes_added}
 use Rattle.k_laws.specs.Termination.{CreditsTheCharge, LeavesTheRest}
 use Rattle.k_base.proofs.Sums.{bit, sum_same}
-use Rattle.k_frame.proofs.ElsewhereOther.{among-push, owner_ended, owned_agree, filter_hidden}
+use Rattle.k_frame.proofs.ElsewhereOther.{among-push, owner_ended, owned_agree}
 use Rattle.k_frame.proofs.Kept.{has_share-kept}
 use Rattle.k_laws.proofs.SoundAbsorbed.{bytes_fewer, merged_fewer, is_merged}
 use Rattle.k_laws.proofs.SoundCollected.{bytes-kept}
 use Rattle.k_laws.proofs.Uses.{charge_less, charged_less}
 use Rattle.k_laws.proofs.UsesRaised.{uses_raised}
 use Rattle.k_laws.proofs.Charged.{operation_charges}
-use Rattle.k_base.proofs.Lists.{none_is}
+use Rattle.k_base.proofs.Lists.{none_is, filter_stronger}
 use Rattle.k_types.specs.Cells.{cells_touched, other_cells}
 use Rattle.std.specs.List.{list_all}
 
@@ -58,7 +58,7 @@ module _ (trace : Trace) (st : State) (p : ℕ) where
       (among-push st.ended p q (λ e. ne (sym e)))
       ∙ ap₂ (λ x y. cond (among q st.ended) 0 (x + y)) (same_bytes (user q) (ne_eqb p q (λ e. ne (sym e))) refl)
       (ap (total (λ e. bytes_of trace (after_end_of trace p st) (shared e.heap)))
-      (filter_hidden (λ e. e.process == q) (λ e. not (e.process == p)) (λ e t. not_from_false _ (ne_eqb e.process p (λ same. ne (sym (eqb-true e.process q t) ∙ same)))) st.shares)
+      (filter_stronger (λ e. e.process == q) (λ e. not (e.process == p)) (λ e t. not_from_false _ (ne_eqb e.process p (λ same. ne (sym (eqb-true e.process q t) ∙ same)))) st.shares)
       ∙ sum_same (λ e. bytes_of trace (after_end_of trace p st) (shared e.heap)) (λ e. bytes_of trace st (shared e.heap)) (λ e. same_bytes (shared e.heap) refl refl) (filter (λ e. e.process == q) st.shares))
 
   pub credits : AreLimits trace → p < process_count trace → CreditsTheCharge trace st p (after_end_of trace p st)

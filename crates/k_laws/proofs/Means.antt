@@ -18,12 +18,13 @@ use Rattle.k_types.specs.Sound.{IsSound}
 use Rattle.k_laws.specs.Survivors.{RefersOut}
 use Rattle.k_laws.specs.Termination.{StaysOrPasses}
 use Rattle.k_base.proofs.NameTests.{heap_eq-true, heap_eq_refl}
-use Rattle.k_laws.proofs.Closure.{set, set_closed, set_refers, length-kept}
+use Rattle.k_laws.proofs.Closure.{set, set_closed, set_refers}
 use Rattle.k_base.proofs.Objects.{referrer, refers_in-kept, refers_in_has}
 use Rattle.k_frame.proofs.Kept.{has_exit-kept}
 use Rattle.k_frame.proofs.OwnerOf.{owner_user}
 use Rattle.k_laws.proofs.SoundCollected.{collected_sound}
 use Rattle.k_laws.proofs.Turned.{origin, turned_stays, turned_comes}
+use Rattle.k_base.proofs.Lists.{length-kept}
 
 next_set : (pool : List Object) (start : Name → Bool) (k : ℕ) → set pool start (suc k) ≡ next_fold pool (set pool start k)
 unfolding set closure

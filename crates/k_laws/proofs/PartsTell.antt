@@ -15,10 +15,10 @@ use Rattle.k_types.specs.Cells.{CellPart, BookPart, ProcessPart, part, book_part
 use Rattle.k_types.specs.Sound.{IsSound, IsOrdered, IsOrderedFrom}
 use Rattle.k_laws.specs.Parts.{SameParts, SameState}
 use Rattle.k_base.proofs.NameTests.{name_eq_refl, heap_eq-true, heap_eq_refl, name_lt_trans}
-use Rattle.k_frame.proofs.OwnerOf.{owner_known}
 use Rattle.k_base.proofs.Lists.{some_one}
 use Rattle.k_base.proofs.Tests.{same_test}
 use Rattle.k_base.proofs.Ordered.{ordered_tail}
+use Rattle.k_base.proofs.Owners.{owner_known}
 
 -- lists of one length with the same elements
 list_same : {A : Type 0} (d : A) (xs ys : List A) → length xs ≡ length ys → ((k : ℕ) → k < length xs → get_or xs k d ≡ get_or ys k d) → xs ≡ ys

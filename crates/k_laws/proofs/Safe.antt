@@ -14,10 +14,10 @@ use Rattle.k_types.specs.Updates.{keep_objects, keep_exits, keep_shares, close_s
 use Rattle.k_types.specs.Effects.{step, after_ended, survives}
 use Rattle.k_types.specs.declared.event.Event.TheVariants.{Ended}
 use Rattle.k_types.specs.Sound.{IsSound}
-use Rattle.k_base.proofs.Lists.{any_weaker, any_or}
+use Rattle.k_base.proofs.Lists.{any_weaker, any_or, length-kept}
 use Rattle.k_base.proofs.NameTests.{name_eq-true, heap_eq-true, heap_eq-same}
 use Rattle.k_base.proofs.Objects.{has-kept, refers_in-kept, referrer, refers_in_has, some_is}
-use Rattle.k_laws.proofs.Closure.{set, in_set, set_has, set_refers, closed_refers, start_in, length-kept}
+use Rattle.k_laws.proofs.Closure.{set, in_set, set_has, set_refers, closed_refers, start_in}
 
 -- an exit item of a heap other than the owner is an entry
 pub exit_enters : (own : ℕ → Heap) (exits : List ExitItem) (h : Heap) (n : Name) → heap_eq h (own n.seg.0) ≡ false → has_exit exits h n ≡ true → has_entry own exits n ≡ true

@@ -1,43 +1,26 @@
 -- A sound state stays sound where an object is made.
-use Rattle.std.proofs.Common.{◌≡◌, ◌≢◌, ℕ, ◌+◌, ◌<◌, ◌≤◌, ◌⊎◌, ◌&&◌, true, false, cond, refl, sym, ap, ◌∙◌, inl, inr, List, [], ◌∷◌, length, map, Some, None, arith, get_or, set, get_or-set_same, length-set, slice_index_or, IsTrue, le_trans}
+use Rattle.std.proofs.Common.{◌≡◌, ◌≢◌, ℕ, ◌+◌, ◌<◌, ◌≤◌, ◌⊎◌, ◌&&◌, true, false, refl, sym, ap, ◌∙◌, inl, inr, List, [], ◌∷◌, length, map, Some, None, arith, get_or, set, get_or-set_same, length-set, slice_index_or, IsTrue, le_trans}
 use Rattle.std.specs.List.{list_any}
-use Rattle.std.proofs.lemmas.Bool.{and_parts, or_left, or_right, or_cases, or_parts, false≢true, false_from_ne_true}
+use Rattle.std.proofs.lemmas.Bool.{and_parts, or_left, or_right, or_cases, false≢true, false_from_ne_true}
 use Rattle.k_types.specs.declared.names.Name.{Name}
 use Rattle.k_types.specs.declared.names.Heap.{Heap}
 use Rattle.k_types.specs.declared.names.Phase.TheVariants.{Unmade}
 use Rattle.k_types.specs.declared.names.TypeId.{TypeId}
 use Rattle.k_types.specs.declared.names.Field.{Field}
 use Rattle.k_types.specs.declared.names.Field.TheVariants.{Ref, Int}
-use Rattle.k_types.specs.Names.{name_eq, name_lt, directory}
+use Rattle.k_types.specs.Names.{name_eq, directory}
 use Rattle.k_types.specs.Trace.{Trace, segment_count, kinds_of}
 use Rattle.k_types.specs.State.{State, Object, has, refers_in, content_leads_to, scan_of, fresh}
 use Rattle.k_types.specs.Owners.{owner_of, shared, phase_of}
 use Rattle.k_types.specs.Limits.{limits_in, use_of, max_of}
 use Rattle.k_types.specs.Reach.{is_entered, is_held}
 use Rattle.k_types.specs.Updates.{create, with_object, next_name}
-use Rattle.k_types.specs.Sound.{IsSound, IsTyped, IsOrdered, IsOrderedFrom}
-use Rattle.k_base.proofs.NameTests.{name_eq_refl, name_eq-true, name_lt_total}
+use Rattle.k_types.specs.Sound.{IsSound, IsTyped}
+use Rattle.k_base.proofs.NameTests.{name_eq_refl, name_eq-true}
 use Rattle.k_base.proofs.Objects.{has-placed, refers_in-placed}
 use Rattle.k_base.proofs.Lists.{get_or-set_cases}
 use Rattle.k_laws.proofs.Shapes.{kinds_fresh, typed-placed}
-
-ordered-placed_from : (o : Object) (m : Name) (xs : List Object) → IsTrue (name_lt m o.name) → has xs o.name ≡ false → IsOrderedFrom m xs → IsOrderedFrom m (with_object o xs)
-ordered-placed_from o m [] first new t = (first, tt)
-ordered-placed_from o m (x ∷ xs) first new t =
-    let parts = or_parts (name_eq x.name o.name) (has xs o.name) new in
-    elim (name_lt x.name o.name) as (λ b. name_lt x.name o.name ≡ b → IsOrderedFrom m (cond b (x ∷ with_object o xs) (o ∷ x ∷ xs))) [
-      | true ↦ λ e. (t.0, ordered-placed_from o x.name xs e parts.1 t.1)
-      | false ↦ λ e. (first, (name_lt_total x.name o.name e parts.0, t.1))
-    ] refl
-
-ordered-placed : (o : Object) (xs : List Object) → has xs o.name ≡ false → IsOrdered xs → IsOrdered (with_object o xs)
-ordered-placed o [] new t = tt
-ordered-placed o (x ∷ xs) new t =
-    let parts = or_parts (name_eq x.name o.name) (has xs o.name) new in
-    elim (name_lt x.name o.name) as (λ b. name_lt x.name o.name ≡ b → IsOrdered (cond b (x ∷ with_object o xs) (o ∷ x ∷ xs))) [
-      | true ↦ λ e. ordered-placed_from o x.name xs e parts.1 t
-      | false ↦ λ e. (name_lt_total x.name o.name e parts.0, t)
-    ] refl
+use Rattle.k_base.proofs.Ordered.{ordered-placed}
 
 -- a fresh object refers to nothing
 fresh_refers : (kinds : List Field) (y : Name) → list_any (content_leads_to y) (map fresh kinds) ≡ false

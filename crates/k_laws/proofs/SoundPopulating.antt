@@ -18,9 +18,10 @@ use Rattle.k_base.proofs.Lists.{get_or-set_cases}
 use Rattle.k_base.proofs.Sums.{bit}
 use Rattle.k_laws.proofs.Shapes.{declared-phase}
 use Rattle.k_laws.proofs.SoundShare.{owner_kept}
-use Rattle.k_laws.proofs.SoundSharing.{sharing, sharer_of, share_cases, share_kept, share_there, sharer_cases, distinct_shares-push, bytes_none}
+use Rattle.k_laws.proofs.SoundSharing.{sharing, share_cases, share_kept, share_there, sharer_cases, distinct_shares-push, bytes_none}
 use Rattle.k_laws.proofs.Raised.{charge_sharing}
 use Rattle.k_laws.proofs.Uses.{use_by_less}
+use Rattle.k_base.proofs.Shares.{sharer_of}
 
 module _ (trace : Trace) (st : State) (pid : Pid) (s : ℕ) (sound : IsSound trace st) (known : pid.0 < process_count trace) (lives : IsFalse (among pid.0 st.ended))
     (inside : s < trace.shared_heaps) (unmade : phase_of st.phases s ≡ Unmade) where

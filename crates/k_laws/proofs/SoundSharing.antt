@@ -1,6 +1,6 @@
 -- A sound state stays sound where a process begins to share a heap.
 use Rattle.std.proofs.Common.{◌≡◌, ◌≢◌, ℕ, ◌<◌, ◌≤◌, ◌⊎◌, ◌&&◌, ◌||◌, ◌==◌, false, refl, sym, ap, ◌∙◌, inl, inr, List, [], ◌∷◌, ◌++◌, length, arith, IsTrue, IsFalse, subst}
-use Rattle.std.proofs.lemmas.Bool.{and_parts, or_cases, or_parts, or_left, or_right, false≢true, false_from_ne_true}
+use Rattle.std.proofs.lemmas.Bool.{or_cases, or_parts, or_left, or_right, false≢true, false_from_ne_true}
 use Rattle.std.proofs.lemmas.Bool.Decides.{nat_tests}
 use Rattle.std.proofs.lemmas.List.Folds.{list_any-append}
 use Rattle.k_types.specs.declared.names.Name.{Name}
@@ -17,15 +17,6 @@ use Rattle.k_types.specs.Reach.{is_entered, is_held}
 use Rattle.k_types.specs.Steps.{has_sharer}
 use Rattle.k_types.specs.Sound.{IsSound, AreDistinctShares}
 use Rattle.k_base.proofs.NameTests.{name_eq_refl, heap_eq-true}
-
--- who shares the heap is a sharer of it
-pub sharer_of : (shares : List Sharing) (p s : ℕ) → IsTrue (has_share shares p s) → IsTrue (has_sharer shares s)
-sharer_of [] p s t = t
-sharer_of (e ∷ shares) p s t =
-    elim (or_cases ((e.process == p) && (e.heap == s)) (has_share shares p s) t) [
-      | inl here ↦ or_left _ _ (and_parts (e.process == p) (e.heap == s) here).1
-      | inr there ↦ or_right (e.heap == s) _ (sharer_of shares p s there)
-    ]
 
 pub share_cases : (shares : List Sharing) (p s q t : ℕ) → IsTrue (has_share (shares ++ record { process = p; heap = s } ∷ []) q t) → IsTrue (has_share shares q t) ⊎ ((q ≡ p) × (t ≡ s))
 share_cases shares p s q t e =

@@ -20,10 +20,11 @@ use Rattle.k_types.specs.Owners.{is_absorbed}
 use Rattle.k_types.specs.Replies.{first_fault, access_faults, is_foreign, sharer_fault, passes_barrier, store_faults, field_at, is_ref}
 use Rattle.k_types.specs.Effects.{with_exit_of_store}
 use Rattle.k_base.proofs.Lists.{below_any, get_or_inside}
-use Rattle.k_frame.proofs.OwnerOf.{owner_known, owner_stands, owner_lives}
+use Rattle.k_frame.proofs.OwnerOf.{owner_stands, owner_lives}
 use Rattle.k_laws.proofs.SoundExit.{add_exit_sound, exit_there}
 use Rattle.k_laws.proofs.SoundWrite.{write_sound}
 use Rattle.k_frame.proofs.FrameSteps.{none_on, none_first, owner_linked}
+use Rattle.k_base.proofs.Owners.{owner_known}
 
 -- a number above 0 stands inside the list
 pub get_or_above : (xs : List ℕ) (k : ℕ) → 0 < get_or xs k 0 → k < length xs

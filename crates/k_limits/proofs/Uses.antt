@@ -3,14 +3,14 @@ use Rattle.std.proofs.Common.{◌≡◌, ℕ, zero, suc, ◌+◌, ◌-◌, ◌*�
 use Rattle.std.proofs.lemmas.Bool.{cases_eq, ltb-true, le-ltb}
 use Rattle.std.proofs.lemmas.Bool.Decides.{nat_tests}
 use Rattle.std.proofs.lemmas.List.{get_or-set_same, get_or-set_other, length-set}
-use Rattle.k_types.specs.declared.setup.LimitRow.{LimitRow}
 use Rattle.k_types.specs.TraceRules.{IsTree}
-use Rattle.k_types.specs.Limits.{use_within, path_of, max_of}
+use Rattle.k_types.specs.Limits.{path_of, max_of}
 use Rattle.k_limits.specs.Limits.{ChargedLimits, charged_limits, use_at, is_full_at, full_at}
 use Rattle.k_limits.specs.Paths.{is_over, times_on, AreUses}
 use Rattle.k_base.proofs.Sums.{bit}
 use Rattle.k_limits.proofs.Walks.{path_low, path_once}
 use Rattle.k_limits.proofs.Charges.{use_charged}
+use Rattle.k_base.proofs.Charges.{direct_within}
 
 times_first : (x : ℕ) (xs : List ℕ) → 0 < times_on (x ∷ xs) x
 times_first x xs = let here = ap bit (eq-eqb x x refl) in omega (arith, here)
@@ -68,12 +68,6 @@ charged_less direct at n known enough q =
           let same = ap (slice_index direct) e in let once = ap (λ k. n * k) here in omega (arith, set, same, once, enough))
       | inr ne ↦ (let none = ap bit (ne_eqb q at (λ e. ne (sym e))) in let set = get_or-set_other direct at q (slice_index direct at - n) 0 (λ e. ne (sym e)) in let once = ap (λ k. n * k) none in omega (arith, set, once))
     ]
-
--- what is charged at a limit is a part of its use
-direct_within : (rows : List LimitRow) (d : ℕ → ℕ) (depth m : ℕ) → 0 < depth → d m ≤ use_within rows d depth m
-unfolding use_within
-direct_within rows d zero m deep = absurd (omega arith)
-direct_within rows d (suc depth) m deep = omega arith
 
 pub times_bound : (n t : ℕ) → t ≤ 1 → n * t ≤ n
 times_bound n zero once = omega arith

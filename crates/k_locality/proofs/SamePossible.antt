@@ -1,8 +1,8 @@
 -- Operations, absorptions and the closing are possible alike in two states where the parts are the same to them.
-use Rattle.std.proofs.Common.{◌≡◌, ℕ, ◌==◌, ◌&&◌, ◌||◌, not, refl, sym, ap, ap₂, ◌∙◌, inl, inr, List, [], ◌∷◌, is_some, eq-eqb, IsTrue}
+use Rattle.std.proofs.Common.{◌≡◌, ℕ, ◌&&◌, ◌||◌, not, refl, sym, ap, ap₂, ◌∙◌, List, [], ◌∷◌, is_some, IsTrue}
 use Rattle.std.specs.List.{list_any, list_all}
 use Rattle.std.proofs.Math.Path.{fun_ext}
-use Rattle.std.proofs.lemmas.Bool.{or_left, or_right, or_cases, and_from, false≢true}
+use Rattle.std.proofs.lemmas.Bool.{or_left, or_right}
 use Rattle.k_types.specs.declared.names.Pid.{Pid}
 use Rattle.k_types.specs.declared.names.SharedId.{SharedId}
 use Rattle.k_types.specs.declared.names.Heap.{Heap}
@@ -15,31 +15,15 @@ use Rattle.k_types.specs.Names.{heap_eq, among}
 use Rattle.k_types.specs.Numbers.{numbers_below}
 use Rattle.k_types.specs.Trace.{Trace, process_count}
 use Rattle.k_types.specs.TraceRules.{AreLimits}
-use Rattle.k_types.specs.State.{State, Sharing, has_share, scan_of, is_scanned}
+use Rattle.k_types.specs.State.{State, scan_of, is_scanned}
 use Rattle.k_types.specs.Owners.{phase_of}
-use Rattle.k_types.specs.Steps.{IsPossible, has_sharer, is_live, is_orphan, no_orphan, waits_for_orphans}
+use Rattle.k_types.specs.Steps.{IsPossible, is_live, is_orphan, no_orphan, waits_for_orphans}
 use Rattle.k_types.specs.Cells.{CellPart, part, book_part, cells_touched}
 use Rattle.k_locality.specs.Same.{SameToEvent}
 use Rattle.k_locality.proofs.SameRead.{shares_same, phases_same, ended_same, closed_same}
 use Rattle.k_locality.proofs.SameReplies.{touched_same, done_reply_same}
 use Rattle.k_base.proofs.NameTests.{heap_eq_refl}
-use Rattle.k_base.proofs.Tests.{same_test}
-use Rattle.k_laws.proofs.SoundSharing.{sharer_of}
-
--- a shared heap has a sharer where some process shares it
-pub sharer_from : (shares : List Sharing) (s : ℕ) → IsTrue (has_sharer shares s) → (p : ℕ) × IsTrue (has_share shares p s)
-sharer_from [] s t = absurd (false≢true t)
-sharer_from (e ∷ shares) s t =
-    elim (or_cases (e.heap == s) (has_sharer shares s) t) [
-      | inl here ↦ (e.process, or_left _ _ (and_from _ _ (eq-eqb e.process e.process refl) here))
-      | inr there ↦ let rest = sharer_from shares s there in (rest.0, or_right _ _ rest.1)
-    ]
-
-sharers_same : (shares others : List Sharing) → ((p s : ℕ) → has_share shares p s ≡ has_share others p s) → (s : ℕ) → has_sharer shares s ≡ has_sharer others s
-sharers_same shares others same s =
-    same_test (has_sharer shares s) (has_sharer others s)
-    (λ t. let who = sharer_from shares s t in sharer_of others who.0 s (sym (same who.0 s) ∙ who.1))
-    (λ t. let who = sharer_from others s t in sharer_of shares who.0 s (same who.0 s ∙ who.1))
+use Rattle.k_base.proofs.Shares.{sharers_same}
 
 module _ (trace : Trace) (st su : State) where
   pub scan_same : (c : Heap) → part trace st c ≡ part trace su c → scan_of st.scans c ≡ scan_of su.scans c

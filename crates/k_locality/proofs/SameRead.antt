@@ -4,7 +4,7 @@ use Rattle.k_types.specs.declared.names.Name.{Name}
 use Rattle.k_types.specs.declared.names.Heap.{Heap}
 use Rattle.k_types.specs.declared.names.Heap.TheVariants.{Kernel, User, Shared}
 use Rattle.k_types.specs.declared.op.Op.{Op}
-use Rattle.k_types.specs.declared.op.Op.TheVariants.{New, KNew, SNew, Store, Load, Move, Clear, Dir, Put, Get, Collect, KCollect, Share, Freeze, Attach, Exit, Kill, Resize}
+use Rattle.k_types.specs.declared.op.Op.TheVariants.{Store, Load, Put, Get, Kill}
 use Rattle.k_types.specs.declared.event.Fault.TheVariants.{NotSharer}
 use Rattle.k_types.specs.Names.{among}
 use Rattle.k_types.specs.Trace.{Trace}
@@ -104,21 +104,9 @@ module _ (trace : Trace) (st su : State) (book : book_part trace st ≡ book_par
 
     pub others_same : (op : Op) → other_cells trace st p op ≡ other_cells trace su p op
     unfolding other_cells
-    others_same (New r ty) = refl
-    others_same (KNew r ty) = refl
-    others_same (SNew r s ty) = refl
     others_same (Store base i value) = through base.0
     others_same (Load r base i) = through base.0
-    others_same (Move r from) = refl
-    others_same (Clear r) = refl
-    others_same (Dir r) = refl
     others_same (Put base i number) = through base.0
     others_same (Get base i) = through base.0
-    others_same Collect = refl
-    others_same KCollect = refl
-    others_same (Share s) = refl
-    others_same (Freeze s root) = refl
-    others_same (Attach r s) = refl
-    others_same Exit = refl
     others_same (Kill q) = ap (λ b. cond (is_above trace p q.0 && not b) (User q ∷ Kernel ∷ []) []) (ended_same q.0)
-    others_same (Resize m max) = refl
+    others_same _ = refl

@@ -9,7 +9,7 @@ use Rattle.k_types.specs.declared.names.Heap.TheVariants.{Kernel, User, Shared}
 use Rattle.k_types.specs.declared.names.Phase.{Phase}
 use Rattle.k_types.specs.declared.names.Phase.TheVariants.{Unmade, Populating, Frozen as FrozenPhase, Absorbed}
 use Rattle.k_types.specs.declared.op.Op.{Op}
-use Rattle.k_types.specs.declared.op.Op.TheVariants.{New, KNew, SNew, Store, Load, Move, Clear, Dir, Put, Get, Collect, KCollect, Share, Freeze, Attach, Exit, Kill, Resize}
+use Rattle.k_types.specs.declared.op.Op.TheVariants.{New, KNew, SNew, Store, Load, Put, Get, Share, Freeze, Attach, Resize}
 use Rattle.k_types.specs.declared.event.Fault.{Fault}
 use Rattle.k_types.specs.declared.event.Fault.TheVariants.{Foreign, NotSharer, NoField, WrongKind, Frozen, Segv, NotPopulating, NotFrozen, Taken, KernelFull, LimitNotBelow, InUse}
 use Rattle.k_types.specs.declared.event.Reply.{Reply}
@@ -165,17 +165,12 @@ module _ (trace : Trace) (st su : State) (book : book_part trace st ≡ book_par
     reply_same (Load r base i) inside cells =
         load_same (register st.registers p base.0) i cells
         ∙ ap (λ b. refused_or (first_fault (at_base b (load_faults trace su p i))) (Loaded (reference_from su b i))) (register_same trace st su book p own base.0)
-    reply_same (Move r from) inside cells = refl
-    reply_same (Clear r) inside cells = refl
-    reply_same (Dir r) inside cells = refl
     reply_same (Put base i number) inside cells =
         ap (λ f. refused_or f Done) (put_same (register st.registers p base.0) i cells
         ∙ ap (λ b. first_fault (at_base b (number_faults trace su p i))) (register_same trace st su book p own base.0))
     reply_same (Get base i) inside cells =
         get_same (register st.registers p base.0) i cells
         ∙ ap (λ b. refused_or (first_fault (at_base b (number_faults trace su p i))) (Value (number_from su b i))) (register_same trace st su book p own base.0)
-    reply_same Collect inside cells = refl
-    reply_same KCollect inside cells = refl
     reply_same (Share s) inside cells =
         ap (λ (phases : List Phase). refused_or (first_fault (fault_where (not (is_unmade (phase_of phases s.0))) (Taken s) ∷ [])) Done) (phases_same trace st su book)
     reply_same (Freeze s root) inside cells =
@@ -187,12 +182,11 @@ module _ (trace : Trace) (st su : State) (book : book_part trace st ≡ book_par
         (phases_same trace st su book)
         (ap₂ (λ b fault. cond b None fault) (shares_same trace st su book p s.0)
         (size_same (bytes_of trace st (Shared s)) ∙ ap (size_fault trace su p) (shared_bytes_same trace st su book s.0 heap)))
-    reply_same Exit inside cells = refl
-    reply_same (Kill q) inside cells = refl
     reply_same (Resize m max) inside cells =
         let known = ltb-true _ _ (and_parts (nat_lt m.0 (length trace.limits)) (nat_lt max maximum_below) inside).0 in
         ap₂ (λ full used. refused_or (first_fault (cond (may_resize trace p m.0) (limit_fault full) None ∷ fault_where (not (may_resize trace p m.0)) (LimitNotBelow m) ∷ fault_where (may_resize trace p m.0 && nat_lt max used) (InUse m) ∷ [])) Done)
         (full_for_same trace st su book limits m.0 max known) (use_same trace st su book m.0 known)
+    reply_same _ inside cells = refl
 
 -- the event's cells are the same, and what is said of the first state holds of the second
 module _ (trace : Trace) (st su : State) where

@@ -42,17 +42,17 @@ use Rattle.k_local.specs.Locals.{IsMachines, ShowOwn, after_local, local_answer,
 use Rattle.k_local.proofs.Told.{local_told, machines}
 use Rattle.k_types.specs.State.{Content}
 
-written_idle : (b : Option Name) (i : ℕ) (content : Content) (v : CellValue) → (written_through b i content v).collection ≡ v.collection
+pub written_idle : (b : Option Name) (i : ℕ) (content : Content) (v : CellValue) → (written_through b i content v).collection ≡ v.collection
 written_idle None i content v = refl
 written_idle (Some x) i content v = refl
 
-change_idle : (v : CellValue) (op : Op) → (local_change v op).collection ≡ v.collection
+pub change_idle : (v : CellValue) (op : Op) → (local_change v op).collection ≡ v.collection
 unfolding local_change
 change_idle v (Store base i value) = written_idle _ i _ v
 change_idle v (Put base i number) = written_idle _ i _ v
 change_idle v _ = refl
 
-unless_idle : (said : Reply) (w v : CellValue) → w.collection ≡ v.collection → (unless_refused said w v).collection ≡ v.collection
+pub unless_idle : (said : Reply) (w v : CellValue) → w.collection ≡ v.collection → (unless_refused said w v).collection ≡ v.collection
 unless_idle Rattle.k_types.specs.declared.event.Reply.TheVariants.Done w v e = e
 unless_idle (Rattle.k_types.specs.declared.event.Reply.TheVariants.Made n) w v e = e
 unless_idle (Rattle.k_types.specs.declared.event.Reply.TheVariants.Loaded value) w v e = e

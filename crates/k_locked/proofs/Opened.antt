@@ -13,7 +13,7 @@ use Rattle.k_bounds.specs.Counts.{stores_in}
 use Rattle.k_bounds.proofs.ByProcess.{follows_own}
 use Rattle.k_tie.specs.Values.{blank_note, empty_journal}
 use Rattle.k_agree.specs.Rooms.{event_room, exit_room, serial_room}
-use Rattle.k_agree.proofs.Openings.{at_number, opened_cell}
+use Rattle.k_agree.proofs.Openings.{opened_cell}
 use Rattle.k_space.specs.Objects.{BodyValue}
 use Rattle.k_bodies.specs.Bodies.{bodies_of}
 use Rattle.k_commit.specs.Books.{opened}
@@ -25,6 +25,7 @@ use Rattle.k_commit.specs.SharedHeaps.{opened_shared}
 use Rattle.k_locked.specs.Keeping.{BookKeeps, CanGive, HeapKeeps, KernelKeeps, SharedKeeps}
 use Rattle.k_locked.specs.Rooms.{shared_exit_room}
 use Rattle.k_locked.proofs.Kept.{drop_none}
+use Rattle.k_base.proofs.Lists.{at_number}
 
 module _ (setup : Setup) (operations : List (List Op)) (order : List ℕ) (table : TableId) (rules : KeepsRules (trace_of setup operations order)) where
   abbrev trace : Trace

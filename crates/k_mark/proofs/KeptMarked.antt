@@ -26,13 +26,13 @@ blackened_high (suc n) i [] high = refl
 blackened_high (suc n) zero (r ∷ rows) high = absurd (omega (arith, high))
 blackened_high (suc n) (suc i) (r ∷ rows) high = blackened_high n i rows (omega (arith, high))
 
-at_find : (xs : List SegmentValue) (k : ℕ) → segment_at xs k ≡ find (λ (s : SegmentValue). s.number == k) xs
+pub at_find : (xs : List SegmentValue) (k : ℕ) → segment_at xs k ≡ find (λ (s : SegmentValue). s.number == k) xs
 at_find xs k = sym (find_at (λ (s : SegmentValue). s.number == k) xs)
 
-at_same : (s : SegmentValue) (ss : List SegmentValue) (k : ℕ) → s.number ≡ k → segment_at (s ∷ ss) k ≡ Some s
+pub at_same : (s : SegmentValue) (ss : List SegmentValue) (k : ℕ) → s.number ≡ k → segment_at (s ∷ ss) k ≡ Some s
 at_same s ss k e = at_find (s ∷ ss) k ∙ ap (λ b. cond b (Some s) (find (λ (t : SegmentValue). t.number == k) ss)) (eq-eqb s.number k e)
 
-at_other : (s : SegmentValue) (ss : List SegmentValue) (k : ℕ) → s.number ≢ k → segment_at (s ∷ ss) k ≡ segment_at ss k
+pub at_other : (s : SegmentValue) (ss : List SegmentValue) (k : ℕ) → s.number ≢ k → segment_at (s ∷ ss) k ≡ segment_at ss k
 at_other s ss k ne = at_find (s ∷ ss) k ∙ ap (λ b. cond b (Some s) (find (λ (t : SegmentValue). t.number == k) ss)) (ne_eqb s.number k ne) ∙ sym (at_find ss k)
 
 at_blackened : (below : ℕ) (segments : List SegmentValue) (k : ℕ) → segment_at (map (blackened_segment below) segments) k ≡ option_map (blackened_segment below) (segment_at segments k)

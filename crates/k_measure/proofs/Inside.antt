@@ -24,6 +24,7 @@ use Rattle.k_base.proofs.NameTests.{name_eq-true, name_eq_refl}
 use Rattle.k_mark.proofs.Looks.{test_after, black_gray}
 use Rattle.k_mark.proofs.Marked.{refers_fields}
 use Rattle.k_measure.specs.Inside.{LeadNowhere, LeadTo, AllLeadTo, IsInside, IsInsideOrExit, AreNew, KeepsInside, KeepsExits, IsOne, IsOneWith, HasNoBlack}
+use Rattle.k_space.proofs.Segs.{unmarked_twice}
 
 -- what stands in a list with one more element stood there, or is that element
 at_pushed : (rows : List (Option Row)) (new row : Row) (i : ℕ) → get_or (rows ++ Some new ∷ []) i None ≡ Some row → (get_or rows i None ≡ Some row) ⊎ (new ≡ row)
@@ -242,20 +243,8 @@ with_same exits a b same one =
     let s = only_same a b one.segment same one.only in
     record { segment = s.0; only = s.1; kept = unmarked_kept exits one.segment s.0 s.2 one.kept }
 
-unmarked_twice : (rows : List (Option Row)) → map unmarked_row (map unmarked_row rows) ≡ map unmarked_row rows
-unmarked_twice [] = refl
-unmarked_twice (None ∷ rows) = ap (λ rs. None ∷ rs) (unmarked_twice rows)
-unmarked_twice (Some row ∷ rows) = ap (λ rs. Some (record row { color = White }) ∷ rs) (unmarked_twice rows)
-
-pub segments_twice : (xs : List SegmentValue) → map unmarked_segment (map unmarked_segment xs) ≡ map unmarked_segment xs
-segments_twice [] = refl
-segments_twice (x ∷ xs) = ap₂ (λ rows ys. record x { rows = rows } ∷ ys) (unmarked_twice x.rows) (segments_twice xs)
-
-pub area_twice : (a : AreaValue) → unmarked (unmarked a) ≡ unmarked a
-area_twice a = ap (λ xs. record a { segments = xs }) (segments_twice a.segments)
-
 pub one_unmarked : (a : AreaValue) → IsOne a → IsOne (unmarked a)
-one_unmarked a one = one_same a (unmarked a) (area_twice a) one
+one_unmarked a one = one_same a (unmarked a) (unmarked_twice a) one
 
 pub grayed_by : (a : AreaValue) (n : Name) (o : Option Row) → row_of_name a.segments n ≡ o → unmarked (grayed_row a n o) ≡ unmarked a
 grayed_by a n None e = refl
@@ -284,10 +273,6 @@ found_unmarked (x ∷ xs) (suc i) serial = found_unmarked xs i serial
 
 pub clean_unmarked : (a : AreaValue) → HasNoBlack (unmarked a)
 clean_unmarked a n = found_unmarked a.segments (place_of (map unmarked_segment a.segments) n.seg.0) n.serial.0
-
--- references that stay inside need no exit item
-pub inside_kept : (exits : List ExitRow) (s : SegmentValue) → KeepsInside s → KeepsExits exits s
-inside_kept exits s inside serial row at field n e = inl (inside serial row at field n e)
 
 -- and with more exit items all are kept
 pub kept_with : (old new : List ExitRow) (s : SegmentValue) → ((n : Name) → has_target old n ≡ true → has_target new n ≡ true) → KeepsExits old s → KeepsExits new s

@@ -11,7 +11,8 @@ use Rattle.k_mark.proofs.Marked.{refers_fields}
 use Rattle.k_space.proofs.AreaRows.{found, number_found}
 use Rattle.k_space.proofs.Numbers.{distinct_from, distinct_to, distinct_push, none_there}
 use Rattle.k_measure.specs.Inside.{LeadTo, IsInside, KeepsInside, AreInside}
-use Rattle.k_measure.proofs.Inside.{same_fields, lead_to, unmarked_inside, area_twice, grayed_by}
+use Rattle.k_measure.proofs.Inside.{same_fields, lead_to, unmarked_inside, grayed_by}
+use Rattle.k_space.proofs.Segs.{unmarked_twice}
 
 pushed_at : (xs : List SegmentValue) (y s : SegmentValue) (i : ℕ) → slice_get (xs ++ y ∷ []) i ≡ Some s → (slice_get xs i ≡ Some s) ⊎ (y ≡ s)
 pushed_at [] y s zero e = inr (cc)
@@ -67,7 +68,7 @@ inside_same a b same are =
     }
 
 pub inside_unmarked : (a : AreaValue) → AreInside a.segments → AreInside (unmarked a).segments
-inside_unmarked a are = inside_same a (unmarked a) (area_twice a) are
+inside_unmarked a are = inside_same a (unmarked a) (unmarked_twice a) are
 
 pub inside_grayed : (a : AreaValue) (n : Name) → AreInside a.segments → AreInside (grayed a n).segments
 inside_grayed a n are = inside_same a (grayed a n) (grayed_by a n (row_of_name a.segments n) refl) are

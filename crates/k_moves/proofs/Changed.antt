@@ -31,7 +31,7 @@ or_last : (a : Bool) → (a || false) ≡ a
 or_last true = refl
 or_last false = refl
 
-among_pushed : (names : List Name) (y n : Name) → name_among n (names ++ y ∷ []) ≡ (name_among n names || name_eq y n)
+pub among_pushed : (names : List Name) (y n : Name) → name_among n (names ++ y ∷ []) ≡ (name_among n names || name_eq y n)
 among_pushed [] y n = or_last (name_eq y n)
 among_pushed (m ∷ names) y n = ap (λ t. name_eq m n || t) (among_pushed names y n) ∙ or_pushed (name_eq m n) (name_among n names) (name_eq y n)
 

@@ -4,7 +4,6 @@ use Rattle.std.proofs.Math.Path.{fun_ext}
 use Rattle.k_types.specs.declared.names.Heap.{Heap}
 use Rattle.k_types.specs.declared.names.Heap.TheVariants.{Kernel}
 use Rattle.k_types.specs.declared.names.Name.{Name}
-use Rattle.k_types.specs.declared.names.Phase.{Phase}
 use Rattle.k_types.specs.declared.names.CellPhase.TheVariants.{Idle}
 use Rattle.k_types.specs.Agree.{AreMarks, BookValue, CellValue, book_shown_by}
 use Rattle.k_types.specs.Cells.{Cell, CellPart, ShownPart, book_part, part, shown}
@@ -43,13 +42,6 @@ module _ (trace : Trace) (st : State) (c : Cell) (v : CellValue) where
 
   pub unscanned : ShowsIdle trace st c v → not (is_scanned st.scans c) ≡ true
   unscanned s = ap (λ (scan : Option (List Name)). not (is_some scan)) (not_open s)
-
--- the owners that the book tells depend on who has ended and on the phases alone
-pub owners_kept : (trace : Trace) (b k : BookValue) → k.homes ≡ b.homes → k.ended ≡ b.ended → k.phases ≡ b.phases → KeepsOwners trace b k
-owners_kept trace b k homes ended phases = record {
-  homes = homes;
-  owners = ap₂ (λ (ended : List ℕ) (phases : List Phase). owner_in trace (record (book_shown_by b) { ended = λ p. among p ended; phases = phases })) ended phases;
-}
 
 -- of the phases only which shared heaps were absorbed
 pub owners_by_absorbed : (trace : Trace) (b k : BookValue) → k.homes ≡ b.homes → k.ended ≡ b.ended →

@@ -11,7 +11,7 @@ use Rattle.k_types.specs.Names.{heap_eq, name_among}
 use Rattle.k_types.specs.State.{State, Content, fresh}
 use Rattle.k_types.specs.Trace.{Trace}
 use Rattle.k_types.specs.Updates.{object_after_write, with_object}
-use Rattle.k_frame.specs.PartUpdates.{process_with_done, process_with_register}
+use Rattle.k_frame.specs.PartUpdates.{process_with_register}
 use Rattle.k_changes.specs.CellChanges.{given}
 use Rattle.k_agree.specs.Agreement.{Shows}
 
@@ -42,10 +42,6 @@ pub record ShowsIdle (trace : Trace) (st : State) (cell : Cell) (v : CellValue) 
 -- the register of the cell's process holds the reference
 abbrev pub value_with_register : ℕ → Option Name → CellValue → CellValue
 value_with_register r x v = record v { process = option_map (process_with_register r x) v.process }
-
--- one more operation of the cell's process is done
-abbrev pub value_with_done : CellValue → CellValue
-value_with_done v = record v { process = option_map process_with_done v.process }
 
 -- the segment has one more object, of that type and with fresh fields
 abbrev pub value_with_new : ℕ → TypeId → List Field → CellValue → CellValue

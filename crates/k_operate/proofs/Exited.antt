@@ -1,22 +1,16 @@
 -- The end of a process keeps what the locks ask.
-use Rattle.std.proofs.Common.{◌≡◌, ◌≢◌, ◌+◌, ◌≤◌, ℕ, refl, sym, ap, ◌∙◌, subst, List, [], ◌∷◌, length, arith}
+use Rattle.std.proofs.Common.{◌≡◌, ◌≢◌, ◌+◌, ◌≤◌, refl, sym, ap, ◌∙◌, subst, List, [], ◌∷◌, length, arith}
 use Rattle.std.proofs.lemmas.Bool.{false≢true}
 use Rattle.k_types.specs.declared.event.Event.{Event}
 use Rattle.k_types.specs.declared.event.Event.TheVariants.{Done}
 use Rattle.k_types.specs.declared.event.Reply.TheVariants.{Done as DoneReply}
-use Rattle.k_types.specs.declared.names.Heap.{Heap}
-use Rattle.k_types.specs.declared.names.Heap.TheVariants.{Kernel, Shared, User}
+use Rattle.k_types.specs.declared.names.Heap.TheVariants.{Kernel, User}
 use Rattle.k_types.specs.declared.op.Op.{Op}
 use Rattle.k_types.specs.declared.op.Op.TheVariants.{Exit}
-use Rattle.k_types.specs.Names.{heap_eq}
-use Rattle.k_types.specs.Owners.{user}
-use Rattle.k_types.specs.State.{ExitItem}
 use Rattle.k_types.specs.Steps.{state_after}
 use Rattle.k_types.specs.Trace.{operations_of, segment_count}
 use Rattle.k_base.specs.Distinct.{AreDistinctNames}
-use Rattle.k_base.proofs.Sums.{ones, sum_both, total_at_most}
-use Rattle.k_bounds.specs.Counts.{exit_count, one_if, stores_in}
-use Rattle.k_bounds.proofs.Counting.{one_if_low}
+use Rattle.k_bounds.specs.Counts.{stores_in}
 use Rattle.k_agree.specs.Meeting.{Fits}
 use Rattle.k_agree.specs.Rooms.{exit_room}
 use Rattle.k_agree.proofs.AtTheEnd.{book_sound}
@@ -38,20 +32,7 @@ use Rattle.k_operate.specs.Adding.{AddsOperation, known_to}
 use Rattle.k_operate.proofs.Added.{adds_exit, adds_known}
 use Rattle.k_operate.proofs.Appended.{book_keeps_on, gives_else, heap_keeps_by, in_turn, left_by_done}
 use Rattle.k_operate.proofs.Collected.{room_for_next}
-
--- an exit item is of one heap
-one_heap : (h : Heap) (q : ℕ) → one_if (heap_eq h (user q)) + one_if (heap_eq h Kernel) ≤ 1
-one_heap Kernel q = omega arith
-one_heap (User r) q = omega (arith, one_if_low (heap_eq (User r) (user q)))
-one_heap (Shared s) q = omega arith
-
--- the exit items of a process's heap and of the kernel's are among all
-exits_together : (exits : List ExitItem) (q : ℕ) → exit_count exits (user q) + exit_count exits Kernel ≤ length exits
-exits_together exits q =
-    let both = sum_both (λ (e : ExitItem). one_if (heap_eq e.heap (user q))) (λ (e : ExitItem). one_if (heap_eq e.heap Kernel)) exits in
-    let most = total_at_most (λ (e : ExitItem). one_if (heap_eq e.heap (user q)) + one_if (heap_eq e.heap Kernel)) (λ (e : ExitItem). 1) (λ (e : ExitItem). one_heap e.heap q) exits in
-    let all = ones exits in
-    omega (arith, both, most, all)
+use Rattle.k_bounds.proofs.AllExits.{exits_together}
 
 -- the exit items of a process's heap fit beside the kernel's
 pub exits_fit : (world : WorldValue) (c : HeapRecord) (k : HoldingsValue) (b : BookRecord) → HeapKeeps world.trace world.table c → c.value.tail ≡ [] → KernelKeeps world.trace world.table k → BookKeeps world.trace world.table b →

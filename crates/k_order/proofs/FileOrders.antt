@@ -27,9 +27,14 @@ use Rattle.k_order.proofs.Operating.{scan_ends, scan_is_open}
 use Rattle.k_order.proofs.Lines.{Ready, LineDone, line, calm_after, kernel_idle, no_line}
 
 -- a filter that all pass
-all_kept : {A : Type 0} (p : A → Bool) → ((x : A) → p x ≡ true) → (xs : List A) → filter p xs ≡ xs
+pub all_kept : {A : Type 0} (p : A → Bool) → ((x : A) → p x ≡ true) → (xs : List A) → filter p xs ≡ xs
 all_kept p passes [] = refl
 all_kept p passes (x ∷ xs) = ap (λ b. cond b (x ∷ filter p xs) (filter p xs)) (passes x) ∙ ap (λ ys. x ∷ ys) (all_kept p passes xs)
+
+-- with nothing left to do the last events follow
+pub order_end : (trace : Trace) (st : State) → file_order_from trace st [] ≡ last_events trace st
+unfolding file_order_from
+order_end trace st = refl
 
 module _ (trace : Trace) (rules : AreOperations trace) where
   -- the events do first operations of what each process has left to do, all of them where it lives on, and end with the last
@@ -118,10 +123,6 @@ module _ (trace : Trace) (rules : AreOperations trace) where
     ends = λ t. absurd (false≢true (sym going ∙ t));
   }
 
-  order_end : (st : State) → file_order_from trace st [] ≡ last_events trace st
-  unfolding file_order_from
-  order_end st = refl
-
   order_next : (st : State) (q : ℕ) (order : List ℕ) (op : Op) → next_operation trace st q ≡ Some op →
       file_order_from trace st (q ∷ order) ≡ events_of trace st q (Some op) ++ file_order_from trace (run trace st (events_of trace st q (Some op))) order
   unfolding file_order_from
@@ -134,7 +135,7 @@ module _ (trace : Trace) (rules : AreOperations trace) where
       ap (λ b. events_of trace st q (cond b None (slice_get (operations_of trace q) (get_or st.done q 0))) ++ file_order_from trace (run trace st (events_of trace st q (cond b None (slice_get (operations_of trace q) (get_or st.done q 0))))) order) ended
 
   filed_end : (st : State) → Ready trace st [] → Filed st (file_order_from trace st [])
-  filed_end st ready = subst (Filed st) (sym (order_end st)) (go (all_ended trace st) refl)
+  filed_end st ready = subst (Filed st) (sym (order_end trace st)) (go (all_ended trace st) refl)
     where
       go : (b : Bool) → all_ended trace st ≡ b → Filed st (if b then absorptions trace st ++ with_end trace (run trace st (absorptions trace st)) Closing (Some Kernel) else [])
       go true over = closed_end st ready over

@@ -5,7 +5,7 @@ use Rattle.std.proofs.lemmas.List.Folds.{list_any-append}
 use Rattle.k_types.specs.declared.names.Heap.{Heap}
 use Rattle.k_types.specs.declared.names.Heap.TheVariants.{Kernel}
 use Rattle.k_types.specs.declared.op.Op.{Op}
-use Rattle.k_types.specs.declared.op.Op.TheVariants.{New, KNew, SNew, Store, Load, Move, Clear, Dir, Put, Get, Collect, KCollect, Share, Freeze, Attach, Exit, Kill, Resize}
+use Rattle.k_types.specs.declared.op.Op.TheVariants.{Store, Put, Collect, KCollect, Freeze, Exit, Kill}
 use Rattle.k_types.specs.declared.event.Fault.{Fault}
 use Rattle.k_types.specs.Names.{heap_eq, among}
 use Rattle.k_types.specs.Trace.{Trace}
@@ -31,24 +31,12 @@ module _ (trace : Trace) where
 
   effect_ended : (st : State) (p : ℕ) (op : Op) (q : ℕ) → IsTrue (among q st.ended) → IsTrue (among q (effect trace p op st).ended)
   unfolding effect set_register create open_scan add_share set_phase set_max after_end_of end_process clear_registers keep_shares turn_exits
-  effect_ended st p (New r ty) q t = t
-  effect_ended st p (KNew r ty) q t = t
-  effect_ended st p (SNew r s ty) q t = t
   effect_ended st p (Store base i value) q t = ap (λ (s : State). among q s.ended) (store_rest trace st (register st.registers p base.0) i (register st.registers p value.0)) ∙ t
-  effect_ended st p (Load r base i) q t = t
-  effect_ended st p (Move r from) q t = t
-  effect_ended st p (Clear r) q t = t
-  effect_ended st p (Dir r) q t = t
   effect_ended st p (Put base i number) q t = ap (λ (s : State). among q s.ended) (put_rest st (register st.registers p base.0) i number) ∙ t
-  effect_ended st p (Get base i) q t = t
-  effect_ended st p Collect q t = t
-  effect_ended st p KCollect q t = t
-  effect_ended st p (Share s) q t = t
   effect_ended st p (Freeze s root) q t = ap (λ (s : State). among q s.ended) (freeze_rest st s.0 (register st.registers p root.0)) ∙ t
-  effect_ended st p (Attach r s) q t = t
   effect_ended st p Exit q t = stays_by st.ended p q t
   effect_ended st p (Kill k) q t = killed_ended st k.0 q t
-  effect_ended st p (Resize m max) q t = t
+  effect_ended st p _ q t = t
 
   unless_ended : (f : Option Fault) (st : State) (p : ℕ) (op : Op) (q : ℕ) → IsTrue (among q st.ended) → IsTrue (among q (effect_unless f trace p op st).ended)
   unless_ended None st p op q t = effect_ended st p op q t
@@ -64,42 +52,12 @@ module _ (trace : Trace) where
   unfolding after_operation count_done faults first_fault effect open_scan
   begun_scans st p Collect h e = let is : user p ≡ h = cc e in ap (λ g. let scan : Scan = record { heap = g; roots = roots_of trace st g } in scan ∷ st.scans) is
   begun_scans st p KCollect h e = let is : Kernel ≡ h = cc e in ap (λ g. let scan : Scan = record { heap = g; roots = roots_of trace st g } in scan ∷ st.scans) is
-  begun_scans st p (New r ty) h e = absurd (cc e)
-  begun_scans st p (KNew r ty) h e = absurd (cc e)
-  begun_scans st p (SNew r s ty) h e = absurd (cc e)
-  begun_scans st p (Store base i value) h e = absurd (cc e)
-  begun_scans st p (Load r base i) h e = absurd (cc e)
-  begun_scans st p (Move r from) h e = absurd (cc e)
-  begun_scans st p (Clear r) h e = absurd (cc e)
-  begun_scans st p (Dir r) h e = absurd (cc e)
-  begun_scans st p (Put base i number) h e = absurd (cc e)
-  begun_scans st p (Get base i) h e = absurd (cc e)
-  begun_scans st p (Share s) h e = absurd (cc e)
-  begun_scans st p (Freeze s root) h e = absurd (cc e)
-  begun_scans st p (Attach r s) h e = absurd (cc e)
-  begun_scans st p Exit h e = absurd (cc e)
-  begun_scans st p (Kill q) h e = absurd (cc e)
-  begun_scans st p (Resize m max) h e = absurd (cc e)
+  begun_scans st p _ h e = absurd (cc e)
 
   none_begun : (p : ℕ) (op : Op) → heap_begun p op ≡ None → begins_collection op ≡ false
   none_begun p Collect e = absurd (cc e)
   none_begun p KCollect e = absurd (cc e)
-  none_begun p (New r ty) e = refl
-  none_begun p (KNew r ty) e = refl
-  none_begun p (SNew r s ty) e = refl
-  none_begun p (Store base i value) e = refl
-  none_begun p (Load r base i) e = refl
-  none_begun p (Move r from) e = refl
-  none_begun p (Clear r) e = refl
-  none_begun p (Dir r) e = refl
-  none_begun p (Put base i number) e = refl
-  none_begun p (Get base i) e = refl
-  none_begun p (Share s) e = refl
-  none_begun p (Freeze s root) e = refl
-  none_begun p (Attach r s) e = refl
-  none_begun p Exit e = refl
-  none_begun p (Kill q) e = refl
-  none_begun p (Resize m max) e = refl
+  none_begun p _ e = refl
 
   empty : {A : Type 0} (xs : List A) → length xs ≡ 0 → xs ≡ []
   empty [] e = refl

@@ -22,9 +22,10 @@ use Rattle.k_types.specs.Sound.{IsSound}
 use Rattle.k_bounds.specs.Counts.{one_if, exit_count}
 use Rattle.k_frame.proofs.Exact.{same_below}
 use Rattle.k_base.proofs.NameTests.{heap_eq_refl, name_eq_refl}
-use Rattle.k_frame.proofs.OwnerOf.{owner_lives, owner_stands, owner_known}
+use Rattle.k_frame.proofs.OwnerOf.{owner_lives, owner_stands}
 use Rattle.k_base.proofs.Numbered.{all_at_below}
 use Rattle.k_base.proofs.Sums.{zeros}
+use Rattle.k_base.proofs.Owners.{owner_known}
 
 none_of_count : (exits : List ExitItem) (h : Heap) (n : Name) → exit_count exits h ≡ 0 → has_exit exits h n ≡ false
 none_of_count [] h n e = refl

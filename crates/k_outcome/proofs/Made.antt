@@ -25,8 +25,8 @@ use Rattle.k_bounds.specs.Counts.{has_allocated_in}
 use Rattle.k_base.proofs.Lists.{if_some}
 use Rattle.k_frame.proofs.Sizes.{history_sized}
 use Rattle.k_frame.proofs.Rest.{freeze_rest, kill_rest, put_rest, store_rest}
-use Rattle.k_outcome.proofs.Lists.{at_place}
 use Rattle.k_outcome.specs.Listed.{made_by, made_in_reply, with_given}
+use Rattle.k_state.proofs.Shapes.{all_got}
 
 module _ (trace : Trace) where
   effect_given : (st : State) (p : ℕ) (op : Op) → (effect trace p op st).made ≡ with_given (made_in_reply (answer trace st p op)) st.made
@@ -87,6 +87,6 @@ module _ (trace : Trace) where
       made ≡ (state_after trace (take i history)).made → IfSome (made_by event) (λ n. (n.seg.0 < length made) × (get_or made n.seg.0 0 + 1 < 2 ^ 32))
   can_count history made i event known few at is =
       if_some (λ n. (n.seg.0 < length made) × (get_or made n.seg.0 0 + 1 < 2 ^ 32)) (made_by event) (λ n names. (
-        subst (λ k. n.seg.0 < k) (sym (ap length is ∙ (history_sized trace (take i history)).made)) (name_known event n (at_place (IsKnownEvent trace) history i event known at) names),
+        subst (λ k. n.seg.0 < k) (sym (ap length is ∙ (history_sized trace (take i history)).made)) (name_known event n (all_got (IsKnownEvent trace) history i event known at) names),
         omega (arith, ap (λ (xs : List ℕ). get_or xs n.seg.0 0) is, given_low (take i history) n.seg.0, length-take i history, slice_get_within history i event at, few),
       ))

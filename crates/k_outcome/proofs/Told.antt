@@ -25,7 +25,6 @@ use Rattle.k_base.proofs.Maxima.{length_in}
 use Rattle.k_base.proofs.NameTests.{heap_eq_refl}
 use Rattle.k_base.proofs.Objects.{is_some-object_at, object_at-kept}
 use Rattle.k_frame.specs.PartUpdates.{held_in}
-use Rattle.k_frame.proofs.OwnerOf.{owner_known}
 use Rattle.k_laws.proofs.SoundSteps.{legal_sound}
 use Rattle.k_bounds.specs.Counts.{has_stored}
 use Rattle.k_bounds.proofs.AllExits.{exits_at_most_stores}
@@ -39,9 +38,10 @@ use Rattle.k_text.specs.Shown.{exits_of, in_order, type_at}
 use Rattle.k_text.proofs.InOrder.{in_order_among, in_order_rises, rising_exits}
 use Rattle.k_solo.proofs.Arranged.{exits_length}
 use Rattle.k_process.specs.Over.{OutcomeValue}
-use Rattle.k_outcome.proofs.Lists.{at_place}
 use Rattle.k_outcome.specs.Cells.{IsThere, cell_at}
 use Rattle.k_outcome.specs.Ends.{EndValue, IsEnd, journal_of, last_state}
+use Rattle.k_state.proofs.Shapes.{all_got}
+use Rattle.k_base.proofs.Owners.{owner_known}
 
 type_told : (o : Option Object) → type_of_some o ≡ option_and_then (λ (x : Object). x.ty) o
 type_told None = refl
@@ -68,7 +68,7 @@ module _ (e : EndValue) (end : IsEnd e) where
   limits_told = tells_limits e.setup st e.cells.book end.book end.rules.limits.tree end.of_setup
 
   pub event_known : (i : ℕ) (event : Event) → slice_get (journal_of e) i ≡ Some event → IsKnownEvent e.setup event
-  event_known i event at = at_place (IsKnownEvent e.setup) (journal_of e) i event (events_are_known e.setup (journal_of e) end.rules.limits end.legal) at
+  event_known i event at = all_got (IsKnownEvent e.setup) (journal_of e) i event (events_are_known e.setup (journal_of e) end.rules.limits end.legal) at
 
   pub homes_long : length e.cells.book.value.homes ≡ segment_count e.setup
   homes_long = ap (λ (hs : List Heap). length hs) end.book.homes ∙ length-map (numbers_below (segment_count e.setup)) own ∙ numbers_length 0 (segment_count e.setup)

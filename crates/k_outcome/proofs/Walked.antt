@@ -1,15 +1,15 @@
 -- A walk over the objects, segment by segment and serial by serial, finds the next object.
-use Rattle.std.proofs.Common.{◌≡◌, ◌⊎◌, inl, inr, ℕ, ◌+◌, ◌<◌, ◌≤◌, ◌==◌, ◌&&◌, Bool, true, false, cond, refl, sym, ap, subst, ◌∙◌, List, [], ◌∷◌, find, get_or, nat_lt, Option, Some, None, arith, eqb-true, eq-eqb, ltb-true}
+use Rattle.std.proofs.Common.{◌≡◌, ◌⊎◌, inl, inr, ℕ, ◌+◌, ◌<◌, ◌≤◌, ◌==◌, ◌&&◌, Bool, true, false, cond, refl, sym, ap, ◌∙◌, List, [], ◌∷◌, find, get_or, nat_lt, Option, Some, None, arith, eqb-true, ltb-true}
 use Rattle.std.specs.Prelude.{IsTrue, option_map}
-use Rattle.std.proofs.lemmas.Bool.{and_from, and_parts, cases_eq, cases_lt, false_from_ne_true, false≢true, or_cases, or_left, or_right}
+use Rattle.std.proofs.lemmas.Bool.{and_parts, cases_eq, cases_lt, false_from_ne_true, false≢true, or_cases, or_left, or_right}
 use Rattle.std.proofs.lemmas.Bool.Decides.{nat_tests}
 use Rattle.k_types.specs.declared.names.Name.{Name}
 use Rattle.k_types.specs.Names.{name_eq, name_lt}
-use Rattle.k_types.specs.Sound.{AreNumbered, ArePlaced, IsOrdered, IsOrderedFrom}
+use Rattle.k_types.specs.Sound.{AreNumbered, ArePlaced, IsOrdered}
 use Rattle.k_types.specs.State.{Object, has}
 use Rattle.k_types.specs.Trace.{Trace, segment_count}
-use Rattle.k_base.proofs.NameTests.{name_eq-true, name_eq_refl, name_lt_trans}
-use Rattle.k_base.proofs.Ordered.{ordered_tail}
+use Rattle.k_base.proofs.NameTests.{name_eq-true, name_eq_refl, by_segment_lt, by_serial_lt}
+use Rattle.k_base.proofs.Ordered.{ordered_tail, ordered_later}
 use Rattle.k_text.specs.Shown.{comes_after, next_name_after}
 use Rattle.k_outcome.specs.Listed.{HasNoneAfter, HasNoneBetween, IsNextIn, name_at, start_of}
 
@@ -22,14 +22,6 @@ comes_same : (after : Option Name) (o : Object) → comes_after after o ≡ come
 comes_same None o = refl
 comes_same (Some a) o = refl
 
-among_later : (a : Name) (xs : List Object) (n : Name) → IsOrderedFrom a xs → has xs n ≡ true → name_lt a n ≡ true
-among_later a [] n ordered there = absurd (false≢true there)
-among_later a (x ∷ xs) n ordered there =
-    elim (or_cases (name_eq x.name n) (has xs n) there) [
-      | inl here ↦ subst (λ (m : Name). name_lt a m ≡ true) (name_eq-true x.name n here) ordered.0
-      | inr later ↦ name_lt_trans a x.name n ordered.0 (among_later x.name xs n ordered.1 later)
-    ]
-
 -- the next object is the first of those that come after the name
 next_is : (after : Option Name) (xs : List Object) (n : Name) → IsOrdered xs → has xs n ≡ true → comes_to after n ≡ true →
     ((m : Name) → has xs m ≡ true → comes_to after m ≡ true → name_lt m n ≡ false) → next_name_after after xs ≡ Some n
@@ -41,7 +33,7 @@ next_is after (x ∷ xs) n ordered there comes first =
     go rest true on =
         elim (or_cases (name_eq x.name n) (has xs n) there) [
           | inl here ↦ ap (λ (m : Name). Some m) (name_eq-true x.name n here)
-          | inr later ↦ absurd (false≢true (sym (first x.name (or_left _ _ (name_eq_refl x.name)) (sym (comes_same after x) ∙ on)) ∙ among_later x.name xs n ordered later))
+          | inr later ↦ absurd (false≢true (sym (first x.name (or_left _ _ (name_eq_refl x.name)) (sym (comes_same after x) ∙ on)) ∙ ordered_later x.name xs n ordered later))
         ]
     go rest false off =
         elim (or_cases (name_eq x.name n) (has xs n) there) [
@@ -67,14 +59,6 @@ lt_parts a b t =
 less : (a b : ℕ) → a < b → nat_lt a b ≡ true
 less a b h = grind (arith, nat_tests)
 
-lt_lower : (a b : Name) → a.seg.0 < b.seg.0 → name_lt a b ≡ true
-lt_lower a b h = or_left (nat_lt a.seg.0 b.seg.0) ((a.seg.0 == b.seg.0) && nat_lt a.serial.0 b.serial.0) (less a.seg.0 b.seg.0 h)
-
-lt_same : (a b : Name) → a.seg.0 ≡ b.seg.0 → a.serial.0 < b.serial.0 → name_lt a b ≡ true
-lt_same a b same h =
-    or_right (nat_lt a.seg.0 b.seg.0) ((a.seg.0 == b.seg.0) && nat_lt a.serial.0 b.serial.0)
-    (and_from (a.seg.0 == b.seg.0) (nat_lt a.serial.0 b.serial.0) (eq-eqb a.seg.0 b.seg.0 same) (less a.serial.0 b.serial.0 h))
-
 -- a name by its segment and serial
 named : (m : Name) (seg : ℕ) → m.seg.0 ≡ seg → m ≡ name_at seg m.serial.0
 named m seg same = ap (λ s. name_at s m.serial.0) same
@@ -92,8 +76,8 @@ module _ (trace : Trace) (objects : List Object) (made : List ℕ) (ordered : Is
       first : (m : Name) → 0 < m.serial.0 → name_lt (name_at 0 0) m ≡ true
       first m positive =
           elim (cases_eq 0 m.seg.0) [
-            | inl same ↦ lt_same (name_at 0 0) m same positive
-            | inr apart ↦ lt_lower (name_at 0 0) m (omega (arith, apart))
+            | inl same ↦ by_serial_lt (name_at 0 0) m same positive
+            | inr apart ↦ by_segment_lt (name_at 0 0) m (omega (arith, apart))
           ]
 
   -- no object of the segment is left: on to the next segment
@@ -111,13 +95,13 @@ module _ (trace : Trace) (objects : List Object) (made : List ℕ) (ordered : Is
       further m there t =
           let above = higher m there (h.further m there t) in
           elim (cases_eq (seg + 1) m.seg.0) [
-            | inl same ↦ lt_same (name_at (seg + 1) 0) m same (placed m there).0
-            | inr apart ↦ lt_lower (name_at (seg + 1) 0) m (omega (arith, above, apart))
+            | inl same ↦ by_serial_lt (name_at (seg + 1) 0) m same (placed m there).0
+            | inr apart ↦ by_segment_lt (name_at (seg + 1) 0) m (omega (arith, above, apart))
           ]
 
       comes : (m : Name) → IsTrue (has objects m) → IsTrue (name_lt (name_at (seg + 1) 0) m) → IsTrue (comes_to after m)
       comes m there t =
-          h.comes m there (lt_lower (name_at seg passed) m (elim (lt_parts (name_at (seg + 1) 0) m t) [
+          h.comes m there (by_segment_lt (name_at seg passed) m (elim (lt_parts (name_at (seg + 1) 0) m t) [
             | inl above ↦ omega (arith, above)
             | inr same ↦ omega (arith, same.0)
           ]))
@@ -125,7 +109,7 @@ module _ (trace : Trace) (objects : List Object) (made : List ℕ) (ordered : Is
   -- the next object of the segment is the next of all
   pub comes_next : (after : Option Name) (seg passed : ℕ) (n : Name) → HasCome objects after seg passed → IsNextIn objects seg passed n → Some n ≡ next_name_after after objects
   comes_next after seg passed n h next =
-      sym (next_is after objects n ordered next.there (h.comes n next.there (lt_same (name_at seg passed) n (sym next.same_seg) next.later))
+      sym (next_is after objects n ordered next.there (h.comes n next.there (by_serial_lt (name_at seg passed) n (sym next.same_seg) next.later))
       (λ m there t. false_from_ne_true (name_lt m n) (λ lower. before m there (h.further m there t) lower)))
     where
       before : (m : Name) → has objects m ≡ true → name_lt (name_at seg passed) m ≡ true → name_lt m n ≡ true → ⊥

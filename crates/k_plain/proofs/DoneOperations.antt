@@ -30,15 +30,6 @@ not_first (x ∷ ops) (suc n) op rest inside other first =
     let tails : take n ops ++ op ∷ rest ++ first.0 ≡ ops = cc first.1 in
     not_first ops n op rest (omega arith) other (first.0, tails)
 
-pub take_whole : (ops : List Op) → take (length ops) ops ≡ ops
-take_whole [] = refl
-take_whole (x ∷ ops) = ap (λ (os : List Op). x ∷ os) (take_whole ops)
-
-pub taken_length : (ops : List Op) (n : ℕ) → n ≤ length ops → take n ops ≡ ops → n ≡ length ops
-taken_length [] n inside is = omega arith
-taken_length (x ∷ ops) zero inside is = absurd (cc is)
-taken_length (x ∷ ops) (suc n) inside is = let tails : take n ops ≡ ops = cc is in omega (arith, taken_length ops n (omega arith) tails)
-
 pub take_first : (ops : List Op) (n : ℕ) → take n ops ++ drop n ops ≡ ops
 take_first [] zero = refl
 take_first [] (suc n) = refl

@@ -3,7 +3,6 @@ use Rattle.std.proofs.Common.{◌≡◌, ℕ, refl, sym, ◌∙◌, Option, Some
 use Rattle.std.specs.Prelude.{OnOk}
 use Rattle.k_io.specs.declared.errors.NoMemory.{NoMemory}
 use Rattle.k_types.specs.declared.op.Op.{Op}
-use Rattle.k_types.specs.declared.op.Op.TheVariants.{New, KNew, SNew, Store, Load, Move, Clear, Dir, Put, Get, Collect, KCollect, Share, Freeze, Attach, Exit, Kill, Resize}
 use Rattle.k_types.specs.declared.event.Fault.{Fault}
 use Rattle.k_types.specs.declared.event.Reply.{Reply}
 use Rattle.k_types.specs.declared.event.Reply.TheVariants.{Refused}
@@ -11,27 +10,7 @@ use Rattle.k_types.specs.Effects.{effect, effect_unless}
 use Rattle.k_types.specs.Replies.{answer, faults, first_fault, refused_or, reply_to}
 use Rattle.k_types.specs.State.{State}
 use Rattle.k_types.specs.Trace.{Trace}
-
-no_refusal : (trace : Trace) (st : State) (p : ℕ) (op : Op) (fault : Fault) → answer trace st p op ≡ Refused fault → ⊥
-unfolding answer
-no_refusal trace st p (New r ty) fault e = cc e
-no_refusal trace st p (KNew r ty) fault e = cc e
-no_refusal trace st p (SNew r s ty) fault e = cc e
-no_refusal trace st p (Store base i value) fault e = cc e
-no_refusal trace st p (Load r base i) fault e = cc e
-no_refusal trace st p (Move r from) fault e = cc e
-no_refusal trace st p (Clear r) fault e = cc e
-no_refusal trace st p (Dir r) fault e = cc e
-no_refusal trace st p (Put base i number) fault e = cc e
-no_refusal trace st p (Get base i) fault e = cc e
-no_refusal trace st p Collect fault e = cc e
-no_refusal trace st p KCollect fault e = cc e
-no_refusal trace st p (Share s) fault e = cc e
-no_refusal trace st p (Freeze s root) fault e = cc e
-no_refusal trace st p (Attach r s) fault e = cc e
-no_refusal trace st p Exit fault e = cc e
-no_refusal trace st p (Kill q) fault e = cc e
-no_refusal trace st p (Resize m max) fault e = cc e
+use Rattle.k_frame.proofs.Answers.{no_refusal}
 
 -- what is refused has no effect
 pub refused_keeps : (trace : Trace) (st : State) (p : ℕ) (op : Op) (fault : Fault) → Refused fault ≡ reply_to trace st p op →

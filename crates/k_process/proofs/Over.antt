@@ -1,5 +1,5 @@
 -- A run whose cells have all met the journal, with every process through, is over.
-use Rattle.std.proofs.Common.{◌≡◌, ℕ, zero, suc, ◌<◌, ◌≤◌, refl, sym, ap, ap₂, ◌∙◌, subst, List, [], ◌∷◌, ◌++◌, append-nil, length, drop, map, arith, Option, Some, None, slice_get, IsFalse}
+use Rattle.std.proofs.Common.{◌≡◌, ℕ, zero, suc, ◌<◌, ◌≤◌, sym, ap, ap₂, ◌∙◌, subst, List, [], ◌∷◌, ◌++◌, append-nil, length, drop, map, arith, Option, Some, None, slice_get, IsFalse}
 use Rattle.k_types.specs.declared.names.Heap.TheVariants.{Kernel, Shared, User}
 use Rattle.k_types.specs.declared.names.Pid.{Pid}
 use Rattle.k_types.specs.declared.names.SharedId.{SharedId}
@@ -21,12 +21,7 @@ use Rattle.k_locked.proofs.CanDo.{done_at_most}
 use Rattle.k_process.specs.declared.process.Process.{Process}
 use Rattle.k_process.specs.Over.{AllMet, IsOutcome}
 use Rattle.k_process.specs.Worlds.{WorldValue}
-
--- each place of a list has its element
-pub get_there : {A : Type 0} (xs : List A) (k : ℕ) → k < length xs → (x : A) × (slice_get xs k ≡ Some x)
-get_there [] k inside = absurd (omega arith)
-get_there (x ∷ xs) zero inside = (x, refl)
-get_there (x ∷ xs) (suc k) inside = get_there xs k (omega arith)
+use Rattle.k_base.proofs.Lists.{get_there}
 
 -- and so has the list of what is made of each
 pub get_mapped : {A B : Type 0} (f : A → B) (xs : List A) (k : ℕ) (x : A) → slice_get xs k ≡ Some x → slice_get (map f xs) k ≡ Some (f x)

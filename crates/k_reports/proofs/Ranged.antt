@@ -1,7 +1,5 @@
 -- The numbers of each event that is possible after a history that is begun are in range.
-use Rattle.std.proofs.Common.{◌≡◌, ℕ, zero, suc, ◌+◌, ◌*◌, ◌<◌, ◌≤◌, ◌^◌, refl, ap, subst, ◌∙◌, List, [], ◌∷◌, length, get_or, Option, Some, None, arith, IsTrue, IsFalse}
-use Rattle.std.specs.List.{list_any}
-use Rattle.std.proofs.lemmas.Bool.{or_left, or_right}
+use Rattle.std.proofs.Common.{◌≡◌, ℕ, suc, ◌+◌, ◌*◌, ◌<◌, ◌≤◌, ◌^◌, refl, subst, List, [], ◌∷◌, length, get_or, Option, Some, None, arith, IsTrue, IsFalse}
 use Rattle.k_types.specs.declared.names.Name.{Name}
 use Rattle.k_types.specs.declared.names.Phase.{Phase}
 use Rattle.k_types.specs.declared.names.Phase.TheVariants.{Unmade, Populating, Frozen, Absorbed as AbsorbedPhase}
@@ -12,17 +10,16 @@ use Rattle.k_types.specs.declared.event.Reply.{Reply}
 use Rattle.k_types.specs.declared.event.Reply.TheVariants.{Loaded}
 use Rattle.k_types.specs.declared.event.Event.{Event}
 use Rattle.k_types.specs.Bounds.{most_operations}
-use Rattle.k_types.specs.Names.{leads_to}
 use Rattle.k_types.specs.Owners.{phase_of}
 use Rattle.k_types.specs.Totals.{total}
 use Rattle.k_types.specs.Trace.{Trace}
-use Rattle.k_types.specs.State.{Content, State, Refers, Holds, Object, content_leads_to, fields_of, has, object_at, refers_in, register}
+use Rattle.k_types.specs.State.{State, Holds, Object, fields_of, has, object_at, refers_in, register}
 use Rattle.k_types.specs.Replies.{answer, faults, field_at, first_fault, number_from, reference, reference_from, refused_or, reply_to, root_of}
 use Rattle.k_types.specs.Sound.{IsSound}
-use Rattle.k_base.proofs.NameTests.{name_eq_refl}
 use Rattle.k_base.proofs.Objects.{refers_found}
 use Rattle.k_known.specs.Fits.{NumbersFit}
 use Rattle.k_history.specs.Spelled.{makes, IsReplyInRange}
+use Rattle.k_known.proofs.Replied.{leads_from}
 
 -- A list of numbers that are each at most the bound has at most so many times the bound in all.
 pub total_bounded : (bound : ℕ) (ns : List ℕ) → ((i : ℕ) → get_or ns i 0 ≤ bound) → total (λ n. n) ns ≤ length ns * bound
@@ -31,12 +28,6 @@ total_bounded bound (n ∷ ns) each =
     let first : n ≤ bound = each 0 in
     let rest : total (λ n. n) ns ≤ length ns * bound = total_bounded bound ns (λ i. each (suc i)) in
     grind (arith, first, rest)
-
-leads_from : (content : List Content) (i : ℕ) (y : Name) → reference (get_or content i (Holds 0)) ≡ Some y → IsTrue (list_any (content_leads_to y) content)
-leads_from [] i y e = absurd (cc e)
-leads_from (Refers r ∷ content) zero y e = or_left _ _ (ap (λ m. leads_to m y) e ∙ name_eq_refl y)
-leads_from (Holds n ∷ content) zero y e = absurd (cc e)
-leads_from (c ∷ content) (suc i) y e = or_right (content_leads_to y c) _ (leads_from content i y e)
 
 some_same : (m n : Name) → Some m ≡ Some n → m ≡ n
 some_same m n e = cc

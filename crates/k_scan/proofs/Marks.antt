@@ -7,9 +7,9 @@ use Rattle.k_types.specs.declared.names.Name.{Name}
 use Rattle.k_types.specs.Names.{name_eq, name_lt}
 use Rattle.k_types.specs.State.{Object, has}
 use Rattle.k_types.specs.Sound.{IsOrdered, IsOrderedFrom}
-use Rattle.k_base.proofs.NameTests.{name_eq-true, name_eq_refl, name_lt_irrefl, name_lt_trans}
+use Rattle.k_base.proofs.NameTests.{name_eq-true, name_eq_refl, name_lt_irrefl}
 use Rattle.k_scan.specs.Marks.{is_marked}
-use Rattle.k_base.proofs.Ordered.{ordered_tail}
+use Rattle.k_base.proofs.Ordered.{ordered_tail, ordered_later}
 
 set_first : (a b m : Bool) → ((a && true) || m) ≡ (((a && b) || m) || a)
 set_first true b m = grind arith
@@ -50,19 +50,11 @@ none_marked [] k n = refl
 none_marked (x ∷ xs) zero n = refl
 none_marked (x ∷ xs) (suc k) n = grind (arith, none_marked xs k n)
 
-pub later : (m : Name) (xs : List Object) (n : Name) → IsOrderedFrom m xs → has xs n ≡ true → name_lt m n ≡ true
-later m [] n ordered t = absurd (false≢true t)
-later m (x ∷ xs) n ordered t =
-    elim (or_cases (name_eq x.name n) (has xs n) t) [
-      | inl here ↦ ap (name_lt m) (sym (name_eq-true x.name n here)) ∙ ordered.0
-      | inr there ↦ name_lt_trans m x.name n ordered.0 (later x.name xs n ordered.1 there)
-    ]
-
--- the first object's name is that of no later one
+-- the first object's name is that of no ordered_later one
 apart : (x : Object) (xs : List Object) (marks : List Bool) → IsOrderedFrom x.name xs → is_marked xs marks x.name ≡ false
 apart x xs marks ordered =
     elim (cases_Bool (is_marked xs marks x.name)) [
-      | inl t ↦ absurd (name_lt_irrefl x.name (later x.name xs x.name ordered (marked_has xs marks x.name t)))
+      | inl t ↦ absurd (name_lt_irrefl x.name (ordered_later x.name xs x.name ordered (marked_has xs marks x.name t)))
       | inr f ↦ f
     ]
 
@@ -82,7 +74,7 @@ marks_are (x ∷ xs) (b ∷ marks) f ordered size each =
     (marks_are xs marks f (ordered_tail x.name xs ordered) (omega arith)
     (λ n there.
     sym (elim (name_eq x.name n) as (λ e. name_eq x.name n ≡ e → ((e && b) || is_marked xs marks n) ≡ is_marked xs marks n) [
-      | true ↦ λ e. absurd (name_lt_irrefl x.name (ap (name_lt x.name) (name_eq-true x.name n e) ∙ later x.name xs n ordered there))
+      | true ↦ λ e. absurd (name_lt_irrefl x.name (ap (name_lt x.name) (name_eq-true x.name n e) ∙ ordered_later x.name xs n ordered there))
       | false ↦ λ e. refl
     ] refl)
     ∙ each n (or_right (name_eq x.name n) _ there)))

@@ -16,10 +16,11 @@ use Rattle.k_types.specs.Trace.{Trace}
 use Rattle.k_base.proofs.NameTests.{name_eq-true, name_eq_refl}
 use Rattle.k_base.proofs.Objects.{has-kept, is_some-object_at, referrer, refers_found, refers_in-kept, refers_in_has}
 use Rattle.k_base.proofs.Tests.{same_test}
-use Rattle.k_laws.proofs.Closure.{set, in_set, set_has, set_refers, closed_refers, start_in, length-kept}
+use Rattle.k_laws.proofs.Closure.{set, in_set, set_has, set_refers, closed_refers, start_in}
 use Rattle.k_scan.specs.Marks.{is_marked, HasLooked}
 use Rattle.k_scan.proofs.Marks.{marked_has, marks_are, none_marked}
 use Rattle.k_scan.proofs.References.{refers_only}
+use Rattle.k_base.proofs.Lists.{length-kept}
 
 -- the objects of the heap
 abbrev pub pool_of : Trace → State → Heap → List Object

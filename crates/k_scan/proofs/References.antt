@@ -9,8 +9,7 @@ use Rattle.k_types.specs.Sound.{IsOrdered}
 use Rattle.k_base.proofs.NameTests.{name_eq-true, name_lt_irrefl}
 use Rattle.k_base.proofs.Objects.{refers_in_has}
 use Rattle.k_state.proofs.Placed.{found_at}
-use Rattle.k_scan.proofs.Marks.{later}
-use Rattle.k_base.proofs.Ordered.{ordered_tail}
+use Rattle.k_base.proofs.Ordered.{ordered_tail, ordered_later}
 
 same_object : {x y : Object} → ◌≡◌ {A = Option Object} (Some x) (Some y) → x ≡ y
 same_object e = cc
@@ -24,7 +23,7 @@ refers_only (x ∷ xs) a b o ordered found r =
           elim (or_cases (refers x b) (refers_in xs a b) t) [
             | inl here ↦ ap (λ y. refers y b) (sym (same_object is)) ∙ here
             | inr there ↦
-                absurd (name_lt_irrefl x.name (ap (name_lt x.name) (name_eq-true x.name a same) ∙ later x.name xs a ordered (refers_in_has xs a b there)))
+                absurd (name_lt_irrefl x.name (ap (name_lt x.name) (name_eq-true x.name a same) ∙ ordered_later x.name xs a ordered (refers_in_has xs a b there)))
           ]
       | false ↦ λ same is t. refers_only xs a b o (ordered_tail x.name xs ordered) is t
     ] refl found r

@@ -5,9 +5,9 @@ use Rattle.k_types.specs.declared.setup.Setup.{Setup}
 use Rattle.k_types.specs.Numbers.{numbers_below}
 use Rattle.k_types.specs.Trace.{segment_count, trace_of}
 use Rattle.k_tie.specs.Values.{NoteValue}
-use Rattle.k_cell.proofs.Openings.{at_number}
 use Rattle.k_cell.specs.Holdings.{HasSerialLeft}
 use Rattle.k_shared.specs.SharedHeaps.{holdings_of, opened_shared, shared_segment}
+use Rattle.k_base.proofs.Lists.{at_number}
 
 own_listed : (setup : Setup) (id : SharedId) (n : ℕ) → id.0 < setup.shared →
     get_or (map (λ number. cond (number == shared_segment setup id) (Some n) None) (numbers_below (segment_count (trace_of setup [] [])))) (shared_segment setup id) None ≡ Some n

@@ -16,12 +16,12 @@ use Rattle.k_base.proofs.Lists.{get_or-set_cases}
 use Rattle.k_base.proofs.NameTests.{heap_eq-same}
 use Rattle.k_frame.proofs.OwnerOf.{owner_shared}
 use Rattle.k_laws.proofs.SoundEffects.{is_unmade_so}
-use Rattle.k_laws.proofs.SoundSharing.{sharer_of}
 use Rattle.k_laws.proofs.SoundSteps.{legal_sound}
 use Rattle.k_book.specs.Books.{BookRecord}
 use Rattle.k_squares.proofs.CellSquares.{populating_phase}
 use Rattle.k_commit.specs.Met.{BeforeWithShared, HaveMetWithShared}
 use Rattle.k_commit.specs.Standing.{BookStands}
+use Rattle.k_base.proofs.Shares.{sharer_of}
 
 module _ (trace : Trace) (b : BookRecord) (stands : BookStands trace b) where
   abbrev now : State

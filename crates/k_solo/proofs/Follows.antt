@@ -1,5 +1,5 @@
 -- A machine that does the operations of a trace in the order of the file.
-use Rattle.std.proofs.Common.{◌≡◌, ℕ, refl, ap, ap₂, subst, sym, ◌∙◌, List, [], ◌∷◌, ◌++◌, Option, Some, None}
+use Rattle.std.proofs.Common.{◌≡◌, ℕ, ap, ap₂, subst, sym, ◌∙◌, List, [], ◌∷◌, ◌++◌, Option, Some, None}
 use Rattle.std.proofs.lemmas.List.{append_assoc}
 use Rattle.std.specs.List.{AllByRecursion}
 use Rattle.k_types.specs.declared.op.Op.{Op}
@@ -12,7 +12,7 @@ use Rattle.k_types.specs.Trace.{Trace}
 use Rattle.k_types.specs.TraceRules.{KeepsRules}
 use Rattle.k_frame.proofs.Histories.{legal_front, legal_rest, run_append}
 use Rattle.k_known.proofs.KnownEvents.{history_known}
-use Rattle.k_order.proofs.FileOrders.{file_order_complete, file_order_legal}
+use Rattle.k_order.proofs.FileOrders.{file_order_complete, file_order_legal, order_end}
 use Rattle.k_state.specs.Machines.{Machine, setup_of}
 use Rattle.k_solo.specs.Runs.{IsFiled}
 use Rattle.k_solo.specs.Taken.{HasTaken}
@@ -33,10 +33,6 @@ order_next : (trace : Trace) (st : State) (p : ℕ) (order : List ℕ) (op : Opt
     file_order_from trace st (p ∷ order) ≡ followed trace st order (events_of trace st p op)
 unfolding file_order_from
 order_next trace st p order op e = ap (λ o. followed trace st order (events_of trace st p o)) e
-
-order_end : (trace : Trace) (st : State) → file_order_from trace st [] ≡ last_events trace st
-unfolding file_order_from
-order_end trace st = refl
 
 pub follows_none : (trace : Trace) (m : Machine) (events : List Event) (p : ℕ) (order : List ℕ) → next_operation trace m.state p ≡ None →
     Follows trace m events (p ∷ order) → Follows trace m events order

@@ -1,18 +1,16 @@
 -- What a view gives names only what the trace declares, and no process is charged more than is used at its limit.
-use Rattle.std.proofs.Common.{◌≡◌, ◌⊎◌, inl, inr, ℕ, zero, suc, ◌+◌, ◌<◌, ◌≤◌, ◌==◌, ◌||◌, cond, Bool, true, false, refl, ap, subst, sym, ◌∙◌, List, [], ◌∷◌, filter, find, length, get_or, Option, Some, None, arith}
+use Rattle.std.proofs.Common.{◌≡◌, ◌⊎◌, inl, inr, ℕ, zero, suc, ◌+◌, ◌<◌, ◌≤◌, ◌==◌, ◌||◌, cond, Bool, true, false, refl, ap, subst, sym, ◌∙◌, List, [], ◌∷◌, filter, find, length, get_or, Option, Some, None, arith, ◌^◌}
 use Rattle.std.specs.Prelude.{IfSome, IsTrue, option_map}
-use Rattle.std.specs.List.{list_any}
 use Rattle.std.proofs.lemmas.Bool.{cases_eq, false≢true, or_left, or_right}
 use Rattle.std.proofs.lemmas.Bool.Decides.{nat_tests}
 use Rattle.k_types.specs.declared.names.Name.{Name}
-use Rattle.k_types.specs.declared.setup.LimitRow.{LimitRow}
 use Rattle.k_types.specs.Totals.{total}
 use Rattle.k_types.specs.Numbers.{numbers_from}
-use Rattle.k_types.specs.Names.{name_eq, leads_to}
+use Rattle.k_types.specs.Names.{name_eq}
 use Rattle.k_types.specs.Trace.{Trace, limit_of, process_count}
-use Rattle.k_types.specs.TraceRules.{AreLimits}
-use Rattle.k_types.specs.State.{Content, Refers, Holds, Object, State, content_leads_to, fields_of, has, object_at, refers_in}
-use Rattle.k_types.specs.Limits.{direct_by, limits_in, use_of, use_within}
+use Rattle.k_types.specs.TraceRules.{AreLimits, KeepsRules}
+use Rattle.k_types.specs.State.{Holds, Object, State, fields_of, has, object_at, refers_in}
+use Rattle.k_types.specs.Limits.{direct_by, limits_in, use_of}
 use Rattle.k_types.specs.Owners.{charge_of}
 use Rattle.k_types.specs.Replies.{field_at, reference}
 use Rattle.k_types.specs.Sound.{IsSound}
@@ -21,16 +19,16 @@ use Rattle.k_base.proofs.Maxima.{length_in}
 use Rattle.k_base.proofs.NameTests.{name_eq_refl}
 use Rattle.k_text.specs.Shown.{comes_after, next_name_after}
 use Rattle.k_base.proofs.Objects.{refers_found}
+use Rattle.k_base.proofs.Charges.{direct_within}
+use Rattle.k_types.specs.declared.event.Event.{Event}
+use Rattle.k_types.specs.Steps.{IsLegalHistory, state_after}
+use Rattle.k_laws.proofs.SoundSteps.{legal_sound}
+use Rattle.k_known.proofs.Maxima.{max_small}
+use Rattle.k_known.proofs.Replied.{leads_from}
 
 -- an object lies in a segment of the trace
 pub object_known : (trace : Trace) (st : State) → IsSound trace st → (n : Name) → IsTrue (has st.objects n) → IsKnownName trace n
 object_known trace st sound n there = (sound.shape.placed n there).1
-
-leads_from : (contents : List Content) (i : ℕ) (y : Name) → reference (get_or contents i (Holds 0)) ≡ Some y → list_any (content_leads_to y) contents ≡ true
-leads_from [] i y e = absurd (cc e)
-leads_from (Refers r ∷ contents) zero y e = or_left _ _ (ap (λ m. leads_to m y) e ∙ name_eq_refl y)
-leads_from (Holds n ∷ contents) zero y e = absurd (cc e)
-leads_from (c ∷ contents) (suc i) y e = or_right (content_leads_to y c) _ (leads_from contents i y e)
 
 -- so does what a field refers to
 pub field_known : (trace : Trace) (st : State) → IsSound trace st → (x : Name) (i : ℕ) (y : Name) → reference (field_at st x i) ≡ Some y → IsKnownName trace y
@@ -72,17 +70,21 @@ total_at f g first (suc n) p low high on =
     first_or (inl same) false e later = absurd (false≢true (sym e ∙ ap g same ∙ on))
     first_or (inr other) b e later = rest b (later other)
 
-direct_at_most : (rows : List LimitRow) (direct : ℕ → ℕ) (depth m : ℕ) → 0 < depth → direct m ≤ use_within rows direct depth m
-unfolding use_within
-direct_at_most rows direct zero m positive = absurd (omega arith)
-direct_at_most rows direct (suc depth) m positive = omega arith
-
 -- a process is charged no more than is used at its limit
 pub charge_at_most : (trace : Trace) (st : State) (p : ℕ) → p < process_count trace → AreLimits trace → charge_of trace st p ≤ use_of trace st (limit_of trace p)
 charge_at_most trace st p known rules =
     let limited = rules.limited p known in
     let long = length_in trace.limits st.maxima in
-    let direct = direct_at_most (limits_in trace st) (direct_by trace (charge_of trace st)) (length (limits_in trace st)) (limit_of trace p) (omega arith) in
+    let direct = direct_within (limits_in trace st) (direct_by trace (charge_of trace st)) (length (limits_in trace st)) (limit_of trace p) (omega arith) in
     let own : (limit_of trace p == limit_of trace p) ≡ true = grind (arith, nat_tests) in
     let here = total_at (charge_of trace st) (λ q. limit_of trace q == limit_of trace p) 0 (process_count trace) p (omega arith) (omega arith) own in
     omega (arith, here, direct)
+
+-- a process is charged less than 2^40
+pub charge_small : (trace : Trace) (history : List Event) (p : ℕ) → KeepsRules trace → IsLegalHistory trace history → p < process_count trace → charge_of trace (state_after trace history) p < 2 ^ 40
+charge_small trace history p rules legal known =
+    let limited = rules.limits.limited p known in
+    let charge = charge_at_most trace (state_after trace history) p known rules.limits in
+    let used = (legal_sound trace history rules.limits legal).uses (limit_of trace p) limited in
+    let small = max_small trace history rules.limits legal (limit_of trace p) limited in
+    omega (arith, charge, used, small)

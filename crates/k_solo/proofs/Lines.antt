@@ -1,9 +1,6 @@
 -- What one operation of the file adds, and what the loop over the file's order asks of it.
-use Rattle.std.proofs.Common.{◌≡◌, ℕ, zero, suc, ◌+◌, ◌*◌, ◌<◌, ◌≤◌, nat_lt, Bool, true, false, ap, sym, ◌∙◌, List, [], ◌∷◌, ◌++◌, map, length, get_or, drop, Option, Some, None, arith, if◌then◌else◌}
-use Rattle.std.specs.List.{list_all}
-use Rattle.std.proofs.lemmas.Bool.{and_parts}
-use Rattle.std.proofs.lemmas.Bool.Decides.{nat_tests}
-use Rattle.std.proofs.lemmas.List.{at_drop_all, drop_more, length-append, length-map}
+use Rattle.std.proofs.Common.{◌≡◌, ℕ, ◌+◌, ◌*◌, ◌≤◌, Bool, true, false, ap, sym, ◌∙◌, List, [], ◌++◌, map, length, Option, Some, None, arith, if◌then◌else◌}
+use Rattle.std.proofs.lemmas.List.{length-append, length-map}
 use Rattle.k_types.specs.declared.event.Event.{Event}
 use Rattle.k_types.specs.declared.event.Event.TheVariants.{Closing, Done}
 use Rattle.k_types.specs.declared.names.Heap.{Heap}
@@ -73,23 +70,6 @@ setup_rules trace rules = record {
     small = rules.limits.small;
   };
 }
-
--- each process of the order is one of the trace's
-pub process_known : (n : ℕ) (pids : List Pid) (i : ℕ) (d : Pid) → list_all (λ p. nat_lt p n) (map (λ (pid : Pid). pid.0) pids) ≡ true → i < length pids → (get_or pids i d).0 < n
-process_known n [] i d all inside = absurd (omega arith)
-process_known n (pid ∷ pids) zero d all inside =
-    let parts = and_parts (nat_lt pid.0 n) (list_all (λ p. nat_lt p n) (map (λ (q : Pid). q.0) pids)) all in
-    grind (arith, nat_tests)
-process_known n (pid ∷ pids) (suc i) d all inside =
-    process_known n pids i d (and_parts (nat_lt pid.0 n) (list_all (λ p. nat_lt p n) (map (λ (q : Pid). q.0) pids)) all).1 (omega arith)
-
--- the next process of what is left of the order
-pub order_next : (pids : List Pid) (i : ℕ) (d : Pid) → i < length pids →
-    map (λ (pid : Pid). pid.0) (drop i pids) ≡ (get_or pids i d).0 ∷ map (λ (pid : Pid). pid.0) (drop (i + 1) pids)
-order_next pids i d inside = ap (map (λ (pid : Pid). pid.0)) (drop_more pids i d inside)
-
-pub order_over : (pids : List Pid) (i : ℕ) → length pids ≤ i → map (λ (pid : Pid). pid.0) (drop i pids) ≡ []
-order_over pids i past = at_drop_all (map (λ (pid : Pid). pid.0)) pids i past
 
 -- the order is as long as its processes
 pub order_length : (pids : List Pid) (order : List ℕ) → map (λ (pid : Pid). pid.0) pids ≡ order → length pids ≡ length order

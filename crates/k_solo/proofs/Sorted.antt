@@ -1,52 +1,19 @@
 -- The targets of a heap's exit items, once they are sorted, rise and are its exits in order.
-use Rattle.std.proofs.Common.{◌≡◌, ◌==◌, ◌&&◌, ◌||◌, ◌⊎◌, inl, inr, ℕ, suc, ◌+◌, ◌<◌, ◌≤◌, Bool, true, false, cond, refl, sym, ap, ap₂, subst, ◌∙◌, List, [], ◌∷◌, map, filter, length, get_or, is_lt, nat_cmp, nat_lt, eq-eqb, arith}
-use Rattle.std.specs.Cmp.{nat_cmp_is}
+use Rattle.std.proofs.Common.{◌≡◌, ◌&&◌, ◌||◌, ℕ, suc, ◌+◌, ◌<◌, ◌≤◌, Bool, true, false, cond, refl, sym, ap, ap₂, subst, ◌∙◌, List, [], ◌∷◌, map, filter, length, get_or, is_lt, nat_cmp, arith}
 use Rattle.std.specs.List.{count_by}
 use Rattle.std.specs.List.Sorted.{IsPermutation}
 use Rattle.std.specs.Ordering.{ordering_then}
-use Rattle.std.specs.declared.cmp.Ordering.{Ordering}
-use Rattle.std.specs.declared.cmp.Ordering.TheVariants.{Less, Equal}
-use Rattle.std.proofs.lemmas.Bool.{cases_eq, cases_lt, false≢true, or_left, or_right, or_parts, and_from}
-use Rattle.std.proofs.lemmas.Bool.Decides.{nat_tests}
+use Rattle.std.proofs.lemmas.Bool.{or_parts}
 use Rattle.std.proofs.lemmas.List.Sums.{sum_by-cons}
 use Rattle.std.proofs.lemmas.List.Sorted.{list_any-IsPermutation, sum_by-IsPermutation}
 use Rattle.k_types.specs.declared.names.Heap.{Heap}
 use Rattle.k_types.specs.declared.names.Name.{Name}
-use Rattle.k_types.specs.Names.{heap_eq, name_among, name_eq, name_lt}
+use Rattle.k_types.specs.Names.{heap_eq, name_among, name_eq}
 use Rattle.k_types.specs.Sound.{AreDistinctExits}
 use Rattle.k_types.specs.State.{ExitItem, has_exit}
-use Rattle.k_base.proofs.NameTests.{heap_eq-true, name_eq-true, name_eq_refl}
+use Rattle.k_base.proofs.NameTests.{heap_eq-true, name_eq-true, name_eq_refl, comes_first}
 use Rattle.k_text.specs.Shown.{AreRising, AreRisingFrom, exits_of}
 use Rattle.k_text.proofs.InOrder.{rising_exits}
-
-less : (a b : ℕ) → a < b → nat_lt a b ≡ true
-less a b h = grind (arith, nat_tests)
-
--- the first name comes before the second where the second does not come before the first, and they differ
-comes_first : (a b : Name) → is_lt (ordering_then (nat_cmp b.seg.0 a.seg.0) (nat_cmp b.serial.0 a.serial.0)) ≡ false → (name_eq a b ≡ true → ⊥) → name_lt a b ≡ true
-comes_first a b not_less differs =
-    elim (cases_lt a.seg.0 b.seg.0) [
-      | inl lower ↦ or_left (nat_lt a.seg.0 b.seg.0) ((a.seg.0 == b.seg.0) && nat_lt a.serial.0 b.serial.0) (less a.seg.0 b.seg.0 lower)
-      | inr high ↦ elim (cases_eq a.seg.0 b.seg.0) [
-        | inr apart ↦ absurd (greater (omega (arith, high, apart)))
-        | inl same ↦ or_right (nat_lt a.seg.0 b.seg.0) ((a.seg.0 == b.seg.0) && nat_lt a.serial.0 b.serial.0) (and_from (a.seg.0 == b.seg.0) (nat_lt a.serial.0 b.serial.0) (eq-eqb a.seg.0 b.seg.0 same) (by_serial same (cases_lt a.serial.0 b.serial.0)))
-      ]
-    ]
-  where
-    greater : b.seg.0 < a.seg.0 → ⊥
-    greater h =
-        let cmp : nat_cmp b.seg.0 a.seg.0 ≡ Less = sym (nat_cmp_is b.seg.0 a.seg.0 Less h) in
-        false≢true (sym not_less ∙ ap (λ (o : Ordering). is_lt (ordering_then o (nat_cmp b.serial.0 a.serial.0))) cmp)
-
-    by_serial : a.seg.0 ≡ b.seg.0 → (a.serial.0 < b.serial.0) ⊎ (b.serial.0 ≤ a.serial.0) → nat_lt a.serial.0 b.serial.0 ≡ true
-    by_serial same (inl lower) = less a.serial.0 b.serial.0 lower
-    by_serial same (inr high) = elim (cases_eq a.serial.0 b.serial.0) [
-      | inl equal ↦ absurd (differs (and_from (a.seg.0 == b.seg.0) (a.serial.0 == b.serial.0) (eq-eqb a.seg.0 b.seg.0 same) (eq-eqb a.serial.0 b.serial.0 equal)))
-      | inr apart ↦
-          let segs : nat_cmp b.seg.0 a.seg.0 ≡ Equal = sym (nat_cmp_is b.seg.0 a.seg.0 Equal (sym same)) in
-          let serials : nat_cmp b.serial.0 a.serial.0 ≡ Less = sym (nat_cmp_is b.serial.0 a.serial.0 Less (omega (arith, high, apart))) in
-          absurd (false≢true (sym not_less ∙ ap₂ (λ (o p : Ordering). is_lt (ordering_then o p)) segs serials))
-    ]
 
 bit : Bool → ℕ
 bit b = cond b 1 0

@@ -1,6 +1,6 @@
 -- What the objects of an area are after one of them is changed.
 use Rattle.std.proofs.Common.{◌≡◌, ◌≢◌, ◌==◌, ℕ, zero, suc, ◌+◌, ◌<◌, not, false, refl, sym, ap, subst, ◌∙◌, inl, inr, List, [], ◌∷◌, length, map, get_or, set, slice_get, sum_by, Option, Some, None, is_some, eqb-true, arith}
-use Rattle.k_base.proofs.Lists.{some_one, some_inside}
+use Rattle.k_base.proofs.Lists.{some_one, some_inside, slice_get-set_other}
 use Rattle.std.specs.List.{position_or_len}
 use Rattle.std.proofs.Math.Seq.{map-set_same}
 use Rattle.std.proofs.lemmas.Bool.{cases_eq, false≢true}
@@ -18,13 +18,6 @@ pub slice_get-set_same : {A : Type 0} (xs : List A) (i : ℕ) (y : A) → i < le
 slice_get-set_same [] i y within = absurd (omega arith)
 slice_get-set_same (x ∷ xs) zero y within = refl
 slice_get-set_same (x ∷ xs) (suc i) y within = slice_get-set_same xs i y (omega (arith, within))
-
-pub slice_get-set_other : {A : Type 0} (xs : List A) (i j : ℕ) (y : A) → j ≢ i → slice_get (set xs i y) j ≡ slice_get xs j
-slice_get-set_other [] i j y ne = refl
-slice_get-set_other (x ∷ xs) zero zero y ne = absurd (ne refl)
-slice_get-set_other (x ∷ xs) zero (suc j) y ne = refl
-slice_get-set_other (x ∷ xs) (suc i) zero y ne = refl
-slice_get-set_other (x ∷ xs) (suc i) (suc j) y ne = slice_get-set_other xs i j y (λ e. ne (ap suc e))
 
 -- the segment found has that number
 pub number_found : (segments : List SegmentValue) (k : ℕ) (s : SegmentValue) → segment_at segments k ≡ Some s → s.number ≡ k

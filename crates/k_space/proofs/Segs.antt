@@ -1,5 +1,5 @@
 -- A segment that is put back as it was.
-use Rattle.std.proofs.Common.{◌≡◌, ℕ, Option, Some, None, List, ◌<◌, ◌≤◌, cond, ltb, false, arith, refl, sym, ap, ap₂, ◌∙◌, get_or, set, slice_get, length}
+use Rattle.std.proofs.Common.{◌≡◌, ℕ, Option, Some, None, List, ◌<◌, ◌≤◌, cond, ltb, false, arith, refl, sym, ap, ap₂, ◌∙◌, get_or, set, slice_get, length, [], ◌∷◌, map}
 use Rattle.std.specs.Option.{IfNone, IfSome}
 use Rattle.std.proofs.lemmas.Bool.Decides.{nat_tests}
 use Rattle.std.proofs.lemmas.List.{set-get_or}
@@ -8,8 +8,8 @@ use Rattle.std.proofs.lemmas.Option.{slice_get_within}
 use Rattle.k_types.specs.declared.names.Name.{Name}
 use Rattle.k_space.specs.declared.body.Stored.{Stored}
 use Rattle.k_space.specs.declared.segment.Visited.{Visited}
-use Rattle.k_space.specs.Segments.{SegmentValue, Row, Black, row_at, with_row, gray_or_black, some_gray}
-use Rattle.k_space.specs.Areas.{AreaValue, place_of, segment_at, with_segment, row_in_segment, row_of_name, with_row_in, HasDistinct, grayed, grayed_row}
+use Rattle.k_space.specs.Segments.{SegmentValue, Row, Black, row_at, with_row, gray_or_black, some_gray, White, unmarked_row, unmarked_segment}
+use Rattle.k_space.specs.Areas.{AreaValue, place_of, segment_at, with_segment, row_in_segment, row_of_name, with_row_in, HasDistinct, grayed, grayed_row, unmarked}
 use Rattle.k_space.specs.Visiting.{IsVisited, IsVisitedFrom, IsVisitedFromIn, IsVisitedIn}
 
 pub put_back : (a : AreaValue) (number : ℕ) (s : SegmentValue) → Some s ≡ segment_at a.segments number → with_segment a number s ≡ a
@@ -100,3 +100,16 @@ visited_all old new found list v = record { black = v.black; held = v.held (omeg
 
 pub visited_all_in : (old new : SegmentValue) (found : Visited) (list : List Stored) → IsVisitedFromIn 0 old new found list → IsVisitedIn old new found list
 visited_all_in old new found list v = record { row = v.row; number = v.number; there = v.there; was = v.was; now = v.now; held = v.held (omega arith) }
+
+-- marks are taken away once
+pub unmarked_rows_twice : (rows : List (Option Row)) → map unmarked_row (map unmarked_row rows) ≡ map unmarked_row rows
+unmarked_rows_twice [] = refl
+unmarked_rows_twice (None ∷ rows) = ap (λ rs. None ∷ rs) (unmarked_rows_twice rows)
+unmarked_rows_twice (Some row ∷ rows) = ap (λ rs. Some (record row { color = White }) ∷ rs) (unmarked_rows_twice rows)
+
+pub unmarked_segments_twice : (segments : List SegmentValue) → map unmarked_segment (map unmarked_segment segments) ≡ map unmarked_segment segments
+unmarked_segments_twice [] = refl
+unmarked_segments_twice (s ∷ segments) = ap₂ (λ rows ss. record s { rows = rows } ∷ ss) (unmarked_rows_twice s.rows) (unmarked_segments_twice segments)
+
+pub unmarked_twice : (a : AreaValue) → unmarked (unmarked a) ≡ unmarked a
+unmarked_twice a = ap (λ ss. record a { segments = ss }) (unmarked_segments_twice a.segments)

@@ -7,7 +7,7 @@ use Rattle.k_types.specs.declared.names.SharedId.{SharedId}
 use Rattle.k_types.specs.declared.names.Heap.{Heap}
 use Rattle.k_types.specs.declared.names.Heap.TheVariants.{Kernel, User, Shared}
 use Rattle.k_types.specs.declared.op.Op.{Op}
-use Rattle.k_types.specs.declared.op.Op.TheVariants.{New, KNew, SNew, Store, Load, Move, Clear, Dir, Put, Get, Collect, KCollect, Share, Freeze, Attach, Exit, Kill, Resize}
+use Rattle.k_types.specs.declared.op.Op.TheVariants.{New}
 use Rattle.k_types.specs.declared.event.Fault.{Fault}
 use Rattle.k_types.specs.declared.event.Reply.{Reply}
 use Rattle.k_types.specs.declared.event.Event.{Event}
@@ -44,23 +44,7 @@ use Rattle.k_base.proofs.Lists.{none_is}
 pub answer_is_one : {A : Type 0} (trace : Trace) (st : State) (p : ℕ) (op : Op) (after before : A) → unless_refused (answer trace st p op) after before ≡ after
 unfolding answer
 answer_is_one trace st p (New r ty) after before = refl
-answer_is_one trace st p (KNew r ty) after before = refl
-answer_is_one trace st p (SNew r s ty) after before = refl
-answer_is_one trace st p (Store base i value) after before = refl
-answer_is_one trace st p (Load r base i) after before = refl
-answer_is_one trace st p (Move r from) after before = refl
-answer_is_one trace st p (Clear r) after before = refl
-answer_is_one trace st p (Dir r) after before = refl
-answer_is_one trace st p (Put base i n) after before = refl
-answer_is_one trace st p (Get base i) after before = refl
-answer_is_one trace st p Collect after before = refl
-answer_is_one trace st p KCollect after before = refl
-answer_is_one trace st p (Share s) after before = refl
-answer_is_one trace st p (Freeze s root) after before = refl
-answer_is_one trace st p (Attach r s) after before = refl
-answer_is_one trace st p Exit after before = refl
-answer_is_one trace st p (Kill q) after before = refl
-answer_is_one trace st p (Resize m max) after before = refl
+answer_is_one trace st p _ after before = refl
 
 pub acts_of : (trace : Trace) (st : State) (pid : Pid) (op : Op) (said : Reply) → IsPossible trace st (Done pid op said) → first_fault (faults trace st pid.0 op) ≡ None → Acts trace st pid.0 op
 unfolding cells_touched

@@ -9,7 +9,7 @@ use Rattle.k_types.specs.declared.names.Heap.{Heap}
 use Rattle.k_types.specs.declared.names.Heap.TheVariants.{Kernel, User, Shared}
 use Rattle.k_types.specs.declared.names.Phase.TheVariants.{Populating, Frozen}
 use Rattle.k_types.specs.declared.op.Op.{Op}
-use Rattle.k_types.specs.declared.op.Op.TheVariants.{New, KNew, SNew, Store, Load, Move, Clear, Dir, Put, Get, Collect, KCollect, Share, Freeze, Attach, Exit, Kill, Resize}
+use Rattle.k_types.specs.declared.op.Op.TheVariants.{New, KNew, SNew, Store, Load, Move, Clear, Dir, Put, Get, Collect, KCollect, Share, Freeze, Attach, Exit, Kill}
 use Rattle.k_types.specs.declared.event.Fault.{Fault}
 use Rattle.k_types.specs.declared.event.Fault.TheVariants.{Foreign, NotSharer, WrongKind, Frozen as FrozenFault, Segv, NotPopulating, KernelFull}
 use Rattle.k_types.specs.declared.event.Reply.{Reply}
@@ -83,7 +83,6 @@ module _ (trace : Trace) (b : BookPart) (f g : Cell → CellPart) (c : Cell) (he
     operated_same (Clear r) said others = register_same p r.0 None
     operated_same (Dir r) said others = register_same p r.0 (reference_given said)
     operated_same (Put base i n) said others = ap (λ x. cells_put (owner_in trace b) x i n f c) (held base.0) ∙ put_same (owner_in trace b) (register_in g p base.0) i n
-    operated_same (Get base i) said others = here
     operated_same Collect said others = scanned_same (user p) own
     operated_same KCollect said others = scanned_same Kernel (others Kernel refl)
     operated_same (Share s) said others = ap (λ q. at_cell (Shared s) (in_phase (Populating (record { 0 = p }))) (λ k. q) c) here
@@ -95,7 +94,7 @@ module _ (trace : Trace) (b : BookPart) (f g : Cell → CellPart) (c : Cell) (he
         kill_same : (ends : Bool) → ends_other_in trace b p q.0 ≡ ends → cond ends (cells_given (owner_in trace b) (User q) at_its_end f) f c ≡ cond ends (cells_given (owner_in trace b) (User q) at_its_end g) g c
         kill_same false e = here
         kill_same true e = given_same (owner_in trace b) (User q) at_its_end (others (User q) (ap (λ t. list_any (λ d. heap_eq d (User q)) (cond t (User q ∷ Kernel ∷ []) [])) e ∙ or_left _ _ (heap_eq_refl (User q))))
-    operated_same (Resize m max) said others = here
+    operated_same _ said others = here
 
 -- what is accessed through the register of a process whose cell has the same part in both
 module _ (trace : Trace) (b : BookPart) (f g : Cell → CellPart) (p : ℕ) (own : f (user p) ≡ g (user p)) where
@@ -171,23 +170,14 @@ module _ (trace : Trace) (b : BookPart) (f g : Cell → CellPart) (p : ℕ) (own
   reply_same (Load r base i) others =
       load_same (register_in f p base.0) i others
       ∙ ap (λ x. refused_or (first_fault (at_base x (λ y. load_faults_in b (home y) (g (home y)) p i y))) (Loaded (reference_from_in trace b g x i))) (held_too base.0)
-  reply_same (Move r from) others = refl
-  reply_same (Clear r) others = refl
-  reply_same (Dir r) others = refl
   reply_same (Put base i number) others =
       put_reply_same (register_in f p base.0) i others
       ∙ ap (λ x. refused_or (first_fault (at_base x (λ y. number_faults_in b (home y) (g (home y)) p i y))) DoneReply) (held_too base.0)
   reply_same (Get base i) others =
       get_same (register_in f p base.0) i others
       ∙ ap (λ x. refused_or (first_fault (at_base x (λ y. number_faults_in b (home y) (g (home y)) p i y))) (Value (number_from_in trace b g x i))) (held_too base.0)
-  reply_same Collect others = refl
-  reply_same KCollect others = refl
-  reply_same (Share s) others = refl
   reply_same (Freeze s root) others = ap (λ x. refused_or (first_fault (at_base x (freeze_faults_in trace b p (Shared s) s))) DoneReply) (held_too root.0)
-  reply_same (Attach r s) others = refl
-  reply_same Exit others = refl
-  reply_same (Kill q) others = refl
-  reply_same (Resize m max) others = refl
+  reply_same _ others = refl
 
   -- the book after an operation that isn't refused
   book_stored_same : (x : Option Name) (i : ℕ) (w v : Option Name) → Through x → first_fault (at_base x (λ y. store_faults_in trace b (home y) (f (home y)) p i w y)) ≡ None → book_stored (owner_in trace b) x v f b ≡ book_stored (owner_in trace b) x v g b
@@ -215,11 +205,6 @@ module _ (trace : Trace) (b : BookPart) (f g : Cell → CellPart) (p : ℕ) (own
   book_operated_same (Move r from) said fine others = ap (λ v. book_repinned trace b f p r.0 v b) (held_too from.0) ∙ repinned_same r.0 (register_in g p from.0) b
   book_operated_same (Clear r) said fine others = repinned_same r.0 None b
   book_operated_same (Dir r) said fine others = repinned_same r.0 (reference_given said) _
-  book_operated_same (Put base i n) said fine others = refl
-  book_operated_same (Get base i) said fine others = refl
-  book_operated_same Collect said fine others = refl
-  book_operated_same KCollect said fine others = refl
-  book_operated_same (Share s) said fine others = refl
   book_operated_same (Freeze s root) said fine others = ap (λ v. book_frozen s.0 v b) (held_too root.0)
   book_operated_same (Attach r s) said fine others = repinned_same r.0 (reference_given said) _
   book_operated_same Exit said fine others = ap₂ (λ heap kernel. when_ended trace (owner_in trace b) p heap kernel b) own (others Kernel refl)
@@ -232,7 +217,7 @@ module _ (trace : Trace) (b : BookPart) (f g : Cell → CellPart) (p : ℕ) (own
           ap₂ (λ heap kernel. when_ended trace (owner_in trace b) q.0 heap kernel b)
           (others (User q) (ap (λ t. list_any (λ d. heap_eq d (User q)) (cond t (User q ∷ Kernel ∷ []) [])) e ∙ or_left _ _ (heap_eq_refl (User q))))
           (others Kernel (ap (λ t. list_any (λ d. heap_eq d Kernel) (cond t (User q ∷ Kernel ∷ []) [])) e ∙ or_right (heap_eq (User q) Kernel) _ refl))
-  book_operated_same (Resize m max) said fine others = refl
+  book_operated_same _ said fine others = refl
 
 module _ (trace : Trace) (b : BookPart) (f g : Cell → CellPart) where
   own_same : (pid : Pid) (op : Op) (said : Reply) → AgreeWhereTouched trace b f g (Done pid op said) → f (User pid) ≡ g (User pid)

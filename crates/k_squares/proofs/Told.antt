@@ -7,7 +7,7 @@ use Rattle.k_types.specs.declared.names.Phase.{Phase}
 use Rattle.k_types.specs.declared.names.Heap.{Heap}
 use Rattle.k_types.specs.declared.names.Heap.TheVariants.{Kernel, User, Shared}
 use Rattle.k_types.specs.declared.op.Op.{Op}
-use Rattle.k_types.specs.declared.op.Op.TheVariants.{New, KNew, SNew, Store, Load, Move, Clear, Dir, Put, Get, Collect, KCollect, Share, Freeze, Attach, Exit, Kill, Resize}
+use Rattle.k_types.specs.declared.op.Op.TheVariants.{New, KNew, SNew, Store, Load, Move, Clear, Put, Get, Share, Freeze, Attach, Kill, Resize}
 use Rattle.k_types.specs.declared.event.Fault.{Fault}
 use Rattle.k_types.specs.declared.event.Fault.TheVariants.{Foreign, NoField, WrongKind, Frozen, Segv, NotPopulating, NotFrozen, Taken, KernelFull, LimitNotBelow, InUse}
 use Rattle.k_types.specs.declared.event.Reply.{Reply}
@@ -71,24 +71,12 @@ module _ (trace : Trace) (st : State) where
 
   others_told : (p : ℕ) (op : Op) → other_cells trace st p op ≡ other_cells_in trace (book_part trace st) (part trace st (user p)) p op
   unfolding other_cells other_cells_in
-  others_told p (New r ty) = refl
-  others_told p (KNew r ty) = refl
-  others_told p (SNew r s ty) = refl
   others_told p (Store base i value) = through p base.0
   others_told p (Load r base i) = through p base.0
-  others_told p (Move r from) = refl
-  others_told p (Clear r) = refl
-  others_told p (Dir r) = refl
   others_told p (Put base i number) = through p base.0
   others_told p (Get base i) = through p base.0
-  others_told p Collect = refl
-  others_told p KCollect = refl
-  others_told p (Share s) = refl
-  others_told p (Freeze s root) = refl
-  others_told p (Attach r s) = refl
-  others_told p Exit = refl
   others_told p (Kill q) = ap (λ b. cond (is_above trace p q.0 && not b) (User q ∷ Kernel ∷ []) []) (ended_told q.0)
-  others_told p (Resize m max) = refl
+  others_told p _ = refl
 
   pub touched_told : (event : Event) → cells_touched trace st event ≡ touched_in trace (book_part trace st) (part trace st) event
   unfolding cells_touched
@@ -192,13 +180,8 @@ module _ (trace : Trace) (st : State) where
         through_base p base.0 (store_faults trace st p i (register st.registers p value.0)) (λ h c x. store_faults_in trace (book_part trace st) h c p i (register st.registers p value.0) x) (store_told p i (register st.registers p value.0))
         ∙ ap (λ v. at_base (register_in (part trace st) p base.0) (λ x. store_faults_in trace (book_part trace st) (owner_in trace (book_part trace st) x.seg.0) (part trace st (owner_in trace (book_part trace st) x.seg.0)) p i v x)) (told trace st p value.0)
     faults_told (Load r base i) inside = through_base p base.0 (load_faults trace st p i) (λ h c x. load_faults_in (book_part trace st) h c p i x) (load_told p i)
-    faults_told (Move r from) inside = refl
-    faults_told (Clear r) inside = refl
-    faults_told (Dir r) inside = refl
     faults_told (Put base i number) inside = through_base p base.0 (number_faults trace st p i) (λ h c x. number_faults_in (book_part trace st) h c p i x) (number_told p i)
     faults_told (Get base i) inside = through_base p base.0 (number_faults trace st p i) (λ h c x. number_faults_in (book_part trace st) h c p i x) (number_told p i)
-    faults_told Collect inside = refl
-    faults_told KCollect inside = refl
     faults_told (Share s) inside = ap (λ (phases : List Phase). fault_where (not (is_unmade (phase_of phases s.0))) (Taken s) ∷ []) phases_told
     faults_told (Freeze s root) inside =
         at_base_same (register st.registers p root.0) _ (freeze_faults_in trace (book_part trace st) p (Shared s) s) (freeze_told s)
@@ -207,12 +190,11 @@ module _ (trace : Trace) (st : State) where
         let heap = ltb-true _ _ (and_parts (nat_lt r.0 register_count) (nat_lt s.0 trace.shared_heaps) inside).1 in
         ap₂ (λ (phases : List Phase) f. fault_where (not (is_frozen (phase_of phases s.0))) (NotFrozen s) ∷ f ∷ []) phases_told
         (ap₂ (λ b f. cond b None f) (shares_told p s.0) (size_told (bytes_of trace st (Shared s)) ∙ ap (size_fault_in trace (book_part trace st) p) (sym (shared_bytes_told trace st s.0 heap))))
-    faults_told Exit inside = refl
-    faults_told (Kill q) inside = refl
     faults_told (Resize m max) inside =
         let known = ltb-true _ _ (and_parts (nat_lt m.0 (length trace.limits)) (nat_lt max maximum_below) inside).0 in
         ap₂ (λ full used. cond (may_resize trace p m.0) (limit_fault full) None ∷ fault_where (not (may_resize trace p m.0)) (LimitNotBelow m) ∷ fault_where (may_resize trace p m.0 && nat_lt max used) (InUse m) ∷ [])
         (sym (full_for_told trace limits st m.0 max known)) (sym (use_told trace st m.0 known))
+    faults_told _ inside = refl
 
     answer_told : (op : Op) → IsFalse (among p st.ended) → first_fault (faults trace st p op) ≡ None → answer trace st p op ≡ answer_in trace (book_part trace st) (part trace st) p op
     unfolding faults answer answer_in
@@ -220,21 +202,10 @@ module _ (trace : Trace) (st : State) where
     answer_told (KNew r ty) lives fine = ap (λ n. Made n) (sym (name_told trace st Kernel 0 (owner_kernel trace st)))
     answer_told (SNew r s ty) lives fine =
         ap (λ n. Made n) (sym (name_told trace st (Shared s) (1 + process_count trace + s.0) (owner_shared trace st s.0 (ap is_absorbed (populating_phase (phase_of st.phases s.0) p (populates trace st p s _ fine))))))
-    answer_told (Store base i value) lives fine = refl
     answer_told (Load r base i) lives fine = ap (λ v. Loaded v) (reference_told p base.0 i)
-    answer_told (Move r from) lives fine = refl
-    answer_told (Clear r) lives fine = refl
-    answer_told (Dir r) lives fine = refl
-    answer_told (Put base i number) lives fine = refl
     answer_told (Get base i) lives fine = ap (λ n. Value n) (read_told p base.0 i)
-    answer_told Collect lives fine = refl
-    answer_told KCollect lives fine = refl
-    answer_told (Share s) lives fine = refl
-    answer_told (Freeze s root) lives fine = refl
     answer_told (Attach r s) lives fine = ap (λ (phases : List Phase). Loaded (root_of (phase_of phases s.0))) phases_told
-    answer_told Exit lives fine = refl
-    answer_told (Kill q) lives fine = refl
-    answer_told (Resize m max) lives fine = refl
+    answer_told _ lives fine = refl
 
     pub reply_told : (op : Op) → IsFalse (among p st.ended) → IsTrue (in_range trace op) → reply_to trace st p op ≡ reply_in trace (book_part trace st) (part trace st) p op
     unfolding reply_to reply_in
@@ -264,9 +235,6 @@ module _ (trace : Trace) (st : State) where
 
     pub local_told : (op : Op) → is_local st p op ≡ is_local_in (part trace st (user p)) p op
     unfolding is_local is_local_in
-    local_told (New r ty) = refl
-    local_told (KNew r ty) = refl
-    local_told (SNew r s ty) = refl
     local_told (Store base i value) =
         local_store_told (register st.registers p base.0) i (register st.registers p value.0)
         ∙ ap₂ (λ b v. is_local_store_in (part trace st (user p)) p b i v) (told trace st p base.0) (told trace st p value.0)
@@ -275,14 +243,6 @@ module _ (trace : Trace) (st : State) where
         ∙ ap₂ (λ b v. is_local_load_in (part trace st (user p)) p b i v) (told trace st p base.0) (told trace st p r.0)
     local_told (Move r from) = ap₂ (λ a b. is_own p a && is_own p b) (told trace st p r.0) (told trace st p from.0)
     local_told (Clear r) = ap (is_own p) (told trace st p r.0)
-    local_told (Dir r) = refl
     local_told (Put base i number) = ap (is_own p) (told trace st p base.0)
     local_told (Get base i) = ap (is_own p) (told trace st p base.0)
-    local_told Collect = refl
-    local_told KCollect = refl
-    local_told (Share s) = refl
-    local_told (Freeze s root) = refl
-    local_told (Attach r s) = refl
-    local_told Exit = refl
-    local_told (Kill q) = refl
-    local_told (Resize m max) = refl
+    local_told _ = refl

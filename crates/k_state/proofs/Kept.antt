@@ -1,5 +1,5 @@
 -- The shape of the lists after a change.
-use Rattle.std.proofs.Common.{◌≡◌, ℕ, suc, ◌+◌, ◌<◌, ◌≤◌, ◌^◌, true, false, cond, refl, ap, sym, ◌∙◌, inl, inr, Bool, List, [], ◌∷◌, length, length-set, map, get_or, get_or-set_same, set, subst, arith}
+use Rattle.std.proofs.Common.{◌≡◌, ℕ, ◌+◌, ◌<◌, ◌≤◌, ◌^◌, true, false, cond, refl, ap, sym, ◌∙◌, inl, inr, Bool, List, [], ◌∷◌, length, length-set, map, get_or, get_or-set_same, set, subst, arith}
 use Rattle.std.proofs.lemmas.Bool.{false_from_ne_true, or_cases}
 use Rattle.std.proofs.lemmas.List.{length-map}
 use Rattle.std.specs.List.{AllByRecursion}
@@ -12,12 +12,13 @@ use Rattle.k_types.specs.Trace.{Trace}
 use Rattle.k_types.specs.Updates.{object_after_write, with_object}
 use Rattle.k_base.proofs.Lists.{get_or-set_cases}
 use Rattle.k_base.proofs.NameTests.{name_eq-true}
-use Rattle.k_base.proofs.Objects.{has-placed, has-written}
+use Rattle.k_base.proofs.Objects.{has-placed, has-written, length-placed}
 use Rattle.k_state.specs.Machines.{AreTotals, IsDeclared, IsKept, Machine}
 use Rattle.k_state.specs.Marks.{marked}
 use Rattle.k_state.proofs.Marked.{all_marked, length_marked}
-use Rattle.k_state.proofs.Placed.{has_marked, ordered_marked, ordered_placed, ordered_written}
+use Rattle.k_state.proofs.Placed.{has_marked, ordered_marked}
 use Rattle.k_state.proofs.Totals.{totals_placed, totals_written}
+use Rattle.k_base.proofs.Ordered.{ordered-placed, ordered-written}
 
 pub kept_exits : (m : Machine) (totals : List ℕ) (exits : List ExitItem) → IsKept m totals → length exits ≤ length m.state.exits →
     IsKept (record m { state = record m.state { exits = exits } }) totals
@@ -106,7 +107,7 @@ written_kept m totals n i c kept =
     kept_objects m totals totals (map (object_after_write n i c) xs) m.state.made kept
     (omega (arith, length-map xs (object_after_write n i c), kept.plain.few))
     (record {
-      ordered = ordered_written n i c xs kept.plain.names.ordered;
+      ordered = ordered-written n i c xs kept.plain.names.ordered;
       numbered = λ y there. kept.plain.names.numbered y (sym (has-written n i c xs y) ∙ there);
     })
     (declared_written m.setup n i c xs kept.plain.declared) refl refl (totals_written n i c xs totals kept.bytes)
@@ -123,14 +124,6 @@ declared_placed setup o (x ∷ xs) is all =
     elim (name_lt x.name o.name) as (λ b. AllByRecursion (IsDeclared setup) (cond b (x ∷ with_object o xs) (o ∷ x ∷ xs))) [
       | true ↦ (all.0, declared_placed setup o xs is all.1)
       | false ↦ (is, all)
-    ]
-
-pub placed_length : (o : Object) (xs : List Object) → length (with_object o xs) ≡ 1 + length xs
-placed_length o [] = refl
-placed_length o (x ∷ xs) =
-    elim (name_lt x.name o.name) as (λ b. length (cond b (x ∷ with_object o xs) (o ∷ x ∷ xs)) ≡ 1 + suc (length xs)) [
-      | true ↦ omega (arith, placed_length o xs)
-      | false ↦ omega arith
     ]
 
 -- the segment's next object is new, and its serial is the last that the segment has given
@@ -170,9 +163,9 @@ placed_kept m totals o n kept room is next total =
     let made = m.state.made in
     let seg = o.name.seg.0 in
     kept_objects m totals _ (with_object o xs) _ kept
-    (omega (arith, placed_length o xs, room))
+    (omega (arith, length-placed o xs, room))
     (record {
-      ordered = ordered_placed o xs (next_is_new xs made o.name kept.plain.names.numbered next) kept.plain.names.ordered;
+      ordered = ordered-placed o xs (next_is_new xs made o.name kept.plain.names.numbered next) kept.plain.names.ordered;
       numbered = numbered_placed o xs made kept.plain.names.numbered (omega (arith, is.seg, kept.plain.sized.made)) next;
     })
     (declared_placed m.setup o xs is kept.plain.declared)

@@ -8,7 +8,6 @@ use Rattle.k_types.specs.State.{Content, Object, has, object_at}
 use Rattle.k_types.specs.Updates.{object_after_write, with_object}
 use Rattle.k_types.specs.Sound.{IsOrdered, IsOrderedFrom}
 use Rattle.k_base.proofs.NameTests.{name_eq-true, name_lt_apart, name_lt_apart_back, name_lt_total, name_lt_trans}
-use Rattle.k_base.proofs.Objects.{written_name}
 use Rattle.k_state.specs.Marks.{marked}
 use Rattle.k_state.specs.Places.{IsPlace}
 use Rattle.k_base.proofs.Ordered.{ordered_tail}
@@ -132,34 +131,6 @@ written_none n i c [] none = refl
 written_none n i c (x ∷ xs) none =
     let parts = or_parts (name_eq x.name n) (has xs n) none in
     ap (λ y. y ∷ map (object_after_write n i c) xs) (unwritten n i c x parts.0) ∙ ap (λ ys. x ∷ ys) (written_none n i c xs parts.1)
-
--- the objects stay in order where one of a new name is placed
-ordered_placed_from : (o : Object) (m : Name) (xs : List Object) → IsTrue (name_lt m o.name) → has xs o.name ≡ false → IsOrderedFrom m xs → IsOrderedFrom m (with_object o xs)
-ordered_placed_from o m [] first new t = (first, tt)
-ordered_placed_from o m (x ∷ xs) first new t =
-    let parts = or_parts (name_eq x.name o.name) (has xs o.name) new in
-    elim (name_lt x.name o.name) as (λ b. name_lt x.name o.name ≡ b → IsOrderedFrom m (cond b (x ∷ with_object o xs) (o ∷ x ∷ xs))) [
-      | true ↦ λ e. (t.0, ordered_placed_from o x.name xs e parts.1 t.1)
-      | false ↦ λ e. (first, (name_lt_total x.name o.name e parts.0, t.1))
-    ] refl
-
-pub ordered_placed : (o : Object) (xs : List Object) → has xs o.name ≡ false → IsOrdered xs → IsOrdered (with_object o xs)
-ordered_placed o [] new t = tt
-ordered_placed o (x ∷ xs) new t =
-    let parts = or_parts (name_eq x.name o.name) (has xs o.name) new in
-    elim (name_lt x.name o.name) as (λ b. name_lt x.name o.name ≡ b → IsOrdered (cond b (x ∷ with_object o xs) (o ∷ x ∷ xs))) [
-      | true ↦ λ e. ordered_placed_from o x.name xs e parts.1 t
-      | false ↦ λ e. (name_lt_total x.name o.name e parts.0, t)
-    ] refl
-
--- where a field is written
-ordered_written_from : (x : Name) (i : ℕ) (c : Content) (m : Name) (xs : List Object) → IsOrderedFrom m xs → IsOrderedFrom m (map (object_after_write x i c) xs)
-ordered_written_from x i c m [] t = tt
-ordered_written_from x i c m (o ∷ xs) t = rw (written_name x i c o) (t.0, ordered_written_from x i c o.name xs t.1)
-
-pub ordered_written : (x : Name) (i : ℕ) (c : Content) (xs : List Object) → IsOrdered xs → IsOrdered (map (object_after_write x i c) xs)
-ordered_written x i c [] t = tt
-ordered_written x i c (o ∷ xs) t = rw (written_name x i c o) (ordered_written_from x i c o.name xs t)
 
 -- and where some go
 ordered_marked_from : (marks : List Bool) (m k : Name) (xs : List Object) → (m ≡ k) ⊎ IsTrue (name_lt m k) → IsOrderedFrom k xs → IsOrderedFrom m (marked marks xs)

@@ -1,14 +1,13 @@
 -- Room after a step.
-use Rattle.std.proofs.Common.{◌≡◌, ℕ, zero, suc, ◌+◌, ◌-◌, replicate, ◌<◌, ◌≤◌, ◌^◌, ◌==◌, not, Bool, true, false, cond, refl, ap, inl, inr, List, [], ◌∷◌, ◌++◌, length, length-append, map, filter, filter_map, get_or, set, Option, Some, None, arith}
+use Rattle.std.proofs.Common.{◌≡◌, ℕ, zero, suc, ◌+◌, ◌-◌, replicate, ◌<◌, ◌≤◌, ◌^◌, ◌==◌, not, Bool, true, false, cond, refl, ap, inl, inr, List, [], ◌∷◌, ◌++◌, length, length-append, map, filter_map, get_or, set, Option, Some, None, arith}
 use Rattle.std.proofs.lemmas.List.{length-map}
-use Rattle.std.proofs.lemmas.List.Filters.{length-filter_both}
 use Rattle.k_types.specs.declared.names.Heap.{Heap}
 use Rattle.k_types.specs.declared.names.Name.{Name}
 use Rattle.k_types.specs.declared.names.Reg.{Reg}
 use Rattle.k_types.specs.declared.names.SharedId.{SharedId}
 use Rattle.k_types.specs.declared.names.TypeId.{TypeId}
 use Rattle.k_types.specs.declared.op.Op.{Op}
-use Rattle.k_types.specs.declared.op.Op.TheVariants.{New, KNew, SNew, Store, Load, Move, Clear, Dir, Put, Get, Collect, KCollect, Share, Freeze, Attach, Exit, Kill, Resize}
+use Rattle.k_types.specs.declared.op.Op.TheVariants.{New, KNew, SNew, Store, Put, Get, Collect, KCollect, Share, Freeze, Attach, Exit, Kill, Resize}
 use Rattle.k_types.specs.declared.event.Fault.{Fault}
 use Rattle.k_types.specs.declared.event.Event.{Event}
 use Rattle.k_types.specs.declared.event.Event.TheVariants.{Done, Ended, Absorbed, Closing}
@@ -19,10 +18,10 @@ use Rattle.k_types.specs.Replies.{faults, first_fault}
 use Rattle.k_types.specs.State.{State, Content, Refers, Holds, fresh, has_exit, has_share, opening}
 use Rattle.k_types.specs.Trace.{Trace, kinds_of, process_count}
 use Rattle.k_types.specs.Updates.{next_name, count_done, set_register, create, write, object_after_write, add_exit, open_scan, set_phase, add_share, keep_objects, keep_exits, keep_shares, close_scan, clear_registers, end_process, turn_exits, set_max, close}
-use Rattle.k_base.proofs.Lists.{get_or-set_cases}
+use Rattle.k_base.proofs.Lists.{get_or-set_cases, length-kept}
 use Rattle.k_frame.proofs.Sizes.{zeros_at}
 use Rattle.k_state.specs.Rooms.{HasRoom}
-use Rattle.k_state.proofs.Kept.{placed_length}
+use Rattle.k_base.proofs.Objects.{length-placed}
 
 -- each count but that of the operations done is one more at most, and that stays
 record IsNext (before after : State) : Type 0 where
@@ -33,9 +32,6 @@ record IsNext (before after : State) : Type 0 where
   scans : length after.scans ≤ 1 + length before.scans
   serials : (seg : ℕ) → get_or after.made seg 0 ≤ 1 + get_or before.made seg 0
   done : after.done ≡ before.done
-
-kept_length : {A : Type 0} (p : A → Bool) (xs : List A) → length (filter p xs) ≤ length xs
-kept_length p xs = omega (arith, length-filter_both p (λ x. not (p x)) (λ x. refl) xs)
 
 turned_length : {A B : Type 0} (f : A → Option B) (xs : List A) → length (filter_map f xs) ≤ length xs
 turned_length f [] = omega arith
@@ -79,7 +75,7 @@ module _ (trace : Trace) (st : State) (p : ℕ) where
   new_next : (r at : ℕ) (ty : TypeId) → IsNext st (after_new trace p r at ty st)
   unfolding set_register create
   new_next r at ty = record {
-    objects = omega (arith, placed_length (record { name = next_name at st; ty = Some ty; fields = map fresh (kinds_of trace ty) }) st.objects);
+    objects = omega (arith, length-placed (record { name = next_name at st; ty = Some ty; fields = map fresh (kinds_of trace ty) }) st.objects);
     exits = omega arith;
     shares = omega arith;
     ended = omega arith;
@@ -157,7 +153,7 @@ module _ (trace : Trace) (st : State) (p : ℕ) where
   end_next q = record {
     objects = omega arith;
     exits = omega (arith, turned_length (exit_after trace st q) st.exits);
-    shares = omega (arith, kept_length (λ e. not (e.process == q)) st.shares);
+    shares = omega (arith, length-kept (λ e. not (e.process == q)) st.shares);
     ended = omega (arith, length-append st.ended (q ∷ []));
     scans = omega arith;
     serials = λ seg. omega arith;
@@ -214,10 +210,6 @@ module _ (trace : Trace) (st : State) (p : ℕ) where
   effect_next (KNew r ty) = new_next _ _ ty
   effect_next (SNew r s ty) = new_next _ _ ty
   effect_next (Store base i value) = store_next _ i _
-  effect_next (Load r base i) = registers_next _ _
-  effect_next (Move r from) = registers_next _ _
-  effect_next (Clear r) = registers_next _ _
-  effect_next (Dir r) = registers_next _ _
   effect_next (Put base i number) = put_next _ i number
   effect_next (Get base i) = same st
   effect_next Collect = scan_next _ _
@@ -228,6 +220,7 @@ module _ (trace : Trace) (st : State) (p : ℕ) where
   effect_next Exit = end_next p
   effect_next (Kill q) = kill_next q.0
   effect_next (Resize m max) = max_next m.0 max
+  effect_next _ = registers_next _ _
 
   unless_next : (f : Option Fault) (op : Op) → IsNext st (effect_unless f trace p op st)
   unless_next None op = effect_next op
@@ -264,11 +257,11 @@ module _ (trace : Trace) (st : State) where
   ended_next : (h : Heap) → IsNext st (after_ended trace h st)
   unfolding after_ended close_scan keep_shares keep_exits keep_objects
   ended_next h = record {
-    objects = omega (arith, kept_length (λ o. survives trace st h o.name) st.objects);
-    exits = omega (arith, kept_length (exit_stays trace st h) st.exits);
-    shares = omega (arith, kept_length (share_stays trace st h) st.shares);
+    objects = omega (arith, length-kept (λ o. survives trace st h o.name) st.objects);
+    exits = omega (arith, length-kept (exit_stays trace st h) st.exits);
+    shares = omega (arith, length-kept (share_stays trace st h) st.shares);
     ended = omega arith;
-    scans = omega (arith, kept_length (λ scan. not (heap_eq scan.heap h)) st.scans);
+    scans = omega (arith, length-kept (λ scan. not (heap_eq scan.heap h)) st.scans);
     serials = λ seg. omega arith;
     done = refl;
   }
@@ -277,7 +270,7 @@ module _ (trace : Trace) (st : State) where
   unfolding after_absorbed set_phase keep_exits
   absorbed_next s = record {
     objects = omega arith;
-    exits = omega (arith, kept_length (stays_after_absorb trace st s) st.exits);
+    exits = omega (arith, length-kept (stays_after_absorb trace st s) st.exits);
     shares = omega arith;
     ended = omega arith;
     scans = omega arith;

@@ -5,7 +5,7 @@ use Rattle.std.specs.List.{AllByRecursion}
 use Rattle.k_types.specs.Totals.{total}
 use Rattle.k_types.specs.declared.names.Heap.{Heap}
 use Rattle.k_types.specs.declared.names.Name.{Name}
-use Rattle.k_types.specs.Names.{heap_eq, name_eq, name_lt}
+use Rattle.k_types.specs.Names.{heap_eq, name_lt}
 use Rattle.k_types.specs.Owners.{bytes_by, object_bytes}
 use Rattle.k_types.specs.State.{Content, Object}
 use Rattle.k_types.specs.Trace.{Trace, segment_count}
@@ -15,6 +15,7 @@ use Rattle.k_base.proofs.Lists.{get_or-set_cases}
 use Rattle.k_base.proofs.Objects.{written_name}
 use Rattle.k_state.specs.Machines.{AreTotals, IsDeclared, segment_bytes}
 use Rattle.k_state.proofs.Sums.{total_filter}
+use Rattle.k_frame.proofs.Bytes.{object_bytes-written}
 
 -- what the object adds to the bytes of the segment
 abbrev pub share_of : Object → ℕ → ℕ
@@ -57,19 +58,12 @@ segment_placed o (x ∷ xs) seg =
       | false ↦ segment_first o (x ∷ xs) seg
     ]
 
-written_bytes : (n : Name) (i : ℕ) (c : Content) (o : Object) → object_bytes (object_after_write n i c o) ≡ object_bytes o
-written_bytes n i c o =
-    elim (name_eq o.name n) as (λ b. object_bytes (cond b (record o { fields = set o.fields i c }) o) ≡ object_bytes o) [
-      | true ↦ ap (λ k. 16 + 8 * k) (length-set o.fields i c)
-      | false ↦ refl
-    ]
-
 pub segment_written : (n : Name) (i : ℕ) (c : Content) (xs : List Object) (seg : ℕ) → segment_bytes (map (object_after_write n i c) xs) seg ≡ segment_bytes xs seg
 segment_written n i c [] seg = refl
 segment_written n i c (x ∷ xs) seg =
     let y : Object = object_after_write n i c x in
     let same : share_of y seg ≡ share_of x seg
-    = ap₂ (λ (m : Name) k. cond (m.seg.0 == seg) k 0) (written_name n i c x) (written_bytes n i c x) in
+    = ap₂ (λ (m : Name) k. cond (m.seg.0 == seg) k 0) (written_name n i c x) (object_bytes-written n i c x) in
     let ih = segment_written n i c xs seg in
     let after = segment_first y (map (object_after_write n i c) xs) seg in
     let before = segment_first x xs seg in

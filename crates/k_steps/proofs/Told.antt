@@ -19,7 +19,6 @@ use Rattle.k_types.specs.State.{State}
 use Rattle.k_types.specs.Steps.{in_range, state_after}
 use Rattle.k_types.specs.Trace.{IsHeap, Trace, process_count, segment_count}
 use Rattle.k_base.proofs.Lists.{numbers_length}
-use Rattle.k_frame.proofs.OwnerOf.{owner_known}
 use Rattle.k_frame.proofs.Sizes.{history_sized}
 use Rattle.k_frame.specs.PartUpdates.{held_in}
 use Rattle.k_laws.proofs.SoundSteps.{legal_sound}
@@ -37,6 +36,7 @@ use Rattle.k_squares.specs.Touches.{other_cells_in}
 use Rattle.k_commit.specs.Met.{Before, HaveMet}
 use Rattle.k_commit.proofs.Placed.{register_is_placed}
 use Rattle.k_steps.specs.Reaching.{CanReach, CanReachEnd, CanReachOwner, CanReachThrough}
+use Rattle.k_base.proofs.Owners.{owner_known}
 
 module _ (trace : Trace) (c : HeapRecord) (b : BookRecord) (r : ℕ) (can : CanReachThrough trace c b r) where
   -- the state that the cell shows, and that of the book

@@ -3,8 +3,7 @@ use Rattle.std.proofs.Common.{◌≡◌, ℕ, zero, suc, ◌+◌, ◌<◌, refl,
 use Rattle.std.proofs.lemmas.List.{get_or-map, length-map, length-reverse, reverse-append}
 use Rattle.std.proofs.lemmas.Option.{get_or_from_slice_get, slice_get_within}
 use Rattle.k_types.specs.Numbers.{numbers_below}
-use Rattle.k_base.proofs.Lists.{numbers_length}
-use Rattle.k_agree.proofs.Openings.{at_number}
+use Rattle.k_base.proofs.Lists.{numbers_length, at_number}
 use Rattle.k_locked.proofs.Lists.{get_snoc}
 use Rattle.k_still.specs.Opening.{Each}
 

@@ -20,8 +20,9 @@ use Rattle.k_base.proofs.Sums.{total_at_most}
 use Rattle.k_bounds.specs.Counts.{allocates_in, one_if}
 use Rattle.k_bounds.proofs.Counting.{count_low, one_if_low}
 use Rattle.k_still.proofs.FromTheEnd.{drop_read}
-use Rattle.k_still.proofs.Tables.{all_few, below_low, below_next}
+use Rattle.k_still.proofs.Tables.{all_few}
 use Rattle.k_still.specs.Opening.{AreSerialRooms, CanCount, counted, segment_given, with_one_more}
+use Rattle.k_base.proofs.Totals.{total_more, total_within}
 
 -- it is that segment
 abbrev is_given : Option ℕ → ℕ → Bool
@@ -110,7 +111,7 @@ module _ (trace : Trace) (rules : KeepsRules trace) where
     room = λ seg inside.
         let at = are.each seg (omega (arith, inside, are.count)) in
         let low = total_at_most (own_given trace seg) (λ p. length (operations_of trace p)) (given_few seg) (numbers_below k) in
-        let all = below_low (λ p. length (operations_of trace p)) k (process_count trace) known in
+        let all = total_within (λ p. length (operations_of trace p)) k (process_count trace) known in
         omega (arith, at, low, all, all_few trace rules, rules.operations.room, one_if_low (seg == 0));
   })
 
@@ -119,7 +120,7 @@ module _ (trace : Trace) (rules : KeepsRules trace) where
     count = counted_length (process_count trace) k (operations_of trace k) rooms ∙ are.count;
     each = λ seg inside.
         let at = counted_at (process_count trace) k (operations_of trace k) rooms seg (omega (arith, inside, are.count)) in
-        omega (arith, at, totals_given trace seg k (operations_of trace k), are.each seg inside, below_next (own_given trace seg) k);
+        omega (arith, at, totals_given trace seg k (operations_of trace k), are.each seg inside, total_more (own_given trace seg) k);
   }))
 
   pub all_counted : (rooms : List ℕ) → AreCounted trace (process_count trace) rooms → AreSerialRooms trace rooms

@@ -1,17 +1,17 @@
 -- Sums over the processes of a trace, and over the first of them.
-use Rattle.std.proofs.Common.{◌≡◌, ℕ, zero, suc, ◌+◌, ◌*◌, ◌<◌, ◌≤◌, refl, sym, ap, ◌∙◌, List, [], ◌∷◌, ◌++◌, length, take, get_or, arith}
+use Rattle.std.proofs.Common.{◌≡◌, ℕ, zero, suc, ◌+◌, ◌*◌, ◌<◌, ◌≤◌, refl, sym, ap, ◌∙◌, List, [], ◌∷◌, length, take, get_or, arith}
 use Rattle.std.proofs.lemmas.List.{take_more}
 use Rattle.k_types.specs.declared.op.Op.{Op}
 use Rattle.k_types.specs.Numbers.{numbers_below, numbers_from}
 use Rattle.k_types.specs.Totals.{total}
 use Rattle.k_types.specs.Trace.{Trace, operations_of, process_count}
 use Rattle.k_types.specs.TraceRules.{KeepsRules}
-use Rattle.k_base.proofs.Lists.{numbers_push}
 use Rattle.k_base.proofs.Sums.{total_push, total_at_most}
 use Rattle.k_bounds.specs.Counts.{stores_in}
 use Rattle.k_bounds.proofs.Counting.{count_low}
 use Rattle.k_agree.specs.Rooms.{event_room, exit_room, over_processes}
 use Rattle.k_known.proofs.Counted.{all_ordered}
+use Rattle.k_base.proofs.Totals.{total_within}
 
 shifted : (f : ℕ → ℕ) (first n : ℕ) → total f (numbers_from (suc first) n) ≡ total (λ p. f (suc p)) (numbers_from first n)
 shifted f first zero = refl
@@ -29,22 +29,6 @@ front_low f (x ∷ xs) (suc k) d inside = omega (arith, front_low f xs k d (omeg
 
 pub front_next : {A : Type 0} (f : A → ℕ) (xs : List A) (k : ℕ) (d : A) → k < length xs → total f (take (k + 1) xs) ≡ total f (take k xs) + f (get_or xs k d)
 front_next f xs k d inside = ap (total f) (take_more xs k d inside) ∙ total_push f (take k xs) (get_or xs k d)
-
-from_low : (f : ℕ → ℕ) (first k n : ℕ) → k < n → total f (numbers_from first k) + f (first + k) ≤ total f (numbers_from first n)
-from_low f first k zero inside = absurd (omega arith)
-from_low f first zero (suc n) inside = let e : f (first + 0) ≡ f first = ap f (let z : first + 0 ≡ first = omega arith in z) in omega (arith, e)
-from_low f first (suc k) (suc n) inside =
-    let e : f (first + suc k) ≡ f (suc first + k) = ap f (let z : first + suc k ≡ suc first + k = omega arith in z) in
-    omega (arith, e, from_low f (suc first) k n (omega (arith, inside)))
-
-pub below_low : (f : ℕ → ℕ) (k n : ℕ) → k < n → total f (numbers_below k) + f k ≤ total f (numbers_below n)
-below_low f k n inside = let e : f (0 + k) ≡ f k = ap f (let z : 0 + k ≡ k = omega arith in z) in omega (arith, e, from_low f 0 k n inside)
-
-pub below_next : (f : ℕ → ℕ) (k : ℕ) → total f (numbers_below (k + 1)) ≡ total f (numbers_below k) + f k
-below_next f k =
-    let e : f (0 + k) ≡ f k = ap f (let z : 0 + k ≡ k = omega arith in z) in
-    let more : numbers_below (k + 1) ≡ numbers_below k ++ (0 + k) ∷ [] = ap numbers_below (let z : k + 1 ≡ suc k = omega arith in z) ∙ numbers_push 0 k in
-    ap (total f) more ∙ total_push f (numbers_below k) (0 + k) ∙ ap (λ m. total f (numbers_below k) + m) e
 
 module _ (trace : Trace) (rules : KeepsRules trace) where
   pub over_lists : (g : List Op → ℕ) → over_processes trace (λ p. g (operations_of trace p)) ≡ total g trace.operations
@@ -66,7 +50,7 @@ module _ (trace : Trace) (rules : KeepsRules trace) where
 
   -- one process's operations
   pub own_few : (p : ℕ) → p < process_count trace → length (operations_of trace p) ≤ 200000
-  own_few p known = omega (arith, below_low (λ q. length (operations_of trace q)) p (process_count trace) known, all_few, rules.operations.room)
+  own_few p known = omega (arith, total_within (λ q. length (operations_of trace q)) p (process_count trace) known, all_few, rules.operations.room)
 
   -- the stores of the first processes and of one more
   pub stores_next : (k : ℕ) (own : List Op) → k < length trace.operations → get_or trace.operations k [] ≡ own → total stores_in (take (k + 1) trace.operations) ≡ total stores_in (take k trace.operations) + stores_in own

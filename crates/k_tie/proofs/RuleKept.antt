@@ -105,7 +105,7 @@ load_allows slots id me s h counts at fits =
         let P : List ℕ → Type 0 = λ ws. KeepsRule (set ws 0 (slice_index ws 0)) (set s.views id v) in
         subst P (sym h.word) (subst (KeepsRule (length h.list ∷ [])) (sym (set_again s.views id v at)) (subst (λ ws. KeepsRule ws s.views) h.word h))
 
-prefix_all : {A : Type 0} (xs : List A) → IsPrefixOf xs xs
+pub prefix_all : {A : Type 0} (xs : List A) → IsPrefixOf xs xs
 prefix_all [] = ([], refl)
 prefix_all (x ∷ xs) = let p = prefix_all xs in (p.0, ap (λ ys. x ∷ ys) p.1)
 

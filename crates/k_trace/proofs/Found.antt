@@ -25,6 +25,7 @@ use Rattle.k_trace.proofs.OpForms.{two, three, five, number_below, AreNamed, op_
 use Rattle.k_trace.proofs.Steps.{at_place, root_row, limit_row, Step, OfVersion, OfKernel, OfType, OfRoot, OfLimit, OfProc, OfShared, OfOperation}
 use Rattle.k_trace.specs.declared.reasons.Reason.{Reason}
 use Rattle.k_trace.specs.declared.reasons.Reason.TheVariants.{NoForm}
+use Rattle.k_base.proofs.Tests.{neither}
 
 pub not_true : (b : Bool) → not b ≡ true → b ≡ false
 not_true true e = absurd cc
@@ -203,11 +204,6 @@ proc_found c d ws at first e =
       words = rw (name_at c.said.names.limits (word_at ws 2) h.0, ← first_is ws (codes "proc") first) (three ws (eqb-true _ _ a.0));
       after = sym (ok_is (at_place Procs (with_proc c.said (word_at ws 1) (limit_of_name c.said (word_at ws 2)))) d i.1);
     })
-
-neither : (a b : Bool) → not (a || b) ≡ true → (a ≡ false) × (b ≡ false)
-neither true b e = absurd cc
-neither false true e = absurd cc
-neither false false e = (refl, refl)
 
 shared_found : (c d : SoFar) (ws : List Text) → (c.place ≡ Procs) ⊎ (c.place ≡ Shared) → has_first ws (codes "shared") → shared_line c.said ws ≡ Ok d → Step c ws d
 unfolding shared_line

@@ -5,12 +5,11 @@ use Rattle.std.proofs.lemmas.List.{map-append}
 use Rattle.std.specs.Global.{Vec}
 use Rattle.k_types.specs.declared.names.Field.{Field}
 use Rattle.k_types.specs.Types.{HaveFewFields}
-use Rattle.k_words.specs.Words.{Text, word_at}
+use Rattle.k_words.specs.Words.{Text}
 use Rattle.k_trace.specs.Named.{NamedTrace}
 use Rattle.k_trace.specs.Forms.{op_in, op_of, register_op, bare_op, sharing_op, governing_op}
-use Rattle.k_types.specs.declared.op.Op.{Op}
 use Rattle.k_trace.specs.Demands.{demands}
-use Rattle.k_trace.specs.Judgement.{operation_line, process_line}
+use Rattle.k_trace.specs.Judgement.{operation_line}
 use Rattle.k_trace.specs.declared.reasons.Reason.{Reason}
 use Rattle.k_trace.specs.declared.reasons.Reason.TheVariants.{NoForm}
 
@@ -29,15 +28,6 @@ demands_ok reason false next d e = absurd cc
 
 pub ok_is : {A : Type 0} (c d : A) → (let r : Result A Reason = Ok c in r) ≡ Ok d → c ≡ d
 ok_is c d e = cc
-
--- an operation that isn't one
-pub bad_operation : (t : NamedTrace) (ws rest : List Text) (w : Text) (reason : Reason) → ws ≡ w ∷ rest → Err reason ≡ op_in t.trace.version t.names rest → operation_line t ws ≡ Err reason
-unfolding operation_line
-bad_operation t ws rest w reason e bad = rw (e, ← bad) refl
-
-pub good_operation : (t : NamedTrace) (ws rest : List Text) (w : Text) (op : Op) → ws ≡ w ∷ rest → Ok op ≡ op_in t.trace.version t.names rest → operation_line t ws ≡ process_line t (word_at ws 0) op
-unfolding operation_line
-good_operation t ws rest w op e good = rw (e, ← good) refl
 
 -- a line of one word
 pub no_operation : (t : NamedTrace) (ws : List Text) (w : Text) → ws ≡ w ∷ [] → operation_line t ws ≡ Err NoForm

@@ -6,7 +6,7 @@ use Rattle.std.specs.List.{list_all}
 use Rattle.k_types.specs.declared.names.Field.{Field}
 use Rattle.k_types.specs.declared.names.Field.TheVariants.{Ref, Int}
 use Rattle.k_types.specs.declared.op.Op.{Op}
-use Rattle.k_types.specs.declared.op.Op.TheVariants.{New, KNew, SNew, Store, Load, Move, Clear, Dir, Put, Get, Collect, KCollect, Share, Freeze, Attach, Exit, Kill, Resize}
+use Rattle.k_types.specs.declared.op.Op.TheVariants.{New, KNew, SNew, Store, Load, Move, Clear, Dir, Put, Get, Share, Freeze, Attach, Kill, Resize}
 use Rattle.k_types.specs.declared.names.TypeId.{TypeId}
 use Rattle.k_types.specs.declared.names.LimitId.{LimitId}
 use Rattle.k_types.specs.declared.names.Pid.{Pid}
@@ -147,8 +147,6 @@ op_proper t (Put base i number) d h k =
     let q = both (ltb i 16) (ltb number (2 ^ 64)) k in
     (rw (reg_at base h, field_at i q.0, number_at number q.1) refl, omega arith)
 op_proper t (Get base i) d h k = (rw (reg_at base h, field_at i k) refl, omega arith)
-op_proper t Collect d h k = (refl, omega arith)
-op_proper t KCollect d h k = (refl, omega arith)
 op_proper t (Share s) d h k = (rw (shared_at t s d h) refl, omega arith)
 op_proper t (Freeze s root) d h k =
     let p = both (ltb s.0 t.trace.shared_heaps) (ltb root.0 16) h in
@@ -156,12 +154,12 @@ op_proper t (Freeze s root) d h k =
 op_proper t (Attach r s) d h k =
     let p = both (ltb r.0 16) (ltb s.0 t.trace.shared_heaps) h in
     (rw (reg_at r p.0, shared_at t s d p.1) refl, omega arith)
-op_proper t Exit d h k = (refl, omega arith)
 op_proper t (Kill q) d h k = (rw (proc_at t q d h) refl, omega arith)
 op_proper t (Resize m max) d h k =
     let p = both (ltb m.0 (length t.trace.limits)) (ltb max (2 ^ 40)) h in
     let small : max < 2 ^ 40 = ltb-true _ _ p.1 in
     (rw (limit_at t m d p.0, decimal_word max (omega arith)) refl, omega arith)
+op_proper t _ d h k = (refl, omega arith)
 
 hard_word : (hard : Bool) → is_word (hardness hard) ≡ true
 hard_word true = refl

@@ -5,7 +5,7 @@ use Rattle.k_types.specs.declared.event.Event.{Event}
 use Rattle.k_types.specs.declared.event.Event.TheVariants.{Done, Ended, Absorbed, Closing}
 use Rattle.k_types.specs.declared.names.Heap.{Heap}
 use Rattle.k_types.specs.declared.names.Heap.TheVariants.{Kernel, User, Shared}
-use Rattle.k_types.specs.declared.op.Op.TheVariants.{New, KNew, SNew, Store, Load, Move, Clear, Dir, Put, Get, Collect, KCollect, Share, Freeze, Attach, Exit, Kill, Resize}
+use Rattle.k_types.specs.declared.op.Op.TheVariants.{KCollect}
 use Rattle.k_types.specs.Effects.{step}
 use Rattle.k_types.specs.Known.{IsKnownEvent}
 use Rattle.k_types.specs.State.{State, opening}
@@ -19,26 +19,10 @@ use Rattle.k_work.specs.Credits.{Credit, asker_of, credit_of, credits, credits_f
 -- the asker of a known event is known
 pub asker_among : (trace : Trace) (event : Event) (who : Option ℕ) → IsKnownEvent trace event → IsAmong (process_count trace) who → IsAmong (process_count trace) (kernel_asker event who)
 asker_among trace (Done pid KCollect reply) who known among = known.0
-asker_among trace (Done pid (New r ty) reply) who known among = among
-asker_among trace (Done pid (KNew r ty) reply) who known among = among
-asker_among trace (Done pid (SNew r s ty) reply) who known among = among
-asker_among trace (Done pid (Store b i v) reply) who known among = among
-asker_among trace (Done pid (Load r b i) reply) who known among = among
-asker_among trace (Done pid (Move r from) reply) who known among = among
-asker_among trace (Done pid (Clear r) reply) who known among = among
-asker_among trace (Done pid (Dir r) reply) who known among = among
-asker_among trace (Done pid (Put b i number) reply) who known among = among
-asker_among trace (Done pid (Get b i) reply) who known among = among
-asker_among trace (Done pid Collect reply) who known among = among
-asker_among trace (Done pid (Share s) reply) who known among = among
-asker_among trace (Done pid (Freeze s root) reply) who known among = among
-asker_among trace (Done pid (Attach r s) reply) who known among = among
-asker_among trace (Done pid Exit reply) who known among = among
-asker_among trace (Done pid (Kill q) reply) who known among = among
-asker_among trace (Done pid (Resize m max) reply) who known among = among
 asker_among trace (Ended h objects bytes exits shares) who known among = among
 asker_among trace (Absorbed s) who known among = among
 asker_among trace Closing who known among = tt
+asker_among trace (Done pid _ reply) who known among = among
 
 pub after_among : (trace : Trace) (events : List Event) (who : Option ℕ) → AllByRecursion (IsKnownEvent trace) events → IsAmong (process_count trace) who → IsAmong (process_count trace) (kernel_after who events)
 after_among trace [] who known among = among

@@ -1,38 +1,14 @@
 -- Lists over the numbers below a bound.
-use Rattle.std.proofs.Common.{◌≡◌, ◌≢◌, ℕ, zero, suc, ◌+◌, ◌<◌, ◌≤◌, refl, sym, ap, ap₂, ◌∙◌, List, [], ◌∷◌, map, set, get_or, drop, length, replicate, arith}
+use Rattle.std.proofs.Common.{◌≡◌, ℕ, zero, suc, ◌+◌, ◌<◌, ◌≤◌, refl, ap, ◌∙◌, List, [], ◌∷◌, map, get_or, drop, length, replicate, arith}
 use Rattle.std.proofs.lemmas.List.{drop_more, at_drop_all}
 use Rattle.std.proofs.lemmas.List.{length-map}
 use Rattle.k_types.specs.Numbers.{numbers_from, numbers_below}
 use Rattle.k_types.specs.Totals.{total}
-use Rattle.k_base.proofs.Lists.{numbers_length}
-
-past_same : {A : Type 0} (f g : ℕ → A) (first n at : ℕ) → at < first → ((i : ℕ) → i ≢ at → f i ≡ g i) → map f (numbers_from first n) ≡ map g (numbers_from first n)
-past_same f g first zero at past same = refl
-past_same f g first (suc n) at past same = ap₂ (λ x xs. x ∷ xs) (same first (λ e. omega (arith, e, past))) (past_same f g (suc first) n at (omega (arith, past)) same)
-
-set_from : {A : Type 0} (f g : ℕ → A) (first n k : ℕ) (v : A) → f (first + k) ≡ v → ((i : ℕ) → i ≢ first + k → f i ≡ g i) → map f (numbers_from first n) ≡ set (map g (numbers_from first n)) k v
-set_from f g first zero k v here same = refl
-set_from f g first (suc n) zero v here same =
-    let at : first ≡ first + 0 = omega arith in
-    ap₂ (λ x xs. x ∷ xs) (ap f at ∙ here) (past_same f g (suc first) n first (omega arith) (λ i ne. same i (λ e. ne (e ∙ sym at))))
-set_from f g first (suc n) (suc k) v here same =
-    let at : suc first + k ≡ first + suc k = omega arith in
-    ap₂ (λ x xs. x ∷ xs) (same first (λ e. omega (arith, e))) (set_from f g (suc first) n k v (ap f at ∙ here) (λ i ne. same i (λ e. ne (e ∙ sym at))))
-
--- a list over numbers of which one has another value
-pub set_below : {A : Type 0} (f g : ℕ → A) (n k : ℕ) (v : A) → f k ≡ v → ((i : ℕ) → i ≢ k → f i ≡ g i) → map f (numbers_below n) ≡ set (map g (numbers_below n)) k v
-set_below f g n k v here same =
-    let at : 0 + k ≡ k = omega arith in
-    set_from f g 0 n k v (ap f at ∙ here) (λ i ne. same i (λ e. ne (e ∙ sym at)))
-
-at_from : {A : Type 0} (f : ℕ → A) (first n k : ℕ) (d : A) → k < n → get_or (map f (numbers_from first n)) k d ≡ f (first + k)
-at_from f first zero k d inside = absurd (omega (arith, inside))
-at_from f first (suc n) zero d inside = ap f (omega arith)
-at_from f first (suc n) (suc k) d inside = at_from f (suc first) n k d (omega (arith, inside)) ∙ ap f (omega arith)
+use Rattle.k_base.proofs.Lists.{numbers_length, at_number}
 
 -- the value at a number
 pub at_below : {A : Type 0} (f : ℕ → A) (n k : ℕ) (d : A) → k < n → get_or (map f (numbers_below n)) k d ≡ f k
-at_below f n k d inside = at_from f 0 n k d inside ∙ ap f (omega arith)
+at_below f n k d inside = at_number f 0 n k d inside ∙ ap f (omega arith)
 
 constant_from : {A : Type 0} (x : A) (first n : ℕ) → map (λ (p : ℕ). x) (numbers_from first n) ≡ replicate n x
 constant_from x first zero = refl

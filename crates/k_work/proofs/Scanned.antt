@@ -9,7 +9,7 @@ use Rattle.k_types.specs.declared.names.Heap.TheVariants.{Kernel, User, Shared}
 use Rattle.k_types.specs.declared.names.Name.{Name}
 use Rattle.k_types.specs.declared.names.Pid.{Pid}
 use Rattle.k_types.specs.declared.op.Op.{Op}
-use Rattle.k_types.specs.declared.op.Op.TheVariants.{New, KNew, SNew, Store, Load, Move, Clear, Dir, Put, Get, Collect, KCollect, Share, Freeze, Attach, Exit, Kill, Resize}
+use Rattle.k_types.specs.declared.op.Op.TheVariants.{Store, Put, Collect, KCollect, Freeze, Kill}
 use Rattle.k_types.specs.Effects.{step, effect, effect_unless, after_operation, after_end_of, after_ended, after_absorbed, after_closing}
 use Rattle.k_types.specs.Names.{heap_eq}
 use Rattle.k_types.specs.Owners.{user}
@@ -50,24 +50,13 @@ opened_scan g h roots scans =
 module _ (trace : Trace) (st : State) (h : Heap) where
   effect_scanned : (p : ℕ) (op : Op) → is_scanned (effect trace p op st).scans h ≡ (opens p op h || is_scanned st.scans h)
   unfolding effect set_register create open_scan add_share set_phase after_end_of end_process clear_registers keep_shares turn_exits set_max
-  effect_scanned p (New r ty) = refl
-  effect_scanned p (KNew r ty) = refl
-  effect_scanned p (SNew r s ty) = refl
   effect_scanned p (Store base i value) = ap (λ (s : State). is_scanned s.scans h) (store_rest trace st (register st.registers p base.0) i (register st.registers p value.0))
-  effect_scanned p (Load r base i) = refl
-  effect_scanned p (Move r from) = refl
-  effect_scanned p (Clear r) = refl
-  effect_scanned p (Dir r) = refl
   effect_scanned p (Put base i number) = ap (λ (s : State). is_scanned s.scans h) (put_rest st (register st.registers p base.0) i number)
-  effect_scanned p (Get base i) = refl
   effect_scanned p Collect = opened_scan (user p) h (roots_of trace st (user p)) st.scans
   effect_scanned p KCollect = opened_scan Kernel h (roots_of trace st Kernel) st.scans
-  effect_scanned p (Share s) = refl
   effect_scanned p (Freeze s root) = ap (λ (s : State). is_scanned s.scans h) (freeze_rest st s.0 (register st.registers p root.0))
-  effect_scanned p (Attach r s) = refl
-  effect_scanned p Exit = refl
   effect_scanned p (Kill q) = ap (λ (s : State). is_scanned s.scans h) (kill_rest trace st q.0)
-  effect_scanned p (Resize m max) = refl
+  effect_scanned p _ = refl
 
   done_stays : (p : ℕ) (op : Op) → is_scanned st.scans h ≡ true → is_scanned (after_operation trace p op st).scans h ≡ true
   unfolding after_operation count_done

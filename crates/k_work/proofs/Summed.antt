@@ -10,7 +10,8 @@ use Rattle.k_work.specs.declared.rows.WorkRow.{WorkRow}
 use Rattle.k_work.specs.Crediting.{IsAmong, row_for, with_credit, with_credits, with_work}
 use Rattle.k_work.specs.Credits.{Credit}
 use Rattle.k_work.specs.Tables.{Work, is_same, one_if_to, row_of, table_of, total_row, work_if_to}
-use Rattle.k_work.proofs.Numbers.{at_below, constant_below, set_below, total_mapped}
+use Rattle.k_work.proofs.Numbers.{at_below, constant_below, total_mapped}
+use Rattle.k_base.proofs.Lists.{set_below}
 
 abbrev work_row : ℕ → ℕ → WorkRow
 work_row n w = record { collections = n; work = w }

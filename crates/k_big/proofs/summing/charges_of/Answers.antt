@@ -1,8 +1,8 @@
 use Rattle.std.proofs.Common.{◌<◌, arith}
 use Rattle.k_types.specs.Owners.{charge_of}
 use Rattle.k_types.specs.Trace.{process_count}
-use Rattle.k_big.proofs.Totals.{total_more, total_within}
 use Rattle.k_big.proofs.summing.charges_of.Goals as goal
+use Rattle.k_base.proofs.Totals.{total_more, total_within}
 
 pub overflow_add-sum : goal.overflow_add-sum
 overflow_add-sum g c =

@@ -7,8 +7,9 @@ use Rattle.k_calls.specs.declared.errors.HostError.TheVariants.{Full, NoBody, Ow
 use Rattle.k_calls.specs.Doing.{HasItemRoom, HasItsBody}
 use Rattle.k_calls.specs.Refusals.{IsNotReady, is_plain}
 use Rattle.k_guests.specs.Serving.{basis_of, open_trace}
-use Rattle.k_calls.proofs.Refused.{lacks, lacks_test, plain_both}
+use Rattle.k_calls.proofs.Refused.{lacks, lacks_test}
 use Rattle.k_calls.proofs.readiness.ready.Goals as goal
+use Rattle.k_base.proofs.Tests.{neither}
 
 pub returns-then-not-is_in_range-clause-why : goal.returns-then-not-is_in_range-clause-why
 returns-then-not-is_in_range-clause-why c = inl (lacks_test Unknown (in_range (open_trace c.args.terms.now.setup) c.args.op.now) c.is_in_range.result c.is_in_range.ensures c.if-not-is_in_range.true)
@@ -30,7 +31,7 @@ returns-then-not-has_its_body-clause-why c =
 
 pub returns-clause-ok : goal.returns-clause-ok
 returns-clause-ok c =
-    let plain = plain_both (is_collect c.args.op.now) (collects_or_exits c.args.op.now) (sym c.is_plain.ensures ∙ c.if-not-is_plain.false) in
+    let plain = neither (is_collect c.args.op.now) (collects_or_exits c.args.op.now) (sym c.is_plain.ensures ∙ c.if-not-is_plain.false) in
     record {
       in_range = sym c.is_in_range.ensures ∙ c.if-not-is_in_range.false;
       no_collection = plain.0;

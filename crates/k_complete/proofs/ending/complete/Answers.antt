@@ -4,16 +4,18 @@ use Rattle.k_types.specs.Complete.{IsPrefixOf}
 use Rattle.k_process.specs.declared.process.Process.{Process}
 use Rattle.k_process.specs.Standing.{IsNextOf}
 use Rattle.k_operate.specs.Adding.{known_to}
-use Rattle.k_complete.proofs.Grown.{prefix_by, prefix_same, prefix_trans}
-use Rattle.k_complete.proofs.PlacedKept.{completed, fewer_at, kept_all, kept_on, only, read_there}
+use Rattle.k_complete.proofs.Grown.{prefix_by, prefix_trans}
+use Rattle.k_complete.proofs.PlacedKept.{completed, fewer_at, kept_all, kept_on, read_there}
 use Rattle.k_complete.proofs.ending.complete.Goals as goal
+use Rattle.k_tie.proofs.RuleKept.{prefix_all}
+use Rattle.k_base.proofs.Lists.{same_value}
 
 pub loop-op-init : goal.loop-op-init
 loop-op-init g c = record {
   stand = c.requires.stand;
   count = refl;
   others = kept_all g.world'.trace c.args.processes.now.items c.args.at;
-  grows = λ p q one two. subst (λ (x : Process). IsPrefixOf (known_to p c.args.book.now) (known_to x c.args.book.now)) (only (sym one ∙ two)) (prefix_same (known_to p c.args.book.now));
+  grows = λ p q one two. subst (λ (x : Process). IsPrefixOf (known_to p c.args.book.now) (known_to x c.args.book.now)) (same_value (sym one ∙ two)) (prefix_all (known_to p c.args.book.now));
 }
 
 pub next-requires : goal.next-requires
@@ -36,7 +38,7 @@ loop-op-preserved g c =
       others = kept_on g.world'.trace c.args.at c.args.processes.now.items c.loop-op.processes.items c.do_at.new.processes.items c.loop-op.invariant.count c.loop-op.invariant.others d.others;
       grows = λ p q one two.
           prefix_trans (known_to p c.args.book.now) (known_to c.index.result.now c.loop-op.book) (known_to q c.do_at.new.book) (c.loop-op.invariant.grows p c.index.result.now one there)
-          (subst (λ (x : Process). IsPrefixOf (known_to c.index.result.now c.loop-op.book) (known_to x c.do_at.new.book)) (only (sym d.there ∙ two)) d.grows);
+          (subst (λ (x : Process). IsPrefixOf (known_to c.index.result.now c.loop-op.book) (known_to x c.do_at.new.book)) (same_value (sym d.there ∙ two)) d.grows);
     }
 
 pub loop-op-smaller : goal.loop-op-smaller
@@ -56,7 +58,7 @@ returns-clause-done g c =
     let asked = read_there c.loop-op.processes.items c.args.processes.now.items c.args.at c.index.result.now c.loop-op.invariant.count c.requires.inside c.index.ensures in
     completed g.world' c.args.processes.now.items c.loop-op.processes.items c.args.at c.index_mut.result.now c.publish_all.new.process c.loop-op.kernel c.loop-op.shared.items c.loop-op.book c.publish_all.new.book
     c.loop-op.invariant.stand there c.loop-op.invariant.count c.loop-op.invariant.others
-    (subst (λ (q : Process). IsNextOf g.world'.trace q.cell None) (only (sym asked ∙ there)) c.in_default.ensures) c.publish_all.ensures
+    (subst (λ (q : Process). IsNextOf g.world'.trace q.cell None) (same_value (sym asked ∙ there)) c.in_default.ensures) c.publish_all.ensures
 
 pub returns-clause-grows : goal.returns-clause-grows
 returns-clause-grows g c =

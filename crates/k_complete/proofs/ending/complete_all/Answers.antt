@@ -1,15 +1,16 @@
 use Rattle.std.proofs.Common.{◌<◌, sym, ◌∙◌, subst, arith, rules}
 use Rattle.std.proofs.lemmas.Option.{slice_get_within}
-use Rattle.k_complete.proofs.Grown.{prefix_same, prefix_trans}
+use Rattle.k_complete.proofs.Grown.{prefix_trans}
 use Rattle.k_complete.proofs.PlacedKept.{through_next}
 use Rattle.k_complete.proofs.ending.complete_all.Goals as goal
+use Rattle.k_tie.proofs.RuleKept.{prefix_all}
 
 pub loop-at-init : goal.loop-at-init
 loop-at-init g c = record {
   stand = c.requires;
   through = λ k p inside at. absurd (omega (arith, inside));
   whole = search rules;
-  grows = prefix_same c.args.book.now.journal.list;
+  grows = prefix_all c.args.book.now.journal.list;
 }
 
 pub complete-requires : goal.complete-requires

@@ -5,9 +5,10 @@ use Rattle.k_process.specs.declared.process.Process.{Process}
 use Rattle.k_process.proofs.Looped.{all_of}
 use Rattle.k_operate.specs.Steps.{SparesOthers}
 use Rattle.k_complete.specs.Placed.{CanDoAt, CanKillAt, HasDoneAt, HasKilledAt}
-use Rattle.k_complete.proofs.PlacedKept.{can_do_next, can_kill_at, done_kill, done_next, only, read_there, same_target, spares_by, target}
+use Rattle.k_complete.proofs.PlacedKept.{can_do_next, can_kill_at, done_kill, done_next, read_there, same_target, spares_by, target}
 use Rattle.k_complete.proofs.placed.do_at.Goals as goal
 use Rattle.k_complete.proofs.placed.do_at.Goals.{in-Kill+else-target-at, in_default}
+use Rattle.k_base.proofs.Lists.{same_value}
 
 pub kill_at-requires : goal.kill_at-requires
 kill_at-requires g c =
@@ -22,7 +23,7 @@ pub returns-then-target-at : goal.returns-then-target-at
 returns-then-target-at g c = λ p found.
     let world = g.world' in
     let ps = c.args.processes.now.items in
-    let n = subst (λ (q : Process). CanDoAt world ps c.args.at q c.args.kernel.now c.args.shared.now.items c.args.book.now c.args.op.now) (only (sym c.requires.1.there ∙ found)) c.requires.1 in
+    let n = subst (λ (q : Process). CanDoAt world ps c.args.at q c.args.kernel.now c.args.shared.now.items c.args.book.now c.args.op.now) (same_value (sym c.requires.1.there ∙ found)) c.requires.1 in
     let t = target world ps c.args.at p c.args.kernel.now c.args.shared.now.items c.args.book.now c.args.op.now n c.in-Kill.target c.in-Kill.is c.if-target-at.true in
     let can = can_kill_at world ps c.args.at p c.args.kernel.now c.args.shared.now.items c.args.book.now c.args.op.now n c.in-Kill.target c.in-Kill.is c.if-target-at.true in
     let same = c.deref_mut.ensures.value in
@@ -43,7 +44,7 @@ do_next-requires g c =
     let ps = c.args.processes.now.items in
     let r = c.index_mut.result.now in
     let there = read_there ps ps c.args.at r refl (slice_get_within ps c.args.at c.requires.0 c.requires.1.there) c.index_mut.ensures.value in
-    let n = subst (λ (q : Process). CanDoAt world ps c.args.at q c.args.kernel.now c.args.shared.now.items c.args.book.now c.args.op.now) (only (sym c.requires.1.there ∙ there)) c.requires.1 in
+    let n = subst (λ (q : Process). CanDoAt world ps c.args.at q c.args.kernel.now c.args.shared.now.items c.args.book.now c.args.op.now) (same_value (sym c.requires.1.there ∙ there)) c.requires.1 in
     let spares : SparesOthers r c.args.op.now = spares_by world ps c.args.at r c.args.kernel.now c.args.shared.now.items c.args.book.now c.args.op.now n (elim c.match-op.branch [
       | in-Kill+else-target-at w ↦ λ q is. ap (λ (x : Pid). x.0) (same_target (sym is ∙ w.in-Kill.is)) ∙ w.if-target-at.false
       | in_default w ↦ λ q is. absurd (w.in_default.not-Kill q is)
@@ -56,7 +57,7 @@ returns g c = λ p found.
     let ps = c.args.processes.now.items in
     let r = c.index_mut.result.now in
     let there = read_there ps ps c.args.at r refl (slice_get_within ps c.args.at c.requires.0 c.requires.1.there) c.index_mut.ensures.value in
-    let n = subst (λ (q : Process). CanDoAt world ps c.args.at q c.args.kernel.now c.args.shared.now.items c.args.book.now c.args.op.now) (only (sym c.requires.1.there ∙ there)) c.requires.1 in
+    let n = subst (λ (q : Process). CanDoAt world ps c.args.at q c.args.kernel.now c.args.shared.now.items c.args.book.now c.args.op.now) (same_value (sym c.requires.1.there ∙ there)) c.requires.1 in
     let new = c.do_next.new in
     let done = done_next world ps c.args.at r c.args.kernel.now c.args.shared.now.items c.args.book.now c.args.op.now n new.process new.kernel new.shared.items new.book c.do_next.ensures.done c.do_next.ensures.events in
-    subst (λ (q : Process). HasDoneAt world c.args.op.now c.args.at q ps (set ps c.args.at new.process) new.kernel new.shared.items c.args.book.now new.book) (only (sym there ∙ found)) done
+    subst (λ (q : Process). HasDoneAt world c.args.op.now c.args.at q ps (set ps c.args.at new.process) new.kernel new.shared.items c.args.book.now new.book) (same_value (sym there ∙ found)) done

@@ -3,8 +3,9 @@ use Rattle.k_process.specs.declared.process.Process.{Process}
 use Rattle.k_process.specs.Standing.{ComesNext, IsNextOf, ProcessStands}
 use Rattle.k_operate.specs.Steps.{HasPublishedAll}
 use Rattle.k_complete.proofs.LineKept.{line_can_do, line_can_meet, line_of_none, line_of_some, line_stands, line_there, read_met}
-use Rattle.k_complete.proofs.PlacedKept.{only, read_there}
+use Rattle.k_complete.proofs.PlacedKept.{read_there}
 use Rattle.k_complete.proofs.replaying.do_line.Goals as goal
+use Rattle.k_base.proofs.Lists.{same_value}
 
 pub meet_heap-requires : goal.meet_heap-requires
 meet_heap-requires g c =
@@ -46,7 +47,7 @@ returns-in-Some g c =
     let last = read_there c.do_at.new.processes.items c.args.processes.now.items c.args.at c.index_mut-in-Some.result.now (d.stand.processes.count ∙ sym c.requires.processes.count) c.requires.inside c.index_mut-in-Some.ensures.value in
     line_of_some g.world' c.args.processes.now.items c.args.at c.args.kernel.now c.args.shared.now.items c.args.book.now c.requires c.index_mut.result.now there c.meet_heap.new.cell c.meet_heap.new.book c.meet_heap.ensures c.in-Some.op next
     c.do_at.new.processes.items c.do_at.new.kernel c.do_at.new.shared.items c.do_at.new.book c.publish_all.new.book d c.publish_all.new.process
-    (subst (λ (q : Process). HasPublishedAll g.world' q c.publish_all.new.process c.do_at.new.book c.publish_all.new.book) (only (sym last ∙ d.there)) c.publish_all.ensures)
+    (subst (λ (q : Process). HasPublishedAll g.world' q c.publish_all.new.process c.do_at.new.book c.publish_all.new.book) (same_value (sym last ∙ d.there)) c.publish_all.ensures)
 
 pub returns-in-None : goal.returns-in-None
 returns-in-None g c =

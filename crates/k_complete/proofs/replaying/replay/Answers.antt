@@ -1,7 +1,8 @@
 use Rattle.std.proofs.Common.{sym, subst, get_or}
 use Rattle.k_types.specs.declared.names.Pid.{Pid}
-use Rattle.k_complete.proofs.ReplayKept.{Files, can_do_line, files_first, files_next, next_known, no_places_left, places_left, replayed}
+use Rattle.k_complete.proofs.ReplayKept.{Files, can_do_line, files_first, files_next, next_known, replayed}
 use Rattle.k_complete.proofs.replaying.replay.Goals as goal
+use Rattle.k_base.proofs.Numbered.{order_next, order_over}
 
 pub loop-pid-init : goal.loop-pid-init
 loop-pid-init g c = record {
@@ -25,7 +26,7 @@ loop-pid-preserved g c =
       rest = c.do_line.ensures.rest;
       published = c.do_line.ensures.published;
       files = files_next g.world'.trace c.loop-pid.book.journal.list c.do_line.new.book.journal.list pid.0 _
-          (subst (Files g.world'.trace c.loop-pid.book.journal.list) (places_left c.args.order.now c.loop-pid.pid-index (record { 0 = 0 }) c.loop-pid-test.true) c.loop-pid.invariant.files) c.do_line.ensures.journal;
+          (subst (Files g.world'.trace c.loop-pid.book.journal.list) (order_next c.args.order.now c.loop-pid.pid-index (record { 0 = 0 }) c.loop-pid-test.true) c.loop-pid.invariant.files) c.do_line.ensures.journal;
     }
 
 pub close_all-requires : goal.close_all-requires
@@ -38,5 +39,5 @@ pub returns : goal.returns
 returns g c =
     replayed g.world' c.loop-pid.processes.items c.meet_all.new.processes.items c.close_all.new.kernel c.meet_all.new.kernel c.close_all.new.shared.items c.meet_all.new.shared.items
     c.loop-pid.book c.close_all.new.book c.meet_all.new.book c.requires.rest.book.stands.keeps c.loop-pid.invariant.published
-    (subst (Files g.world'.trace c.loop-pid.book.journal.list) (no_places_left c.args.order.now c.loop-pid.pid-index c.loop-pid-test.false) c.loop-pid.invariant.files)
+    (subst (Files g.world'.trace c.loop-pid.book.journal.list) (order_over c.args.order.now c.loop-pid.pid-index c.loop-pid-test.false) c.loop-pid.invariant.files)
     c.close_all.ensures c.meet_all.ensures

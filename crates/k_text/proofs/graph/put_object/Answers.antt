@@ -3,14 +3,15 @@ use Rattle.k_types.specs.Owners.{owner_of}
 use Rattle.k_text.specs.Shown.{shown_object, type_at}
 use Rattle.k_text.specs.Named.{name_word, heap_word, type_word}
 use Rattle.k_text.specs.Report.{object_line, content_word}
-use Rattle.k_text.proofs.Known.{known_owner, named_heap, named_type}
+use Rattle.k_text.proofs.Known.{named_heap, named_type}
 use Rattle.k_text.proofs.LineLemmas.{writes_line, line_behind_three}
 use Rattle.k_text.proofs.graph.put_object.Goals as goal
+use Rattle.k_base.proofs.Owners.{owner_known}
 
 pub heap_name-requires : goal.heap_name-requires
 heap_name-requires g c =
     named_heap _ (g.V.View.trace c.args.view.now) _ c.requires.named
-    (rw c.owner.ensures (known_owner (g.V.View.trace c.args.view.now) (g.V.View.state c.args.view.now) c.args.name.seg.0 c.requires.known))
+    (rw c.owner.ensures (owner_known (g.V.View.trace c.args.view.now) (g.V.View.state c.args.view.now) c.args.name.seg.0 c.requires.known))
 
 pub type_label-requires : goal.type_label-requires
 type_label-requires g c = named_type _ (g.V.View.trace c.args.view.now) _ c.requires.named c.object_type.ensures.known

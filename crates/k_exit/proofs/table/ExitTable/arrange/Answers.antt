@@ -10,9 +10,10 @@ use Rattle.k_exit.specs.Exits.{ExitRow, ExitList, AreDistinct}
 use Rattle.std.specs.Ordering.{ordering_then}
 use Rattle.std.proofs.lemmas.Option.{slice_get_within}
 use Rattle.std.proofs.lemmas.List.{length-map}
-use Rattle.k_exit.proofs.Order.{comes_first, apart_next, key_at}
+use Rattle.k_exit.proofs.Order.{apart_next, key_at}
 use Rattle.k_exit.proofs.Lists.{distinct_same, passed_end}
 use Rattle.k_exit.proofs.table.ExitTable.arrange.Goals as goal
+use Rattle.k_base.proofs.NameTests.{comes_first}
 
 pub invariant_of-self : goal.invariant_of-self
 invariant_of-self c =
