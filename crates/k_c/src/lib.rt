@@ -1,13 +1,12 @@
 //! A host for C: four functions over `k_embed`, which `kaffe.h` declares. C gives the memory for a host, and has it back.
 #![tactic(auto)]
 
-ghost use Rattle.std.specs.Prelude.{◌≡◌, IfSome};
+ghost use Rattle.std.specs.Prelude.{◌≡◌};
 ghost use Rattle.std.specs.Borrow.{full_share, sem};
 ghost use Rattle.std.specs.Ptr.{lies_at, room_at};
 ghost use Rattle.k_embed.specs.contracts.serving.Slot.{the_row};
 ghost use Rattle.k_embed.specs.declared.serving.Slot.{Slot};
-ghost use Rattle.k_embed.specs.Served.{IsServed};
-ghost use Rattle.k_embed.specs.Kept.{HasOpened};
+ghost use Rattle.k_embed.specs.Served.{IsOpened, IsServed};
 
 use k_embed::{Answer, Request, Slot, opened, serve};
 use std::alloc::Global;
@@ -24,7 +23,7 @@ pub extern "C" fn kaffe_size() -> usize {
     size_of::<Slot>()
 }
 
-/// Makes a host where there is room for it, of what the text declares; or a place with none.
+/// Makes a host where there is room for it, of what the text declares; or a place with none, and with the line and the reason why.
 #[unsafe(no_mangle)]
 pub unsafe extern "C" fn kaffe_open(
     alloc: Global,
@@ -35,7 +34,7 @@ pub unsafe extern "C" fn kaffe_open(
     at: *mut KaffeHost,
 )
     requires* { sem 𝓛 (room_at the_row at) }
-    ensures* { ∃ₛ (λ (w : Slot). sem 𝓛 (lies_at the_row full_share at w) ∗ ⌜ IfSome w.host (λ host. HasOpened text.now (record { 0 = ty }) bodies events host) ⌝) }
+    ensures* { ∃ₛ (λ (w : Slot). sem 𝓛 (lies_at the_row full_share at w) ∗ ⌜ IsOpened text.now ty bodies events w ⌝) }
 {
     std::ptr::write(at as *mut Slot, opened(alloc, text, ty, bodies, events));
 }

@@ -7,6 +7,8 @@ use Rattle.k_types.specs.declared.event.Fault.TheVariants.{Null, Foreign, NotSha
 use Rattle.k_types.specs.declared.event.Reply.{Reply}
 use Rattle.k_types.specs.declared.event.Reply.TheVariants.{Done, Made, Loaded, Value, Refused}
 use Rattle.k_types.specs.declared.names.Name.{Name}
+use Rattle.k_keeper.specs.OpenError.{OpenError}
+use Rattle.k_keeper.specs.OpenError.TheVariants.{Bad, NoMemory, Terms}
 use Rattle.k_keeper.specs.HostError.{HostError}
 use Rattle.k_keeper.specs.HostError.TheVariants.{Unknown, OwnCall, Ended as HasEnded, Phase, Full, NoBody, Orphan, Reserved}
 use Rattle.k_embed.specs.declared.messages.Answer.{Answer}
@@ -18,6 +20,22 @@ plain status fault at = record { status = status; fault = fault; at = at; what =
 -- a number
 abbrev pub of_number : ℕ → Answer
 of_number n = record { status = 0; fault = 0; at = 0; what = 2; seg = 0; serial = 0; number = n }
+
+-- there is no host: the bad line of the text, and the number of the reason
+abbrev pub of_no_host : ℕ → ℕ → Answer
+of_no_host line reason = record { status = 9; fault = 0; at = reason; what = 0; seg = line; serial = 0; number = 0 }
+
+-- the bad line of the text; 0 where no line is the cause
+abbrev pub line_of : OpenError → ℕ
+line_of (NoMemory refused) = 0
+line_of (Bad line reason) = line
+line_of Terms = 0
+
+-- the number of the reason for which the line is bad; where no line is the cause, 1 for want of memory and 2 for terms that are not fit
+abbrev pub reason_of : OpenError → ℕ
+reason_of (NoMemory refused) = 1
+reason_of (Bad line reason) = reason
+reason_of Terms = 2
 
 -- a number, where there is one
 abbrev pub of_found : Option ℕ → Answer
@@ -32,6 +50,16 @@ of_name x = record { status = 0; fault = 0; at = 0; what = 1; seg = x.seg.0; ser
 abbrev pub of_target : Option Name → Answer
 of_target (Some x) = of_name x
 of_target None = record { status = 0; fault = 0; at = 0; what = 1; seg = 0; serial = 0; number = 0 }
+
+-- what a register holds, where there is one
+abbrev pub of_held : Option (Option Name) → Answer
+of_held (Some held) = of_target held
+of_held None = plain 1 0 0
+
+-- what is told to a question; to what is none, that there is no such call
+abbrev pub of_told : Option Answer → Answer
+of_told (Some answer) = answer
+of_told None = plain 8 0 0
 
 -- what is lacking
 abbrev pub of_error : HostError → Answer

@@ -1,21 +1,31 @@
 -- What a call of a host is answered, in numbers.
-use Rattle.std.specs.Prelude.{◌≡◌, ℕ, ◌==◌, if◌then◌else◌, Option, Some, None, IfSome, MatchOption, length, option_map, slice_get, Result, IfErr, IfOk, OnErr}
+use Rattle.std.specs.Prelude.{◌≡◌, ℕ, ◌==◌, nat_lt, if◌then◌else◌, Option, Some, None, MatchOption, length, option_map, slice_get, Result, IfErr, IfOk, OnErr}
 use Rattle.k_types.specs.declared.event.Event.{Event}
 use Rattle.k_types.specs.declared.names.Pid.{Pid}
+use Rattle.k_types.specs.declared.names.TypeId.{TypeId}
 use Rattle.k_types.specs.declared.op.Op.{Op}
+use Rattle.k_types.specs.Bounds.{register_count}
+use Rattle.k_types.specs.Limits.{max_of}
+use Rattle.k_types.specs.Owners.{object_bytes}
+use Rattle.k_types.specs.Totals.{total}
 use Rattle.k_keeper.specs.HostError.{HostError}
 use Rattle.k_keeper.specs.Guest.{Guest}
-use Rattle.k_keeper.specs.Asked.{charge_told, has_ended_of, heap_bytes_of}
+use Rattle.k_keeper.specs.OpenError.{OpenError}
+use Rattle.k_keeper.specs.Words.{Text}
+use Rattle.k_keeper.specs.Limits.{use_at}
+use Rattle.k_keeper.specs.Books.{book_limits}
+use Rattle.k_keeper.specs.Sharers.{lowest_orphan}
+use Rattle.k_keeper.specs.Asked.{charge_told, done_by, has_ended_of, heap_bytes_of, held_by}
 use Rattle.k_keeper.specs.Calls.{HasAbsorbedIn, HasCollectedIn, HasExitedIn, HasOperatedIn}
 use Rattle.k_keeper.specs.Keeping.{KeeperValue}
-use Rattle.k_keeper.specs.Kept.{HasCollectedAll, IsGone, MayRefuseCollection, MayRefuseKernel, MayRefuseOperation, MayRefuseToAbsorb}
+use Rattle.k_keeper.specs.Kept.{HasCollectedAll, HasOpened, IsGone, IsNotOpened, MayRefuseCollection, MayRefuseKernel, MayRefuseOperation, MayRefuseToAbsorb}
 use Rattle.k_embed.specs.declared.doing.Whole.{Whole}
 use Rattle.k_embed.specs.declared.doing.Whole.TheVariants.{Absorb, Collect, CollectKernel, Kill}
 use Rattle.k_embed.specs.declared.messages.Answer.{Answer}
 use Rattle.k_embed.specs.declared.messages.Request.{Request}
 use Rattle.k_embed.specs.declared.serving.Slot.{Slot}
 use Rattle.k_embed.specs.Asked.{operation_of, pid_of, whole_of}
-use Rattle.k_embed.specs.Codes.{of_found, of_number, of_result}
+use Rattle.k_embed.specs.Codes.{line_of, of_found, of_held, of_no_host, of_number, of_result, of_told, reason_of}
 
 -- the answer is that of the machine's event, with its reply, or of what is lacking; and then nothing has changed
 pub record IsActed (old new : KeeperValue) (pid : Pid) (op : Op) (answer : Answer) : Type 0 where
@@ -55,22 +65,41 @@ pub record IsDoneWhole (old new : KeeperValue) (pid : Pid) (whole : Whole) (answ
 abbrev pub lives_of : Guest → ℕ
 lives_of g = if has_ended_of g then 0 else 1
 
--- what is told of a process: whether it lives, the bytes of its heap, what it is charged, and how many bodies it has yet; and how many
--- events there are, and how many are left. Of another request nothing is said
+-- what is told of the process of that number, where there is one
+abbrev pub told_of_process : KeeperValue → ℕ → (Guest → ℕ) → Answer
+told_of_process k p told = of_found (option_map told (slice_get k.host.guests p))
+
+-- what is told of the limit of that number, where there is one
+abbrev pub told_of_limit : KeeperValue → ℕ → ℕ → Option ℕ
+told_of_limit k m told = if nat_lt m (length k.host.book.rows) then Some told else None
+
+-- what the register of the process holds, where there are both
+abbrev pub told_of_register : KeeperValue → ℕ → ℕ → Answer
+told_of_register k p r = of_held (if nat_lt r register_count then option_map (held_by r) (slice_get k.host.guests p) else None)
+
+-- what is told to each question, and none to what is no question. Of a process: whether it lives, the bytes of its heap, what it is
+-- charged, what a register holds, how many operations are done, and how many bodies are left. Of a limit: its use and its maximum. And how
+-- many events there are, the bytes of the kernel's heap, the first orphan, and how many events are left
 abbrev pub told_of : KeeperValue → Request → Option Answer
 told_of k q =
-    if q.call == 32 then Some (of_found (option_map lives_of (slice_get k.host.guests q.pid)))
-    else if q.call == 33 then Some (of_found (option_map heap_bytes_of (slice_get k.host.guests q.pid)))
-    else if q.call == 34 then Some (of_found (option_map (charge_told k.host) (slice_get k.host.guests q.pid)))
+    if q.call == 32 then Some (told_of_process k q.pid lives_of)
+    else if q.call == 33 then Some (told_of_process k q.pid heap_bytes_of)
+    else if q.call == 34 then Some (told_of_process k q.pid (charge_told k.host))
+    else if q.call == 35 then Some (of_found (told_of_limit k q.at (use_at (book_limits k.host.book) q.at)))
+    else if q.call == 36 then Some (of_found (told_of_limit k q.at (max_of (book_limits k.host.book).rows q.at)))
+    else if q.call == 37 then Some (told_of_register k q.pid q.reg)
+    else if q.call == 38 then Some (told_of_process k q.pid done_by)
     else if q.call == 39 then Some (of_number (length k.host.book.journal.list))
-    else if q.call == 40 then Some (of_found (option_map (λ g. g.bodies) (slice_get k.host.guests q.pid)))
+    else if q.call == 40 then Some (told_of_process k q.pid (λ g. g.bodies))
+    else if q.call == 41 then Some (of_number (total object_bytes k.host.kernel.value.objects))
+    else if q.call == 42 then Some (of_found (lowest_orphan k.host.book.value.phases k.host.book.value.shares))
     else if q.call == 43 then Some (of_number k.left)
     else None
 
--- nothing has changed, and the answer is what is told
+-- nothing has changed, and the answer is what is told, or that there is no such call
 pub record IsAnswered (old new : KeeperValue) (q : Request) (answer : Answer) : Type 0 where
   pub same : new ≡ old
-  pub told : IfSome (told_of old q) (λ known. answer ≡ known)
+  pub told : answer ≡ of_told (told_of old q)
 
 -- where the request asks for a collection, an end or an absorption, that is what was done on the host, and else it is answered
 abbrev pub IsServedElse : KeeperValue → KeeperValue → Request → Answer → Type 0
@@ -86,6 +115,27 @@ pub record IsServedIn (old : KeeperValue) (place : Slot) (q : Request) (answer :
   pub there : place.host ≡ Some now
   pub served : IsServedOn old now q answer
 
--- the request was served on the host in the place; nothing has changed where there is none
+-- there is no host in the place: nothing has changed, and the answer is the line and the reason
+pub record IsServedWithout (old new : Slot) (answer : Answer) : Type 0 where
+  pub same : new ≡ old
+  pub shown : answer ≡ of_no_host old.line old.reason
+
+-- the request was served on the host in the place, or there is none
 abbrev pub IsServed : Slot → Slot → Request → Answer → Type 0
-IsServed old new q answer = MatchOption old.host (new ≡ old) (λ h. IsServedIn h new q answer)
+IsServed old new q answer = MatchOption old.host (IsServedWithout old new answer) (λ h. IsServedIn h new q answer)
+
+-- a place without a host, for that cause
+abbrev pub empty_for : OpenError → Slot
+empty_for why = record { host = None; line = line_of why; reason = reason_of why }
+
+-- no host of what the bytes declare is made, and line and reason are those of the cause
+pub record HasNoHost (bytes : Text) (ty : TypeId) (bodies events line reason : ℕ) : Type 0 where
+  pub why : OpenError
+  pub cause : IsNotOpened bytes ty bodies events why
+  pub line_is : line ≡ line_of why
+  pub reason_is : reason ≡ reason_of why
+
+-- in the place there is a host of what the bytes declare, before its first event, or the line and the reason why there is none
+abbrev pub IsOpened : Text → ℕ → ℕ → ℕ → Slot → Type 0
+IsOpened bytes ty bodies events place =
+    MatchOption place.host (HasNoHost bytes (record { 0 = ty }) bodies events place.line place.reason) (λ h. HasOpened bytes (record { 0 = ty }) bodies events h)

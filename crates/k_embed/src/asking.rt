@@ -1,18 +1,41 @@
 //! Questions, which change nothing.
-ghost use Rattle.std.specs.Prelude.{◌≡◌, IfSome, Some, option_map, slice_get};
+ghost use Rattle.std.specs.Prelude.{◌≡◌, Some, None, nat_lt, if◌then◌else◌, length, option_map, slice_get};
+ghost use Rattle.k_types.specs.Bounds.{register_count};
+ghost use Rattle.k_types.specs.Limits.{max_of};
+ghost use Rattle.k_keeper.specs.Asked.{held_by};
+ghost use Rattle.k_keeper.specs.Books.{book_limits};
+ghost use Rattle.k_keeper.specs.Limits.{use_at};
+ghost use Rattle.k_keeper.specs.Sharers.{lowest_orphan};
 ghost use Rattle.k_embed.specs.Codes.{of_found};
 ghost use Rattle.k_embed.specs.Served.{lives_of, told_of};
 
-use crate::codes::{number, of_number, referred, unknown};
+use crate::codes::{number, of_held, of_number, unknown};
 use crate::messages::{Answer, Request};
 use k_keeper::{Host, Keeper};
-use k_types::{LimitId, Pid, Reg};
+use k_types::{LimitId, Name, Pid, Reg};
 
-fn register(host: &Host, pid: Pid, reg: Reg) -> Answer {
-    match host.register(pid, reg) {
-        Some(held) => referred(held),
-        None => unknown(),
-    }
+/// What the register of the process holds.
+#[tactic(auto, using(crate::proofs::Told::register_told))]
+fn register(host: &Host, pid: Pid, reg: Reg) -> Option<Option<Name>>
+    ensures { result ≡ (if nat_lt reg.0 register_count then option_map (held_by reg.0) (slice_get host.now.guests pid.0) else None) }
+{
+    host.register(pid, reg)
+}
+
+/// The use of the limit.
+#[tactic(auto, using(crate::proofs::Told::limit_told))]
+fn use_of(host: &Host, limit: LimitId) -> Option<u64>
+    ensures { result ≡ (if nat_lt limit.0 (length host.now.book.rows) then Some (use_at (book_limits host.now.book) limit.0) else None) }
+{
+    host.use_of(limit)
+}
+
+/// The maximum of the limit.
+#[tactic(auto, using(crate::proofs::Told::limit_told))]
+fn max_of(host: &Host, limit: LimitId) -> Option<u64>
+    ensures { result ≡ (if nat_lt limit.0 (length host.now.book.rows) then Some (max_of (book_limits host.now.book).rows limit.0) else None) }
+{
+    host.max_of(limit)
 }
 
 fn lives(host: &Host, pid: Pid) -> Answer
@@ -33,7 +56,9 @@ fn small(found: Option<u32>) -> Answer
     }
 }
 
-fn orphan(host: &Host) -> Answer {
+fn orphan(host: &Host) -> Answer
+    ensures { result ≡ of_found (lowest_orphan host.now.book.value.phases host.now.book.value.shares) }
+{
     match host.first_orphan() {
         Some(id) => number(u64::from(id.0)),
         None => unknown(),
@@ -42,7 +67,7 @@ fn orphan(host: &Host) -> Answer {
 
 /// The answer to a question; none where the request asks none.
 pub(crate) fn ask(keeper: &Keeper, request: &Request) -> Option<Answer>
-    ensures { IfSome (told_of keeper.now request.now) (λ known. result ≡ Some known) }
+    ensures { result ≡ told_of keeper.now request.now }
 {
     let host = keeper.host();
     let pid = Pid(request.pid);
@@ -51,9 +76,9 @@ pub(crate) fn ask(keeper: &Keeper, request: &Request) -> Option<Answer>
         32 => Some(lives(host, pid)),
         33 => Some(of_number(host.heap_bytes(pid))),
         34 => Some(of_number(host.charge(pid))),
-        35 => Some(of_number(host.use_of(limit))),
-        36 => Some(of_number(host.max_of(limit))),
-        37 => Some(register(host, pid, Reg(request.reg))),
+        35 => Some(of_number(use_of(host, limit))),
+        36 => Some(of_number(max_of(host, limit))),
+        37 => Some(of_held(register(host, pid, Reg(request.reg)))),
         38 => Some(small(host.done(pid))),
         39 => Some(number(u64::from(host.len()))),
         40 => Some(small(host.bodies_left(pid))),

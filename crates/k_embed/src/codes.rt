@@ -1,6 +1,6 @@
 //! The numbers of errors, faults and replies.
 ghost use Rattle.std.specs.Prelude.{◌≡◌};
-ghost use Rattle.k_embed.specs.Codes.{of_error, of_event, of_fault, of_found, of_name, of_number, of_reply, of_result, of_target, plain};
+ghost use Rattle.k_embed.specs.Codes.{of_error, of_event, of_fault, of_found, of_held, of_name, of_no_host, of_number, of_reply, of_result, of_target, plain};
 
 use crate::messages::Answer;
 use k_keeper::HostError;
@@ -36,7 +36,9 @@ pub(crate) fn no_call() -> Answer
 }
 
 /// There is no host, and why.
-pub(crate) fn lacking_host(line: u32, reason: u32) -> Answer {
+pub(crate) fn lacking_host(line: u32, reason: u32) -> Answer
+    ensures { result ≡ of_no_host line reason }
+{
     Answer {
         status: 9,
         fault: 0,
@@ -100,6 +102,16 @@ pub(crate) fn referred(target: Option<Name>) -> Answer
             serial: 0,
             number: 0,
         },
+    }
+}
+
+/// What the register holds, where there is one.
+pub(crate) fn of_held(found: Option<Option<Name>>) -> Answer
+    ensures { result ≡ of_held found }
+{
+    match found {
+        Some(held) => referred(held),
+        None => unknown(),
     }
 }
 

@@ -1,7 +1,7 @@
 //! One call for everything that a host does.
-ghost use Rattle.std.specs.Prelude.{◌≡◌, IfSome, None};
-ghost use Rattle.k_keeper.specs.Kept.{HasOpened};
-ghost use Rattle.k_embed.specs.Served.{IsActed, IsDoneWhole, IsServed, IsServedOn, told_of};
+ghost use Rattle.std.specs.Prelude.{◌≡◌};
+ghost use Rattle.k_embed.specs.Codes.{of_told};
+ghost use Rattle.k_embed.specs.Served.{IsActed, IsDoneWhole, IsOpened, IsServed, IsServedOn, empty_for, told_of};
 
 use crate::asking::ask;
 use crate::codes::{lacking_host, no_call, of_event};
@@ -21,9 +21,14 @@ pub struct Slot {
 }
 
 /// A place with no host, and why.
-fn empty(line: u32, reason: u32) -> Slot
-    ensures { result.host ≡ None }
+fn empty(why: OpenError) -> Slot
+    ensures { result ≡ empty_for why }
 {
+    let (line, reason) = match why {
+        OpenError::Bad { line, reason } => (line, reason),
+        OpenError::NoMemory(_) => (0, 1),
+        OpenError::Terms => (0, 2),
+    };
     Slot {
         host: None,
         line,
@@ -31,9 +36,9 @@ fn empty(line: u32, reason: u32) -> Slot
     }
 }
 
-/// A host of what the text declares, if it can be made.
+/// A host of what the text declares, if it can be made; else the line and the reason why not.
 pub fn opened(alloc: Global, text: &[u8], ty: u32, bodies: u32, events: u32) -> Slot
-    ensures { IfSome result.host (λ host. HasOpened text.now (record { 0 = ty }) bodies events host) }
+    ensures { IsOpened text.now ty bodies events result }
 {
     match Keeper::read(alloc, text, TypeId(ty), bodies, events) {
         Ok(host) => Slot {
@@ -41,9 +46,7 @@ pub fn opened(alloc: Global, text: &[u8], ty: u32, bodies: u32, events: u32) -> 
             line: 0,
             reason: 0,
         },
-        Err(OpenError::Bad { line, reason }) => empty(line, reason),
-        Err(OpenError::NoMemory(_)) => empty(0, 1),
-        Err(OpenError::Terms) => empty(0, 2),
+        Err(why) => empty(why),
     }
 }
 
@@ -73,7 +76,7 @@ pub fn act_whole(host: &mut Keeper, pid: Pid, whole: Whole) -> Answer
 
 /// Answers a question, or that there is no such call.
 fn answered(host: &Keeper, request: &Request) -> Answer
-    ensures { IfSome (told_of host.now request.now) (λ known. result ≡ known) }
+    ensures { result ≡ of_told (told_of host.now request.now) }
 {
     match ask(host, request) {
         Some(answer) => answer,

@@ -32,8 +32,7 @@ use borrow.Table.OneValue.{part_in}
 use Rattle.std.proofs.raw_atomic.Walks.{proved}
 use Rattle.std.specs.contracts.alloc.Global.{the_row as Global}
 use Rattle.std.proofs.alloc.Global.TheLaws.{the_told as GT, the_row_laws as GL}
-use Rattle.std.specs.Prelude.{IfSome}
-use Rattle.k_embed.specs.Kept.{HasOpened}
+use Rattle.k_embed.specs.Served.{IsOpened}
 use Rattle.k_embed.specs.contracts.serving.Slot.{the_row as R}
 use Rattle.k_embed.specs.declared.serving.Slot.{Slot}
 use Rattle.k_embed.proofs.serving.Slot.TheLaws.{the_row_laws as RL}
@@ -82,8 +81,8 @@ kaffe_open_spec 𝓤 𝓛 𝓜 𝓡 wired =
     nothing ! $ move ! (1 ∷ 0 ∷ []) $ use2 𝓛 (raw (G.pre z)) (id⊢ 𝓤 _) $
     calls_at ! (framed 𝓤 𝓛.H 𝓜 𝓣) G (met 𝓤 𝓛 𝓜 𝓡 (code.calls-k_embed::opened 𝓡.env wired)) z
     (and_then ! (get ! refl) (and_then ! (get ! refl) (and_then ! (get ! refl) (and_then ! (get ! refl) (and_then ! (get ! refl) (no_more !)))))) (λ u.
-    use1 𝓛 (later (some (λ (r : R.Denot). ((‵ (flft κs.0 qs.0) ⊛ ‵ ftrue) ⊛ ‵ (R.own_val r (u ∷ []))) ⊛ some (λ (ws : Lasts s.ended z.0.0 z.0.3). ‵ (lasts s.ended z.0.0 z.0.3 ws) ⊛ raw (fact 𝓤 (IfSome r.host (λ host. HasOpened text.now (record { 0 = m }) n k host))))))) (id⊢ 𝓤 _) $
-    await ! tt $ pick ! (λ r. split ! $ move ! (1 ∷ []) $ pick ! (λ ws. split ! $ drop ! $ heard ! (IfSome r.host (λ host. HasOpened text.now (record { 0 = m }) n k host)) (λ told. split ! $ move ! (1 ∷ []) $
+    use1 𝓛 (later (some (λ (r : R.Denot). ((‵ (flft κs.0 qs.0) ⊛ ‵ ftrue) ⊛ ‵ (R.own_val r (u ∷ []))) ⊛ some (λ (ws : Lasts s.ended z.0.0 z.0.3). ‵ (lasts s.ended z.0.0 z.0.3 ws) ⊛ raw (fact 𝓤 (IsOpened text.now m n k r)))))) (id⊢ 𝓤 _) $
+    await ! tt $ pick ! (λ r. split ! $ move ! (1 ∷ []) $ pick ! (λ ws. split ! $ drop ! $ heard ! (IsOpened text.now m n k r) (λ told. split ! $ move ! (1 ∷ []) $
     peeks ! R (Is R) (shows 𝓛 R) r (u ∷ []) (λ is.
     let t : T (has_ty τ u) × WT u = ((RL.lawful 𝓛).typed r (u ∷ []) is).0 in lands_as ! refl refl t $
     -- [what was made; the tokens; the room; the locals]
@@ -92,4 +91,4 @@ kaffe_open_spec 𝓤 𝓛 𝓜 𝓡 wired =
     suffices ! _ (ends_at 𝓛 f.ended stayed c (y (block_ptr b o)) vunit tt (tt, (tt, (tt, (tt, (tt, (tt, tt)))))) (tt, (tt, (tt, (tt, (tt, (tt, tt))))))) $
     feq_i ! _ (vunit ∷ []) _ refl $ nothing ! $ nothing ! $ join ! $ nothing ! $ join ! $ nothing ! $ join ! $ nothing ! $ join ! $ nothing ! $ join ! $ nothing ! $ join ! $
     move ! (3 ∷ 0 ∷ 1 ∷ []) $ group ! 3 $ frame ! $
-    show ! (λ (w : Slot). sep 𝓤 (sem 𝓛 (lies_at R full_share (block_ptr b o) w)) (fact 𝓤 (IfSome w.host (λ host. HasOpened text.now (record { 0 = m }) n k host)))) r $ says ! told $ done !))))))))
+    show ! (λ (w : Slot). sep 𝓤 (sem 𝓛 (lies_at R full_share (block_ptr b o) w)) (fact 𝓤 (IsOpened text.now m n k w))) r $ says ! told $ done !))))))))
