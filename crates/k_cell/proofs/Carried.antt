@@ -35,7 +35,7 @@ kept_of_reached : {kept : Name → Bool} {refers : Name → Name → Bool} {star
 kept_of_reached _ (begins n s l) = l
 kept_of_reached _ (follows a n r ref l) = l
 
-reached_same : (kept others : Name → Bool) (refers leads : Name → Name → Bool) (start : Name → Bool) → ((n : Name) → others n ≡ kept n) → ((n m : Name) → kept n ≡ true → leads n m ≡ refers n m) → (n : Name) → IsReached kept refers start n →
+pub reached_same : (kept others : Name → Bool) (refers leads : Name → Name → Bool) (start : Name → Bool) → ((n : Name) → others n ≡ kept n) → ((n m : Name) → kept n ≡ true → leads n m ≡ refers n m) → (n : Name) → IsReached kept refers start n →
     IsReached others leads start n
 reached_same kept others refers leads start same alike _ (begins n s l) = begins n s (same n ∙ l)
 reached_same kept others refers leads start same alike _ (follows a n r ref l) =
@@ -137,7 +137,7 @@ written_carried phase a new whole after noted field below next roots pending at 
 }
 
 -- marks
-unmarked_fields : (a : AreaValue) (n : Name) → fields_at (unmarked a) n ≡ fields_at a n
+pub unmarked_fields : (a : AreaValue) (n : Name) → fields_at (unmarked a) n ≡ fields_at a n
 unmarked_fields a n = ap (option_map (λ (row : Row). row.fields)) (row_unmarked a n) ∙ by_row (row_of_name a.segments n)
   where
     by_row : (o : Option Row) → option_map (λ (row : Row). row.fields) (unmarked_row o) ≡ option_map (λ (row : Row). row.fields) o
@@ -148,7 +148,7 @@ pub marks_kept : (a new : AreaValue) (start : Name → Bool) (below : ℕ) → u
 marks_kept a new start below same was = same_fields_kept a new start below (λ n low. sym (unmarked_fields new n) ∙ ap (λ (x : AreaValue). fields_at x n) same ∙ unmarked_fields a n) was
 
 -- roots
-any_name : (n : Name) (xs : List Name) → name_among n xs ≡ true → (i : ℕ) × (slice_get xs i ≡ Some n)
+pub any_name : (n : Name) (xs : List Name) → name_among n xs ≡ true → (i : ℕ) × (slice_get xs i ≡ Some n)
 any_name n [] e = absurd (false≢true e)
 any_name n (x ∷ xs) e =
     elim (or_cases (name_eq x n) (name_among n xs) e) [

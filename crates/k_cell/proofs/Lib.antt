@@ -5,4 +5,5 @@ pub mod Seen
 pub mod Marks
 pub mod Moved
 pub mod Carried
+pub mod Rooted
 pub use Rattle.k_agree.proofs.Openings

@@ -3,6 +3,7 @@ pub mod Carried
 pub mod Changes
 pub mod Looks
 pub mod Placed
+pub mod Rooted
 pub mod Lends
 pub use Rattle.k_agree.specs.Marking
 pub use Rattle.k_agree.specs.Ending

@@ -21,14 +21,13 @@ ghost use Rattle.k_cell.specs.Looks.{field_among, field_count_among, type_among}
 ghost use Rattle.k_cell.specs.Changes.{HasDroppedExit, HasItsExits, HasMarked, HasRoot, next_in, with_black_alone, with_body, with_exit_item, with_field};
 ghost use Rattle.k_cell.specs.Holdings.{HasGivenSegment, HasSerialLeft, fresh_holdings, with_segment_added};
 
-use crate::carrying::{Carried, kept_below, marked_below, note, still_whole};
-use crate::looking::{count_at, field_at, lives_at, type_at};
+use crate::carrying::{Carried, marked_below, note, still_whole};
 use crate::rooms::HoldingRooms;
-use crate::writing::{place_in, write_int_in, write_ref_in};
+use crate::rooting::RootedArea;
 use k_exit::ExitTable;
 use k_io::NoMemory;
-use k_mark::{Swept, clear, mark_kept, root, sweep};
-use k_space::{Area, Body, Segment, Stored};
+use k_mark::Swept;
+use k_space::{Body, Segment, Stored};
 use k_tie::Note;
 use k_types::{CellPhase, Link, Name, Seg, TypeId};
 use std::alloc::Global;
@@ -40,7 +39,7 @@ use std::mem::swap;
 pub struct Holdings {
     // The numbers of segments are below this one.
     bound: u32,
-    area: Area,
+    area: RootedArea,
     // Those of the objects.
     bytes: u64,
     exits: ExitTable,
@@ -97,7 +96,7 @@ impl Holdings {
         requires room { 0 < rooms.segments }
         ensures { IfOk result (λ made. made ≡ fresh_holdings seg.0 rooms note) }
     {
-        let mut area = Area::make(alloc, rooms.segments)?;
+        let mut area = RootedArea::make(alloc, rooms.segments, rooms.objects)?;
         let segment = Segment::make(alloc, seg, rooms.objects)?;
         area.add(segment);
         let exits = ExitTable::make(alloc, rooms.exits)?;
@@ -139,28 +138,28 @@ impl Holdings {
     pub fn has(&self, at: Name) -> bool
         ensures { result ≡ has self.now.value.objects at }
     {
-        lives_at(&self.area, at)
+        self.area.lives_at(at)
     }
 
     /// The number of the object's fields; 0 where there is no such object. Constant time.
     pub fn field_count(&self, at: Name) -> u32
         ensures { result ≡ field_count_among self.now.value.objects at }
     {
-        count_at(&self.area, at)
+        self.area.count_at(at)
     }
 
     /// What the field of the object holds; the number 0 where there is no such field. Constant time.
     pub fn field(&self, at: Name, field: u32) -> Stored
         ensures { content_of result ≡ field_among self.now.value.objects at field }
     {
-        field_at(&self.area, at, field)
+        self.area.field_at(at, field)
     }
 
     /// The object's type; none where it is the directory, or there is no such object. Constant time.
     pub fn type_of(&self, at: Name) -> Option<TypeId>
         ensures { result ≡ type_among self.now.value.objects at }
     {
-        type_at(&self.area, at)
+        self.area.type_at(at)
     }
 
     /// Whether there is an exit item to that object. Constant time where the hash spreads the names.
@@ -211,7 +210,7 @@ impl Holdings {
         ensures placed { self.new ≡ record self.old { value = with_body seg.0 body self.old.value } }
     {
         self.bytes += body.bytes();
-        let link = place_in(&mut self.area, seg, body);
+        let link = self.area.place_in(seg, body);
         self.carried.whole = still_whole(self.carried.whole, self.carried.below, link.serial.0);
         link
     }
@@ -223,7 +222,7 @@ impl Holdings {
         requires kind { IsTrue (is_ref (field_among self.old.value.objects at field)) }
         ensures { self.new ≡ record self.old { value = with_field at field (Refers (option_map name_of value)) self.old.value } }
     {
-        write_ref_in(&mut self.area, at, field, value);
+        self.area.write_ref_in(at, field, value);
         self.carried.whole = still_whole(self.carried.whole, self.carried.below, at.serial.0);
     }
 
@@ -234,7 +233,7 @@ impl Holdings {
         requires kind { IsFalse (is_ref (field_among self.old.value.objects at field)) }
         ensures { self.new ≡ record self.old { value = with_field at field (Holds value) self.old.value } }
     {
-        write_int_in(&mut self.area, at, field, value);
+        self.area.write_int_in(at, field, value);
     }
 
     /// Adds the exit item where it is new, and tells whether it was. Constant time where the hash spreads the names, and no
@@ -252,7 +251,7 @@ impl Holdings {
     pub fn begin(&mut self)
         ensures { self.new ≡ record self.old { value = begun [] self.old.value } }
     {
-        clear(&mut self.area, &mut self.exits);
+        self.area.clear(&mut self.exits);
         self.phase = CellPhase::Begun;
         self.carried.noted = true;
         self.carried.pending.clear();
@@ -264,7 +263,7 @@ impl Holdings {
         ensures rest { self.new ≡ record self.old { value = self.new.value } }
         ensures root { HasRoot self.old.value self.new.value (name_of target) }
     {
-        root(&mut self.area, target);
+        self.area.root(target);
         self.carried.noted = note(
             &mut self.carried.pending,
             self.carried.room,
@@ -282,14 +281,12 @@ impl Holdings {
         ensures rest { self.new ≡ record self.old { value = self.new.value } }
         ensures marked { HasMarked self.old.value self.new.value }
     {
-        let below = kept_below(
-            &self.area,
-            &self.exits,
+        let kept = self.area.mark_kept(
+            &mut self.exits,
             self.carried.whole,
             self.carried.below,
             &self.carried.roots,
         );
-        let kept = mark_kept(&mut self.area, &mut self.exits, below);
         (self.carried.noted, self.carried.next) = marked_below(self.carried.noted, kept);
         self.phase = CellPhase::Marked;
     }
@@ -304,7 +301,7 @@ impl Holdings {
         ensures bytes { into.new.bytes ≡ into.old.bytes + freed_bytes self.old.value }
     {
         let before = into.bytes;
-        sweep(&mut self.area, into);
+        self.area.sweep(into);
         self.bytes -= into.bytes - before;
         // What is left is what this collection kept.
         swap(&mut self.carried.roots, &mut self.carried.pending);

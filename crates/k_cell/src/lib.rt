@@ -6,6 +6,7 @@ mod carrying;
 mod holding;
 mod looking;
 mod rooms;
+mod rooting;
 mod writing;
 
 pub use holding::Holdings;

@@ -9,7 +9,7 @@ use Rattle.k_space.specs.Segments.{Row, SegmentValue, Color, White, Gray, Black,
 use Rattle.k_space.specs.Areas.{AreaValue, row_in_segment, row_of_name, segment_at, fields_at, is_foreign, gray_at, black_at, marked_at, blackened, unmarked}
 use Rattle.k_exit.specs.Exits.{ExitRow, target_marked}
 use Rattle.k_mark.specs.Reached.{IsReached, begins, follows}
-use Rattle.k_mark.specs.Kept.{IsKept, old_at}
+use Rattle.k_mark.specs.Kept.{IsBeginning, IsExitFrom, IsKept, IsReachedFrom, old_at}
 use Rattle.k_mark.specs.Marking.{IsReachedIn, IsExit, fields_lead_to, lives_at, refers_at, some_lead_to}
 use Rattle.k_mark.proofs.Marked.{IsMarking, black_from_marked, marked_lives, refers_fields}
 
@@ -151,7 +151,7 @@ abbrev pub AreTracedLower : AreaValue → ℕ → AreaValue → ℕ → Type 0
 AreTracedLower old below now next = (a m : Name) → old_at old below a ≡ false → black_at now a ≡ true → refers_at old a m ≡ true → m.serial.0 < next
 
 module _ (below : ℕ) (old now : AreaValue) (exits items : List ExitRow) (marking : IsMarking (old_at old below) old now exits items) (done : (n : Name) → gray_at now n ≡ false)
-    (kept : IsKept (old_at old below) (refers_at old) (gray_at old) below) (inside : (a n : Name) → old_at old below a ≡ true → refers_at old a n ≡ true → is_foreign old n ≡ false) where
+    (start : Name → Bool) (beginning : IsBeginning old below start) (inside : (a n : Name) → old_at old below a ≡ true → refers_at old a n ≡ true → is_foreign old n ≡ false) where
   old_of : (n : Name) → n.serial.0 < below → is_some (fields_at old n) ≡ true → old_at old below n ≡ true
   old_of n low live = and_from (lives_at old n) (nat_lt n.serial.0 below) live (lt-ltb n.serial.0 below low)
 
@@ -170,11 +170,15 @@ module _ (below : ℕ) (old now : AreaValue) (exits items : List ExitRow) (marki
       let both = and_parts (lives_at old n) (nat_lt n.serial.0 below) e in
       low_marked below now n (ltb-true n.serial.0 below both.1) (ap is_some (marking.shape n) ∙ both.0)
 
-  sound : (n : Name) → marked_at (blackened below now) n ≡ true → IsReachedIn old n
+  wider : (n : Name) → IsReachedIn old n → IsReachedFrom old start n
+  wider _ (begins n e l) = begins n (beginning.gray n e) l
+  wider _ (follows a n r ref l) = follows a n (wider a r) ref l
+
+  sound : (n : Name) → marked_at (blackened below now) n ≡ true → IsReachedFrom old start n
   sound n e =
       elim (parts n e) [
-        | inl h ↦ marking.sound n h
-        | inr h ↦ along below old (gray_at old) n (kept.reached n h)
+        | inl h ↦ wider n (marking.sound n h)
+        | inr h ↦ along below old start n (beginning.kept.reached n h)
       ]
 
   -- an object that was not kept is black, and was traced
@@ -185,26 +189,33 @@ module _ (below : ℕ) (old now : AreaValue) (exits items : List ExitRow) (marki
         | inr h ↦ absurd (false≢true (sym plain ∙ h))
       ]
 
-  all : (n : Name) → IsReachedIn old n → marked_at (blackened below now) n ≡ true
-  all _ (begins n e l) = still_marked below now n (marking.roots n e)
+  all : (n : Name) → IsReachedFrom old start n → marked_at (blackened below now) n ≡ true
+  all _ (begins n e l) =
+      elim (beginning.known n e l) [
+        | inl gray ↦ still_marked below now n (marking.roots n gray)
+        | inr o ↦ old_marked n o
+      ]
   all _ (follows a n r ref live) = by_old (old_at old below a) refl (all a r)
     where
       by_old : (b : Bool) → old_at old below a ≡ b → marked_at (blackened below now) a ≡ true → marked_at (blackened below now) n ≡ true
-      by_old true o m = old_marked n (old_of n (kept.closed a n o ref) live)
+      by_old true o m = old_marked n (old_of n (beginning.kept.closed a n o ref) live)
       by_old false o m = let held = refers_fields old a n ref in still_marked below now n (marking.closed a n held.0 o (traced a m o) held.1 held.2 live)
 
-  pub kept_reached : (n : Name) → (marked_at (blackened below now) n ≡ true) ↔ IsReachedIn old n
+  pub kept_reached : (n : Name) → (marked_at (blackened below now) n ≡ true) ↔ IsReachedFrom old start n
   kept_reached n = (sound n, all n)
 
-  exit_marked : (t : Name) → IsExit old t → target_marked items t ≡ true
+  exit_marked : (t : Name) → IsExitFrom old start t → target_marked items t ≡ true
   exit_marked t e = by_old (old_at old below e.from) refl (all e.from e.reached)
     where
       by_old : (b : Bool) → old_at old below e.from ≡ b → marked_at (blackened below now) e.from ≡ true → target_marked items t ≡ true
       by_old true o m = absurd (false≢true (sym (inside e.from t o e.refers) ∙ e.foreign))
       by_old false o m = let held = refers_fields old e.from t e.refers in marking.exits_closed e.from t held.0 o (traced e.from m o) held.1 held.2 e.foreign
 
-  pub kept_exits : (t : Name) → (target_marked items t ≡ true) ↔ IsExit old t
-  kept_exits t = (marking.exits_sound t, exit_marked t)
+  exit_from : (t : Name) → IsExit old t → IsExitFrom old start t
+  exit_from t e = record { from = e.from; reached = wider e.from e.reached; refers = e.refers; foreign = e.foreign }
+
+  pub kept_exits : (t : Name) → (target_marked items t ≡ true) ↔ IsExitFrom old start t
+  kept_exits t = (λ m. exit_from t (marking.exits_sound t m), exit_marked t)
 
   -- what is kept now
   module _ (next : ℕ) (above : below ≤ next) (most : (n : Name) (row : Row) → row_of_name old.segments n ≡ Some row → n.serial.0 < next) (lower : AreTracedLower old below now next) where
@@ -225,14 +236,14 @@ module _ (below : ℕ) (old now : AreaValue) (exits items : List ExitRow) (marki
     closed_after n m e ref = by_old (old_at old below n) refl
       where
         by_old : (b : Bool) → old_at old below n ≡ b → m.serial.0 < next
-        by_old true o = let low = kept.closed n m o (sym (refers_same n m) ∙ ref) in omega (arith, low, above)
+        by_old true o = let low = beginning.kept.closed n m o (sym (refers_same n m) ∙ ref) in omega (arith, low, above)
         by_old false o = lower n m o (traced n (marked_of_black (row_of_name (blackened below now).segments n) e) o) (sym (refers_same n m) ∙ ref)
 
-    reached_after : (n : Name) → IsReachedIn old n → IsReached (black_at (blackened below now)) (refers_at (blackened below now)) (gray_at old) n
+    reached_after : (n : Name) → IsReachedFrom old start n → IsReached (black_at (blackened below now)) (refers_at (blackened below now)) start n
     reached_after _ (begins n e l) = begins n e (black_after n (all n (begins n e l)))
     reached_after _ (follows a n r ref l) = follows a n (reached_after a r) (refers_same a n ∙ ref) (black_after n (all n (follows a n r ref l)))
 
-    pub kept_next : IsKept (black_at (blackened below now)) (refers_at (blackened below now)) (gray_at old) next
+    pub kept_next : IsKept (black_at (blackened below now)) (refers_at (blackened below now)) start next
     kept_next = record {
       low = low_after;
       closed = closed_after;

@@ -1,13 +1,13 @@
 //! Marking where an earlier collection kept objects that are still reached.
-ghost use Rattle.std.specs.Prelude.{◌≡◌, ◌<◌, ◌≤◌, ◌↔◌, IsTrue, IsFalse, IfSome, List, length};
+ghost use Rattle.std.specs.Prelude.{Bool, ◌≡◌, ◌<◌, ◌≤◌, ◌↔◌, IsTrue, IsFalse, IfSome, List, length};
 ghost use Rattle.k_types.specs.State.{Content, content_leads_to};
 ghost use Rattle.k_types.specs.declared.names.Name.{Name as Named};
 ghost use Rattle.k_space.specs.Areas.{HasDistinct, is_foreign, marked_at, gray_at, black_at, unmarked};
 ghost use Rattle.k_space.specs.Objects.{content_of};
 ghost use Rattle.k_space.specs.Visiting.{AreHeld};
 ghost use Rattle.k_exit.specs.Exits.{has_target, target_marked, targets};
-ghost use Rattle.k_mark.specs.Kept.{IsKept, old_at};
-ghost use Rattle.k_mark.specs.Marking.{IsReachedIn, IsExit, fields_lead_to, refers_at};
+ghost use Rattle.k_mark.specs.Kept.{IsBeginning, IsExitFrom, IsKept, IsReachedFrom, old_at};
+ghost use Rattle.k_mark.specs.Marking.{fields_lead_to, refers_at};
 
 use crate::marking::trace;
 use crate::steps::Steps;
@@ -41,8 +41,8 @@ fn are_lower(held: &[Stored], count: u32, next: u64) -> bool
     true
 }
 
-/// Marks as [`crate::mark_uncounted`] does. The objects with lower serials are known to be reached from the gray ones along
-/// each other, and to refer to nothing outside the area: they become black, and none of them is traced. The answer is a
+/// Marks as [`crate::mark_uncounted`] does, from the gray objects and from those with lower serials, which refer to nothing outside
+/// the area: they become black, and none of them is traced. So a root among these need not be gray. The answer is a
 /// serial that is above all of marked objects and of objects to which they refer; none where a reference leads to an
 /// object that was not made yet.
 pub fn mark_kept(area: &mut Area, exits: &mut ExitTable, below: u64) -> Option<u64>
@@ -50,15 +50,14 @@ pub fn mark_kept(area: &mut Area, exits: &mut ExitTable, below: u64) -> Option<u
     requires exits { (a n : Named) → IsTrue (refers_at area.old a n) → IsTrue (is_foreign area.old n) → IsTrue (has_target exits.old.items n) }
     requires clean { (n : Named) → IsFalse (black_at area.old n) }
     requires unmarked { (n : Named) → IsFalse (target_marked exits.old.items n) }
-    requires kept { IsKept (old_at area.old below) (refers_at area.old) (gray_at area.old) below }
     requires inside { (a n : Named) → IsTrue (old_at area.old below a) → IsTrue (refers_at area.old a n) → IsFalse (is_foreign area.old n) }
     ensures kept { unmarked area.new ≡ unmarked area.old }
     ensures targets { targets exits.new.items ≡ targets exits.old.items }
     ensures room { exits.new.room ≡ exits.old.room }
     ensures black { (n : Named) → IsFalse (gray_at area.new n) }
-    ensures reached { (n : Named) → IsTrue (marked_at area.new n) ↔ IsReachedIn area.old n }
-    ensures exits { (n : Named) → IsTrue (target_marked exits.new.items n) ↔ IsExit area.old n }
-    ensures next { IfSome result (λ next. IsKept (black_at area.new) (refers_at area.new) (gray_at area.old) next) }
+    ensures reached { (start : Named → Bool) → IsBeginning area.old below start → (n : Named) → IsTrue (marked_at area.new n) ↔ IsReachedFrom area.old start n }
+    ensures exits { (start : Named → Bool) → IsBeginning area.old below start → (n : Named) → IsTrue (target_marked exits.new.items n) ↔ IsExitFrom area.old start n }
+    ensures next { (start : Named → Bool) → IsBeginning area.old below start → IfSome result (λ next. IsKept (black_at area.new) (refers_at area.new) start next) }
 {
     mark_kept_on::<Brand>(Blank::new(1), area, exits, below)
 }
@@ -77,15 +76,14 @@ fn mark_kept_on<L: Ledger>(
     requires exits { (a n : Named) → IsTrue (refers_at area.old a n) → IsTrue (is_foreign area.old n) → IsTrue (has_target exits.old.items n) }
     requires clean { (n : Named) → IsFalse (black_at area.old n) }
     requires unmarked { (n : Named) → IsFalse (target_marked exits.old.items n) }
-    requires kept { IsKept (old_at area.old below) (refers_at area.old) (gray_at area.old) below }
     requires inside { (a n : Named) → IsTrue (old_at area.old below a) → IsTrue (refers_at area.old a n) → IsFalse (is_foreign area.old n) }
     ensures kept { unmarked area.new ≡ unmarked area.old }
     ensures targets { targets exits.new.items ≡ targets exits.old.items }
     ensures room { exits.new.room ≡ exits.old.room }
     ensures black { (n : Named) → IsFalse (gray_at area.new n) }
-    ensures reached { (n : Named) → IsTrue (marked_at area.new n) ↔ IsReachedIn area.old n }
-    ensures exits { (n : Named) → IsTrue (target_marked exits.new.items n) ↔ IsExit area.old n }
-    ensures next { IfSome result (λ next. IsKept (black_at area.new) (refers_at area.new) (gray_at area.old) next) }
+    ensures reached { (start : Named → Bool) → IsBeginning area.old below start → (n : Named) → IsTrue (marked_at area.new n) ↔ IsReachedFrom area.old start n }
+    ensures exits { (start : Named → Bool) → IsBeginning area.old below start → (n : Named) → IsTrue (target_marked exits.new.items n) ↔ IsExitFrom area.old start n }
+    ensures next { (start : Named → Bool) → IsBeginning area.old below start → IfSome result (λ next. IsKept (black_at area.new) (refers_at area.new) start next) }
 {
     let mut steps: Steps<L> = Steps::open(blank);
     let next = area.next_serial().max(below);

@@ -7,8 +7,8 @@ use Rattle.k_space.specs.Segments.{Black}
 use Rattle.k_space.specs.Areas.{AreaValue, HasDistinct, black_at, gray_at, marked_at, unmarked, with_row_of}
 use Rattle.k_space.specs.Visiting.{AreHeld}
 use Rattle.k_space.proofs.AreaRows.{found, after_distinct}
-use Rattle.k_mark.specs.Kept.{IsKept, old_at}
-use Rattle.k_mark.specs.Marking.{IsReachedIn, refers_at}
+use Rattle.k_mark.specs.Kept.{IsKept, IsReachedFrom, old_at}
+use Rattle.k_mark.specs.Marking.{refers_at}
 use Rattle.k_mark.proofs.Left.{left}
 use Rattle.k_mark.proofs.Looks.{Looked, looked_list}
 use Rattle.k_mark.proofs.Marked.{IsMarking, begun, black_cases, demand_now, demands, fields_now, fields_were, less_left, looked_now, stepped, still_live}
@@ -100,16 +100,16 @@ returns-then-lower-clause-black g c = λ n.
     ap (λ (a : AreaValue). gray_at a n) c.blacken_below.ensures ∙ none_gray_after c.args.below c.visit_gray_from.new.self done n
 
 pub returns-then-lower-clause-reached : goal.returns-then-lower-clause-reached
-returns-then-lower-clause-reached g c = λ n.
+returns-then-lower-clause-reached g c = λ start beginning n.
     let marking = subst (λ (a : AreaValue). IsMarking (old_at c.args.area.now c.args.below) c.args.area.now a c.args.exits.now.items c.loop-found.exits.items) (sym c.in_default.ensures.kept) c.loop-found.invariant.marking in
     let done : (n : Name) → gray_at c.visit_gray_from.new.self n ≡ false = λ n. ap (λ (a : AreaValue). gray_at a n) c.in_default.ensures.kept ∙ c.in_default.ensures.none n in
-    subst (λ (a : AreaValue). (marked_at a n ≡ true) ↔ IsReachedIn c.args.area.now n) (sym c.blacken_below.ensures) (kept_reached c.args.below c.args.area.now c.visit_gray_from.new.self c.args.exits.now.items c.loop-found.exits.items marking done c.requires.kept c.requires.inside n)
+    subst (λ (a : AreaValue). (marked_at a n ≡ true) ↔ IsReachedFrom c.args.area.now start n) (sym c.blacken_below.ensures) (kept_reached c.args.below c.args.area.now c.visit_gray_from.new.self c.args.exits.now.items c.loop-found.exits.items marking done start beginning c.requires.inside n)
 
 pub returns-then-lower-clause-exits : goal.returns-then-lower-clause-exits
-returns-then-lower-clause-exits g c = λ n.
+returns-then-lower-clause-exits g c = λ start beginning n.
     let marking = subst (λ (a : AreaValue). IsMarking (old_at c.args.area.now c.args.below) c.args.area.now a c.args.exits.now.items c.loop-found.exits.items) (sym c.in_default.ensures.kept) c.loop-found.invariant.marking in
     let done : (n : Name) → gray_at c.visit_gray_from.new.self n ≡ false = λ n. ap (λ (a : AreaValue). gray_at a n) c.in_default.ensures.kept ∙ c.in_default.ensures.none n in
-    kept_exits c.args.below c.args.area.now c.visit_gray_from.new.self c.args.exits.now.items c.loop-found.exits.items marking done c.requires.kept c.requires.inside n
+    kept_exits c.args.below c.args.area.now c.visit_gray_from.new.self c.args.exits.now.items c.loop-found.exits.items marking done start beginning c.requires.inside n
 
 pub returns-clause-kept : goal.returns-clause-kept
 returns-clause-kept g c =
@@ -121,21 +121,21 @@ returns-clause-black g c = λ n.
     ap (λ (a : AreaValue). gray_at a n) c.blacken_below.ensures ∙ none_gray_after c.args.below c.visit_gray_from.new.self done n
 
 pub returns-clause-reached : goal.returns-clause-reached
-returns-clause-reached g c = λ n.
+returns-clause-reached g c = λ start beginning n.
     let marking = subst (λ (a : AreaValue). IsMarking (old_at c.args.area.now c.args.below) c.args.area.now a c.args.exits.now.items c.loop-found.exits.items) (sym c.in_default.ensures.kept) c.loop-found.invariant.marking in
     let done : (n : Name) → gray_at c.visit_gray_from.new.self n ≡ false = λ n. ap (λ (a : AreaValue). gray_at a n) c.in_default.ensures.kept ∙ c.in_default.ensures.none n in
-    subst (λ (a : AreaValue). (marked_at a n ≡ true) ↔ IsReachedIn c.args.area.now n) (sym c.blacken_below.ensures) (kept_reached c.args.below c.args.area.now c.visit_gray_from.new.self c.args.exits.now.items c.loop-found.exits.items marking done c.requires.kept c.requires.inside n)
+    subst (λ (a : AreaValue). (marked_at a n ≡ true) ↔ IsReachedFrom c.args.area.now start n) (sym c.blacken_below.ensures) (kept_reached c.args.below c.args.area.now c.visit_gray_from.new.self c.args.exits.now.items c.loop-found.exits.items marking done start beginning c.requires.inside n)
 
 pub returns-clause-exits : goal.returns-clause-exits
-returns-clause-exits g c = λ n.
+returns-clause-exits g c = λ start beginning n.
     let marking = subst (λ (a : AreaValue). IsMarking (old_at c.args.area.now c.args.below) c.args.area.now a c.args.exits.now.items c.loop-found.exits.items) (sym c.in_default.ensures.kept) c.loop-found.invariant.marking in
     let done : (n : Name) → gray_at c.visit_gray_from.new.self n ≡ false = λ n. ap (λ (a : AreaValue). gray_at a n) c.in_default.ensures.kept ∙ c.in_default.ensures.none n in
-    kept_exits c.args.below c.args.area.now c.visit_gray_from.new.self c.args.exits.now.items c.loop-found.exits.items marking done c.requires.kept c.requires.inside n
+    kept_exits c.args.below c.args.area.now c.visit_gray_from.new.self c.args.exits.now.items c.loop-found.exits.items marking done start beginning c.requires.inside n
 
 pub returns-then-lower-clause-next : goal.returns-then-lower-clause-next
-returns-then-lower-clause-next g c =
+returns-then-lower-clause-next g c = λ start beginning.
     let marking = subst (λ (a : AreaValue). IsMarking (old_at c.args.area.now c.args.below) c.args.area.now a c.args.exits.now.items c.loop-found.exits.items) (sym c.in_default.ensures.kept) c.loop-found.invariant.marking in
     let done : (n : Name) → gray_at c.visit_gray_from.new.self n ≡ false = λ n. ap (λ (a : AreaValue). gray_at a n) c.in_default.ensures.kept ∙ c.in_default.ensures.none n in
     let lower : AreTracedLower c.args.area.now c.args.below c.visit_gray_from.new.self c.max-next.result = subst (λ (a : AreaValue). AreTracedLower c.args.area.now c.args.below a c.max-next.result) (sym c.in_default.ensures.kept) (c.loop-found.invariant.lower c.if-lower.true) in
-    subst (λ (a : AreaValue). IsKept (black_at a) (refers_at a) (gray_at c.args.area.now) c.max-next.result) (sym c.blacken_below.ensures)
-    (kept_next c.args.below c.args.area.now c.visit_gray_from.new.self c.args.exits.now.items c.loop-found.exits.items marking done c.requires.kept c.requires.inside c.max-next.result (omega (arith, c.max-next.ensures)) (λ n row e. let low = c.next_serial.ensures n row e in omega (arith, low, c.max-next.ensures)) lower)
+    subst (λ (a : AreaValue). IsKept (black_at a) (refers_at a) start c.max-next.result) (sym c.blacken_below.ensures)
+    (kept_next c.args.below c.args.area.now c.visit_gray_from.new.self c.args.exits.now.items c.loop-found.exits.items marking done start beginning c.requires.inside c.max-next.result (omega (arith, c.max-next.ensures)) (λ n row e. let low = c.next_serial.ensures n row e in omega (arith, low, c.max-next.ensures)) lower)

@@ -7,7 +7,7 @@ use Rattle.k_mark.specs.Marking.{refers_at}
 use Rattle.k_cell.specs.Changes.{HasItsExits}
 use Rattle.k_cell.specs.Holdings.{HoldingsValue}
 use Rattle.k_cell.proofs.Marks.{exits_there, marked_kept, marked_rest, marked_seen, marks_clean}
-use Rattle.k_cell.proofs.Carried.{marked_carried, kept_inside}
+use Rattle.k_cell.proofs.Carried.{marked_carried}
 use Rattle.k_cell.proofs.holding.Holdings.mark.Goals as goal
 
 pub mark_kept-kept-requires-clause-exits : goal.mark_kept-kept-requires-clause-exits
@@ -31,10 +31,10 @@ invariant_of-self c =
     let e = c.mark_kept-kept.ensures in
     record {
       tables =
-          marked_kept c.self.inside.bound c.self.inside.bytes c.self.inside.phase c.self.inside.area c.mark_kept-kept.new.area c.self.inside.exits c.mark_kept-kept.new.exits c.self.invariant.tables begun
+          marked_kept c.self.inside.bound c.self.inside.bytes c.self.inside.phase c.self.inside.area c.mark_kept-kept.new.self c.self.inside.exits c.mark_kept-kept.new.exits c.self.invariant.tables begun
           (record { kept = e.kept; targets = e.targets; room = e.room; black = e.black; reached = e.reached; exits = e.exits });
       carried =
-          marked_carried c.self.inside.phase c.self.inside.area c.mark_kept-kept.new.area c.self.inside.carried.whole c.self.inside.carried.noted c.self.inside.carried.below c.self.inside.carried.next c.self.inside.carried.roots.items c.self.inside.carried.pending.items c.mark_kept-kept.result c.self.invariant.carried begun e.kept e.next _ _ c.marked_below.ensures;
+          marked_carried c.self.inside.phase c.self.inside.area c.mark_kept-kept.new.self c.self.inside.carried.whole c.self.inside.carried.noted c.self.inside.carried.below c.self.inside.carried.next c.self.inside.carried.roots.items c.self.inside.carried.pending.items c.mark_kept-kept.result c.self.invariant.carried begun e.kept e.next _ _ c.marked_below.ensures;
       roots = c.self.invariant.roots;
       pending = c.self.invariant.pending;
     }
@@ -43,7 +43,7 @@ pub returns-clause-rest : goal.returns-clause-rest
 returns-clause-rest c =
     let e = c.mark_kept-kept.ensures in
     rw (← c.self.view_is)
-    (marked_rest c.self.inside.bound c.self.inside.phase c.self.inside.area c.mark_kept-kept.new.area c.self.inside.exits c.mark_kept-kept.new.exits c.self.inside.note
+    (marked_rest c.self.inside.bound c.self.inside.phase c.self.inside.area c.mark_kept-kept.new.self c.self.inside.exits c.mark_kept-kept.new.exits c.self.inside.note
     (record { kept = e.kept; targets = e.targets; room = e.room; black = e.black; reached = e.reached; exits = e.exits }))
 
 pub returns-clause-marked : goal.returns-clause-marked
@@ -51,14 +51,10 @@ returns-clause-marked c =
     let begun : c.self.inside.phase ≡ Begun = ap (λ (h : HoldingsValue). h.value.collection) c.self.view_is ∙ c.requires.begun in
     let e = c.mark_kept-kept.ensures in
     rw (← c.self.view_is)
-    (marked_seen c.self.inside.bound c.self.inside.bytes c.self.inside.phase c.self.inside.area c.mark_kept-kept.new.area c.self.inside.exits c.mark_kept-kept.new.exits c.self.invariant.tables begun
+    (marked_seen c.self.inside.bound c.self.inside.bytes c.self.inside.phase c.self.inside.area c.mark_kept-kept.new.self c.self.inside.exits c.mark_kept-kept.new.exits c.self.invariant.tables begun
     (record { kept = e.kept; targets = e.targets; room = e.room; black = e.black; reached = e.reached; exits = e.exits }))
 
-pub mark_kept-kept-requires-clause-inside : goal.mark_kept-kept-requires-clause-inside
-mark_kept-kept-requires-clause-inside c = kept_inside c.self.inside.area c.kept_below-below.result c.self.inside.exits.items c.kept_below-below.ensures.alone
-    (exits_there c.self.inside.bound c.self.inside.phase c.self.inside.area c.self.inside.exits.items c.self.invariant.tables.numbered.none (subst (λ (h : HoldingsValue). HasItsExits h.value) (sym c.self.view_is) c.requires.exits))
-
-pub kept_below-below-requires-clause-kept : goal.kept_below-below-requires-clause-kept
-kept_below-below-requires-clause-kept c =
+pub mark_kept-kept-requires-clause-carried : goal.mark_kept-kept-requires-clause-carried
+mark_kept-kept-requires-clause-carried c =
     subst (λ (rs : List Name). IsTrue c.self.inside.carried.whole → IsKept (old_at c.self.inside.area c.self.inside.carried.below) (refers_at c.self.inside.area) (λ n. name_among n rs) c.self.inside.carried.below) (sym c.deref.ensures.value)
     c.self.invariant.carried.kept

@@ -16,9 +16,9 @@ invariant_of-self c =
     record {
       tables =
           rw c.bytes.ensures.size
-          (placed_kept c.self.inside.bound c.self.inside.area c.place_in-link.new.area c.self.inside.exits.items c.args.seg.0 c.args.body c.place_in-link.result c.self.invariant.tables.numbered c.place_in-link.ensures c.self.inside.bytes c.self.inside.phase c.self.invariant.tables idle);
+          (placed_kept c.self.inside.bound c.self.inside.area c.place_in-link.new.self c.self.inside.exits.items c.args.seg.0 c.args.body c.place_in-link.result c.self.invariant.tables.numbered c.place_in-link.ensures c.self.inside.bytes c.self.inside.phase c.self.invariant.tables idle);
       carried =
-          placed_carried c.self.inside.phase c.self.inside.area c.place_in-link.new.area c.self.inside.carried.whole _ c.self.inside.carried.noted c.args.seg.0 c.self.inside.carried.below c.self.inside.carried.next c.self.inside.carried.roots.items c.self.inside.carried.pending.items c.args.body c.place_in-link.result c.self.invariant.carried idle c.place_in-link.ensures c.still_whole-self-inside.ensures;
+          placed_carried c.self.inside.phase c.self.inside.area c.place_in-link.new.self c.self.inside.carried.whole _ c.self.inside.carried.noted c.args.seg.0 c.self.inside.carried.below c.self.inside.carried.next c.self.inside.carried.roots.items c.self.inside.carried.pending.items c.args.body c.place_in-link.result c.self.invariant.carried idle c.place_in-link.ensures c.still_whole-self-inside.ensures;
       roots = c.self.invariant.roots;
       pending = c.self.invariant.pending;
     }
@@ -26,10 +26,10 @@ invariant_of-self c =
 pub returns-clause-name : goal.returns-clause-name
 returns-clause-name c =
     rw (← c.self.view_is)
-    (placed_name c.self.inside.bound c.self.inside.area c.place_in-link.new.area c.self.inside.exits.items c.args.seg.0 c.args.body c.place_in-link.result c.self.invariant.tables.numbered c.place_in-link.ensures c.self.inside.phase)
+    (placed_name c.self.inside.bound c.self.inside.area c.place_in-link.new.self c.self.inside.exits.items c.args.seg.0 c.args.body c.place_in-link.result c.self.invariant.tables.numbered c.place_in-link.ensures c.self.inside.phase)
 
 pub returns-clause-placed : goal.returns-clause-placed
 returns-clause-placed c =
     let idle : c.self.inside.phase ≡ Idle = ap (λ (h : HoldingsValue). h.value.collection) c.self.view_is ∙ c.requires.idle in
     rw (← c.self.view_is)
-    (placed_seen c.self.inside.bound c.self.inside.area c.place_in-link.new.area c.self.inside.exits.items c.args.seg.0 c.args.body c.place_in-link.result c.self.invariant.tables.numbered c.place_in-link.ensures c.self.inside.phase c.self.inside.exits c.self.inside.note idle)
+    (placed_seen c.self.inside.bound c.self.inside.area c.place_in-link.new.self c.self.inside.exits.items c.args.seg.0 c.args.body c.place_in-link.result c.self.invariant.tables.numbered c.place_in-link.ensures c.self.inside.phase c.self.inside.exits c.self.inside.note idle)

@@ -12,9 +12,9 @@ invariant_of-self c =
     let begun : c.self.inside.phase ≡ Begun = ap (λ (h : HoldingsValue). h.value.collection) c.self.view_is ∙ c.requires in
     record {
       tables =
-          rooted_kept c.self.inside.bound c.self.inside.bytes c.self.inside.phase c.self.inside.area c.root.new.area c.self.inside.exits.items (name_of c.args.target) c.self.invariant.tables begun c.root.ensures;
+          rooted_kept c.self.inside.bound c.self.inside.bytes c.self.inside.phase c.self.inside.area c.root.new.self c.self.inside.exits.items (name_of c.args.target) c.self.invariant.tables begun c.root.ensures;
       carried =
-          rooted_carried c.self.inside.phase c.self.inside.area c.root.new.area c.self.inside.carried.whole c.self.inside.carried.noted c.note-self-inside.result c.self.inside.carried.below c.self.inside.carried.next c.self.inside.carried.roots.items c.self.inside.carried.pending.items _ (name_of c.args.target) c.self.invariant.carried begun c.root.ensures
+          rooted_carried c.self.inside.phase c.self.inside.area c.root.new.self c.self.inside.carried.whole c.self.inside.carried.noted c.note-self-inside.result c.self.inside.carried.below c.self.inside.carried.next c.self.inside.carried.roots.items c.self.inside.carried.pending.items _ (name_of c.args.target) c.self.invariant.carried begun c.root.ensures
           (λ t. let e = c.note-self-inside.ensures.noted t in (e.0, e.1 ∙ ap (λ (n : Name). c.self.inside.carried.pending.items ++ n ∷ []) c.name.ensures));
       roots = c.self.invariant.roots;
       pending = c.note-self-inside.ensures.capacity ∙ c.self.invariant.pending;
@@ -23,10 +23,10 @@ invariant_of-self c =
 pub returns-clause-rest : goal.returns-clause-rest
 returns-clause-rest c =
     rw (← c.self.view_is)
-    (rooted_rest c.self.inside.bound c.self.inside.phase c.self.inside.area c.root.new.area c.self.inside.exits c.self.inside.note (name_of c.args.target) c.root.ensures)
+    (rooted_rest c.self.inside.bound c.self.inside.phase c.self.inside.area c.root.new.self c.self.inside.exits c.self.inside.note (name_of c.args.target) c.root.ensures)
 
 pub returns-clause-root : goal.returns-clause-root
 returns-clause-root c =
     let begun : c.self.inside.phase ≡ Begun = ap (λ (h : HoldingsValue). h.value.collection) c.self.view_is ∙ c.requires in
     rw (← c.self.view_is)
-    (rooted c.self.inside.bound c.self.inside.bytes c.self.inside.phase c.self.inside.area c.root.new.area c.self.inside.exits.items (name_of c.args.target) c.self.invariant.tables begun c.root.ensures)
+    (rooted c.self.inside.bound c.self.inside.bytes c.self.inside.phase c.self.inside.area c.root.new.self c.self.inside.exits.items (name_of c.args.target) c.self.invariant.tables begun c.root.ensures)

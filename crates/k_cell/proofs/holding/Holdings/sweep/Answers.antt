@@ -47,9 +47,9 @@ invariant_of-self c =
     let weight : dead_bytes c.self.inside.area ≡ freed_bytes c.args.self.now.value = s.bytes_of ∙ heavy in
     rw (c.swap.ensures.x_after, c.swap.ensures.y_after) (record {
       tables =
-          swept_kept c.self.inside.bound c.self.inside.bytes _ c.self.inside.phase c.self.inside.area c.sweep.new.area c.self.inside.exits.items c.self.invariant.tables marked c.sweep.ensures.area (omega (arith, s.most, c.sweep.ensures.bytes));
+          swept_kept c.self.inside.bound c.self.inside.bytes _ c.self.inside.phase c.self.inside.area c.sweep.new.self c.self.inside.exits.items c.self.invariant.tables marked c.sweep.ensures.area (omega (arith, s.most, c.sweep.ensures.bytes));
       carried =
-          swept_carried c.self.inside.phase c.self.inside.area c.sweep.new.area c.self.inside.carried.whole c.self.inside.carried.noted c.self.inside.carried.below c.self.inside.carried.next _ c.self.inside.carried.roots.items c.self.inside.carried.pending.items _ c.self.inside.bound c.self.inside.bytes c.self.inside.exits.items c.self.invariant.carried marked c.self.invariant.tables c.sweep.ensures.area;
+          swept_carried c.self.inside.phase c.self.inside.area c.sweep.new.self c.self.inside.carried.whole c.self.inside.carried.noted c.self.inside.carried.below c.self.inside.carried.next _ c.self.inside.carried.roots.items c.self.inside.carried.pending.items _ c.self.inside.bound c.self.inside.bytes c.self.inside.exits.items c.self.invariant.carried marked c.self.invariant.tables c.sweep.ensures.area;
       roots = c.self.invariant.pending;
       pending = c.self.invariant.roots;
     })
@@ -62,7 +62,7 @@ returns-clause-swept c =
     let heavy : freed_bytes (cell_seen c.self.inside.bound c.self.inside.phase c.self.inside.area c.self.inside.exits.items) ≡ freed_bytes c.args.self.now.value = ap (λ (h : HoldingsValue). freed_bytes h.value) c.self.view_is in
     let count : dead_objects c.self.inside.area ≡ freed_objects c.args.self.now.value = s.objects ∙ many in
     let weight : dead_bytes c.self.inside.area ≡ freed_bytes c.args.self.now.value = s.bytes_of ∙ heavy in
-    rw (← c.self.view_is) (swept_seen c.self.inside.bound c.self.inside.bytes c.self.inside.phase c.self.inside.area c.sweep.new.area c.self.inside.exits c.self.inside.note c.self.invariant.tables marked c.sweep.ensures.area)
+    rw (← c.self.view_is) (swept_seen c.self.inside.bound c.self.inside.bytes c.self.inside.phase c.self.inside.area c.sweep.new.self c.self.inside.exits c.self.inside.note c.self.invariant.tables marked c.sweep.ensures.area)
 
 pub returns-clause-objects : goal.returns-clause-objects
 returns-clause-objects c =

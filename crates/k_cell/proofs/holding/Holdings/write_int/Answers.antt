@@ -20,9 +20,9 @@ invariant_of-self c =
     let idle : c.self.inside.phase ≡ Idle = ap (λ (h : HoldingsValue). h.value.collection) c.self.view_is ∙ c.requires.idle in
     record {
       tables =
-          written_kept c.self.inside.bound c.self.inside.area c.write_int_in.new.area c.args.at c.args.field (Holds c.args.value) c.self.invariant.tables.numbered c.write_int_in.ensures c.self.inside.bytes c.self.inside.phase c.self.inside.exits.items c.self.invariant.tables idle;
+          written_kept c.self.inside.bound c.self.inside.area c.write_int_in.new.self c.args.at c.args.field (Holds c.args.value) c.self.invariant.tables.numbered c.write_int_in.ensures c.self.inside.bytes c.self.inside.phase c.self.inside.exits.items c.self.invariant.tables idle;
       carried =
-          number_carried c.self.inside.phase c.self.inside.area c.write_int_in.new.area c.self.inside.carried.whole c.self.inside.carried.noted c.args.field c.self.inside.carried.below c.self.inside.carried.next c.self.inside.carried.roots.items c.self.inside.carried.pending.items c.args.at c.args.value c.self.invariant.carried idle c.write_int_in.ensures
+          number_carried c.self.inside.phase c.self.inside.area c.write_int_in.new.self c.self.inside.carried.whole c.self.inside.carried.noted c.args.field c.self.inside.carried.below c.self.inside.carried.next c.self.inside.carried.roots.items c.self.inside.carried.pending.items c.args.at c.args.value c.self.invariant.carried idle c.write_int_in.ensures
           (int_there c.self.inside.bound c.self.inside.area c.args.at c.args.field c.self.invariant.tables.numbered.none (omega (arith, few, c.requires.there))
           (ap (λ (h : HoldingsValue). is_ref (field_among h.value.objects c.args.at c.args.field)) c.self.view_is ∙ c.requires.kind));
       roots = c.self.invariant.roots;
@@ -33,4 +33,4 @@ pub returns : goal.returns
 returns c =
     let idle : c.self.inside.phase ≡ Idle = ap (λ (h : HoldingsValue). h.value.collection) c.self.view_is ∙ c.requires.idle in
     rw (← c.self.view_is)
-    (written_seen c.self.inside.bound c.self.inside.area c.write_int_in.new.area c.args.at c.args.field (Holds c.args.value) c.self.invariant.tables.numbered c.write_int_in.ensures c.self.inside.phase c.self.inside.exits c.self.inside.note idle)
+    (written_seen c.self.inside.bound c.self.inside.area c.write_int_in.new.self c.args.at c.args.field (Holds c.args.value) c.self.invariant.tables.numbered c.write_int_in.ensures c.self.inside.phase c.self.inside.exits c.self.inside.note idle)

@@ -1,0 +1,25 @@
+use Rattle.std.proofs.Common.{◌≡◌, option_map, sym, subst, ◌∙◌}
+use Rattle.k_types.specs.Names.{name_of}
+use Rattle.k_types.specs.State.{Refers}
+use Rattle.k_space.specs.Areas.{AreaValue, HasDistinct}
+use Rattle.k_cell.specs.Placed.{IsRefAt, IsWrittenIn}
+use Rattle.k_cell.proofs.Rooted.{distinct_inside}
+use Rattle.k_cell.proofs.rooting.RootedArea.write_ref_in.Goals as goal
+
+pub settle-requires : goal.settle-requires
+settle-requires c = distinct_inside c.self.inside.area c.args.self.now c.self.inside.noted.items c.self.view_is c.requires.distinct
+
+pub write_ref_in-requires-clause-distinct : goal.write_ref_in-requires-clause-distinct
+write_ref_in-requires-clause-distinct c =
+    let seen : c.settle.new.area ≡ c.args.self.now = c.settle.ensures.area ∙ c.self.view_is in
+    subst (λ (x : AreaValue). HasDistinct x.segments) (sym seen) c.requires.distinct
+
+pub write_ref_in-requires-clause-field : goal.write_ref_in-requires-clause-field
+write_ref_in-requires-clause-field c =
+    let seen : c.settle.new.area ≡ c.args.self.now = c.settle.ensures.area ∙ c.self.view_is in
+    subst (λ (x : AreaValue). IsRefAt x.segments c.args.at c.args.field) (sym seen) c.requires.field
+
+pub returns : goal.returns
+returns c =
+    let seen : c.settle.new.area ≡ c.args.self.now = c.settle.ensures.area ∙ c.self.view_is in
+    rw c.settle.ensures.none (subst (λ (x : AreaValue). IsWrittenIn x c.write_ref_in.new.area c.args.at c.args.field (Refers (option_map name_of c.args.value))) seen c.write_ref_in.ensures)

@@ -1,0 +1,327 @@
+//! The segments of a heap, whose roots are noted first and made gray later.
+ghost use Rattle.std.specs.Prelude.{◌≡◌, ◌≢◌, ◌+◌, ◌<◌, ◌^◌, ◌↔◌, ℕ, ◌++◌, ◌∷◌, [], IfNone, IfOk, IfSome, IsFalse, IsTrue, None, Some, is_some, length, option_map, slice_get, slice_index_or, vec_capacity};
+ghost use Rattle.k_types.specs.Names.{name_among, name_eq, name_of};
+ghost use Rattle.k_types.specs.State.{Holds, Refers};
+ghost use Rattle.k_types.specs.declared.names.Name.{Name as Named};
+ghost use Rattle.k_space.specs.Areas.{HasDistinct, black_at, gray_at, grayed, is_foreign, marked_at, row_of_name, segment_at, unmarked};
+ghost use Rattle.k_space.specs.Objects.{content_of};
+ghost use Rattle.k_exit.specs.Exits.{has_target, target_marked, targets, unmarked as unmarked_exits};
+ghost use Rattle.k_mark.specs.Kept.{IsBeginning, IsKept, old_at};
+ghost use Rattle.k_mark.specs.Marking.{IsExit, IsReachedIn, refers_at};
+ghost use Rattle.k_mark.specs.Sweeping.{dead_bytes, dead_objects, swept};
+ghost use Rattle.k_cell.specs.Looks.{row_fields, row_type};
+ghost use Rattle.k_cell.specs.Placed.{CanPlace, IsIntAt, IsPlacedIn, IsRefAt, IsWrittenIn};
+ghost use Rattle.k_cell.specs.Rooted.{AreGrayBut, grayed_all};
+
+use crate::carrying::kept_below;
+use crate::looking::{count_at, field_at, lives_at, type_at};
+use crate::writing::{place_in, write_int_in, write_ref_in};
+use k_exit::ExitTable;
+use k_io::NoMemory;
+use k_mark::{Swept, clear, mark_kept, root, sweep};
+use k_space::{Area, Body, Segment, Stored};
+use k_types::{Link, Name, Seg, TypeId};
+use std::alloc::Global;
+use std::marker::Model;
+
+/// The segments of a heap. A root is noted while the book is held, which costs the end of a list, and is made gray when
+/// marking begins, when nobody waits for it. Contracts see it gray from the first.
+pub(crate) struct RootedArea {
+    area: Area,
+    // The roots that are still to be made gray.
+    noted: Vec<Name>,
+    // How many can be noted.
+    room: u32,
+}
+
+impl Drop for RootedArea {
+    fn drop(self) {
+        let RootedArea {
+            area: _,
+            noted: _,
+            room: _,
+        } = self;
+    }
+}
+
+impl Model for RootedArea {
+    ghost use Rattle.k_space.specs.Areas.{AreaValue};
+    ghost use Rattle.k_cell.specs.Rooted.{grayed_all};
+
+    ghost Value = { AreaValue };
+
+    ghost view = { λ r. grayed_all r.area r.noted.items };
+
+    ghost use Rattle.std.specs.Prelude.{◌≡◌, vec_capacity};
+
+    ghost invariant = { λ r. vec_capacity r.noted ≡ r.room };
+}
+
+// Makes each of these objects gray.
+#[tactic(auto, using(crate::proofs::Rooted::distinct_grayed))]
+fn gray_all(area: &mut Area, targets: &[Name])
+    requires { HasDistinct area.old.segments }
+    ensures { area.new ≡ grayed_all area.old targets.now }
+{
+    for target in targets {
+        area.make_gray(*target);
+    }
+}
+
+// Makes the noted roots gray, after which none is noted.
+fn settle(area: &mut Area, noted: &mut Vec<Name>)
+    requires { HasDistinct area.old.segments }
+    ensures area { area.new ≡ grayed_all area.old noted.old.items }
+    ensures none { noted.new.items ≡ [] }
+    ensures capacity { vec_capacity noted.new ≡ vec_capacity noted.old }
+{
+    gray_all(area, noted);
+    noted.clear();
+}
+
+// Whether the two names are one.
+fn is_same(a: Name, b: Name) -> bool
+    ensures { result ≡ name_eq a b }
+{
+    a.seg.0 == b.seg.0 && a.serial.0 == b.serial.0
+}
+
+// Whether the root at that place is this object.
+fn stands_at(roots: &[Name], at: usize, target: Name) -> bool
+    ensures { IsTrue result → (at < length roots.now) × (slice_get roots.now at ≡ Some target) }
+{
+    at < roots.len() && is_same(roots[at], target)
+}
+
+// Whether all roots are noted, in their order. Others may stand between them.
+fn are_noted(noted: &[Name], roots: &[Name]) -> bool
+    ensures { IsTrue result → (n : Named) → IsTrue (name_among n roots.now) → IsTrue (name_among n noted.now) }
+{
+    let mut met = 0;
+    for target in noted {
+        if stands_at(roots, met, *target) {
+            met += 1;
+        }
+    }
+    met == roots.len()
+}
+
+// Makes those gray that are noted, but for roots with a lower serial, as far as these stand in their order.
+#[tactic(auto, using(crate::proofs::Rooted::distinct_grayed))]
+fn gray_others(area: &mut Area, noted: &[Name], roots: &[Name], below: u64)
+    requires distinct { HasDistinct area.old.segments }
+    requires clean { (n : Named) → IsFalse (black_at area.old n) }
+    ensures { AreGrayBut area.old noted.now roots.now below area.new }
+{
+    let mut met = 0;
+    for target in noted {
+        if u64::from(target.serial.0) < below && stands_at(roots, met, *target) {
+            met += 1;
+        } else {
+            area.make_gray(*target);
+        }
+    }
+}
+
+// Whether all roots are noted, and what was kept is as it was and leads nowhere else.
+fn is_known(noted: &[Name], exits: &ExitTable, whole: bool, roots: &[Name]) -> bool
+    ensures whole { IsTrue result → IsTrue whole }
+    ensures alone { IsTrue result → exits.now.items ≡ [] }
+    ensures noted { IsTrue result → (n : Named) → IsTrue (name_among n roots.now) → IsTrue (name_among n noted.now) }
+{
+    if whole && exits.len() == 0 {
+        return are_noted(noted, roots);
+    }
+    false
+}
+
+// Makes gray what is noted and not known to be reached, after which nothing is noted, and tells the serial below which what was
+// kept is known to be reached from the noted ones; 0 where that is not known.
+fn gray_unknown(
+    area: &mut Area,
+    noted: &mut Vec<Name>,
+    exits: &ExitTable,
+    whole: bool,
+    below: u64,
+    roots: &[Name],
+) -> u64
+    requires distinct { HasDistinct area.old.segments }
+    requires clean { (n : Named) → IsFalse (black_at area.old n) }
+    requires carried { IsTrue whole → IsKept (old_at area.old below) (refers_at area.old) (λ n. name_among n roots.now) below }
+    ensures none { noted.new.items ≡ [] }
+    ensures capacity { vec_capacity noted.new ≡ vec_capacity noted.old }
+    ensures same { unmarked area.new ≡ unmarked area.old }
+    ensures black { (n : Named) → IsFalse (black_at area.new n) }
+    ensures alone { 0 < result → exits.now.items ≡ [] }
+    ensures beginning { IsBeginning area.new result (gray_at (grayed_all area.old noted.old.items)) }
+{
+    if is_known(noted, exits, whole, roots) {
+        gray_others(area, noted, roots, below);
+        noted.clear();
+        return below;
+    }
+    settle(area, noted);
+    kept_below(area, exits, whole, below, roots)
+}
+
+impl RootedArea {
+    /// An area with no segment, room for so many, and room for so many roots.
+    pub(crate) fn make(alloc: Global, segments: u32, roots: u32) -> Result<RootedArea, NoMemory>
+        ensures { IfOk result (λ a. a ≡ record { segments = []; room = segments }) }
+    {
+        Ok(RootedArea {
+            area: Area::make(alloc, segments)?,
+            noted: Vec::with_capacity(alloc, roots as usize)?,
+            room: roots,
+        })
+    }
+
+    /// Adds a segment. It comes last.
+    pub(crate) fn add(&mut self, segment: Segment)
+        requires distinct { HasDistinct self.old.segments }
+        requires room { length self.old.segments < self.old.room }
+        requires new { segment_at self.old.segments segment.number ≡ None }
+        ensures added { self.new ≡ record self.old { segments = self.old.segments ++ segment ∷ [] } }
+        ensures distinct { HasDistinct self.new.segments }
+    {
+        settle(&mut self.area, &mut self.noted);
+        self.area.add(segment);
+    }
+
+    /// Takes the segment of that number out, with its objects. The others stay, in any order.
+    pub(crate) fn take(&mut self, seg: Seg) -> Option<Segment>
+        requires { HasDistinct self.old.segments }
+        ensures value { result ≡ segment_at self.old.segments seg.0 }
+        ensures room { self.new.room ≡ self.old.room }
+        ensures distinct { HasDistinct self.new.segments }
+        ensures gone { segment_at self.new.segments seg.0 ≡ None }
+        ensures others { (number : ℕ) → number ≢ seg.0 → segment_at self.new.segments number ≡ segment_at self.old.segments number }
+        ensures kept { IfNone result (self.new ≡ self.old) }
+    {
+        settle(&mut self.area, &mut self.noted);
+        self.area.take(seg)
+    }
+
+    /// Whether the object is there.
+    pub(crate) fn lives_at(&self, at: Name) -> bool
+        requires { HasDistinct self.now.segments }
+        ensures { result ≡ is_some (row_of_name self.now.segments at) }
+    {
+        lives_at(&self.area, at)
+    }
+
+    /// The number of its fields; 0 where it is not there.
+    pub(crate) fn count_at(&self, at: Name) -> u32
+        requires { HasDistinct self.now.segments }
+        ensures { result ≡ length (row_fields (row_of_name self.now.segments at)) }
+    {
+        count_at(&self.area, at)
+    }
+
+    /// What its field holds; 0 where there is no such field.
+    pub(crate) fn field_at(&self, at: Name, field: u32) -> Stored
+        requires { HasDistinct self.now.segments }
+        ensures { content_of result ≡ slice_index_or (row_fields (row_of_name self.now.segments at)) field (Holds 0) }
+    {
+        field_at(&self.area, at, field)
+    }
+
+    /// Its type; none where it has none, or is not there.
+    pub(crate) fn type_at(&self, at: Name) -> Option<TypeId>
+        requires { HasDistinct self.now.segments }
+        ensures { result ≡ row_type (row_of_name self.now.segments at) }
+    {
+        type_at(&self.area, at)
+    }
+
+    /// Puts an object into the segment of that number.
+    pub(crate) fn place_in(&mut self, seg: Seg, body: Body) -> Link
+        requires distinct { HasDistinct self.old.segments }
+        requires room { CanPlace self.old.segments seg.0 }
+        ensures { IsPlacedIn self.old self.new seg.0 body result }
+    {
+        settle(&mut self.area, &mut self.noted);
+        place_in(&mut self.area, seg, body)
+    }
+
+    /// Writes a reference field of an object.
+    pub(crate) fn write_ref_in(&mut self, at: Name, field: u32, value: Option<Link>)
+        requires distinct { HasDistinct self.old.segments }
+        requires field { IsRefAt self.old.segments at field }
+        ensures { IsWrittenIn self.old self.new at field (Refers (option_map name_of value)) }
+    {
+        settle(&mut self.area, &mut self.noted);
+        write_ref_in(&mut self.area, at, field, value);
+    }
+
+    /// Writes an integer field of an object.
+    pub(crate) fn write_int_in(&mut self, at: Name, field: u32, value: u64)
+        requires distinct { HasDistinct self.old.segments }
+        requires field { IsIntAt self.old.segments at field }
+        ensures { IsWrittenIn self.old self.new at field (Holds value) }
+    {
+        settle(&mut self.area, &mut self.noted);
+        write_int_in(&mut self.area, at, field, value);
+    }
+
+    /// Takes all marks away, from objects and exit items, and forgets the noted roots.
+    pub(crate) fn clear(&mut self, exits: &mut ExitTable)
+        ensures area { self.new ≡ unmarked self.old }
+        ensures exits { exits.new ≡ unmarked_exits exits.old }
+    {
+        clear(&mut self.area, exits);
+        self.noted.clear();
+    }
+
+    /// Makes a live object gray, if it was white. It is only noted where there is room.
+    pub(crate) fn root(&mut self, target: Link)
+        requires { HasDistinct self.old.segments }
+        ensures { self.new ≡ grayed self.old (name_of target) }
+    {
+        if self.noted.len() < self.room as usize {
+            self.noted.push_reserved(target.name());
+        } else {
+            settle(&mut self.area, &mut self.noted);
+            root(&mut self.area, target);
+        }
+    }
+
+    /// Marks as [`k_mark::mark_kept`] does, with what is known of the last collection: where it is whole, what that one kept has
+    /// serials below this one and is reached from these roots.
+    pub(crate) fn mark_kept(
+        &mut self,
+        exits: &mut ExitTable,
+        whole: bool,
+        below: u64,
+        roots: &[Name],
+    ) -> Option<u64>
+        requires distinct { HasDistinct self.old.segments }
+        requires exits { (a n : Named) → IsTrue (refers_at self.old a n) → IsTrue (is_foreign self.old n) → IsTrue (has_target exits.old.items n) }
+        requires clean { (n : Named) → IsFalse (black_at self.old n) }
+        requires unmarked { (n : Named) → IsFalse (target_marked exits.old.items n) }
+        requires carried { IsTrue whole → IsKept (old_at self.old below) (refers_at self.old) (λ n. name_among n roots.now) below }
+        ensures kept { unmarked self.new ≡ unmarked self.old }
+        ensures targets { targets exits.new.items ≡ targets exits.old.items }
+        ensures room { exits.new.room ≡ exits.old.room }
+        ensures black { (n : Named) → IsFalse (gray_at self.new n) }
+        ensures reached { (n : Named) → IsTrue (marked_at self.new n) ↔ IsReachedIn self.old n }
+        ensures exits { (n : Named) → IsTrue (target_marked exits.new.items n) ↔ IsExit self.old n }
+        ensures next { IfSome result (λ next. IsKept (black_at self.new) (refers_at self.new) (gray_at self.old) next) }
+    {
+        let kept = gray_unknown(&mut self.area, &mut self.noted, exits, whole, below, roots);
+        mark_kept(&mut self.area, exits, kept)
+    }
+
+    /// Frees the objects that are not marked, and adds their number and bytes.
+    pub(crate) fn sweep(&mut self, from_dead: &mut Swept)
+        requires distinct { HasDistinct self.old.segments }
+        requires objects { from_dead.old.objects + dead_objects self.old < 2 ^ 32 }
+        requires bytes { from_dead.old.bytes + dead_bytes self.old < 2 ^ 64 }
+        ensures area { self.new ≡ swept self.old }
+        ensures objects { from_dead.new.objects ≡ from_dead.old.objects + dead_objects self.old }
+        ensures bytes { from_dead.new.bytes ≡ from_dead.old.bytes + dead_bytes self.old }
+    {
+        settle(&mut self.area, &mut self.noted);
+        sweep(&mut self.area, from_dead);
+    }
+}
