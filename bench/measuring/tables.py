@@ -11,6 +11,9 @@ from measuring import traces
 from measuring.programs import TABLES, TOP, Programs, last_watched, peer_run
 from measuring.runs import ENDED_BY_TIME, Job, Runner, table
 
+sys.path.append(str(TOP / "scripts"))
+from showing import snapshot  # noqa: E402
+
 FORMS = {"each": "the peer, book for each operation", "stretches": "the peer, book for stretches"}
 WORKERS = 4
 USED = ["elapsed, ms", "processor, ms", "peak, MB"]
@@ -18,6 +21,7 @@ SAMPLES = [0, 1, 1000]
 CHECK_SECONDS = 120
 CHECK_OBJECTS = [1250, 2500, 5000]
 CHECK_TRACES = ["chain", "turns", "store", "collect_live"]
+AUDIT_OBJECTS = [10_000, 100_000, 1_000_000]
 GAP_COLLECTIONS = 20
 GAP_OBJECTS = [10_000, 40_000, 60_000]
 MOST_OPERATIONS = 200_000
@@ -305,6 +309,18 @@ def check(given):
     return table(["report by", "its lines", "answer", "elapsed, s", "processor, s", "peak, MB"], rows)
 
 
+def audit(given):
+    """`audit` of snapshots of growing length: one object a line, each with two references, one of which leaves its heap."""
+    rows = []
+    for objects in AUDIT_OBJECTS[:1] if given.quick else AUDIT_OBJECTS:
+        header, lines = snapshot.great(objects)
+        source, answer = given.file("snapshot", "".join(f"{line}\n" for line in [*header, *lines])), given.folder / "answer"
+        (series,) = given.runner.series([Job([given.programs.kaffe, "audit"], source, answer, alone=True)], given.runs)
+        said = answer.read_text(encoding="ascii").strip()
+        rows.append([f"{len(lines):,}", f"{source.stat().st_size / 1e6:.1f}", said, *(series.cell(field) for field in ("elapsed", "processor", "peak"))])
+    return table(["lines", "MB", "answer", *USED], rows)
+
+
 def reading(given):
     """Reading and writing alone beside `replay`, which also runs the machine; processor time on one processor."""
     rows = []
@@ -333,4 +349,4 @@ def tables(given):
 
 
 TABLES_IN_ORDER = {function.__name__: function for function in (
-    workers, one, grows, replay, sampled, scaling, inside, visits, gaps, greatest, check, reading, tables)}
+    workers, one, grows, replay, sampled, scaling, inside, visits, gaps, greatest, check, audit, reading, tables)}

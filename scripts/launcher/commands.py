@@ -24,6 +24,7 @@ COMMANDS = {
     "watch": Command("K [TRACE]", [r"0|[1-9][0-9]{0,2}|1000"], 1, "a run beside a watcher that takes K samples, K from 0 to 1000"),
     "work": Command("[TRACE]", [], 1, "a run on threads, and behind its report the work of its collections, by who asked for them"),
     "snap": Command("[TRACE]", [], 1, "a trace in the order of the file: writes a snapshot of the state that it leaves"),
+    "audit": Command("[TRACE [SNAPSHOT]]", [], 2, "whether a snapshot is that of a sound state: 'sound', 'refused N' or 'unsound N'"),
 }
 
 # What is run: the words for the program, and the files to join; none means that standard input is left as it is.

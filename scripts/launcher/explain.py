@@ -5,9 +5,10 @@
     ./kaffe explain status 3                                    the same of an exit status
     ./kaffe explain fault LimitFull                             the same of a fault
     ./kaffe explain rule 2                                      by which rule `check` refuses a report
+    ./kaffe explain point 3                                     what `audit` asks of a snapshot
 
-The answer is a line that the program wrote, `bad trace: line L reason R` or `refused N`, or a whole report, of which the faults are
-explained. With the trace, and for `refused N` the report, their lines are shown. Exit status 2 where there is nothing to explain.
+The answer is a line that the program wrote, `bad trace: line L reason R`, `refused N` or `unsound N`, or a whole report, of which the
+faults are explained. With the trace, and for `refused N` the report, their lines are shown. Exit status 2 where there is nothing to explain.
 """
 import os
 import re
@@ -17,13 +18,16 @@ from collections import Counter
 
 from launcher import report_lines, trace_lines
 from launcher.commands import fail, opened
-from launcher.sentences import FAULTS, REASONS, RULES, STATUSES, USAGE, fault_word
+from launcher.sentences import FAULTS, POINTS, REASONS, RULES, STATUSES, USAGE, fault_word
 
 NOTHING = 2
 # No answer but a report, a snapshot or a summary is longer, and of these only the faults are explained.
 ANSWER_BYTES, PIECE_BYTES, LINE_SHOWN = 256, 1 << 16, 200
 SILENT_STATUSES = (3, 4, 5)
-BAD_TRACE, REFUSED = re.compile(r"bad trace: line (\d+) reason (\d+)\n?"), re.compile(r"refused (\d+)\n?")
+BAD_TRACE = re.compile(r"bad trace: line (\d+) reason (\d+)\n?")
+REFUSED, UNSOUND = re.compile(r"refused (\d+)\n?"), re.compile(r"unsound ([1-8])\n?")
+# The first line of what stands behind the trace, by the command.
+BEHIND = {"check": "report 1", "audit": "snapshot 1"}
 
 
 def main(words):
@@ -83,8 +87,8 @@ def of_fault(text):
     return [re.sub(rf"\b{place}\b", name, it) for it in sentences] if place and name else sentences
 
 
-TABLES = {"reason": of_number(REASONS, "reason"), "status": of_number(STATUSES, "status"), "rule": of_number(RULES, "rule"), "fault": of_fault}
-NAMES = {"reason": map(str, REASONS), "status": map(str, STATUSES), "rule": map(str, RULES), "fault": map(fault_word, FAULTS)}
+TABLES = {"reason": of_number(REASONS, "reason"), "status": of_number(STATUSES, "status"), "rule": of_number(RULES, "rule"), "point": of_number(POINTS, "point"), "fault": of_fault}
+NAMES = {"reason": map(str, REASONS), "status": map(str, STATUSES), "rule": map(str, RULES), "point": map(str, POINTS), "fault": map(fault_word, FAULTS)}
 
 
 def lines_of(text):
@@ -94,17 +98,21 @@ def lines_of(text):
 
 def of_answer(answer, trace, report):
     """The sentences on an answer of the program, or None where it is none."""
-    bad, refused = BAD_TRACE.fullmatch(answer), REFUSED.fullmatch(answer)
+    bad, refused, unsound = (it.fullmatch(answer) for it in (BAD_TRACE, REFUSED, UNSOUND))
     if bad:
         return of_bad_trace(int(bad[1]), int(bad[2]), trace)
     if refused:
         return of_refused(int(refused[1]), trace, report)
+    if unsound:
+        return [f"Point {unsound[1]} does not hold of the snapshot, and those before it do: {plain(POINTS[int(unsound[1])])}"]
     if answer.startswith("report 1\n"):
         return of_report(answer)
     if answer.rstrip("\n") == USAGE:
         return meaning("status 2", STATUSES[2])
     if answer == "good\n":
         return ["good: the report is that of a legal and complete run of its trace."]
+    if answer == "sound\n":
+        return ["sound: the snapshot is that of a sound state, and what it says beside the state is so."]
     if answer.startswith("snapshot 1\n"):
         return ["This is the snapshot of the state that a trace leaves; docs/FORMATS.md says what each line is."]
     if re.match(r"big \d+\noperations \d+\n", answer):
@@ -132,15 +140,24 @@ def of_bad_trace(number, reason, trace):
 
 
 def of_refused(number, trace, report):
+    if trace is not None and report is None and "\nsnapshot 1\n" in trace:
+        return of_refused_snapshot(number, lines_of("snapshot 1\n" + trace.partition("\nsnapshot 1\n")[2]))
     if trace is not None and report is None and "\nreport 1\n" in trace:
         trace, _, report = trace.partition("\nreport 1\n")
         report = "report 1\n" + report
     if report is None:
-        return [f"Line {number} of the report, counted from its line 'report 1', is the first wrong one."] + [
+        return [f"Line {number} of the report, or of the snapshot, is the first wrong one, counted from its line 'report 1' or 'snapshot 1'."] + [
             f"Rule {it}: {plain(text)}" for it, text in RULES.items()
         ] + ["With the trace and the report more can be said: --trace FILE --report FILE."]
     sentences = report_lines.explained(report_lines.Report(report), number, lines_of(trace) if trace is not None else None)
     return [plain(it) for it in sentences]
+
+
+def of_refused_snapshot(number, lines):
+    """The sentences on a snapshot that is refused at this line."""
+    if number > len(lines):
+        return [f"The snapshot has {len(lines)} lines, so line {number} is missing."]
+    return [f"Line {number} of the snapshot is `{shown(lines[number - 1])}`. It does not fit there, or ends without a line feed, or comes after the line `end`."]
 
 
 def of_report(text):
@@ -215,9 +232,9 @@ def of_ending(status, head, text, call):
         return []
     if status in SILENT_STATUSES:
         return meaning(f"status {status}", STATUSES[status])
-    is_pair = call.words[0] == "check" and text is not None
+    behind = BEHIND.get(call.words[0])
     trace = text
-    if is_pair and status == 1:
-        trace = text if text.startswith("report 1\n") else text.partition("\nreport 1\n")[0]
+    if behind and text is not None and status == 1:
+        trace = text if text.startswith(f"{behind}\n") else text.partition(f"\n{behind}\n")[0]
     sentences = of_answer(head, trace, None) or meaning(f"status {status}", STATUSES[status])
     return [it for it in sentences if "--trace" not in it] if text is None else sentences

@@ -6,7 +6,7 @@ from collections import namedtuple
 
 # The line that the program, and so the launcher, writes where the words are no command: the text is that of
 # crates/k_top/src/texts.rt.
-USAGE = "usage: kaffe run | replay | check | big N | watch K | work | snap"
+USAGE = "usage: kaffe run | replay | check | big N | watch K | work | snap | audit"
 
 # What an exit status, a reason or a fault means, and what to do about it.
 Meaning = namedtuple("Meaning", "means todo")
@@ -15,7 +15,7 @@ NO_INPUT, NO_PROGRAM, NO_PLACE = 66, 70, 73
 
 STATUSES = {
     0: Meaning(
-        "The command was done. For `check` it says that the report is good.",
+        "The command was done. For `check` it says that the report is good, and for `audit` that the snapshot is sound.",
         "Nothing is to be done. The report may still hold faults, which are answers to single operations.",
     ),
     1: Meaning(
@@ -39,8 +39,8 @@ STATUSES = {
         "Look at where the output goes: a full disk or a closed pipe gives this status. Throw away what was written, and run the command again.",
     ),
     6: Meaning(
-        "By `check` alone: the report is not that of a legal and complete run of its trace. Standard output has `refused N`, for the report's first wrong line.",
-        "Look at line N of the report, counted from the line `report 1`. `kaffe explain` says by which rule it is refused.",
+        "By `check`: the report is not that of a legal and complete run of its trace. By `audit`: the snapshot is none, or not that of a sound state. Standard output has `refused N`, for the first wrong line of the report or the snapshot, or `unsound N`, for the lowest point that does not hold.",
+        "Look at line N, counted from the line `report 1` or `snapshot 1`. `kaffe explain` says by which rule a report is refused, and `kaffe explain point N` what a point is.",
     ),
     NO_INPUT: Meaning(
         "By the launcher: a file that was named cannot be read. The program was not started.",
@@ -58,7 +58,7 @@ STATUSES = {
 
 REASONS = {
     1: Meaning(
-        "The input has more bytes than a trace may have, 16,777,216, or than `check` may read, 67,108,864. The line is 0.",
+        "The input has more bytes than a trace may have, 16,777,216, or than `check` and `audit` may read, 67,108,864. The line is 0.",
         "Split the trace, or leave out operations that do not matter.",
     ),
     2: Meaning("The line has more than 4,096 bytes.", "Shorten the line: no form of a line needs so many bytes."),
@@ -174,6 +174,18 @@ RULES = {
     3: "There is no line `graph`. The number is one past the last line.",
     4: "The history is not complete at the line `graph`: an operation is missing, a collection is open, or the closing is missing though every process has ended.",
     5: "The line comes after `graph`, and is not that of the report of this history, or is one too many. Where lines are missing, the number is one past the last line.",
+}
+
+# What `audit` asks of a snapshot, in the order in which it is asked.
+POINTS = {
+    1: "No object has a serial above the number that its segment has under `made`.",
+    2: "The directory is there, and so is each object that a field, a register, an exit item or the root of a frozen heap names.",
+    3: "Each reference is one that the write barrier lets pass, and where it leaves its heap it has its exit item there.",
+    4: "Each exit item leads out of its heap, to where the write barrier lets references of that heap lead.",
+    5: "A process that has ended has no register that is not null, no share and no exit item. An absorbed heap has no sharer and no exit item.",
+    6: "An unmade heap has no sharer and no object. A populated one has no sharer but the process that populates it, which shares it as long as it lives. The root of a frozen heap lies in it.",
+    7: "At no limit more is used than its maximum.",
+    8: "What the text says beside the state is so: the owner of each object, the kernel's bytes and ceiling, the use of each limit, the charge of each process, and the bytes of each shared heap.",
 }
 
 

@@ -1,4 +1,4 @@
-"""Alters a report in one place, at random; what comes of it is wrong as a rule, and now and then another good one."""
+"""Alters a report or a snapshot in one place, at random; what comes of it is wrong as a rule, and now and then another good one."""
 from __future__ import annotations
 
 import random
@@ -41,4 +41,22 @@ def altered(rng: random.Random, trace: Trace, report: List[str]) -> List[str]:
         lines[at] = f"{lines[at].partition(' = ')[0]} = {_reply(rng, trace)}"
     elif trace.operations:
         lines.insert(at, f"{rng.choice(trace.operations).text} = ok")
+    return lines
+
+
+def altered_snapshot(rng: random.Random, snapshot: List[str]) -> List[str]:
+    """The lines of the snapshot, of which one is left out, doubled, moved or changed in one word."""
+    lines, at, how = list(snapshot), rng.randrange(len(snapshot)), rng.randrange(6)
+    if how == 0:
+        del lines[at]
+    elif how == 1:
+        lines.insert(at, lines[at])
+    elif how == 2:
+        lines.insert(rng.randrange(len(lines)), lines.pop(at))
+    elif how == 3:
+        lines[at] = re.sub(r"\d+", lambda found: str(int(found[0]) + rng.choice((1, -1, 1 << 32, 1 << 40))), lines[at], count=1)
+    else:
+        words = lines[at].split(" ")
+        words[rng.randrange(len(words))] = rng.choice(rng.choice(lines).split(" "))
+        lines[at] = " ".join(words)
     return lines

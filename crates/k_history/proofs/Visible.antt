@@ -35,7 +35,7 @@ is_plain w = list_all is_visible w
 plain_word : (w : Text) → is_word w ≡ true → is_plain w ≡ true
 plain_word w h = (both (ltb 0 (length w)) (is_plain w) (both (ltb 0 (length w) && is_plain w) (leb (length w) 32) h).0).1
 
-plain_words : PassesWords is_plain
+pub plain_words : PassesWords is_plain
 plain_words = record {
   verb = refl;
   register = λ r lt. plain_word (register_word r) (register_is_word r lt);
@@ -47,21 +47,25 @@ segment_cons : (xs : List Text) (seg : ℕ) → AreNames xs → seg < length (co
 segment_cons xs zero all lt = refl
 segment_cons xs (suc i) all lt = plain_words.name (word_at xs i) (all.each i (omega arith))
 
-object_plain : (names : DeclaredNames) (n : Name) → AreProper names → IsSpelledName names n → is_plain (name_word names n) ≡ true
+-- The name of a segment is visible.
+pub segment_plain : (names : DeclaredNames) (seg : ℕ) → AreProper names → seg < length (segment_names names) → is_plain (word_at (segment_names names) seg) ≡ true
+segment_plain names seg proper lt = segment_cons (names.procs ++ names.shared) seg proper.heaps lt
+
+pub object_plain : (names : DeclaredNames) (n : Name) → AreProper names → IsSpelledName names n → is_plain (name_word names n) ≡ true
 object_plain names n proper h =
     list_all-append is_visible (word_at (segment_names names) n.seg.0) (46 ∷ decimal n.serial.0)
     ∙ rw (segment_cons (names.procs ++ names.shared) n.seg.0 proper.heaps h.0, plain_words.number n.serial.0 (omega (arith, h.1))) refl
 
-proc_plain : (names : DeclaredNames) (p : ℕ) → AreProper names → p < length names.procs → is_plain (word_at names.procs p) ≡ true
+pub proc_plain : (names : DeclaredNames) (p : ℕ) → AreProper names → p < length names.procs → is_plain (word_at names.procs p) ≡ true
 proc_plain names p proper lt = plain_words.name (word_at names.procs p) ((AreNames_front names.procs names.shared proper.heaps).each p lt)
 
-limit_plain : (names : DeclaredNames) (m : ℕ) → AreProper names → m < length names.limits → is_plain (word_at names.limits m) ≡ true
+pub limit_plain : (names : DeclaredNames) (m : ℕ) → AreProper names → m < length names.limits → is_plain (word_at names.limits m) ≡ true
 limit_plain names m proper lt = plain_words.name (word_at names.limits m) (proper.limits.each m lt)
 
-shared_plain : (names : DeclaredNames) (s : ℕ) → AreProper names → s < length names.shared → is_plain (word_at names.shared s) ≡ true
+pub shared_plain : (names : DeclaredNames) (s : ℕ) → AreProper names → s < length names.shared → is_plain (word_at names.shared s) ≡ true
 shared_plain names s proper lt = plain_words.name (word_at names.shared s) ((AreNames_back names.procs names.shared proper.heaps).each s lt)
 
-heap_plain : (names : DeclaredNames) (h : Heap) → AreProper names → IsNamedHeap names h → is_plain (heap_word names h) ≡ true
+pub heap_plain : (names : DeclaredNames) (h : Heap) → AreProper names → IsNamedHeap names h → is_plain (heap_word names h) ≡ true
 heap_plain names Kernel proper lt = refl
 heap_plain names (User p) proper lt = proc_plain names p.0 proper lt
 heap_plain names (Shared s) proper lt = shared_plain names s.0 proper lt
@@ -119,7 +123,7 @@ some_words names (Ended g objects bytes exits shares) = omega arith
 some_words names (Absorbed s) = omega arith
 some_words names Closing = omega arith
 
-read_back : (ws : List Text) → 0 < length ws → list_all is_plain ws ≡ true → words_of (join_with_byte 32 ws) ≡ ws
+pub read_back : (ws : List Text) → 0 < length ws → list_all is_plain ws ≡ true → words_of (join_with_byte 32 ws) ≡ ws
 read_back [] some h = absurd (omega arith)
 read_back (w ∷ ws) some h = words_again w ws (all_weaker is_plain has_no_space plain_no_space (w ∷ ws) h)
 
@@ -130,7 +134,7 @@ event_words_of names e proper h = read_back (event_words names e) (some_words na
 abbrev pub has_no_feed : Text → Bool
 has_no_feed line = list_all (λ b. not (eqb b 10)) line
 
-joined_no_feed : (ws : List Text) → list_all is_plain ws ≡ true → has_no_feed (join_with_byte 32 ws) ≡ true
+pub joined_no_feed : (ws : List Text) → list_all is_plain ws ≡ true → has_no_feed (join_with_byte 32 ws) ≡ true
 joined_no_feed [] h = refl
 joined_no_feed (w ∷ []) h = all_weaker is_visible (λ b. not (eqb b 10)) visible_no_feed w (both (is_plain w) true h).0
 joined_no_feed (w ∷ v ∷ ws) h =

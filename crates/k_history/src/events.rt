@@ -11,7 +11,7 @@ use k_words::{after_word, is, number, word, word_count};
 
 /// The heap of that name.
 #[tactic(auto, unfolding(crate::specs::Reading::heap_named))]
-fn heap_named(names: &Names, name: &[u8]) -> Option<Heap>
+pub fn heap_named(names: &Names, name: &[u8]) -> Option<Heap>
     ensures { result ≡ heap_named names.now name.now }
 {
     if is(name, b"kernel") {

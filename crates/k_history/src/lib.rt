@@ -18,13 +18,14 @@ mod words;
 mod worked;
 
 pub use errors::HistoryError;
-pub use events::read_event;
+pub use events::{heap_named, read_event};
 pub use histories::read_history;
 pub use laws::{
     differences_are_counted_by_lines, events_are_read_as_spelled, known_events_can_be_spelled,
     reports_are_good_or_refused_at_one_line, reports_tell_their_history,
 };
 pub use matching::MatchSink;
+pub use replies::read_name;
 pub use worked::{
     faults_are_read, histories_are_read, names_are_read, other_events_are_read,
     other_lines_are_none,

@@ -24,9 +24,9 @@ fn segment_named(names: &Names, name: &[u8]) -> Option<u32>
     Some(1 + names.proc_count() as u32 + shared.0)
 }
 
-/// The object's name that the word is.
+/// The object's name that the word is: a segment's name, a dot and a serial below 2^32.
 #[tactic(auto, unfolding(crate::specs::Reading::name_of_word))]
-fn read_name(names: &Names, word: &[u8]) -> Option<Name>
+pub fn read_name(names: &Names, word: &[u8]) -> Option<Name>
     ensures { result ≡ name_of_word names.now word.now }
 {
     let (segment, serial) = cut_at(word, b'.')?;

@@ -4,3 +4,4 @@ pub mod Marks
 pub mod Places
 pub mod Rooms
 pub mod Sums
+pub mod Stills

@@ -23,7 +23,8 @@ impl Model for ExitItem {
 }
 
 impl ExitItem {
-    pub(crate) fn of(heap: Heap, target: Name) -> ExitItem
+    /// The heap's exit item to that object.
+    pub fn of(heap: Heap, target: Name) -> ExitItem
         ensures { result ≡ record { heap = heap; target = target } }
     {
         ExitItem { heap, target }
@@ -81,7 +82,8 @@ impl Model for Share {
 }
 
 impl Share {
-    pub(crate) fn of(process: Pid, heap: SharedId) -> Share
+    /// The process's share of that heap.
+    pub fn of(process: Pid, heap: SharedId) -> Share
         ensures { result ≡ record { process = process.0; heap = heap.0 } }
     {
         Share { process, heap }

@@ -25,7 +25,7 @@ fn keep_marked<T: Drop>(items: &mut Vec<T>, stays: &[bool])
 }
 
 // The totals become the bytes of the objects, by their segments.
-fn recount(objects: &[PlainObject], totals: &mut [u64])
+pub(crate) fn recount(objects: &[PlainObject], totals: &mut [u64])
     requires { length objects.now < 2 ^ 32 }
     ensures length { length totals.new ≡ length totals.old }
     ensures totals { AreTotals objects.now totals.new }

@@ -47,6 +47,14 @@ impl Model for PlainObject {
 }
 
 impl PlainObject {
+    /// The object of that name and type, with these fields.
+    pub fn of(name: Name, ty: Option<TypeId>, fields: Vec<FieldValue>) -> PlainObject
+        requires { length fields.items ≤ 16 }
+        ensures { result ≡ record { name = name; ty = ty; fields = map content fields.items } }
+    {
+        PlainObject { name, ty, fields }
+    }
+
     /// The object's name.
     pub fn name(&self) -> Name
         ensures { result ≡ self.now.name }

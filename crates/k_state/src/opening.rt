@@ -40,7 +40,7 @@ impl PlainLists {
     }
 }
 
-fn copy_of(alloc: Global, setup: &Setup) -> Result<Setup, NoMemory>
+pub(crate) fn copy_of(alloc: Global, setup: &Setup) -> Result<Setup, NoMemory>
     ensures { IfOk result (λ s. trace_of s [] [] ≡ trace_of setup.now [] []) }
 {
     Ok(Setup {
@@ -92,7 +92,7 @@ fn first_totals(alloc: Global, fields: u32, others: usize) -> Result<Vec<u64>, N
     Ok(totals)
 }
 
-fn null_registers(alloc: Global, procs: usize) -> Result<Vec<Registers>, NoMemory>
+pub(crate) fn null_registers(alloc: Global, procs: usize) -> Result<Vec<Registers>, NoMemory>
     ensures { IfOk result (λ v. v.items ≡ replicate procs (replicate 16 None)) }
 {
     let mut registers = Vec::new(alloc);

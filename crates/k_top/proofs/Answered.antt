@@ -1,5 +1,5 @@
 -- What an answer tells, from the part that a called function tells.
-use Rattle.std.proofs.Common.{◌≡◌, ℕ, ◌+◌, ◌≤◌, List, [], length, inl, refl, sym, subst, arith}
+use Rattle.std.proofs.Common.{◌≡◌, ℕ, ◌+◌, ◌-◌, ◌<◌, ◌≤◌, ◌^◌, List, [], length, inl, refl, sym, ap, subst, arith, length-append}
 use Rattle.std.specs.Io.KnownBytes.{Consumes, IsAtEnd}
 use Rattle.k_io.proofs.Takings.{takes_nothing}
 use Rattle.k_words.specs.Words.{Text}
@@ -8,8 +8,8 @@ use Rattle.k_top.specs.declared.status.Status.{Status}
 use Rattle.k_top.specs.declared.status.Status.TheVariants.{Good, BadTrace, Usage, WantOfMemory, ReadFault, WriteFault, Refused}
 use Rattle.k_top.specs.Answers.{WasRead}
 use Rattle.k_top.specs.Ends.{Input, Output}
-use Rattle.k_top.specs.Inputs.{AreTraceAndReport}
-use Rattle.k_top.specs.Parts.{Answers, IsWritten, TellsOfReport, TellsOfCheck, TellsOfSource}
+use Rattle.k_top.specs.Inputs.{AreTraceAnd, AreTraceAndReport, AreTraceAndSnapshot}
+use Rattle.k_top.specs.Parts.{Answers, IsWritten, TellsOfAudit, TellsOfReport, TellsOfCheck, TellsOfSnapshot, TellsOfSource}
 
 -- An answer with no text: nothing was written.
 pub answered_unwritten : (tells : Status → Text → Type 0) (old : List ℕ → List ℕ → Type 0) (count : ℕ) (status answer : Status) → answer ≡ status → tells status []
@@ -56,3 +56,31 @@ checked_source_tells limit input bytes read WantOfMemory text h = h
 checked_source_tells limit input bytes read Usage text h = absurd h
 checked_source_tells limit input bytes read ReadFault text h = absurd h
 checked_source_tells limit input bytes read WriteFault text h = absurd h
+
+-- ---- a snapshot
+
+-- What the snapshot tells, the bytes tell that are its trace and the snapshot.
+pub audit_tells : (bytes : Text) (t : NamedTrace) (snapshot : Text) → AreTraceAndSnapshot bytes t snapshot → (status : Status) (text : Text) → TellsOfSnapshot t snapshot status text → TellsOfAudit bytes status text
+audit_tells bytes t snapshot parts Good text h = (t, snapshot, parts, h)
+audit_tells bytes t snapshot parts Refused text h = (t, snapshot, parts, h)
+audit_tells bytes t snapshot parts WantOfMemory text h = h
+audit_tells bytes t snapshot parts BadTrace text h = absurd h
+audit_tells bytes t snapshot parts Usage text h = absurd h
+audit_tells bytes t snapshot parts ReadFault text h = absurd h
+audit_tells bytes t snapshot parts WriteFault text h = absurd h
+
+-- What the bytes tell of a trace and a snapshot, the source that gave them tells.
+pub audited_source_tells : (limit : ℕ) (input : Input) (bytes : Text) → WasRead limit input bytes
+    → (status : Status) (text : Text) → TellsOfAudit bytes status text → TellsOfSource limit TellsOfAudit input status text
+audited_source_tells limit input bytes read Good text h = (bytes, read, h)
+audited_source_tells limit input bytes read Refused text h = (bytes, read, h)
+audited_source_tells limit input bytes read BadTrace text h = (bytes, read, h)
+audited_source_tells limit input bytes read WantOfMemory text h = h
+audited_source_tells limit input bytes read Usage text h = absurd h
+audited_source_tells limit input bytes read ReadFault text h = absurd h
+audited_source_tells limit input bytes read WriteFault text h = absurd h
+
+-- What stands behind a trace is short enough that its lines have numbers of 32 bits.
+pub few_behind : (opening bytes : Text) (t : NamedTrace) (behind : Text) → AreTraceAnd opening bytes t behind → length behind < 2 ^ 32 - 1
+few_behind opening bytes t behind parts =
+    omega (arith, ap length parts.parts.split.whole, length-append parts.front behind, parts.parts.few)

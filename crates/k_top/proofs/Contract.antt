@@ -7,7 +7,7 @@ use Rattle.k_top.specs.declared.status.Status.TheVariants.{Good, BadTrace, Usage
 use Rattle.k_top.specs.Answers.{IsDecided, IsDue, IsAnswered, IsUnwritten}
 use Rattle.k_top.specs.Ends.{Input, Output, SinkFailed, Took, TookFront, TookNothing}
 use Rattle.k_top.specs.Parts.{Answers, IsWritten, Means}
-use Rattle.k_top.proofs.Decided.{of_no_command, of_trace, of_big, of_good_report, of_wrong_report, of_bad_input}
+use Rattle.k_top.proofs.Decided.{of_no_command, of_trace, of_big, of_good_report, of_wrong_report, of_sound_snapshot, of_faulty_snapshot, of_bad_input}
 
 -- ---- the answer and the status whose text was written
 
@@ -30,15 +30,10 @@ meant_as words input output status answer text told written this other e =
 
 -- A text that a status means to be written is due.
 due_of : (words : List Text) (input : Input) (status : Status) (text : Text) → Means words input status text → ¬ IsUnwritten status → IsDue words input text
-due_of words input Good text (inl h) some = inl h
-due_of words input Good text (inr (inl h)) some = inr (inl h)
-due_of words input Good text (inr (inr (inl h))) some = inr (inr (inl h))
-due_of words input Good text (inr (inr (inr (inl h)))) some = inr (inr (inr (inl h)))
-due_of words input Good text (inr (inr (inr (inr (inl h))))) some = inr (inr (inr (inr (inl h))))
-due_of words input Good text (inr (inr (inr (inr (inr h))))) some = inr (inr (inr (inr (inr (inl h)))))
-due_of words input Refused text h some = inr (inr (inr (inr (inr (inr (inl h))))))
-due_of words input BadTrace text h some = inr (inr (inr (inr (inr (inr (inr (inl h)))))))
-due_of words input Usage text h some = inr (inr (inr (inr (inr (inr (inr (inr h)))))))
+due_of words input Good text h some = inl h
+due_of words input Refused text h some = inr (inl h)
+due_of words input BadTrace text h some = inr (inr (inl h))
+due_of words input Usage text h some = inr (inr (inr h))
 due_of words input WantOfMemory text h some = absurd (some tt)
 due_of words input ReadFault text h some = absurd (some tt)
 due_of words input WriteFault text h some = absurd h
@@ -70,6 +65,12 @@ decided words input output status answer text told written = record {
   of_wrong_report = λ bytes t report n said known parts refused steady kept.
       subst (λ (s : Status). (s ≡ Refused) ⊎ (s ≡ WantOfMemory)) (sym (settled output status answer text written kept))
       (of_wrong_report words input bytes t report n said known parts refused steady status text told);
+  of_sound_snapshot = λ bytes t snapshot said known parts sound steady kept.
+      subst (λ (s : Status). (s ≡ Good) ⊎ (s ≡ WantOfMemory)) (sym (settled output status answer text written kept))
+      (of_sound_snapshot words input bytes t snapshot said known parts sound steady status text told);
+  of_faulty_snapshot = λ bytes t snapshot verdict said known parts deserved other steady kept.
+      subst (λ (s : Status). (s ≡ Refused) ⊎ (s ≡ WantOfMemory)) (sym (settled output status answer text written kept))
+      (of_faulty_snapshot words input bytes t snapshot verdict said known parts deserved other steady status text told);
   of_bad_input = λ command bytes line reason said known bad steady kept.
       subst (λ (s : Status). (s ≡ BadTrace) ⊎ (s ≡ WantOfMemory)) (sym (settled output status answer text written kept))
       (of_bad_input words input command bytes line reason said known bad steady status text told);

@@ -1,5 +1,5 @@
 -- The answer of a call whose sink gathers, after what was left was handed on to the sink behind it.
-use Rattle.std.proofs.Common.{◌≡◌, ◌⊎◌, ◌∙◌, ℕ, ◌≤◌, List, [], take, drop, Result, Ok, Err, inl, inr, refl, sym, subst, arith}
+use Rattle.std.proofs.Common.{◌≡◌, ◌∙◌, ℕ, ◌≤◌, List, [], take, drop, Result, Ok, Err, inl, inr, refl, sym, subst, arith}
 use Rattle.std.specs.Prelude.{IsOk}
 use Rattle.std.proofs.lemmas.List.{take-append-drop}
 use Rattle.k_gather.specs.Gathering.{Gathers}
@@ -11,7 +11,7 @@ use Rattle.k_io.proofs.Takings.{takes_nothing, takes_front_longer}
 use Rattle.k_words.specs.Words.{Text}
 use Rattle.k_top.specs.declared.status.Status.{Status}
 use Rattle.k_top.specs.declared.status.Status.TheVariants.{Good, BadTrace, Usage, WantOfMemory, ReadFault, WriteFault, Refused}
-use Rattle.k_top.specs.Answers.{IsAnswered, IsChecked, IsDecided, IsDone, IsDue, IsMisused, IsSampled, IsSnapped, IsSummed, IsUnwritten, IsWorked}
+use Rattle.k_top.specs.Answers.{IsAnswered, IsDecided, IsDue, IsMisused, IsUnwritten}
 use Rattle.k_top.specs.Ends.{Input, Output, SinkFailed, Took, TookFront}
 use Rattle.k_top.specs.Parts.{status_after}
 use Rattle.k_top.specs.Texts.{usage_text}
@@ -52,6 +52,8 @@ decided_on words input before after status more d = record {
   of_big = λ objects said kept. d.of_big objects said (λ f. kept (more f));
   of_good_report = λ bytes t report said known parts good steady kept. d.of_good_report bytes t report said known parts good steady (λ f. kept (more f));
   of_wrong_report = λ bytes t report n said known parts refused steady kept. d.of_wrong_report bytes t report n said known parts refused steady (λ f. kept (more f));
+  of_sound_snapshot = λ bytes t snapshot said known parts sound steady kept. d.of_sound_snapshot bytes t snapshot said known parts sound steady (λ f. kept (more f));
+  of_faulty_snapshot = λ bytes t snapshot verdict said known parts deserved other steady kept. d.of_faulty_snapshot bytes t snapshot verdict said known parts deserved other steady (λ f. kept (more f));
   of_bad_input = λ command bytes line reason said known bad steady kept. d.of_bad_input command bytes line reason said known bad steady (λ f. kept (more f));
 }
 
@@ -89,31 +91,25 @@ answered_failed words input output due = record {
     of_big = λ objects said kept. absurd (kept due.2.failed);
     of_good_report = λ bytes t report said known parts good steady kept. absurd (kept due.2.failed);
     of_wrong_report = λ bytes t report n said known parts refused steady kept. absurd (kept due.2.failed);
+    of_sound_snapshot = λ bytes t snapshot said known parts sound steady kept. absurd (kept due.2.failed);
+    of_faulty_snapshot = λ bytes t snapshot verdict said known parts deserved other steady kept. absurd (kept due.2.failed);
     of_bad_input = λ command bytes line reason said known bad steady kept. absurd (kept due.2.failed);
   };
 }
 
-good_due : (words : List Text) (input : Input) (text : Text) → IsDone words input text ⊎ IsChecked words input text ⊎ IsSummed words text ⊎ IsSampled words input text ⊎ IsWorked words input text ⊎ IsSnapped words input text → IsDue words input text
-good_due words input text (inl h) = inl h
-good_due words input text (inr (inl h)) = inr (inl h)
-good_due words input text (inr (inr (inl h))) = inr (inr (inl h))
-good_due words input text (inr (inr (inr (inl h)))) = inr (inr (inr (inl h)))
-good_due words input text (inr (inr (inr (inr (inl h))))) = inr (inr (inr (inr (inl h))))
-good_due words input text (inr (inr (inr (inr (inr h))))) = inr (inr (inr (inr (inr (inl h)))))
-
 -- The text of an answer for which something was written is due, and a front of it was taken where a write failed when what was left was handed on.
 due_on : (words : List Text) (input : Input) (a b c : List ℕ → List ℕ → Type 0) (held : Text) (x y z : ℕ) (status : Status) → IsAnswered words input (gathered a b held x y) status → ¬ IsUnwritten status
     → TakesFront b c held → y ≤ z → RoseOrLast y z → (text : Text) × IsDue words input text × TookFront (behind a c x z) text
-due_on words input a b c held x y z Good i some k later rose = let h = i.good refl in (h.0, good_due words input h.0 h.1, failed_on a b c held h.0 x y z h.2 k rose)
-due_on words input a b c held x y z BadTrace i some k later rose = let h = i.bad_trace refl in (h.0, inr (inr (inr (inr (inr (inr (inr (inl h.1))))))), failed_on a b c held h.0 x y z h.2 k rose)
+due_on words input a b c held x y z Good i some k later rose = let h = i.good refl in (h.0, inl h.1, failed_on a b c held h.0 x y z h.2 k rose)
+due_on words input a b c held x y z BadTrace i some k later rose = let h = i.bad_trace refl in (h.0, inr (inr (inl h.1)), failed_on a b c held h.0 x y z h.2 k rose)
 due_on words input a b c held x y z Usage i some k later rose =
     let h = i.usage refl in
     let misused : IsMisused words usage_text = record { no_command = h.0; says = refl } in
-    (usage_text, inr (inr (inr (inr (inr (inr (inr (inr misused))))))), failed_on a b c held usage_text x y z h.1 k rose)
+    (usage_text, inr (inr (inr misused)), failed_on a b c held usage_text x y z h.1 k rose)
 due_on words input a b c held x y z WantOfMemory i some k later rose = absurd (some tt)
 due_on words input a b c held x y z ReadFault i some k later rose = absurd (some tt)
 due_on words input a b c held x y z WriteFault i some k later rose = let h = i.write_fault refl in (h.0, h.1, front_on a b c held h.0 x y z h.2 k later)
-due_on words input a b c held x y z Refused i some k later rose = let h = i.refused refl in (h.0, inr (inr (inr (inr (inr (inr (inl h.1)))))), failed_on a b c held h.0 x y z h.2 k rose)
+due_on words input a b c held x y z Refused i some k later rose = let h = i.refused refl in (h.0, inr (inl h.1), failed_on a b c held h.0 x y z h.2 k rose)
 
 handed : {E : Type 0} (words : List Text) (input : Input) (a b c : List ℕ → List ℕ → Type 0) (held : Text) (x y z : ℕ) (status : Status) (r : Result (Unit {0}) E)
     → IsAnswered words input (gathered a b held x y) status → (IsUnwritten status → IsOk r) → Writes {T = Unit {0}} {E = E} b c y z r held → IsAnswered words input (behind a c x z) (status_after status r)

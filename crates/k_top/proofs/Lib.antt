@@ -5,6 +5,7 @@ pub mod Handed
 pub mod Lines
 pub mod Lists
 pub mod Meanings
+pub mod Ranges
 pub mod Reports
 pub mod Runs
 pub mod Snaps

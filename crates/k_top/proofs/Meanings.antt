@@ -9,14 +9,14 @@ use Rattle.k_trace.specs.Named.{NamedTrace}
 use Rattle.k_trace.specs.Rules.{IsTrace}
 use Rattle.k_history.specs.Good.{IsGoodReport}
 use Rattle.k_top.specs.declared.commands.Command.{Command}
-use Rattle.k_top.specs.declared.commands.Command.TheVariants.{Run, Replay, Check, Big, Watch, Work, Snap}
+use Rattle.k_top.specs.declared.commands.Command.TheVariants.{Run, Replay, Check, Big, Watch, Work, Snap, Audit}
 use Rattle.k_top.specs.declared.status.Status.{Status}
 use Rattle.k_top.specs.declared.status.Status.TheVariants.{Good, BadTrace, Usage, WantOfMemory, ReadFault, WriteFault, Refused}
 use Rattle.k_top.specs.Answers.{IsChecked, IsDone, WasRead}
 use Rattle.k_top.specs.Commands.{command_of, ReadsSource, RunsTrace}
 use Rattle.k_top.specs.Ends.{Input}
 use Rattle.k_top.specs.Inputs.{most_bytes, IsBadFor}
-use Rattle.k_top.specs.Parts.{Means, TellsOfBig, TellsOfBytes, TellsOfCheck, TellsOfSource}
+use Rattle.k_top.specs.Parts.{Means, TellsOfAudit, TellsOfBig, TellsOfBytes, TellsOfCheck, TellsOfSource}
 use Rattle.k_top.specs.Reports.{IsFileReport, IsFileSnapshot, IsReportOf, IsSomeReport, IsWatchedReport, IsWorkReport}
 use Rattle.k_top.proofs.Reports.{report_is}
 
@@ -31,6 +31,7 @@ read_for (Big objects) input bytes runs read = absurd runs
 read_for (Watch count) input bytes runs read = absurd runs
 read_for Work input bytes runs read = absurd runs
 read_for Snap input bytes runs read = absurd runs
+read_for Audit input bytes runs read = absurd runs
 
 reads : (command : Command) → RunsTrace command → ReadsSource command
 reads Run runs = tt
@@ -40,6 +41,7 @@ reads (Big objects) runs = absurd runs
 reads (Watch count) runs = absurd runs
 reads Work runs = absurd runs
 reads Snap runs = absurd runs
+reads Audit runs = absurd runs
 
 bad_for : (command : Command) (bytes : Text) (line reason : ℕ) → RunsTrace command → IsBad bytes line reason → IsBadFor command bytes line reason
 bad_for Run bytes line reason runs bad = bad
@@ -49,6 +51,7 @@ bad_for (Big objects) bytes line reason runs bad = absurd runs
 bad_for (Watch count) bytes line reason runs bad = absurd runs
 bad_for Work bytes line reason runs bad = absurd runs
 bad_for Snap bytes line reason runs bad = absurd runs
+bad_for Audit bytes line reason runs bad = absurd runs
 
 -- Which texts such a command writes of a trace: by `replay` the report of the order of the file, else that of some history.
 abbrev pub reports_of : Command → NamedTrace → Text → Type 0
@@ -69,6 +72,7 @@ told_history (Big objects) t text runs h = absurd runs
 told_history (Watch count) t text runs h = absurd runs
 told_history Work t text runs h = absurd runs
 told_history Snap t text runs h = absurd runs
+told_history Audit t text runs h = absurd runs
 
 done_by_run : (words : List Text) (input : Input) (command : Command) (text : Text) → command_of words ≡ Some command → RunsTrace command → TellsOfSource most_trace_bytes (TellsOfBytes (reports_of command)) input Good text → IsDone words input text
 done_by_run words input command text said runs h =
@@ -121,7 +125,7 @@ pub check_means : (words : List Text) (input : Input) → command_of words ≡ S
     → (status : Status) (text : Text) → TellsOfSource most_check_bytes TellsOfCheck input status text → Means words input status text
 check_means words input said Good text h = inr (inl (checked_by_check words input text said h))
 check_means words input said Refused text h =
-    record { said = said; bytes = h.0; read = h.1; trace = h.2.0; report = h.2.1; parts = h.2.2; line = h.2.3.0; refused = h.2.3.1; says = h.2.3.2 }
+    inl (record { said = said; bytes = h.0; read = h.1; trace = h.2.0; report = h.2.1; parts = h.2.2; line = h.2.3.0; refused = h.2.3.1; says = h.2.3.2 })
 check_means words input said BadTrace text h = record { command = Check; said = said; bytes = h.0; read = h.1; line = h.2.0; reason = h.2.1; bad = h.2.2; says = h.2.3 }
 check_means words input said WantOfMemory text h = ((Check, said), h)
 check_means words input said ReadFault text h = ((Check, said, tt), h.0, h.1)
@@ -167,10 +171,28 @@ work_means words input said Refused text h = absurd h.2
 
 pub snap_means : (words : List Text) (input : Input) → command_of words ≡ Some Snap
     → (status : Status) (text : Text) → TellsOfSource most_trace_bytes (TellsOfBytes IsFileSnapshot) input status text → Means words input status text
-snap_means words input said Good text h = inr (inr (inr (inr (inr (record { said = said; bytes = h.0; read = h.1; trace = h.2.0; spelled = h.2.1; snapshot = h.2.2 })))))
+snap_means words input said Good text h = inr (inr (inr (inr (inr (inl (record { said = said; bytes = h.0; read = h.1; trace = h.2.0; spelled = h.2.1; snapshot = h.2.2 }))))))
 snap_means words input said BadTrace text h = record { command = Snap; said = said; bytes = h.0; read = h.1; line = h.2.0; reason = h.2.1; bad = h.2.2; says = h.2.3 }
 snap_means words input said WantOfMemory text h = ((Snap, said), h)
 snap_means words input said ReadFault text h = ((Snap, said, tt), h.0, h.1)
 snap_means words input said Usage text h = absurd h.2
 snap_means words input said WriteFault text h = absurd h.2
 snap_means words input said Refused text h = absurd h.2
+
+-- ---- the command that audits a snapshot
+
+pub audit_means : (words : List Text) (input : Input) → command_of words ≡ Some Audit
+    → (status : Status) (text : Text) → TellsOfSource most_check_bytes TellsOfAudit input status text → Means words input status text
+audit_means words input said Good text h =
+    inr (inr (inr (inr (inr (inr (record { said = said; bytes = h.0; read = h.1; trace = h.2.0; snapshot = h.2.1; parts = h.2.2; deserved = h.2.3.0; says = h.2.3.1 }))))))
+audit_means words input said Refused text h =
+    inr (record {
+      verdict = h.2.3.0;
+      not_sound = h.2.3.2;
+      audited = record { said = said; bytes = h.0; read = h.1; trace = h.2.0; snapshot = h.2.1; parts = h.2.2; deserved = h.2.3.1; says = h.2.3.3 };
+    })
+audit_means words input said BadTrace text h = record { command = Audit; said = said; bytes = h.0; read = h.1; line = h.2.0; reason = h.2.1; bad = h.2.2; says = h.2.3 }
+audit_means words input said WantOfMemory text h = ((Audit, said), h)
+audit_means words input said ReadFault text h = ((Audit, said, tt), h.0, h.1)
+audit_means words input said Usage text h = absurd h.2
+audit_means words input said WriteFault text h = absurd h.2

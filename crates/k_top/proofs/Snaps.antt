@@ -11,13 +11,18 @@ use Rattle.k_state.specs.Machines.{setup_of}
 use Rattle.k_outcome.specs.Ends.{EndValue, journal_of, last_state}
 use Rattle.k_outcome.proofs.Setups.{same_state}
 use Rattle.k_run.specs.Runs.{IsRunOf}
+use Rattle.k_types.specs.FileOrder.{file_order}
+use Rattle.k_trace.specs.Rules.{IsTrace}
 use Rattle.k_audit.specs.Snapshots.{snapshot_text}
+use Rattle.k_audit.specs.Verdicts.{IsVerdict}
+use Rattle.k_audit.specs.declared.verdicts.Verdict.TheVariants.{Sound}
 use Rattle.k_audit.proofs.Setups.{setup_alone}
 use Rattle.k_top.specs.declared.status.Status.TheVariants.{Good}
 use Rattle.k_top.specs.Ends.{Input}
 use Rattle.k_top.specs.Parts.{TellsOfBytes, TellsOfSource}
 use Rattle.k_top.specs.Reports.{IsFileSnapshot}
 use Rattle.k_top.specs.Runs.{HasReplayed}
+use Rattle.k_top.proofs.Ranges.{snapshot_found}
 
 -- The snapshot of what the end of a run shows.
 abbrev pub snapshot_of : EndValue → Text
@@ -36,6 +41,16 @@ snapshot_of_run t end run =
     ∙ ap (λ (setup : Trace). snapshot_text t.names setup (state_after setup (journal_of end))) run.setup
     ∙ snapshot_over_setup t.names t.trace (journal_of end)
 
+-- What such a text is of a trace.
+is_snapshot : (t : NamedTrace) (text : Text) → IsTrace t → IsLegalHistory t.trace (file_order t.trace) → IsComplete t.trace (file_order t.trace)
+    → text ≡ snapshot_text t.names t.trace (state_after t.trace (file_order t.trace)) → IsFileSnapshot t text
+is_snapshot t text is legal complete says = record {
+  legal = legal;
+  complete = complete;
+  says = says;
+  sound = subst (λ (s : Text). IsVerdict t.names (setup_of t.trace) s Sound) (sym says) (snapshot_found t (file_order t.trace) is legal complete);
+}
+
 -- What is told of a run in the order of the file is the snapshot of the state after that order.
 pub snap_told : (input : Input) (end : EndValue) → HasReplayed input end → TellsOfSource most_trace_bytes (TellsOfBytes IsFileSnapshot) input Good (snapshot_of end)
 snap_told input end h = (
@@ -44,10 +59,9 @@ snap_told input end h = (
   (
     h.trace,
     h.gave.spelled,
-    record {
-      legal = subst (IsLegalHistory h.trace.trace) h.in_order h.run.legal;
-      complete = subst (IsComplete h.trace.trace) h.in_order h.run.complete;
-      says = snapshot_of_run h.trace end h.run ∙ ap (λ (history : List Event). snapshot_text h.trace.names h.trace.trace (state_after h.trace.trace history)) h.in_order;
-    },
+    is_snapshot h.trace (snapshot_of end) h.gave.spelled.is_trace
+        (subst (IsLegalHistory h.trace.trace) h.in_order h.run.legal)
+        (subst (IsComplete h.trace.trace) h.in_order h.run.complete)
+        (snapshot_of_run h.trace end h.run ∙ ap (λ (history : List Event). snapshot_text h.trace.names h.trace.trace (state_after h.trace.trace history)) h.in_order),
   ),
 )

@@ -1,5 +1,5 @@
 -- What the program answers: the contract of its top call, a field for each status.
-use Rattle.std.specs.Prelude.{◌≡◌, ◌⊎◌, ℕ, ◌+◌, ◌≤◌, List, length, Some}
+use Rattle.std.specs.Prelude.{◌≡◌, ◌≢◌, ◌⊎◌, ℕ, ◌+◌, ◌≤◌, List, length, Some}
 use Rattle.std.specs.Io.KnownBytes.{Consumes, IsAtEnd}
 use Rattle.k_types.specs.declared.event.Event.{Event}
 use Rattle.k_types.specs.FileOrder.{file_order}
@@ -8,15 +8,19 @@ use Rattle.k_trace.specs.Named.{NamedTrace}
 use Rattle.k_trace.specs.Rules.{Spells}
 use Rattle.k_history.specs.Good.{IsGoodReport, IsRefusedAt}
 use Rattle.k_reports.specs.Verdicts.{IsRefused}
+use Rattle.k_state.specs.Machines.{setup_of}
+use Rattle.k_audit.specs.Verdicts.{IsVerdict}
+use Rattle.k_audit.specs.declared.verdicts.Verdict.{Verdict}
+use Rattle.k_audit.specs.declared.verdicts.Verdict.TheVariants.{Sound}
 use Rattle.k_top.specs.declared.commands.Command.{Command}
-use Rattle.k_top.specs.declared.commands.Command.TheVariants.{Replay, Check, Big, Watch, Work, Snap}
+use Rattle.k_top.specs.declared.commands.Command.TheVariants.{Replay, Check, Big, Watch, Work, Snap, Audit}
 use Rattle.k_top.specs.declared.status.Status.{Status}
 use Rattle.k_top.specs.declared.status.Status.TheVariants.{Good, BadTrace, Usage, WantOfMemory, ReadFault, WriteFault, Refused}
 use Rattle.k_top.specs.Commands.{command_of, IsCommand, IsNoCommand, IsReading, ReadsTrace, RunsTrace}
 use Rattle.k_top.specs.Ends.{Input, Output, SourceFailed, SinkFailed, Took, TookFront, TookNothing}
-use Rattle.k_top.specs.Inputs.{most_bytes, AreTraceAndReport, IsBadFor}
+use Rattle.k_top.specs.Inputs.{most_bytes, AreTraceAndReport, AreTraceAndSnapshot, IsBadFor}
 use Rattle.k_top.specs.Reports.{IsFileSnapshot, IsReportOf, IsSummaryOf, IsWatchedReport, IsWorkReport}
-use Rattle.k_top.specs.Texts.{usage_text, bad_trace_text, good_text, refused_text}
+use Rattle.k_top.specs.Texts.{usage_text, bad_trace_text, good_text, refused_text, verdict_text}
 
 -- The source gave these bytes: all to the end of input, or one more than the limit where there are more.
 pub record WasRead (limit : ℕ) (input : Input) (bytes : Text) : Type 0 where
@@ -96,6 +100,24 @@ pub record IsRefusedReport (words : List Text) (input : Input) (text : Text) : T
   pub refused : IsRefused trace report line
   pub says : text ≡ refused_text line
 
+-- By `audit` a trace and a snapshot were read, and that is the verdict that the snapshot deserves over the trace's header, which the text
+-- tells.
+pub record IsAudited (words : List Text) (input : Input) (verdict : Verdict) (text : Text) : Type 0 where
+  pub said : command_of words ≡ Some Audit
+  pub bytes : Text
+  pub read : WasRead (most_bytes Audit) input bytes
+  pub trace : NamedTrace
+  pub snapshot : Text
+  pub parts : AreTraceAndSnapshot bytes trace snapshot
+  pub deserved : IsVerdict trace.names (setup_of trace.trace) snapshot verdict
+  pub says : text ≡ verdict_text verdict
+
+-- By `audit` a snapshot was found not to be sound.
+pub record IsFaulted (words : List Text) (input : Input) (text : Text) : Type 0 where
+  pub verdict : Verdict
+  pub not_sound : verdict ≢ Sound
+  pub audited : IsAudited words input verdict text
+
 -- What was read, or the trace part of it, is no trace, and the text tells the first bad line and its lowest reason.
 pub record IsBadInput (words : List Text) (input : Input) (text : Text) : Type 0 where
   pub command : Command
@@ -112,10 +134,18 @@ pub record IsMisused (words : List Text) (text : Text) : Type 0 where
   pub no_command : IsNoCommand words
   pub says : text ≡ usage_text
 
+-- The command was done, and that is its text.
+abbrev pub IsAccomplished : List Text → Input → Text → Type 0
+IsAccomplished words input text =
+    IsDone words input text ⊎ IsChecked words input text ⊎ IsSummed words text ⊎ IsSampled words input text ⊎ IsWorked words input text ⊎ IsSnapped words input text ⊎ IsAudited words input Sound text
+
+-- A report or a snapshot was refused, or a snapshot is not sound, and that is the text of it.
+abbrev pub IsFoundWrong : List Text → Input → Text → Type 0
+IsFoundWrong words input text = IsRefusedReport words input text ⊎ IsFaulted words input text
+
 -- The text is what a call without a fault of the sink would have written.
 abbrev pub IsDue : List Text → Input → Text → Type 0
-IsDue words input text =
-    IsDone words input text ⊎ IsChecked words input text ⊎ IsSummed words text ⊎ IsSampled words input text ⊎ IsWorked words input text ⊎ IsSnapped words input text ⊎ IsRefusedReport words input text ⊎ IsBadInput words input text ⊎ IsMisused words text
+IsDue words input text = IsAccomplished words input text ⊎ IsFoundWrong words input text ⊎ IsBadInput words input text ⊎ IsMisused words text
 
 -- Where neither source nor sink fails, the words and the bytes decide the answer, up to want of memory. `big` and words that are no command
 -- do not go by the source.
@@ -128,18 +158,22 @@ pub record IsDecided (words : List Text) (input : Input) (output : Output) (answ
       → ¬ SourceFailed input → ¬ SinkFailed output → (answer ≡ Good) ⊎ (answer ≡ WantOfMemory)
   pub of_wrong_report : (bytes : Text) (t : NamedTrace) (report : Text) (n : ℕ) → command_of words ≡ Some Check → input.left ≡ Some bytes → AreTraceAndReport bytes t report → IsRefusedAt t report n
       → ¬ SourceFailed input → ¬ SinkFailed output → (answer ≡ Refused) ⊎ (answer ≡ WantOfMemory)
+  pub of_sound_snapshot : (bytes : Text) (t : NamedTrace) (snapshot : Text) → command_of words ≡ Some Audit → input.left ≡ Some bytes → AreTraceAndSnapshot bytes t snapshot
+      → IsVerdict t.names (setup_of t.trace) snapshot Sound → ¬ SourceFailed input → ¬ SinkFailed output → (answer ≡ Good) ⊎ (answer ≡ WantOfMemory)
+  pub of_faulty_snapshot : (bytes : Text) (t : NamedTrace) (snapshot : Text) (verdict : Verdict) → command_of words ≡ Some Audit → input.left ≡ Some bytes → AreTraceAndSnapshot bytes t snapshot
+      → IsVerdict t.names (setup_of t.trace) snapshot verdict → verdict ≢ Sound → ¬ SourceFailed input → ¬ SinkFailed output → (answer ≡ Refused) ⊎ (answer ≡ WantOfMemory)
   pub of_bad_input : (command : Command) (bytes : Text) (line reason : ℕ) → command_of words ≡ Some command → input.left ≡ Some bytes → IsBadFor command bytes line reason
       → ¬ SourceFailed input → ¬ SinkFailed output → (answer ≡ BadTrace) ⊎ (answer ≡ WantOfMemory)
 
 -- What each status means where it is the answer, and which answer comes.
 pub record IsAnswered (words : List Text) (input : Input) (output : Output) (answer : Status) : Type 0 where
-  pub good : answer ≡ Good → (text : Text) × (IsDone words input text ⊎ IsChecked words input text ⊎ IsSummed words text ⊎ IsSampled words input text ⊎ IsWorked words input text ⊎ IsSnapped words input text) × Took output text
+  pub good : answer ≡ Good → (text : Text) × IsAccomplished words input text × Took output text
   pub bad_trace : answer ≡ BadTrace → (text : Text) × IsBadInput words input text × Took output text
   pub usage : answer ≡ Usage → IsNoCommand words × Took output usage_text
   pub want_of_memory : answer ≡ WantOfMemory → IsCommand words × TookNothing output
   pub read_fault : answer ≡ ReadFault → IsReading words × SourceFailed input × TookNothing output
   pub write_fault : answer ≡ WriteFault → (text : Text) × IsDue words input text × TookFront output text
-  pub refused : answer ≡ Refused → (text : Text) × IsRefusedReport words input text × Took output text
+  pub refused : answer ≡ Refused → (text : Text) × IsFoundWrong words input text × Took output text
   pub complete : IsDecided words input output answer
 
 -- The answer is one of those that nothing is written for.

@@ -1,20 +1,24 @@
--- What the parts of a call tell: the writing of a text, the run of a trace or of the workload, the check of a report, the judgement of an
--- input.
-use Rattle.std.specs.Prelude.{◌≡◌, ◌⊎◌, ℕ, List, [], Result, Ok, Err}
+-- What the parts of a call tell: the writing of a text, the run of a trace or of the workload, the check of a report, the audit of a
+-- snapshot, the judgement of an input.
+use Rattle.std.specs.Prelude.{◌≡◌, ◌≢◌, ◌⊎◌, ℕ, List, [], Result, Ok, Err}
 use Rattle.k_words.specs.Words.{Text}
 use Rattle.k_trace.specs.Named.{NamedTrace}
 use Rattle.k_trace.specs.Judgement.{IsBad}
 use Rattle.k_trace.specs.Rules.{Spells}
 use Rattle.k_reports.specs.Verdicts.{IsAccepted, IsRefused}
-use Rattle.k_top.specs.declared.commands.Command.TheVariants.{Check}
+use Rattle.k_state.specs.Machines.{setup_of}
+use Rattle.k_audit.specs.Verdicts.{IsVerdict}
+use Rattle.k_audit.specs.declared.verdicts.Verdict.{Verdict}
+use Rattle.k_audit.specs.declared.verdicts.Verdict.TheVariants.{Sound}
+use Rattle.k_top.specs.declared.commands.Command.TheVariants.{Check, Audit}
 use Rattle.k_top.specs.declared.status.Status.{Status}
 use Rattle.k_top.specs.declared.status.Status.TheVariants.{Good, BadTrace, Usage, WantOfMemory, ReadFault, WriteFault, Refused}
-use Rattle.k_top.specs.Answers.{IsBadInput, IsChecked, IsDone, IsMisused, IsRefusedReport, IsSampled, IsSnapped, IsSummed, IsUnwritten, IsWorked, WasRead}
+use Rattle.k_top.specs.Answers.{IsAccomplished, IsBadInput, IsFoundWrong, IsMisused, IsUnwritten, WasRead}
 use Rattle.k_top.specs.Commands.{IsCommand, IsReading}
 use Rattle.k_top.specs.Ends.{Input, Output, SourceFailed, Took, TookFront}
-use Rattle.k_top.specs.Inputs.{AreTraceAndReport, IsBadFor}
+use Rattle.k_top.specs.Inputs.{AreTraceAndReport, AreTraceAndSnapshot, IsBadFor}
 use Rattle.k_top.specs.Reports.{IsSummaryOf}
-use Rattle.k_top.specs.Texts.{bad_trace_text, good_text, refused_text}
+use Rattle.k_top.specs.Texts.{bad_trace_text, good_text, refused_text, verdict_text}
 
 -- The status after its text was handed to the sink.
 abbrev pub status_after : {E : Type 0} → Status → Result (Unit {0}) E → Status
@@ -55,6 +59,21 @@ TellsOfCheck bytes BadTrace text = (line : ℕ) × (reason : ℕ) × IsBadFor Ch
 TellsOfCheck bytes WantOfMemory text = text ≡ []
 TellsOfCheck bytes _ text = ⊥
 
+-- What each status tells of a snapshot that is audited over the header of a trace, and of the text to be written.
+abbrev pub TellsOfSnapshot : NamedTrace → Text → Status → Text → Type 0
+TellsOfSnapshot t snapshot Good text = IsVerdict t.names (setup_of t.trace) snapshot Sound × (text ≡ verdict_text Sound)
+TellsOfSnapshot t snapshot Refused text = (verdict : Verdict) × IsVerdict t.names (setup_of t.trace) snapshot verdict × (verdict ≢ Sound) × (text ≡ verdict_text verdict)
+TellsOfSnapshot t snapshot WantOfMemory text = text ≡ []
+TellsOfSnapshot t snapshot _ text = ⊥
+
+-- What each status tells of the bytes that were read as a trace and a snapshot, and of the text to be written.
+abbrev pub TellsOfAudit : Text → Status → Text → Type 0
+TellsOfAudit bytes Good text = (t : NamedTrace) × (snapshot : Text) × AreTraceAndSnapshot bytes t snapshot × TellsOfSnapshot t snapshot Good text
+TellsOfAudit bytes Refused text = (t : NamedTrace) × (snapshot : Text) × AreTraceAndSnapshot bytes t snapshot × TellsOfSnapshot t snapshot Refused text
+TellsOfAudit bytes BadTrace text = (line : ℕ) × (reason : ℕ) × IsBadFor Audit bytes line reason × (text ≡ bad_trace_text line reason)
+TellsOfAudit bytes WantOfMemory text = text ≡ []
+TellsOfAudit bytes _ text = ⊥
+
 -- What each status tells of a source that is read up to this limit, by what it tells of the bytes that were read.
 abbrev pub TellsOfSource : ℕ → (Text → Status → Text → Type 0) → Input → Status → Text → Type 0
 TellsOfSource limit tells input ReadFault text = SourceFailed input × (text ≡ [])
@@ -69,10 +88,10 @@ TellsOfBig objects _ text = ⊥
 
 -- What each status means of the words and the source, and of the text to be written.
 abbrev pub Means : List Text → Input → Status → Text → Type 0
-Means words input Good text = IsDone words input text ⊎ IsChecked words input text ⊎ IsSummed words text ⊎ IsSampled words input text ⊎ IsWorked words input text ⊎ IsSnapped words input text
+Means words input Good text = IsAccomplished words input text
 Means words input BadTrace text = IsBadInput words input text
 Means words input Usage text = IsMisused words text
 Means words input WantOfMemory text = IsCommand words × (text ≡ [])
 Means words input ReadFault text = IsReading words × SourceFailed input × (text ≡ [])
 Means words input WriteFault text = ⊥
-Means words input Refused text = IsRefusedReport words input text
+Means words input Refused text = IsFoundWrong words input text

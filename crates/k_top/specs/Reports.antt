@@ -22,7 +22,10 @@ use Rattle.k_watch.specs.declared.sample.Sample.{Sample}
 use Rattle.k_watch.specs.Numbers.{numbers_after}
 use Rattle.k_watch.specs.Samples.{IsLast, IsRising}
 use Rattle.k_watch.specs.Shown.{AllTellOf}
+use Rattle.k_state.specs.Machines.{setup_of}
 use Rattle.k_audit.specs.Snapshots.{snapshot_text}
+use Rattle.k_audit.specs.Verdicts.{IsVerdict}
+use Rattle.k_audit.specs.declared.verdicts.Verdict.TheVariants.{Sound}
 use Rattle.k_work.specs.Lines.{work_text}
 use Rattle.k_work.specs.Tables.{work_of}
 use Rattle.k_top.specs.Samples.{samples_text}
@@ -82,8 +85,10 @@ pub record IsWorkReport (t : NamedTrace) (text : Text) : Type 0 where
   pub is_report : IsReportOf t history report
   pub says : text ≡ report ++ work_text t.names (work_of t.trace history)
 
--- The text is the snapshot of the state after the history of the trace in the order of the file, which is legal and complete.
+-- The text is the snapshot of the state after the history of the trace in the order of the file, which is legal and complete, and over the
+-- header it deserves the verdict that it is sound.
 pub record IsFileSnapshot (t : NamedTrace) (text : Text) : Type 0 where
   pub legal : IsLegalHistory t.trace (file_order t.trace)
   pub complete : IsComplete t.trace (file_order t.trace)
   pub says : text ≡ snapshot_text t.names t.trace (state_after t.trace (file_order t.trace))
+  pub sound : IsVerdict t.names (setup_of t.trace) text Sound

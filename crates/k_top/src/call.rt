@@ -17,9 +17,9 @@ use std::thread::Threads;
 
 /// Does what the words say, and writes the text of its status.
 ///
-/// The words are decided first, then the source is read, then the trace is judged, then it is run or its
-/// report checked, and then the text is written. So the source is not read where the words are no command,
-/// nor by `big`, whose trace is made, and nothing is written before the run or the check has ended.
+/// The words are decided first, then the source is read, then the trace is judged, then it is run, its
+/// report checked or a snapshot audited, and then the text is written. So the source is not read where the words are no command,
+/// nor by `big`, whose trace is made, and nothing is written before the run, the check or the audit has ended.
 ///
 /// `run`, `big`, `watch` and `work` have at most four threads do what the processes have to do, and tell the gate where they stand; `replay`
 /// and `snap` do the operations in the order of the file, on the caller's thread. Those four wait for the locks of the heaps: they return if they get
@@ -28,7 +28,7 @@ use std::thread::Threads;
 ///
 /// Memory is taken for the bytes of the input and for the trace; then, before the first operation, for all that the operations can come
 /// to need: the journal, the objects, the tables, the locks and the places for the report. Each goes with the input. `check` and
-/// `work` take memory for their machine as it goes. docs/PERFORMANCE.md has what it costs in time.
+/// `work` take memory for their machine as it goes, and `audit` for what the snapshot says. docs/PERFORMANCE.md has what it costs in time.
 pub fn kaffe<S: Source, K: Sink, G: Gate, R: Threads + Wait + Sync>(
     rt: &R,
     alloc: Global,
@@ -49,8 +49,10 @@ pub fn kaffe<S: Source, K: Sink, G: Gate, R: Threads + Wait + Sync>(
         Some(Command::Big(objects)) => run_workload(rt, alloc, objects, out, gate),
         Some(Command::Watch(count)) => watch_file(rt, alloc, src, count, out, gate),
         Some(Command::Work) => work_file(rt, alloc, src, out, gate),
-        Some(Command::Replay) | Some(Command::Check) | Some(Command::Snap) | None => {
-            answer_at_once(alloc, words, src, out)
-        }
+        Some(Command::Replay)
+        | Some(Command::Check)
+        | Some(Command::Snap)
+        | Some(Command::Audit)
+        | None => answer_at_once(alloc, words, src, out),
     }
 }

@@ -6,13 +6,13 @@ ghost use Rattle.k_trace.specs.Rules.{IsTrace};
 ghost use Rattle.k_top.specs.Answers.{IsUnwritten};
 ghost use Rattle.k_top.specs.Parts.{Answers, TellsOfCheck, TellsOfReport, TellsOfSource};
 
+use crate::parting::parts_of;
 use crate::status::{Status, want_of_memory};
 use crate::texts::{write_bad_trace, write_good, write_refused};
 use k_check::{Verdict, check_report};
 use k_io::{ReadAllError, Sink, Source, read_all};
-use k_trace::{Reason, Trace, TraceError, read_trace};
+use k_trace::{Trace, TraceError};
 use k_types::MOST_CHECK_BYTES;
-use k_words::split_at_line;
 use std::alloc::Global;
 
 /// Reads a trace and a report from the source, and writes whether the report is that of a run of the trace, or its first wrong
@@ -40,12 +40,8 @@ fn check_bytes<K: Sink>(alloc: Global, bytes: &[u8], out: &mut K) -> Status
         result }
     ensures unwritten { IsUnwritten result → out.new ≡ out.old }
 {
-    if bytes.len() > MOST_CHECK_BYTES {
-        return write_bad_trace(out, 0, Reason::TooManyBytes.number());
-    }
-    let (front, report) = split_at_line(bytes, b"report 1");
-    match read_trace(alloc, front) {
-        Ok(trace) => check_against(alloc, &trace, report, out),
+    match parts_of(alloc, bytes, b"report 1") {
+        Ok((trace, report)) => check_against(alloc, &trace, report, out),
         Err(TraceError::NoMemory(refused)) => want_of_memory(refused),
         Err(TraceError::Bad { line, reason }) => write_bad_trace(out, line, reason),
     }

@@ -25,6 +25,8 @@ pub enum Command {
     Work,
     /// Does the operations in the order of the file, and writes the snapshot of the state that they leave.
     Snap,
+    /// Reads a trace and a snapshot, and says whether the snapshot is that of a sound state over the header of the trace.
+    Audit,
 }
 
 /// The command that the words, those after the program's name, are; `None` where they are none.
@@ -48,6 +50,7 @@ fn command_named(word: &str) -> Option<Command>
         "check" => Some(Command::Check),
         "work" => Some(Command::Work),
         "snap" => Some(Command::Snap),
+        "audit" => Some(Command::Audit),
         _ => None,
     }
 }

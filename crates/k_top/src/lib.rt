@@ -1,5 +1,5 @@
 //! The program: reads a trace from standard input, runs it on threads or in the order of the file and writes its report to
-//! standard output, or checks a report, or does what else its words say. Its exit status says how that ended.
+//! standard output, or checks a report, or audits a snapshot, or does what else its words say. Its exit status says how that ended.
 //!
 //! The contract of `kaffe` promises, for any source and sink, which status comes and what was
 //! written, and that of `program` that the exit status is the number of this status. `program` has a
@@ -7,11 +7,13 @@
 //! the command line.
 #![tactic(auto)]
 
+mod auditing;
 mod call;
 mod checking;
 mod command_line;
 mod commands;
 mod gathering;
+mod parting;
 mod run_error;
 mod running;
 mod samples;

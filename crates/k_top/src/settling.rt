@@ -3,6 +3,7 @@ ghost use Rattle.std.specs.Prelude.{◌≡◌, map, string_bytes};
 ghost use Rattle.k_top.specs.Answers.{IsAnswered, IsUnwritten};
 ghost use Rattle.k_top.specs.Commands.{IsReading, WaitsForNobody};
 
+use crate::auditing::audit_file;
 use crate::checking::check_file;
 use crate::commands::{Command, command_of};
 use crate::running::replay_file;
@@ -12,8 +13,8 @@ use crate::texts::write_usage;
 use k_io::{Sink, Source};
 use std::alloc::Global;
 
-/// Does what the words say where they are `replay`, `check`, `snap`, or no command. It waits for nobody, so it returns, whatever the source and
-/// the sink do.
+/// Does what the words say where they are `replay`, `check`, `snap`, `audit`, or no command. It waits for nobody, so it returns, whatever
+/// the source and the sink do.
 pub fn answer_at_once<S: Source, K: Sink>(
     alloc: Global,
     words: &[String],
@@ -32,6 +33,7 @@ pub fn answer_at_once<S: Source, K: Sink>(
         Some(Command::Replay) => replay_file(alloc, src, out),
         Some(Command::Check) => check_file(alloc, src, out),
         Some(Command::Snap) => snap_file(alloc, src, out),
+        Some(Command::Audit) => audit_file(alloc, src, out),
         Some(Command::Run) => unreachable!(),
         Some(Command::Big(_)) => unreachable!(),
         Some(Command::Watch(_)) => unreachable!(),

@@ -21,7 +21,8 @@ pub enum Status {
     ReadFault,
     /// The sink failed. It took a front of a text that another status would have written whole.
     WriteFault,
-    /// The report that was read is not that of a legal and complete history of its trace.
+    /// The report that was read is not that of a legal and complete history of its trace, or the snapshot that was read is none, or not
+    /// that of a sound state.
     Refused,
 }
 

@@ -53,7 +53,8 @@ end
 ";
 
 /// What is written where the words are no command.
-pub const USAGE: &str = "usage: kaffe run | replay | check | big N | watch K | work | snap\n";
+pub const USAGE: &str =
+    "usage: kaffe run | replay | check | big N | watch K | work | snap | audit\n";
 
 /// A trace in which every sharer pays in full.
 pub const SHARING: &str = "kaffe 1
@@ -170,7 +171,7 @@ type Row = (&'static str, &'static str, u32, u32, Status, &'static str);
 
 /// Reads that fail. The first one gives the input, the second its end, and there is no third. Words that are no command, and `big`, read
 /// nothing.
-const READS: [Row; 16] = [
+const READS: [Row; 20] = [
     ("run", TRACE, 1, 0, Status::ReadFault, ""),
     ("run", TRACE, 2, 0, Status::ReadFault, ""),
     ("run", TRACE, 3, 0, Status::Good, REPORT),
@@ -182,21 +183,26 @@ const READS: [Row; 16] = [
     ("snap", ENDING, 1, 0, Status::ReadFault, ""),
     ("snap", ENDING, 2, 0, Status::ReadFault, ""),
     ("snap", ENDING, 3, 0, Status::Good, ENDED),
+    ("audit", TRACE, 1, 0, Status::ReadFault, ""),
+    ("audit", TRACE, 2, 0, Status::ReadFault, ""),
+    ("audit", TRACE, 3, 0, Status::Refused, "refused 1\n"),
     ("big 10", "", 1, 0, Status::Good, TEN),
     ("", TRACE, 1, 0, Status::Usage, USAGE),
     ("run x", TRACE, 1, 0, Status::Usage, USAGE),
     ("big 0", TRACE, 1, 0, Status::Usage, USAGE),
     ("snap 1", TRACE, 1, 0, Status::Usage, USAGE),
+    ("audit 1", TRACE, 1, 0, Status::Usage, USAGE),
 ];
 
 /// First writes that fail. A text that is no report is one piece.
-const WRITES: [Row; 6] = [
+const WRITES: [Row; 7] = [
     ("run", "", 0, 1, Status::WriteFault, ""),
     ("help", TRACE, 0, 1, Status::WriteFault, ""),
     ("check", TRACE, 0, 1, Status::WriteFault, ""),
     ("big 10", "", 0, 1, Status::WriteFault, ""),
     ("work", TRACE, 0, 1, Status::WriteFault, ""),
     ("snap", ENDING, 0, 1, Status::WriteFault, ""),
+    ("audit", TRACE, 0, 1, Status::WriteFault, ""),
 ];
 
 /// Calls the program once for each row.

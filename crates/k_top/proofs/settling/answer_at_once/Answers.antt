@@ -1,9 +1,9 @@
 use Rattle.std.proofs.Common.{sym, ◌∙◌, ap, refl, Some}
 use Rattle.k_top.specs.declared.commands.Command.{Command}
-use Rattle.k_top.specs.declared.commands.Command.TheVariants.{Run, Replay, Check, Big, Watch, Work, Snap}
+use Rattle.k_top.specs.declared.commands.Command.TheVariants.{Run, Replay, Check, Big, Watch, Work, Snap, Audit}
 use Rattle.k_top.proofs.Answered.{answered_more, answered_written}
 use Rattle.k_top.proofs.Contract.{contract}
-use Rattle.k_top.proofs.Meanings.{check_means, run_means, snap_means}
+use Rattle.k_top.proofs.Meanings.{audit_means, check_means, run_means, snap_means}
 use Rattle.k_top.proofs.settling.answer_at_once.Goals as goal
 
 pub returns-in-Some-Replay-clause-answered : goal.returns-in-Some-Replay-clause-answered
@@ -26,6 +26,13 @@ returns-in-Some-Snap-clause-answered g c =
 
 pub returns-in-Some-Snap-clause-unread : goal.returns-in-Some-Snap-clause-unread
 returns-in-Some-Snap-clause-unread g c none = absurd (none (Snap, sym c.command_of.ensures ∙ c.in-Some-Snap.is ∙ ap (λ (command : Command). Some command) c.in-Some-Snap.field-0-is, tt))
+
+pub returns-in-Some-Audit-clause-answered : goal.returns-in-Some-Audit-clause-answered
+returns-in-Some-Audit-clause-answered g c =
+    contract _ _ _ _ (answered_more _ _ _ _ (audit_means _ _ (sym c.command_of.ensures ∙ c.in-Some-Audit.is ∙ ap (λ (command : Command). Some command) c.in-Some-Audit.field-0-is)) c.audit_file.ensures.answered)
+
+pub returns-in-Some-Audit-clause-unread : goal.returns-in-Some-Audit-clause-unread
+returns-in-Some-Audit-clause-unread g c none = absurd (none (Audit, sym c.command_of.ensures ∙ c.in-Some-Audit.is ∙ ap (λ (command : Command). Some command) c.in-Some-Audit.field-0-is, tt))
 
 pub returns-in-None-clause-answered : goal.returns-in-None-clause-answered
 returns-in-None-clause-answered g c = contract _ _ _ _ (answered_written _ _ _ _ _ (record { no_command = sym c.command_of.ensures ∙ c.in-None.is; says = refl }) c.write_usage.ensures)

@@ -1,0 +1,183 @@
+//! A state that is given part by part, in which nothing is done, scanned or closed.
+ghost use Rattle.std.specs.Prelude.{◌≡◌, ◌<◌, ◌++◌, ◌∷◌, [], Some, IfOk, OnErr, OnOk, length};
+ghost use Rattle.k_state.specs.Machines.{IsPlain, Machine};
+ghost use Rattle.k_state.specs.Stills.{blank};
+ghost use Rattle.k_types.specs.Trace.{process_count, trace_of};
+ghost use Rattle.k_types.specs.Updates.{set_register};
+
+use crate::items::{ExitItem, Share};
+use crate::keeping::recount;
+use crate::lists::PlainLists;
+use crate::objects::PlainObject;
+use crate::opening::{copy_of, null_registers};
+use crate::registers::Registers;
+use k_io::{NoMemory, push};
+use k_types::{Name, Phase, Pid, Reg, Setup};
+use std::alloc::Global;
+use std::marker::Model;
+
+/// A state that is given part by part: nothing is done, no collection is open and the last one has not begun.
+///
+/// Contracts see the state. What is added stands behind what was there.
+#[derive(Drop)]
+pub struct StillState {
+    objects: Vec<PlainObject>,
+    made: Vec<u32>,
+    registers: Vec<Registers>,
+    done: Vec<u32>,
+    exits: Vec<ExitItem>,
+    shares: Vec<Share>,
+    phases: Vec<Phase>,
+    ended: Vec<u32>,
+    maxima: Vec<u64>,
+}
+
+impl Model for StillState {
+    ghost use Rattle.std.specs.Prelude.{[], false};
+    ghost use Rattle.k_types.specs.State.{State};
+
+    ghost Value = { State };
+
+    ghost view = { λ s. record {
+      objects = s.objects.items;
+      made = s.made.items;
+      registers = s.registers.items;
+      done = s.done.items;
+      exits = s.exits.items;
+      shares = s.shares.items;
+      phases = s.phases.items;
+      ended = s.ended.items;
+      scans = [];
+      closed = false;
+      maxima = s.maxima.items;
+    } };
+}
+
+impl StillState {
+    /// Nothing is given yet; each of so many processes has null in its registers. `NoMemory` comes where the registers find no
+    /// memory.
+    pub fn blank(alloc: Global, procs: usize) -> Result<StillState, NoMemory>
+        ensures { IfOk result (λ s. s ≡ blank procs) }
+    {
+        Ok(StillState {
+            objects: Vec::new(alloc),
+            made: Vec::new(alloc),
+            registers: null_registers(alloc, procs)?,
+            done: vec![in alloc; 0; procs]?,
+            exits: Vec::new(alloc),
+            shares: Vec::new(alloc),
+            phases: Vec::new(alloc),
+            ended: Vec::new(alloc),
+            maxima: Vec::new(alloc),
+        })
+    }
+
+    /// The objects, as they were given.
+    pub fn objects(&self) -> &[PlainObject]
+        ensures { result.now ≡ self.now.objects }
+    {
+        &self.objects
+    }
+
+    /// How many serials each segment has given.
+    pub fn made(&self) -> &[u32]
+        ensures { result.now ≡ self.now.made }
+    {
+        &self.made
+    }
+
+    /// Adds an object.
+    pub fn add_object(&mut self, object: PlainObject) -> Result<(), NoMemory>
+        ensures ok { OnOk result (self.new ≡ record self.old { objects = self.old.objects ++ object ∷ [] }) }
+        ensures err { OnErr result (self.new ≡ self.old) }
+    {
+        push(&mut self.objects, object)
+    }
+
+    /// Adds how many serials the next segment has given.
+    pub fn add_made(&mut self, serials: u32) -> Result<(), NoMemory>
+        ensures ok { OnOk result (self.new ≡ record self.old { made = self.old.made ++ serials ∷ [] }) }
+        ensures err { OnErr result (self.new ≡ self.old) }
+    {
+        push(&mut self.made, serials)
+    }
+
+    /// Sets a register of a process.
+    #[tactic(auto, unfolding(k_types::specs::Updates::set_register))]
+    pub fn set_register(&mut self, pid: Pid, r: Reg, name: Name)
+        requires process { pid.0 < length self.old.registers }
+        requires register { r.0 < 16 }
+        ensures { self.new ≡ set_register pid.0 r.0 (Some name) self.old }
+    {
+        let registers = &mut self.registers[pid.0 as usize];
+        registers.set(r, Some(name));
+    }
+
+    /// Adds an exit item.
+    pub fn add_exit(&mut self, exit: ExitItem) -> Result<(), NoMemory>
+        ensures ok { OnOk result (self.new ≡ record self.old { exits = self.old.exits ++ exit ∷ [] }) }
+        ensures err { OnErr result (self.new ≡ self.old) }
+    {
+        push(&mut self.exits, exit)
+    }
+
+    /// Adds a share.
+    pub fn add_share(&mut self, share: Share) -> Result<(), NoMemory>
+        ensures ok { OnOk result (self.new ≡ record self.old { shares = self.old.shares ++ share ∷ [] }) }
+        ensures err { OnErr result (self.new ≡ self.old) }
+    {
+        push(&mut self.shares, share)
+    }
+
+    /// Adds the phase of the next shared heap.
+    pub fn add_phase(&mut self, phase: Phase) -> Result<(), NoMemory>
+        ensures ok { OnOk result (self.new ≡ record self.old { phases = self.old.phases ++ phase ∷ [] }) }
+        ensures err { OnErr result (self.new ≡ self.old) }
+    {
+        push(&mut self.phases, phase)
+    }
+
+    /// Adds a process that has ended.
+    pub fn add_ended(&mut self, pid: Pid) -> Result<(), NoMemory>
+        ensures ok { OnOk result (self.new ≡ record self.old { ended = self.old.ended ++ pid.0 ∷ [] }) }
+        ensures err { OnErr result (self.new ≡ self.old) }
+    {
+        push(&mut self.ended, pid.0)
+    }
+
+    /// Adds the maximum of the next limit, in bytes.
+    pub fn add_maximum(&mut self, max: u64) -> Result<(), NoMemory>
+        ensures ok { OnOk result (self.new ≡ record self.old { maxima = self.old.maxima ++ max ∷ [] }) }
+        ensures err { OnErr result (self.new ≡ self.old) }
+    {
+        push(&mut self.maxima, max)
+    }
+}
+
+impl PlainLists {
+    /// The machine with a copy of the setup, in the state that was given. `NoMemory` comes where the copy or the totals find no
+    /// memory.
+    pub fn of(alloc: Global, setup: &Setup, state: StillState) -> Result<PlainLists, NoMemory>
+        requires { IsPlain (record { setup = trace_of setup.now [] []; state = state }) }
+        ensures { IfOk result (λ s. s ≡ record { setup = trace_of setup.now [] []; state = state }) }
+    {
+        let setup = copy_of(alloc, setup)?;
+        let mut totals = vec![in alloc; 0; 1 + setup.procs.len() + setup.shared as usize]?;
+        recount(&state.objects, &mut totals);
+        Ok(PlainLists {
+            setup,
+            objects: state.objects,
+            made: state.made,
+            registers: state.registers,
+            done: state.done,
+            exits: state.exits,
+            shares: state.shares,
+            phases: state.phases,
+            ended: state.ended,
+            scans: Vec::new(alloc),
+            closed: false,
+            maxima: state.maxima,
+            totals,
+        })
+    }
+}
