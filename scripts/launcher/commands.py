@@ -25,6 +25,7 @@ COMMANDS = {
     "work": Command("[TRACE]", [], 1, "a run on threads, and behind its report the work of its collections, by who asked for them"),
     "snap": Command("[TRACE]", [], 1, "a trace in the order of the file: writes a snapshot of the state that it leaves"),
     "audit": Command("[TRACE [SNAPSHOT]]", [], 2, "whether a snapshot is that of a sound state: 'sound', 'refused N' or 'unsound N'"),
+    "tree": Command("[SCRIPT]", [], 1, "a script whose processes make and end children, in the order of the file: writes its report"),
 }
 
 # What is run: the words for the program, and the files to join; none means that standard input is left as it is.

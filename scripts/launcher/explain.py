@@ -24,6 +24,7 @@ NOTHING = 2
 # No answer but a report, a snapshot or a summary is longer, and of these only the faults are explained.
 ANSWER_BYTES, PIECE_BYTES, LINE_SHOWN = 256, 1 << 16, 200
 SILENT_STATUSES = (3, 4, 5)
+SCRIPT = "spawn "  # begins a script, of whose lines no more is said than what their reasons mean
 BAD_TRACE = re.compile(r"bad trace: line (\d+) reason (\d+)\n?")
 REFUSED, UNSOUND = re.compile(r"refused (\d+)\n?"), re.compile(r"unsound ([1-8])\n?")
 # The first line of what stands behind the trace, by the command.
@@ -134,7 +135,8 @@ def of_bad_trace(number, reason, trace):
             found.append(f"Line {number} of the trace: {shown(line)}")
         before = trace_lines.Before(lines[: max(number - 1, 0)])
         found += meaning(f"reason {reason}", REASONS[reason])[:1]
-        found += map(plain, trace_lines.detail(reason, line, before, len(trace)))
+        if not trace.startswith(SCRIPT):
+            found += map(plain, trace_lines.detail(reason, line, before, len(trace)))
         return found + meaning("", REASONS[reason])[1:]
     return meaning(f"Line {number}, reason {reason}", REASONS[reason]) + ["With the trace its line can be shown: --trace FILE."]
 

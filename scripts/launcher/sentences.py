@@ -6,7 +6,7 @@ from collections import namedtuple
 
 # The line that the program, and so the launcher, writes where the words are no command: the text is that of
 # crates/k_top/src/texts.rt.
-USAGE = "usage: kaffe run | replay | check | big N | watch K | work | snap | audit"
+USAGE = "usage: kaffe run | replay | check | big N | watch K | work | snap | audit | tree"
 
 # What an exit status, a reason or a fault means, and what to do about it.
 Meaning = namedtuple("Meaning", "means todo")
@@ -19,7 +19,7 @@ STATUSES = {
         "Nothing is to be done. The report may still hold faults, which are answers to single operations.",
     ),
     1: Meaning(
-        "The input is no trace. Standard output has `bad trace: line L reason R`, for the first bad line and the lowest reason that applies to it.",
+        "The input is no trace, or by `tree` no script. Standard output has `bad trace: line L reason R`, for the first bad line and the lowest reason that applies to it.",
         "Correct that line, and run the command again. `kaffe explain` says what would be right there.",
     ),
     2: Meaning(
@@ -68,7 +68,7 @@ REASONS = {
     ),
     4: Meaning(
         "The line has none of the forms that are allowed in its place.",
-        "Write one of the forms of this place. Words are separated by exactly one space, and there are no empty lines and no comments. `kill` and `resize` have a form only in a trace that begins with `kaffe 2`.",
+        "Write one of the forms of this place. Words are separated by exactly one space, and there are no empty lines and no comments. `kill` and `resize` have a form only in a trace that begins with `kaffe 2`, and `spawn` and `reap` only in a script.",
     ),
     5: Meaning(
         "A word in the place of a number or a register is none, or is out of range.",
@@ -101,6 +101,14 @@ REASONS = {
     12: Meaning(
         "The input ends before the kernel line, a limit or a process was read. The line is one past the last.",
         "Go on with the header: a version, a kernel line, at least one limit and at least one process.",
+    ),
+    14: Meaning(
+        "By `tree` alone: the process of the `spawn` or `reap` is not the parent of the process that is named.",
+        "Let the parent ask, which the line `child NAME PARENT` names. A process of a line `proc` has no parent.",
+    ),
+    15: Meaning(
+        "By `tree` alone: the line's process is a child that was not spawned or was reaped, or the child is spawned or reaped out of its time.",
+        "Spawn a child once, before its first line, and reap it once, after its last. The reaping of a child is also that of all below it.",
     ),
 }
 

@@ -7,7 +7,7 @@ use Rattle.k_top.specs.declared.status.Status.TheVariants.{Good, BadTrace, Usage
 use Rattle.k_top.specs.Answers.{IsDecided, IsDue, IsAnswered, IsUnwritten}
 use Rattle.k_top.specs.Ends.{Input, Output, SinkFailed, Took, TookFront, TookNothing}
 use Rattle.k_top.specs.Parts.{Answers, IsWritten, Means}
-use Rattle.k_top.proofs.Decided.{of_no_command, of_trace, of_big, of_good_report, of_wrong_report, of_sound_snapshot, of_faulty_snapshot, of_bad_input}
+use Rattle.k_top.proofs.Decided.{of_no_command, of_trace, of_script, of_big, of_good_report, of_wrong_report, of_sound_snapshot, of_faulty_snapshot, of_bad_input}
 
 -- ---- the answer and the status whose text was written
 
@@ -56,6 +56,9 @@ decided words input output status answer text told written = record {
   of_trace = λ command bytes t said runs known spells steady kept.
       subst (λ (s : Status). (s ≡ Good) ⊎ (s ≡ WantOfMemory)) (sym (settled output status answer text written kept))
       (of_trace words input command bytes t said runs known spells steady status text told);
+  of_script = λ bytes s said known judged steady kept.
+      subst (λ (s : Status). (s ≡ Good) ⊎ (s ≡ WantOfMemory)) (sym (settled output status answer text written kept))
+      (of_script words input bytes s said known judged steady status text told);
   of_big = λ objects said kept.
       subst (λ (s : Status). (s ≡ Good) ⊎ (s ≡ WantOfMemory)) (sym (settled output status answer text written kept))
       (of_big words input objects said status text told);

@@ -1,5 +1,5 @@
 -- Which status comes where source and sink have no fault: what it means of the words and the bytes leaves one, or want of memory.
-use Rattle.std.proofs.Common.{◌≡◌, ◌⊎◌, ◌∙◌, ℕ, ◌≤◌, List, ◌++◌, length, Option, Some, None, inl, inr, refl, sym, ap, subst, arith, length-append}
+use Rattle.std.proofs.Common.{◌≡◌, ◌⊎◌, ◌∙◌, ℕ, ◌≤◌, List, ◌++◌, length, Option, Some, None, inl, inr, refl, sym, ap, subst, arith, length-append, Ok}
 use Rattle.std.proofs.lemmas.List.{append-nil}
 use Rattle.std.specs.Io.KnownBytes.{Consumes, IsAtEnd}
 use Rattle.std.specs.Prelude.{◌≢◌, codes}
@@ -18,11 +18,14 @@ use Rattle.k_audit.specs.declared.verdicts.Verdict.{Verdict}
 use Rattle.k_audit.specs.declared.verdicts.Verdict.TheVariants.{Sound}
 use Rattle.k_audit.proofs.Plainly.{IsHeader}
 use Rattle.k_audit.proofs.VerdictLaws.{one_verdict}
+use Rattle.k_spawn.specs.Judgement.{judgement}
+use Rattle.k_spawn.specs.Scripts.{Script}
+use Rattle.k_spawn.proofs.Judging.{script_few, script_not_bad}
 use Rattle.k_top.specs.declared.commands.Command.{Command}
-use Rattle.k_top.specs.declared.commands.Command.TheVariants.{Run, Replay, Check, Big, Watch, Work, Snap, Audit}
+use Rattle.k_top.specs.declared.commands.Command.TheVariants.{Run, Replay, Check, Big, Watch, Work, Snap, Audit, Tree}
 use Rattle.k_top.specs.declared.status.Status.{Status}
 use Rattle.k_top.specs.declared.status.Status.TheVariants.{Good, BadTrace, Usage, WantOfMemory, ReadFault, WriteFault, Refused}
-use Rattle.k_top.specs.Answers.{IsAccomplished, IsAudited, IsBadInput, IsChecked, IsDone, IsFaulted, IsFoundWrong, IsRefusedReport, IsSampled, IsSnapped, IsSummed, IsWorked, WasRead}
+use Rattle.k_top.specs.Answers.{IsAccomplished, IsAudited, IsBadInput, IsChecked, IsDone, IsFaulted, IsFoundWrong, IsRefusedReport, IsSampled, IsSnapped, IsSummed, IsTranslated, IsWorked, WasRead}
 use Rattle.k_top.specs.Commands.{command_of, IsNoCommand, ReadsSource, ReadsTrace, RunsTrace}
 use Rattle.k_top.specs.Ends.{Input, SourceFailed}
 use Rattle.k_top.specs.Inputs.{most_bytes, AreParts, AreTraceAnd, AreTraceAndReport, AreTraceAndSnapshot, IsBadFor, IsBadPart}
@@ -48,6 +51,7 @@ runs_read (Watch count) runs = absurd runs
 runs_read Work runs = absurd runs
 runs_read Snap runs = absurd runs
 runs_read Audit runs = absurd runs
+runs_read Tree runs = absurd runs
 
 -- A command that reads a trace alone is none that does not.
 runs_not : (words : List Text) (command other : Command) → command_of words ≡ Some command → ReadsTrace command → command_of words ≡ Some other → ¬ ReadsTrace other → ⊥
@@ -56,6 +60,13 @@ runs_not words command other said runs also more = more (subst ReadsTrace (one_c
 -- The command that checks is not the one that audits.
 check_not_audit : (words : List Text) → command_of words ≡ Some Check → command_of words ≡ Some Audit → ⊥
 check_not_audit words check audit = let clash : Check ≡ Audit = one_command words Audit Check audit check in absurd cc
+
+-- Nor is either the one of scripts.
+check_not_tree : (words : List Text) → command_of words ≡ Some Check → command_of words ≡ Some Tree → ⊥
+check_not_tree words check tree = let clash : Check ≡ Tree = one_command words Tree Check tree check in absurd cc
+
+audit_not_tree : (words : List Text) → command_of words ≡ Some Audit → command_of words ≡ Some Tree → ⊥
+audit_not_tree words audit tree = let clash : Audit ≡ Tree = one_command words Tree Audit tree audit in absurd cc
 
 -- The command of the workload runs no trace that is read, and does not check.
 big_not : (words : List Text) (command : Command) (objects : ℕ) → command_of words ≡ Some command → ReadsSource command → command_of words ≡ Some (Big objects) → ⊥
@@ -71,6 +82,7 @@ reads_bad (Watch count) bytes line reason bad = tt
 reads_bad Work bytes line reason bad = tt
 reads_bad Snap bytes line reason bad = tt
 reads_bad Audit bytes line reason bad = tt
+reads_bad Tree bytes line reason bad = tt
 
 -- ---- bytes
 
@@ -104,6 +116,7 @@ few_for (Watch count) bytes t runs spells = spells.few
 few_for Work bytes t runs spells = spells.few
 few_for Snap bytes t runs spells = spells.few
 few_for Audit bytes t runs spells = absurd runs
+few_for Tree bytes t runs spells = absurd runs
 
 -- ---- what is a trace is no bad input
 
@@ -116,6 +129,7 @@ spelled_not_bad (Watch count) bytes t line reason runs spells bad = apart bytes 
 spelled_not_bad Work bytes t line reason runs spells bad = apart bytes t line reason spells bad
 spelled_not_bad Snap bytes t line reason runs spells bad = apart bytes t line reason spells bad
 spelled_not_bad Audit bytes t line reason runs spells bad = absurd runs
+spelled_not_bad Tree bytes t line reason runs spells bad = absurd runs
 
 -- The bytes have one trace part, and one part behind it.
 same_front : (opening bytes front behind other rest : Text) → AreParts opening bytes front behind → AreParts opening bytes other rest → (front ≡ other) × (behind ≡ rest)
@@ -139,14 +153,15 @@ same_parts opening bytes t u behind rest parts more =
 by_command : (wanted : Type 0) (words : List Text) (input : Input) (text : Text)
     → (IsDone words input text → wanted) → (IsChecked words input text → wanted) → (IsSummed words text → wanted) → (IsSampled words input text → wanted)
     → (IsWorked words input text → wanted) → (IsSnapped words input text → wanted) → (IsAudited words input Sound text → wanted)
-    → IsAccomplished words input text → wanted
-by_command wanted words input text done checked summed sampled worked snapped audited (inl h) = done h
-by_command wanted words input text done checked summed sampled worked snapped audited (inr (inl h)) = checked h
-by_command wanted words input text done checked summed sampled worked snapped audited (inr (inr (inl h))) = summed h
-by_command wanted words input text done checked summed sampled worked snapped audited (inr (inr (inr (inl h)))) = sampled h
-by_command wanted words input text done checked summed sampled worked snapped audited (inr (inr (inr (inr (inl h))))) = worked h
-by_command wanted words input text done checked summed sampled worked snapped audited (inr (inr (inr (inr (inr (inl h)))))) = snapped h
-by_command wanted words input text done checked summed sampled worked snapped audited (inr (inr (inr (inr (inr (inr h)))))) = audited h
+    → (IsTranslated words input text → wanted) → IsAccomplished words input text → wanted
+by_command wanted words input text done checked summed sampled worked snapped audited translated (inl h) = done h
+by_command wanted words input text done checked summed sampled worked snapped audited translated (inr (inl h)) = checked h
+by_command wanted words input text done checked summed sampled worked snapped audited translated (inr (inr (inl h))) = summed h
+by_command wanted words input text done checked summed sampled worked snapped audited translated (inr (inr (inr (inl h)))) = sampled h
+by_command wanted words input text done checked summed sampled worked snapped audited translated (inr (inr (inr (inr (inl h))))) = worked h
+by_command wanted words input text done checked summed sampled worked snapped audited translated (inr (inr (inr (inr (inr (inl h)))))) = snapped h
+by_command wanted words input text done checked summed sampled worked snapped audited translated (inr (inr (inr (inr (inr (inr (inl h))))))) = audited h
+by_command wanted words input text done checked summed sampled worked snapped audited translated (inr (inr (inr (inr (inr (inr (inr h))))))) = translated h
 
 -- The command of a text that was found wrong is one of two.
 by_wrong : (wanted : Type 0) (words : List Text) (input : Input) (text : Text) → (IsRefusedReport words input text → wanted) → (IsFaulted words input text → wanted) → IsFoundWrong words input text → wanted
@@ -177,6 +192,7 @@ said_done words input text none =
     (λ h. is_command words Work h.said none)
     (λ h. is_command words Snap h.said none)
     (λ h. is_command words Audit h.said none)
+    (λ h. is_command words Tree h.said none)
 
 said_wrong : (words : List Text) (input : Input) (text : Text) → IsNoCommand words → IsFoundWrong words input text → ⊥
 said_wrong words input text none =
@@ -214,6 +230,27 @@ of_trace words input command bytes t said runs known spells steady =
     (λ text h. inl refl)
     (λ text h. absurd (trace_not_wrong words input command text said runs h))
     (λ text h. absurd (trace_not_bad words input command bytes t text said runs known spells h))
+
+-- ---- a script
+
+script_no_bad_input : (words : List Text) (input : Input) (bytes : Text) (s : Script) (text : Text) → command_of words ≡ Some Tree → input.left ≡ Some bytes → judgement bytes ≡ Ok s → IsBadInput words input text → ⊥
+script_no_bad_input words input bytes s text said known judged h =
+    let read = subst (λ (c : Command). WasRead (most_bytes c) input h.bytes) (one_command words Tree h.command said h.said) h.read in
+    let same = same_few (most_bytes Tree) bytes h.bytes input known read (script_few bytes s judged) in
+    script_not_bad h.bytes s h.line h.reason (subst (λ (b : Text). judgement b ≡ Ok s) same judged)
+    (subst (λ (c : Command). IsBadFor c h.bytes h.line h.reason) (one_command words Tree h.command said h.said) h.bad)
+
+script_not_wrong : (words : List Text) (input : Input) (text : Text) → command_of words ≡ Some Tree → IsFoundWrong words input text → ⊥
+script_not_wrong words input text said =
+    by_wrong ⊥ words input text (λ h. check_not_tree words h.said said) (λ h. audit_not_tree words h.audited.said said)
+
+pub of_script : (words : List Text) (input : Input) (bytes : Text) (s : Script) → command_of words ≡ Some Tree → input.left ≡ Some bytes → judgement bytes ≡ Ok s → ¬ SourceFailed input
+    → (status : Status) (text : Text) → Means words input status text → (status ≡ Good) ⊎ (status ≡ WantOfMemory)
+of_script words input bytes s said known judged steady =
+    by_status (λ (s : Status). (s ≡ Good) ⊎ (s ≡ WantOfMemory)) words input Tree said steady (inr refl)
+    (λ text h. inl refl)
+    (λ text h. absurd (script_not_wrong words input text said h))
+    (λ text h. absurd (script_no_bad_input words input bytes s text said known judged h))
 
 -- ---- a trace and what stands behind it
 
@@ -276,6 +313,7 @@ refused_not_done words input bytes t report text n said known parts refused =
     (λ h. runs_not words Work Check h.said tt said (λ none. none))
     (λ h. runs_not words Snap Check h.said tt said (λ none. none))
     (λ h. check_not_audit words said h.said)
+    (λ h. check_not_tree words said h.said)
 
 pub of_wrong_report : (words : List Text) (input : Input) (bytes : Text) (t : NamedTrace) (report : Text) (n : ℕ) → command_of words ≡ Some Check → input.left ≡ Some bytes → AreTraceAndReport bytes t report
     → IsRefusedAt t report n → ¬ SourceFailed input → (status : Status) (text : Text) → Means words input status text → (status ≡ Refused) ⊎ (status ≡ WantOfMemory)
@@ -334,6 +372,7 @@ faulty_not_done words input bytes t snapshot verdict text said known parts deser
     (λ h. runs_not words Work Audit h.said tt said (λ none. none))
     (λ h. runs_not words Snap Audit h.said tt said (λ none. none))
     (λ h. other (sym (same_verdict words input bytes t snapshot verdict Sound text known parts deserved h)))
+    (λ h. audit_not_tree words said h.said)
 
 pub of_faulty_snapshot : (words : List Text) (input : Input) (bytes : Text) (t : NamedTrace) (snapshot : Text) (verdict : Verdict) → command_of words ≡ Some Audit → input.left ≡ Some bytes → AreTraceAndSnapshot bytes t snapshot
     → IsVerdict t.names (setup_of t.trace) snapshot verdict → verdict ≢ Sound → ¬ SourceFailed input → (status : Status) (text : Text) → Means words input status text → (status ≡ Refused) ⊎ (status ≡ WantOfMemory)
@@ -360,6 +399,13 @@ bad_not_parts words input command other opening bytes given line reason t behind
     parts_not_bad opening given t behind line reason parts
     (part given (subst (λ (b : Text). IsBadFor other b line reason) same (subst (λ (c : Command). IsBadFor c bytes line reason) (one_command words other command also said) bad)))
 
+bad_no_script : (words : List Text) (input : Input) (command : Command) (bytes given : Text) (line reason : ℕ) (s : Script) → command_of words ≡ Some command → input.left ≡ Some bytes → IsBadFor command bytes line reason
+    → command_of words ≡ Some Tree → WasRead (most_bytes Tree) input given → judgement given ≡ Ok s → ⊥
+bad_no_script words input command bytes given line reason s said known bad tree read judged =
+    let same = same_bytes (most_bytes Tree) bytes given input known read (script_few given s judged) in
+    script_not_bad given s line reason judged
+    (subst (λ (b : Text). IsBadFor Tree b line reason) same (subst (λ (c : Command). IsBadFor c bytes line reason) (one_command words Tree command tree said) bad))
+
 module _ (words : List Text) (input : Input) (command : Command) (bytes : Text) (line reason : ℕ) (said : command_of words ≡ Some command) (known : input.left ≡ Some bytes) (bad : IsBadFor command bytes line reason) where
   not_report : (given : Text) (t : NamedTrace) (report : Text) → command_of words ≡ Some Check → WasRead most_check_bytes input given → AreTraceAndReport given t report → ⊥
   not_report given t report check = bad_not_parts words input command Check (codes "report 1") bytes given line reason t report said known bad check (λ b h. h)
@@ -377,6 +423,7 @@ module _ (words : List Text) (input : Input) (command : Command) (bytes : Text) 
       (λ h. bad_not_spelled words input command Work bytes h.bytes line reason h.trace said known bad h.said tt h.read h.spelled)
       (λ h. bad_not_spelled words input command Snap bytes h.bytes line reason h.trace said known bad h.said tt h.read h.spelled)
       (λ h. not_snapshot h.bytes h.trace h.snapshot h.said h.read h.parts)
+      (λ h. bad_no_script words input command bytes h.bytes line reason h.script said known bad h.said h.read h.judged)
 
   not_wrong : (text : Text) → IsFoundWrong words input text → ⊥
   not_wrong text =

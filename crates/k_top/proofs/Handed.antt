@@ -49,6 +49,7 @@ decided_on : (words : List Text) (input : Input) (before after : Output) (status
 decided_on words input before after status more d = record {
   of_no_command = λ none kept. d.of_no_command none (λ f. kept (more f));
   of_trace = λ command bytes t said runs known spells steady kept. d.of_trace command bytes t said runs known spells steady (λ f. kept (more f));
+  of_script = λ bytes s said known judged steady kept. d.of_script bytes s said known judged steady (λ f. kept (more f));
   of_big = λ objects said kept. d.of_big objects said (λ f. kept (more f));
   of_good_report = λ bytes t report said known parts good steady kept. d.of_good_report bytes t report said known parts good steady (λ f. kept (more f));
   of_wrong_report = λ bytes t report n said known parts refused steady kept. d.of_wrong_report bytes t report n said known parts refused steady (λ f. kept (more f));
@@ -88,6 +89,7 @@ answered_failed words input output due = record {
   complete = record {
     of_no_command = λ none kept. absurd (kept due.2.failed);
     of_trace = λ command bytes t said runs known spells steady kept. absurd (kept due.2.failed);
+    of_script = λ bytes s said known judged steady kept. absurd (kept due.2.failed);
     of_big = λ objects said kept. absurd (kept due.2.failed);
     of_good_report = λ bytes t report said known parts good steady kept. absurd (kept due.2.failed);
     of_wrong_report = λ bytes t report n said known parts refused steady kept. absurd (kept due.2.failed);

@@ -8,6 +8,7 @@ pub mod Meanings
 pub mod Ranges
 pub mod Reports
 pub mod Runs
+pub mod Scripts
 pub mod Snaps
 pub mod Workloads
 pub mod Works

@@ -9,7 +9,7 @@ use Rattle.k_words.proofs.Spelled.{both, number_word}
 use Rattle.k_big.specs.Words.{objects_of}
 use Rattle.k_big.specs.Workload.{most_objects}
 use Rattle.k_top.specs.declared.commands.Command.{Command}
-use Rattle.k_top.specs.declared.commands.Command.TheVariants.{Run, Replay, Check, Big, Watch, Work, Snap, Audit}
+use Rattle.k_top.specs.declared.commands.Command.TheVariants.{Run, Replay, Check, Big, Watch, Work, Snap, Audit, Tree}
 use Rattle.k_top.specs.Commands.{command_of, command_named, command_numbered, samples_of}
 
 -- The command of a list of one word is the command that the word names.
@@ -25,23 +25,24 @@ of_two f (a ∷ []) x y lo hi at next = absurd (omega (arith, lo))
 of_two f (a ∷ b ∷ []) x y lo hi at next = ap (λ z. command_numbered (f z) (f b)) (sym at) ∙ ap (λ z. command_numbered (f x) (f z)) (sym next)
 of_two f (a ∷ b ∷ c ∷ xs) x y lo hi at next = absurd (omega (arith, hi))
 
-no_other : (b c d e i j : Bool) → (b ≡ true → ⊥) → (c ≡ true → ⊥) → (d ≡ true → ⊥) → (e ≡ true → ⊥) → (i ≡ true → ⊥) → (j ≡ true → ⊥)
-    → (if b then Some Run else if c then Some Replay else if d then Some Check else if e then Some Work else if i then Some Snap else if j then Some Audit else None) ≡ None
-no_other true c d e i j f g h k l m = absurd (f refl)
-no_other false true d e i j f g h k l m = absurd (g refl)
-no_other false false true e i j f g h k l m = absurd (h refl)
-no_other false false false true i j f g h k l m = absurd (k refl)
-no_other false false false false true j f g h k l m = absurd (l refl)
-no_other false false false false false true f g h k l m = absurd (m refl)
-no_other false false false false false false f g h k l m = refl
+no_other : (b c d e i j o : Bool) → (b ≡ true → ⊥) → (c ≡ true → ⊥) → (d ≡ true → ⊥) → (e ≡ true → ⊥) → (i ≡ true → ⊥) → (j ≡ true → ⊥) → (o ≡ true → ⊥)
+    → (if b then Some Run else if c then Some Replay else if d then Some Check else if e then Some Work else if i then Some Snap else if j then Some Audit else if o then Some Tree else None) ≡ None
+no_other true c d e i j o f g h k l m n = absurd (f refl)
+no_other false true d e i j o f g h k l m n = absurd (g refl)
+no_other false false true e i j o f g h k l m n = absurd (h refl)
+no_other false false false true i j o f g h k l m n = absurd (k refl)
+no_other false false false false true j o f g h k l m n = absurd (l refl)
+no_other false false false false false true o f g h k l m n = absurd (m refl)
+no_other false false false false false false true f g h k l m n = absurd (n refl)
+no_other false false false false false false false f g h k l m n = refl
 
 -- A word that is no command's names none.
 pub of_other : (word : Text) → (word ≡ codes "run" → ⊥) → (word ≡ codes "replay" → ⊥) → (word ≡ codes "check" → ⊥) → (word ≡ codes "work" → ⊥) → (word ≡ codes "snap" → ⊥) → (word ≡ codes "audit" → ⊥)
-    → command_named word ≡ None
-of_other word f g h k l m =
-    no_other (bytes_eq word (codes "run")) (bytes_eq word (codes "replay")) (bytes_eq word (codes "check")) (bytes_eq word (codes "work")) (bytes_eq word (codes "snap")) (bytes_eq word (codes "audit"))
+    → (word ≡ codes "tree" → ⊥) → command_named word ≡ None
+of_other word f g h k l m n =
+    no_other (bytes_eq word (codes "run")) (bytes_eq word (codes "replay")) (bytes_eq word (codes "check")) (bytes_eq word (codes "work")) (bytes_eq word (codes "snap")) (bytes_eq word (codes "audit")) (bytes_eq word (codes "tree"))
     (λ t. f ((bytes_eq-Decides word (codes "run")).0 t)) (λ t. g ((bytes_eq-Decides word (codes "replay")).0 t)) (λ t. h ((bytes_eq-Decides word (codes "check")).0 t))
-    (λ t. k ((bytes_eq-Decides word (codes "work")).0 t)) (λ t. l ((bytes_eq-Decides word (codes "snap")).0 t)) (λ t. m ((bytes_eq-Decides word (codes "audit")).0 t))
+    (λ t. k ((bytes_eq-Decides word (codes "work")).0 t)) (λ t. l ((bytes_eq-Decides word (codes "snap")).0 t)) (λ t. m ((bytes_eq-Decides word (codes "audit")).0 t)) (λ t. n ((bytes_eq-Decides word (codes "tree")).0 t))
 
 no_number : (b c : Bool) (r s : Option Command) → (b ≡ true → ⊥) → (c ≡ true → ⊥) → (if b then r else if c then s else None) ≡ None
 no_number true c r s f g = absurd (f refl)
@@ -76,18 +77,19 @@ numbered_is true c (Some m) s n e = let same : Some (Big m) ≡ Some (Big n) = e
 numbered_is true c None s n e = let clash : (let x : Option Command = None in x) ≡ Some (Big n) = e in absurd cc
 numbered_is false c r s n e = absurd (watch_is_not c s n e)
 
-named_is_not : (b c d f i j : Bool) (n : ℕ) → (if b then Some Run else if c then Some Replay else if d then Some Check else if f then Some Work else if i then Some Snap else if j then Some Audit else None) ≡ Some (Big n) → ⊥
-named_is_not true c d f i j n e = let clash : Some Run ≡ Some (Big n) = e in absurd cc
-named_is_not false true d f i j n e = let clash : Some Replay ≡ Some (Big n) = e in absurd cc
-named_is_not false false true f i j n e = let clash : Some Check ≡ Some (Big n) = e in absurd cc
-named_is_not false false false true i j n e = let clash : Some Work ≡ Some (Big n) = e in absurd cc
-named_is_not false false false false true j n e = let clash : Some Snap ≡ Some (Big n) = e in absurd cc
-named_is_not false false false false false true n e = let clash : Some Audit ≡ Some (Big n) = e in absurd cc
-named_is_not false false false false false false n e = let clash : (let x : Option Command = None in x) ≡ Some (Big n) = e in absurd cc
+named_is_not : (b c d f i j o : Bool) (n : ℕ) → (if b then Some Run else if c then Some Replay else if d then Some Check else if f then Some Work else if i then Some Snap else if j then Some Audit else if o then Some Tree else None) ≡ Some (Big n) → ⊥
+named_is_not true c d f i j o n e = let clash : Some Run ≡ Some (Big n) = e in absurd cc
+named_is_not false true d f i j o n e = let clash : Some Replay ≡ Some (Big n) = e in absurd cc
+named_is_not false false true f i j o n e = let clash : Some Check ≡ Some (Big n) = e in absurd cc
+named_is_not false false false true i j o n e = let clash : Some Work ≡ Some (Big n) = e in absurd cc
+named_is_not false false false false true j o n e = let clash : Some Snap ≡ Some (Big n) = e in absurd cc
+named_is_not false false false false false true o n e = let clash : Some Audit ≡ Some (Big n) = e in absurd cc
+named_is_not false false false false false false true n e = let clash : Some Tree ≡ Some (Big n) = e in absurd cc
+named_is_not false false false false false false false n e = let clash : (let x : Option Command = None in x) ≡ Some (Big n) = e in absurd cc
 
 -- A command asks for no more objects than there can be.
 pub few_objects : (words : List Text) (n : ℕ) → command_of words ≡ Some (Big n) → n ≤ most_objects
 few_objects [] n e = let clash : (let x : Option Command = None in x) ≡ Some (Big n) = e in absurd cc
-few_objects (word ∷ []) n e = absurd (named_is_not (bytes_eq word (codes "run")) (bytes_eq word (codes "replay")) (bytes_eq word (codes "check")) (bytes_eq word (codes "work")) (bytes_eq word (codes "snap")) (bytes_eq word (codes "audit")) n e)
+few_objects (word ∷ []) n e = absurd (named_is_not (bytes_eq word (codes "run")) (bytes_eq word (codes "replay")) (bytes_eq word (codes "check")) (bytes_eq word (codes "work")) (bytes_eq word (codes "snap")) (bytes_eq word (codes "audit")) (bytes_eq word (codes "tree")) n e)
 few_objects (word ∷ number ∷ []) n e = objects_few number n (numbered_is (bytes_eq word (codes "big")) (bytes_eq word (codes "watch")) (objects_of number) (samples_of number) n e)
 few_objects (word ∷ number ∷ next ∷ words) n e = let clash : (let x : Option Command = None in x) ≡ Some (Big n) = e in absurd cc

@@ -8,15 +8,16 @@ use Rattle.k_trace.specs.Judgement.{IsBad}
 use Rattle.k_trace.specs.Named.{NamedTrace}
 use Rattle.k_trace.specs.Rules.{IsTrace}
 use Rattle.k_history.specs.Good.{IsGoodReport}
+use Rattle.k_spawn.proofs.ScriptsAgree.{judged_agrees}
 use Rattle.k_top.specs.declared.commands.Command.{Command}
-use Rattle.k_top.specs.declared.commands.Command.TheVariants.{Run, Replay, Check, Big, Watch, Work, Snap, Audit}
+use Rattle.k_top.specs.declared.commands.Command.TheVariants.{Run, Replay, Check, Big, Watch, Work, Snap, Audit, Tree}
 use Rattle.k_top.specs.declared.status.Status.{Status}
 use Rattle.k_top.specs.declared.status.Status.TheVariants.{Good, BadTrace, Usage, WantOfMemory, ReadFault, WriteFault, Refused}
 use Rattle.k_top.specs.Answers.{IsChecked, IsDone, WasRead}
 use Rattle.k_top.specs.Commands.{command_of, ReadsSource, RunsTrace}
 use Rattle.k_top.specs.Ends.{Input}
 use Rattle.k_top.specs.Inputs.{most_bytes, IsBadFor}
-use Rattle.k_top.specs.Parts.{Means, TellsOfAudit, TellsOfBig, TellsOfBytes, TellsOfCheck, TellsOfSource}
+use Rattle.k_top.specs.Parts.{Means, TellsOfAudit, TellsOfBig, TellsOfBytes, TellsOfCheck, TellsOfScript, TellsOfSource}
 use Rattle.k_top.specs.Reports.{IsFileReport, IsFileSnapshot, IsReportOf, IsSomeReport, IsWatchedReport, IsWorkReport}
 use Rattle.k_top.proofs.Reports.{report_is}
 
@@ -32,6 +33,7 @@ read_for (Watch count) input bytes runs read = absurd runs
 read_for Work input bytes runs read = absurd runs
 read_for Snap input bytes runs read = absurd runs
 read_for Audit input bytes runs read = absurd runs
+read_for Tree input bytes runs read = absurd runs
 
 reads : (command : Command) → RunsTrace command → ReadsSource command
 reads Run runs = tt
@@ -42,6 +44,7 @@ reads (Watch count) runs = absurd runs
 reads Work runs = absurd runs
 reads Snap runs = absurd runs
 reads Audit runs = absurd runs
+reads Tree runs = absurd runs
 
 bad_for : (command : Command) (bytes : Text) (line reason : ℕ) → RunsTrace command → IsBad bytes line reason → IsBadFor command bytes line reason
 bad_for Run bytes line reason runs bad = bad
@@ -52,6 +55,7 @@ bad_for (Watch count) bytes line reason runs bad = absurd runs
 bad_for Work bytes line reason runs bad = absurd runs
 bad_for Snap bytes line reason runs bad = absurd runs
 bad_for Audit bytes line reason runs bad = absurd runs
+bad_for Tree bytes line reason runs bad = absurd runs
 
 -- Which texts such a command writes of a trace: by `replay` the report of the order of the file, else that of some history.
 abbrev pub reports_of : Command → NamedTrace → Text → Type 0
@@ -73,6 +77,7 @@ told_history (Watch count) t text runs h = absurd runs
 told_history Work t text runs h = absurd runs
 told_history Snap t text runs h = absurd runs
 told_history Audit t text runs h = absurd runs
+told_history Tree t text runs h = absurd runs
 
 done_by_run : (words : List Text) (input : Input) (command : Command) (text : Text) → command_of words ≡ Some command → RunsTrace command → TellsOfSource most_trace_bytes (TellsOfBytes (reports_of command)) input Good text → IsDone words input text
 done_by_run words input command text said runs h =
@@ -184,7 +189,7 @@ snap_means words input said Refused text h = absurd h.2
 pub audit_means : (words : List Text) (input : Input) → command_of words ≡ Some Audit
     → (status : Status) (text : Text) → TellsOfSource most_check_bytes TellsOfAudit input status text → Means words input status text
 audit_means words input said Good text h =
-    inr (inr (inr (inr (inr (inr (record { said = said; bytes = h.0; read = h.1; trace = h.2.0; snapshot = h.2.1; parts = h.2.2; deserved = h.2.3.0; says = h.2.3.1 }))))))
+    inr (inr (inr (inr (inr (inr (inl (record { said = said; bytes = h.0; read = h.1; trace = h.2.0; snapshot = h.2.1; parts = h.2.2; deserved = h.2.3.0; says = h.2.3.1 })))))))
 audit_means words input said Refused text h =
     inr (record {
       verdict = h.2.3.0;
@@ -196,3 +201,15 @@ audit_means words input said WantOfMemory text h = ((Audit, said), h)
 audit_means words input said ReadFault text h = ((Audit, said, tt), h.0, h.1)
 audit_means words input said Usage text h = absurd h.2
 audit_means words input said WriteFault text h = absurd h.2
+
+-- ---- the command that does the operations of a script
+
+pub tree_means : (words : List Text) (input : Input) → command_of words ≡ Some Tree
+    → (status : Status) (text : Text) → TellsOfSource most_trace_bytes TellsOfScript input status text → Means words input status text
+tree_means words input said Good text h = inr (inr (inr (inr (inr (inr (inr (record { said = said; bytes = h.0; read = h.1; script = h.2.0; judged = h.2.1; report = h.2.2; agrees = (judged_agrees h.0 h.2.0 h.2.1).1 })))))))
+tree_means words input said BadTrace text h = record { command = Tree; said = said; bytes = h.0; read = h.1; line = h.2.0; reason = h.2.1; bad = h.2.2; says = h.2.3 }
+tree_means words input said WantOfMemory text h = ((Tree, said), h)
+tree_means words input said ReadFault text h = ((Tree, said, tt), h.0, h.1)
+tree_means words input said Usage text h = absurd h.2
+tree_means words input said WriteFault text h = absurd h.2
+tree_means words input said Refused text h = absurd h.2

@@ -1,5 +1,5 @@
 -- What the program answers: the contract of its top call, a field for each status.
-use Rattle.std.specs.Prelude.{◌≡◌, ◌≢◌, ◌⊎◌, ℕ, ◌+◌, ◌≤◌, List, length, Some}
+use Rattle.std.specs.Prelude.{◌≡◌, ◌≢◌, ◌⊎◌, ℕ, ◌+◌, ◌≤◌, List, length, Some, Ok}
 use Rattle.std.specs.Io.KnownBytes.{Consumes, IsAtEnd}
 use Rattle.k_types.specs.declared.event.Event.{Event}
 use Rattle.k_types.specs.FileOrder.{file_order}
@@ -12,14 +12,18 @@ use Rattle.k_state.specs.Machines.{setup_of}
 use Rattle.k_audit.specs.Verdicts.{IsVerdict}
 use Rattle.k_audit.specs.declared.verdicts.Verdict.{Verdict}
 use Rattle.k_audit.specs.declared.verdicts.Verdict.TheVariants.{Sound}
+use Rattle.k_spawn.specs.Agreement.{AgreesWithTree}
+use Rattle.k_spawn.specs.Judgement.{judgement}
+use Rattle.k_spawn.specs.Scripts.{Script}
+use Rattle.k_spawn.specs.Translation.{translation}
 use Rattle.k_top.specs.declared.commands.Command.{Command}
-use Rattle.k_top.specs.declared.commands.Command.TheVariants.{Replay, Check, Big, Watch, Work, Snap, Audit}
+use Rattle.k_top.specs.declared.commands.Command.TheVariants.{Replay, Check, Big, Watch, Work, Snap, Audit, Tree}
 use Rattle.k_top.specs.declared.status.Status.{Status}
 use Rattle.k_top.specs.declared.status.Status.TheVariants.{Good, BadTrace, Usage, WantOfMemory, ReadFault, WriteFault, Refused}
 use Rattle.k_top.specs.Commands.{command_of, IsCommand, IsNoCommand, IsReading, ReadsTrace, RunsTrace}
 use Rattle.k_top.specs.Ends.{Input, Output, SourceFailed, SinkFailed, Took, TookFront, TookNothing}
 use Rattle.k_top.specs.Inputs.{most_bytes, AreTraceAndReport, AreTraceAndSnapshot, IsBadFor}
-use Rattle.k_top.specs.Reports.{IsFileSnapshot, IsReportOf, IsSummaryOf, IsWatchedReport, IsWorkReport}
+use Rattle.k_top.specs.Reports.{IsFileReport, IsFileSnapshot, IsReportOf, IsSummaryOf, IsWatchedReport, IsWorkReport}
 use Rattle.k_top.specs.Texts.{usage_text, bad_trace_text, good_text, refused_text, verdict_text}
 
 -- The source gave these bytes: all to the end of input, or one more than the limit where there are more.
@@ -118,7 +122,18 @@ pub record IsFaulted (words : List Text) (input : Input) (text : Text) : Type 0 
   pub not_sound : verdict ≢ Sound
   pub audited : IsAudited words input verdict text
 
--- What was read, or the trace part of it, is no trace, and the text tells the first bad line and its lowest reason.
+-- By `tree` a script was read and the operations of its translation were done in the order of the file, and the text is their report. The
+-- machine on the translation agrees with the tree machine, in which children and their limits come and go.
+pub record IsTranslated (words : List Text) (input : Input) (text : Text) : Type 0 where
+  pub said : command_of words ≡ Some Tree
+  pub bytes : Text
+  pub read : WasRead (most_bytes Tree) input bytes
+  pub script : Script
+  pub judged : judgement bytes ≡ Ok script
+  pub report : IsFileReport (translation script) text
+  pub agrees : AgreesWithTree script
+
+-- What was read, or the trace part of it, is no trace, or by `tree` no script, and the text tells the first bad line and its lowest reason.
 pub record IsBadInput (words : List Text) (input : Input) (text : Text) : Type 0 where
   pub command : Command
   pub said : command_of words ≡ Some command
@@ -138,6 +153,7 @@ pub record IsMisused (words : List Text) (text : Text) : Type 0 where
 abbrev pub IsAccomplished : List Text → Input → Text → Type 0
 IsAccomplished words input text =
     IsDone words input text ⊎ IsChecked words input text ⊎ IsSummed words text ⊎ IsSampled words input text ⊎ IsWorked words input text ⊎ IsSnapped words input text ⊎ IsAudited words input Sound text
+    ⊎ IsTranslated words input text
 
 -- A report or a snapshot was refused, or a snapshot is not sound, and that is the text of it.
 abbrev pub IsFoundWrong : List Text → Input → Text → Type 0
@@ -152,6 +168,8 @@ IsDue words input text = IsAccomplished words input text ⊎ IsFoundWrong words 
 pub record IsDecided (words : List Text) (input : Input) (output : Output) (answer : Status) : Type 0 where
   pub of_no_command : IsNoCommand words → ¬ SinkFailed output → answer ≡ Usage
   pub of_trace : (command : Command) (bytes : Text) (t : NamedTrace) → command_of words ≡ Some command → ReadsTrace command → input.left ≡ Some bytes → Spells bytes t
+      → ¬ SourceFailed input → ¬ SinkFailed output → (answer ≡ Good) ⊎ (answer ≡ WantOfMemory)
+  pub of_script : (bytes : Text) (s : Script) → command_of words ≡ Some Tree → input.left ≡ Some bytes → judgement bytes ≡ Ok s
       → ¬ SourceFailed input → ¬ SinkFailed output → (answer ≡ Good) ⊎ (answer ≡ WantOfMemory)
   pub of_big : (objects : ℕ) → command_of words ≡ Some (Big objects) → ¬ SinkFailed output → (answer ≡ Good) ⊎ (answer ≡ WantOfMemory)
   pub of_good_report : (bytes : Text) (t : NamedTrace) (report : Text) → command_of words ≡ Some Check → input.left ≡ Some bytes → AreTraceAndReport bytes t report → IsGoodReport t report

@@ -5,13 +5,14 @@ use Rattle.k_words.specs.Numbers.{below_of}
 use Rattle.k_words.specs.Words.{Text}
 use Rattle.k_big.specs.Words.{objects_of}
 use Rattle.k_top.specs.declared.commands.Command.{Command}
-use Rattle.k_top.specs.declared.commands.Command.TheVariants.{Run, Replay, Check, Big, Watch, Work, Snap, Audit}
+use Rattle.k_top.specs.declared.commands.Command.TheVariants.{Run, Replay, Check, Big, Watch, Work, Snap, Audit, Tree}
 
 -- The command that the word alone names.
 abbrev pub command_named : Text → Option Command
 command_named word =
     if bytes_eq word (codes "run") then Some Run else if bytes_eq word (codes "replay") then Some Replay else if bytes_eq word (codes "check") then Some Check else if bytes_eq word (codes "work") then Some Work
-    else if bytes_eq word (codes "snap") then Some Snap else if bytes_eq word (codes "audit") then Some Audit else None
+    else if bytes_eq word (codes "snap") then Some Snap else if bytes_eq word (codes "audit") then Some Audit
+    else if bytes_eq word (codes "tree") then Some Tree else None
 
 -- The most samples that a watcher is asked for.
 abbrev pub most_samples : ℕ
@@ -68,6 +69,7 @@ Waits Replay = ⊥
 Waits Check = ⊥
 Waits Snap = ⊥
 Waits Audit = ⊥
+Waits Tree = ⊥
 
 -- The words are no command that waits.
 abbrev pub WaitsForNobody : List Text → Type 0

@@ -9,8 +9,9 @@ use Rattle.k_trace.specs.Judgement.{IsBad}
 use Rattle.k_trace.specs.Named.{NamedTrace}
 use Rattle.k_trace.specs.Reasons.{reason_number}
 use Rattle.k_trace.specs.Rules.{Spells}
+use Rattle.k_spawn.specs.Judgement.{IsBad as IsBadScript}
 use Rattle.k_top.specs.declared.commands.Command.{Command}
-use Rattle.k_top.specs.declared.commands.Command.TheVariants.{Big, Check, Audit}
+use Rattle.k_top.specs.declared.commands.Command.TheVariants.{Big, Check, Audit, Tree}
 
 -- The most bytes of the command's input. It reads at most one byte more, but for `big`, which reads nothing.
 abbrev pub most_bytes : Command → ℕ
@@ -65,5 +66,6 @@ AreBadParts opening bytes (Bad line reason) = IsBadPart opening bytes line reaso
 abbrev pub IsBadFor : Command → Text → ℕ → ℕ → Type 0
 IsBadFor Check bytes line reason = IsBadPart (codes "report 1") bytes line reason
 IsBadFor Audit bytes line reason = IsBadPart (codes "snapshot 1") bytes line reason
+IsBadFor Tree bytes line reason = IsBadScript bytes line reason
 IsBadFor (Big objects) bytes line reason = ⊥
 IsBadFor _ bytes line reason = IsBad bytes line reason

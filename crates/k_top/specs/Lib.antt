@@ -6,6 +6,7 @@ pub mod Inputs
 pub mod Reports
 pub mod Answers
 pub mod Runs
+pub mod Scripts
 pub mod Parts
 pub mod Numbers
 pub mod Endings

@@ -10,6 +10,9 @@ use Rattle.k_state.specs.Machines.{setup_of}
 use Rattle.k_audit.specs.Verdicts.{IsVerdict}
 use Rattle.k_audit.specs.declared.verdicts.Verdict.{Verdict}
 use Rattle.k_audit.specs.declared.verdicts.Verdict.TheVariants.{Sound}
+use Rattle.k_spawn.specs.Judgement.{judgement, IsBad as IsBadScript}
+use Rattle.k_spawn.specs.Scripts.{Script}
+use Rattle.k_spawn.specs.Translation.{translation}
 use Rattle.k_top.specs.declared.commands.Command.TheVariants.{Check, Audit}
 use Rattle.k_top.specs.declared.status.Status.{Status}
 use Rattle.k_top.specs.declared.status.Status.TheVariants.{Good, BadTrace, Usage, WantOfMemory, ReadFault, WriteFault, Refused}
@@ -17,7 +20,7 @@ use Rattle.k_top.specs.Answers.{IsAccomplished, IsBadInput, IsFoundWrong, IsMisu
 use Rattle.k_top.specs.Commands.{IsCommand, IsReading}
 use Rattle.k_top.specs.Ends.{Input, Output, SourceFailed, Took, TookFront}
 use Rattle.k_top.specs.Inputs.{AreTraceAndReport, AreTraceAndSnapshot, IsBadFor}
-use Rattle.k_top.specs.Reports.{IsSummaryOf}
+use Rattle.k_top.specs.Reports.{IsFileReport, IsSummaryOf}
 use Rattle.k_top.specs.Texts.{bad_trace_text, good_text, refused_text, verdict_text}
 
 -- The status after its text was handed to the sink.
@@ -58,6 +61,13 @@ TellsOfCheck bytes Refused text = (t : NamedTrace) × (report : Text) × AreTrac
 TellsOfCheck bytes BadTrace text = (line : ℕ) × (reason : ℕ) × IsBadFor Check bytes line reason × (text ≡ bad_trace_text line reason)
 TellsOfCheck bytes WantOfMemory text = text ≡ []
 TellsOfCheck bytes _ text = ⊥
+
+-- What each status tells of the bytes that were read as a script, and of the text to be written.
+abbrev pub TellsOfScript : Text → Status → Text → Type 0
+TellsOfScript bytes Good text = (s : Script) × (judgement bytes ≡ Ok s) × IsFileReport (translation s) text
+TellsOfScript bytes BadTrace text = (line : ℕ) × (reason : ℕ) × IsBadScript bytes line reason × (text ≡ bad_trace_text line reason)
+TellsOfScript bytes WantOfMemory text = text ≡ []
+TellsOfScript bytes _ text = ⊥
 
 -- What each status tells of a snapshot that is audited over the header of a trace, and of the text to be written.
 abbrev pub TellsOfSnapshot : NamedTrace → Text → Status → Text → Type 0

@@ -6,7 +6,7 @@ use Rattle.k_audit.specs.declared.verdicts.Verdict.TheVariants.{Sound, Line, Poi
 
 -- What is written where the words are no command.
 unfoldable pub usage_text : Text
-usage_text = codes "usage: kaffe run | replay | check | big N | watch K | work | snap | audit" ++ 10 ∷ []
+usage_text = codes "usage: kaffe run | replay | check | big N | watch K | work | snap | audit | tree" ++ 10 ∷ []
 
 -- What is written where the input is no trace: the first bad line, and the reason.
 unfoldable pub bad_trace_text : ℕ → ℕ → Text

@@ -53,6 +53,7 @@ pub fn kaffe<S: Source, K: Sink, G: Gate, R: Threads + Wait + Sync>(
         | Some(Command::Check)
         | Some(Command::Snap)
         | Some(Command::Audit)
+        | Some(Command::Tree)
         | None => answer_at_once(alloc, words, src, out),
     }
 }

@@ -27,6 +27,8 @@ pub enum Command {
     Snap,
     /// Reads a trace and a snapshot, and says whether the snapshot is that of a sound state over the header of the trace.
     Audit,
+    /// Does the operations of a script's translation in the order of the file, and writes their report.
+    Tree,
 }
 
 /// The command that the words, those after the program's name, are; `None` where they are none.
@@ -51,6 +53,7 @@ fn command_named(word: &str) -> Option<Command>
         "work" => Some(Command::Work),
         "snap" => Some(Command::Snap),
         "audit" => Some(Command::Audit),
+        "tree" => Some(Command::Tree),
         _ => None,
     }
 }

@@ -19,6 +19,7 @@ mod running;
 mod samples;
 mod settling;
 mod snapping;
+mod spawning;
 mod status;
 mod texts;
 mod watching;

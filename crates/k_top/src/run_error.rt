@@ -10,7 +10,7 @@ pub enum RunError {
     NoMemory(NoMemory),
     /// The source failed.
     Unread,
-    /// What was read is no trace. Lines are counted from 1, and line 0 stands for the whole input.
+    /// What was read is no trace, or no script where one is asked for. Lines are counted from 1, and line 0 stands for the whole input.
     Bad { line: u32, reason: u32 },
 }
 

@@ -8,13 +8,14 @@ use crate::checking::check_file;
 use crate::commands::{Command, command_of};
 use crate::running::replay_file;
 use crate::snapping::snap_file;
+use crate::spawning::tree_file;
 use crate::status::Status;
 use crate::texts::write_usage;
 use k_io::{Sink, Source};
 use std::alloc::Global;
 
-/// Does what the words say where they are `replay`, `check`, `snap`, `audit`, or no command. It waits for nobody, so it returns, whatever
-/// the source and the sink do.
+/// Does what the words say where they are `replay`, `check`, `snap`, `audit`, `tree`, or no command. It waits for nobody, so it returns,
+/// whatever the source and the sink do.
 pub fn answer_at_once<S: Source, K: Sink>(
     alloc: Global,
     words: &[String],
@@ -34,6 +35,7 @@ pub fn answer_at_once<S: Source, K: Sink>(
         Some(Command::Check) => check_file(alloc, src, out),
         Some(Command::Snap) => snap_file(alloc, src, out),
         Some(Command::Audit) => audit_file(alloc, src, out),
+        Some(Command::Tree) => tree_file(alloc, src, out),
         Some(Command::Run) => unreachable!(),
         Some(Command::Big(_)) => unreachable!(),
         Some(Command::Watch(_)) => unreachable!(),

@@ -11,7 +11,7 @@ use std::process::ExitCode;
 pub enum Status {
     /// The command was done, and its text was written.
     Good,
-    /// The input is no trace.
+    /// The input is no trace, or by `tree` no script.
     BadTrace,
     /// The words are no command.
     Usage,

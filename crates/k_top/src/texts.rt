@@ -25,7 +25,7 @@ pub fn write_usage<K: Sink>(out: &mut K) -> Status
 {
     let written = write_all(
         out,
-        b"usage: kaffe run | replay | check | big N | watch K | work | snap | audit\n",
+        b"usage: kaffe run | replay | check | big N | watch K | work | snap | audit | tree\n",
     );
     after_writing(Status::Usage, written)
 }

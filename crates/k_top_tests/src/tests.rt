@@ -54,7 +54,7 @@ end
 
 /// What is written where the words are no command.
 pub const USAGE: &str =
-    "usage: kaffe run | replay | check | big N | watch K | work | snap | audit\n";
+    "usage: kaffe run | replay | check | big N | watch K | work | snap | audit | tree\n";
 
 /// A trace in which every sharer pays in full.
 pub const SHARING: &str = "kaffe 1
@@ -166,12 +166,63 @@ shared s 0 unmade
 end
 ";
 
+/// A script in which a process spawns and reaps a child.
+const FAMILY: &str = "spawn 1
+kernel 200 2
+type Node ref ref int
+limit root 120
+proc p root
+child c p
+p spawn c 80
+c new r0 Node
+c new r1 Node
+c new r2 Node
+p new r0 Node
+p new r1 Node
+p reap c
+p new r1 Node
+";
+
+/// The report of the operations that it stands for.
+const REAPED: &str = "report 1
+p resize c 80 = ok
+c new r0 Node = c.1
+c new r1 Node = c.2
+c new r2 Node = fault LimitFull c
+p new r0 Node = p.1
+p new r1 Node = fault LimitFull root
+p kill c = ok
+p resize c 0 = ok
+p new r1 Node = p.2
+graph
+kernel.1 kernel directory null null
+p.1 p Node null null 0
+p.2 p Node null null 0
+c.1 kernel Node null null 0
+c.2 kernel Node null null 0
+roots
+p r0 p.1
+p r1 p.2
+exits
+shares
+faults
+p 1
+c 1
+charges
+kernel 112 of 200
+limit root 80 of 120
+limit c 0 of 0
+process p 80
+process c 0
+end
+";
+
 /// A call whose read and write of those numbers fail: its words and its input, and what is wanted of it.
 type Row = (&'static str, &'static str, u32, u32, Status, &'static str);
 
 /// Reads that fail. The first one gives the input, the second its end, and there is no third. Words that are no command, and `big`, read
 /// nothing.
-const READS: [Row; 20] = [
+const READS: [Row; 25] = [
     ("run", TRACE, 1, 0, Status::ReadFault, ""),
     ("run", TRACE, 2, 0, Status::ReadFault, ""),
     ("run", TRACE, 3, 0, Status::Good, REPORT),
@@ -186,16 +237,28 @@ const READS: [Row; 20] = [
     ("audit", TRACE, 1, 0, Status::ReadFault, ""),
     ("audit", TRACE, 2, 0, Status::ReadFault, ""),
     ("audit", TRACE, 3, 0, Status::Refused, "refused 1\n"),
+    ("tree", FAMILY, 1, 0, Status::ReadFault, ""),
+    ("tree", FAMILY, 2, 0, Status::ReadFault, ""),
+    ("tree", FAMILY, 3, 0, Status::Good, REAPED),
+    (
+        "tree",
+        TRACE,
+        3,
+        0,
+        Status::BadTrace,
+        "bad trace: line 1 reason 4\n",
+    ),
     ("big 10", "", 1, 0, Status::Good, TEN),
     ("", TRACE, 1, 0, Status::Usage, USAGE),
     ("run x", TRACE, 1, 0, Status::Usage, USAGE),
     ("big 0", TRACE, 1, 0, Status::Usage, USAGE),
     ("snap 1", TRACE, 1, 0, Status::Usage, USAGE),
     ("audit 1", TRACE, 1, 0, Status::Usage, USAGE),
+    ("tree 1", FAMILY, 1, 0, Status::Usage, USAGE),
 ];
 
 /// First writes that fail. A text that is no report is one piece.
-const WRITES: [Row; 7] = [
+const WRITES: [Row; 9] = [
     ("run", "", 0, 1, Status::WriteFault, ""),
     ("help", TRACE, 0, 1, Status::WriteFault, ""),
     ("check", TRACE, 0, 1, Status::WriteFault, ""),
@@ -203,6 +266,8 @@ const WRITES: [Row; 7] = [
     ("work", TRACE, 0, 1, Status::WriteFault, ""),
     ("snap", ENDING, 0, 1, Status::WriteFault, ""),
     ("audit", TRACE, 0, 1, Status::WriteFault, ""),
+    ("tree", FAMILY, 0, 1, Status::WriteFault, ""),
+    ("tree", TRACE, 0, 1, Status::WriteFault, ""),
 ];
 
 /// Calls the program once for each row.
@@ -317,6 +382,7 @@ fn check_each_line<R: Abort + Threads + Wait + Sync>(
 fn tells_each_line_that_is_not_taken(rt: HostRuntime) -> Result<(), Fail> {
     check_each_line(&rt, rt.alloc(), "replay", SHARING, SHARERS)?;
     check_each_line(&rt, rt.alloc(), "snap", ENDING, ENDED)?;
+    check_each_line(&rt, rt.alloc(), "tree", FAMILY, REAPED)?;
     Ok(())
 }
 

@@ -19,6 +19,7 @@ pub mod Sound
 pub mod Tidy
 pub mod Judged
 pub mod Runs
+pub mod Made
 pub mod LaterRuns
 pub mod OpRuns
 pub mod Whole

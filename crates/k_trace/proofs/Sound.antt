@@ -27,7 +27,8 @@ said_named t wss h = record {
   shared = h.begun.heaps.shared_named;
 }
 
-named_in : (p : Place) (t : NamedTrace) (wss : List (List Text)) → Holds p t wss → AreNamed t
+-- all that was declared has a name
+pub named_in : (p : Place) (t : NamedTrace) (wss : List (List Text)) → Holds p t wss → AreNamed t
 named_in Version t wss h = blank_named t 1 h.0
 named_in Kernel t wss h = blank_named t t.trace.version h.0
 named_in Types t wss h = said_named t wss h.0

@@ -30,6 +30,10 @@ pub record SoFar : Type 0 where
 abbrev pub start : SoFar
 start = record { place = Version; said = blank }
 
+-- behind the first line of a trace of the first version
+abbrev pub past_version : SoFar
+past_version = record { place = Kernel; said = blank }
+
 -- what the lines say with one more, or the lowest reason that applies to it
 abbrev pub Judged : Type 0
 Judged = Result SoFar Reason

@@ -20,10 +20,13 @@ mod spelling;
 mod trace;
 mod version;
 
-pub use errors::TraceError;
+pub use errors::{LineError, TraceError};
 pub use forms::read_op;
 pub use laws::judged_as_spelled;
 pub use names::Names;
+pub use operations::Operations;
+pub use place::Place;
+pub use reader::Reader;
 pub use reading::read_trace;
 pub use reasons::Reason;
 pub use spelling::{push_op, push_register};

@@ -1,7 +1,8 @@
 //! The names that a trace declares.
-ghost use Rattle.std.specs.Prelude.{◌≡◌, ◌<◌, ◌≤◌, ◌++◌, ◌∷◌, [], length, OnOk, OnErr, IfSome, IsTrue, IsFalse};
+ghost use Rattle.std.specs.Prelude.{◌≡◌, ◌<◌, ◌≤◌, ◌++◌, ◌∷◌, [], length, map, IfOk, OnOk, OnErr, IfSome, IsTrue, IsFalse};
 ghost use Rattle.k_words.specs.Names.{declares, is_name};
 ghost use Rattle.k_trace.specs.Named.{no_names, type_name, limit_name, proc_name, shared_name};
+ghost use Rattle.k_trace.specs.Rules.{AreNames};
 ghost use Rattle.k_trace.specs.Numbered.{type_named, limit_named, proc_named, shared_named};
 
 use k_io::NoMemory;
@@ -42,7 +43,57 @@ impl Model for Names {
     ghost invariant = { λ n. AreShort (record { types = n.types; limits = n.limits; procs = n.procs; shared = n.shared }) };
 }
 
+/// A list of these names, each of which is a name, and no two of which are one.
+fn list_of(alloc: Global, names: &[Vec<u8>]) -> Result<NameList, NoMemory>
+    requires { AreNames (map (λ name. name.items) names.now) }
+    ensures { IfOk result (λ list. list ≡ map (λ name. name.items) names.now) }
+{
+    let mut list = NameList::new(alloc);
+    for name in names {
+        list.declare(alloc, name)?;
+    }
+    Ok(list)
+}
+
 impl Names {
+    /// The names of these lists, each numbered in the order of its list.
+    ///
+    /// # Errors
+    ///
+    /// `NoMemory` where the copies of the names find no room.
+    pub fn make(
+        alloc: Global,
+        types: &[Vec<u8>],
+        limits: &[Vec<u8>],
+        procs: &[Vec<u8>],
+        shared: &[Vec<u8>],
+    ) -> Result<Names, NoMemory>
+        requires types { AreNames (map (λ name. name.items) types.now) }
+        requires limits { AreNames (map (λ name. name.items) limits.now) }
+        requires heaps { AreNames (map (λ name. name.items) procs.now ++ map (λ name. name.items) shared.now) }
+        requires few_types { length types.now ≤ 256 }
+        requires few_limits { length limits.now ≤ 128 }
+        requires few_procs { length procs.now ≤ 64 }
+        requires few_shared { length shared.now ≤ 64 }
+        ensures { IfOk result (λ names. names ≡ record {
+          types = map (λ name. name.items) types.now;
+          limits = map (λ name. name.items) limits.now;
+          procs = map (λ name. name.items) procs.now;
+          shared = map (λ name. name.items) shared.now;
+        }) }
+    {
+        let types = list_of(alloc, types)?;
+        let limits = list_of(alloc, limits)?;
+        let procs = list_of(alloc, procs)?;
+        let shared = list_of(alloc, shared)?;
+        Ok(Names {
+            types,
+            limits,
+            procs,
+            shared,
+        })
+    }
+
     pub(crate) fn new(alloc: Global) -> Names
         ensures { result ≡ no_names }
     {
@@ -182,7 +233,8 @@ impl Names {
 
     /// How many types were declared.
     pub fn type_count(&self) -> usize
-        ensures { result ≡ length self.now.types }
+        ensures count { result ≡ length self.now.types }
+        ensures few { result ≤ 256 }
     {
         self.types.len()
     }
@@ -195,7 +247,8 @@ impl Names {
 
     /// How many limits were declared.
     pub fn limit_count(&self) -> usize
-        ensures { result ≡ length self.now.limits }
+        ensures count { result ≡ length self.now.limits }
+        ensures few { result ≤ 128 }
     {
         self.limits.len()
     }
@@ -222,7 +275,8 @@ impl Names {
 
     /// How many shared heaps were declared.
     pub fn shared_count(&self) -> usize
-        ensures { result ≡ length self.now.shared }
+        ensures count { result ≡ length self.now.shared }
+        ensures few { result ≤ 64 }
     {
         self.shared.len()
     }

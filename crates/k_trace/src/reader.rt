@@ -3,7 +3,7 @@ ghost use Rattle.std.specs.Prelude.{◌≡◌, ◌<◌, ◌≤◌, IfOk, OnOk, O
 ghost use Rattle.k_types.specs.Bounds.{most_limits};
 ghost use Rattle.std.specs.List.{list_all};
 ghost use Rattle.k_words.specs.Words.{words_of};
-ghost use Rattle.k_trace.specs.Judgement.{start, version_line, kernel_line, is_field, field_of, type_line, root_line, limit_line, proc_line, shared_line, process_line, operation_line, later_line, line_of_types, line_of_limits, line_of_procs, line_in, judged_line, has_process};
+ghost use Rattle.k_trace.specs.Judgement.{start, past_version, version_line, kernel_line, is_field, field_of, type_line, root_line, limit_line, proc_line, shared_line, process_line, operation_line, later_line, line_of_types, line_of_limits, line_of_procs, line_in, judged_line, has_process};
 ghost use Rattle.k_trace.specs.Grown.{with_limit};
 ghost use Rattle.k_trace.specs.Outcome.{AreReserved, IsJudged, Finishes};
 ghost use Rattle.k_words.specs.Names.{declares, is_name};
@@ -123,6 +123,29 @@ impl Reader {
             names: Names::new(alloc),
             operations: Operations::new(alloc),
         }
+    }
+
+    /// A reader that stands behind the first line of a trace of the first version. A script's header is read by it.
+    pub fn past_version(alloc: Global) -> Reader
+        ensures { result ≡ past_version }
+    {
+        let mut reader = Reader::new(alloc);
+        reader.place = Place::Kernel;
+        reader
+    }
+
+    /// Where the next line stands.
+    pub fn place(&self) -> Place
+        ensures { result ≡ self.now.place }
+    {
+        self.place
+    }
+
+    /// The names that the lines so far declare.
+    pub fn names(&self) -> &Names
+        ensures { result.now ≡ self.now.said.names }
+    {
+        &self.names
     }
 
     #[tactic(auto, unfolding(crate::specs::Judgement::version_line, crate::specs::Demands::demands))]
@@ -399,8 +422,9 @@ impl Reader {
         self.later_line(alloc, line)
     }
 
+    /// Takes the next line, whose length, bytes and words were looked at before.
     #[tactic(auto, unfolding(crate::specs::Judgement::line_in, crate::specs::Demands::demands))]
-    fn line_in(&mut self, alloc: Global, line: &[u8]) -> Result<(), LineError>
+    pub fn line_in(&mut self, alloc: Global, line: &[u8]) -> Result<(), LineError>
         ensures { IsJudged result self.new (line_in self.old.place self.old.said (words_of line.now)) }
     {
         match self.place {

@@ -1,9 +1,9 @@
 use Rattle.std.proofs.Common.{sym, ◌∙◌, ap, refl, Some}
 use Rattle.k_top.specs.declared.commands.Command.{Command}
-use Rattle.k_top.specs.declared.commands.Command.TheVariants.{Run, Replay, Check, Big, Watch, Work, Snap, Audit}
+use Rattle.k_top.specs.declared.commands.Command.TheVariants.{Run, Replay, Check, Big, Watch, Work, Snap, Audit, Tree}
 use Rattle.k_top.proofs.Answered.{answered_more, answered_written}
 use Rattle.k_top.proofs.Contract.{contract}
-use Rattle.k_top.proofs.Meanings.{audit_means, check_means, run_means, snap_means}
+use Rattle.k_top.proofs.Meanings.{audit_means, check_means, run_means, snap_means, tree_means}
 use Rattle.k_top.proofs.settling.answer_at_once.Goals as goal
 
 pub returns-in-Some-Replay-clause-answered : goal.returns-in-Some-Replay-clause-answered
@@ -33,6 +33,13 @@ returns-in-Some-Audit-clause-answered g c =
 
 pub returns-in-Some-Audit-clause-unread : goal.returns-in-Some-Audit-clause-unread
 returns-in-Some-Audit-clause-unread g c none = absurd (none (Audit, sym c.command_of.ensures ∙ c.in-Some-Audit.is ∙ ap (λ (command : Command). Some command) c.in-Some-Audit.field-0-is, tt))
+
+pub returns-in-Some-Tree-clause-answered : goal.returns-in-Some-Tree-clause-answered
+returns-in-Some-Tree-clause-answered g c =
+    contract _ _ _ _ (answered_more _ _ _ _ (tree_means _ _ (sym c.command_of.ensures ∙ c.in-Some-Tree.is ∙ ap (λ (command : Command). Some command) c.in-Some-Tree.field-0-is)) c.tree_file.ensures.answered)
+
+pub returns-in-Some-Tree-clause-unread : goal.returns-in-Some-Tree-clause-unread
+returns-in-Some-Tree-clause-unread g c none = absurd (none (Tree, sym c.command_of.ensures ∙ c.in-Some-Tree.is ∙ ap (λ (command : Command). Some command) c.in-Some-Tree.field-0-is, tt))
 
 pub returns-in-None-clause-answered : goal.returns-in-None-clause-answered
 returns-in-None-clause-answered g c = contract _ _ _ _ (answered_written _ _ _ _ _ (record { no_command = sym c.command_of.ensures ∙ c.in-None.is; says = refl }) c.write_usage.ensures)

@@ -1,0 +1,22 @@
+use Rattle.std.proofs.Common.{◌≡◌, arith, ◌∙◌, sym, ap, length}
+use Rattle.std.proofs.lemmas.Bool.{eqb-true}
+use Rattle.k_spawn.proofs.Judging.{one_more, bad_line, none_left, no_lines}
+use Rattle.k_spawn.proofs.reading.read_lines.Goals as goal
+
+pub returns-in-Err-Bad-clause-read : goal.returns-in-Err-Bad-clause-read
+returns-in-Err-Bad-clause-read c =
+    let bad = rw c.in-Err-Bad.field-0-is at c.in-Err-Bad.ensures.judged in
+    rw (c.number.ensures, c.in-Err-Bad.reason-is) (c.loop-rest.invariant.judged ∙ bad_line c.loop-rest.number c.in-Err-Bad.reason _ _ _ _ c.next_line.ensures.lines bad)
+
+pub loop-rest-preserved : goal.loop-rest-preserved
+loop-rest-preserved c = record {
+  judged = c.loop-rest.invariant.judged ∙ one_more c.loop-rest.number _ _ _ _ _ c.next_line.ensures.lines c.in-Ok.ensures.judged;
+  ready = c.in-Ok.ensures.ready;
+  counted = omega (arith, ap length c.next_line.ensures.lines);
+  few = omega arith;
+}
+
+pub returns-clause-read : goal.returns-clause-read
+returns-clause-read c =
+    let none : length c.loop-rest.rest.now ≡ 0 = eqb-true _ _ (sym c.loop-rest-test.ensures) in
+    (c.loop-rest.invariant.judged ∙ none_left c.loop-rest.number _ c.loop-rest.rest.now none, omega (arith, no_lines c.loop-rest.rest.now none))

@@ -1,0 +1,16 @@
+use Rattle.std.proofs.Common.{◌≡◌, ◌+◌, ◌≤◌, length}
+use Rattle.k_trace.specs.Words.{lines_of}
+use Rattle.k_spawn.specs.Judgement.{judged_lines}
+use Rattle.k_spawn.specs.Outcome.{IsReader, so_far}
+use Rattle.k_spawn.proofs.reading.read_lines.Given as goal
+
+abbrev pub invariant-loop-rest : goal.invariant-loop-rest
+invariant-loop-rest l = record {
+  judged : judged_lines 1 (so_far l.fn.reader) (lines_of l.bytes) ≡ judged_lines l.number (so_far l.reader) (lines_of l.rest);
+  ready : IsReader l.reader;
+  counted : l.number + length (lines_of l.rest) ≡ length (lines_of l.bytes) + 1;
+  few : l.number + length l.rest ≤ length l.bytes + 1;
+}
+
+abbrev pub decreases-loop-rest : goal.decreases-loop-rest
+decreases-loop-rest l = length l.rest

@@ -1,0 +1,6 @@
+use Rattle.std.proofs.Common.{◌≡◌, ◌++◌, drop}
+use Rattle.k_spawn.proofs.Copied.{texts}
+use Rattle.k_spawn.proofs.translation.shared_names.Given as goal
+
+abbrev pub invariant-loop-number : goal.invariant-loop-number
+invariant-loop-number l = texts l.list.items ++ drop l.number l.names.shared ≡ l.names.shared

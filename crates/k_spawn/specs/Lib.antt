@@ -1,0 +1,13 @@
+pub mod Families
+pub mod Scripts
+pub mod Translation
+pub mod Translated
+pub mod Reasons
+pub mod Timely
+pub mod Courses
+pub mod Judgement
+pub mod Outcome
+pub mod Spelling
+pub mod Tree
+pub mod Agreement
+pub mod Worked
