@@ -1,11 +1,12 @@
 //! What the cell of a process changes of the process's own.
-ghost use Rattle.std.specs.Prelude.{◌≡◌, ◌<◌, ◌+◌, ◌-◌, ◌^◌, ◌∷◌, [], ◌++◌, length, option_map};
+ghost use Rattle.std.specs.Prelude.{◌≡◌, ◌<◌, ◌+◌, ◌-◌, ◌^◌, ◌∷◌, [], ◌++◌, length, option_map, OnErr, OnOk};
 ghost use Rattle.k_types.specs.Names.{name_of};
 ghost use Rattle.k_frame.specs.PartUpdates.{done_in};
 ghost use Rattle.k_cell.specs.GivingAway.{with_one_done};
 ghost use Rattle.k_heap.specs.Heaps.{with_process_ended, with_register_in};
 
 use crate::heap::HeapCell;
+use k_io::NoMemory;
 use k_space::Body;
 use k_types::{Event, Link, Reg};
 use std::collections::VecDeque;
@@ -67,6 +68,15 @@ impl HeapCell {
         let alloc = *self.tail.allocator();
         let tail = replace(&mut self.tail, VecDeque::new(alloc));
         self.tail = VecDeque::from_vec(tail.into_vec());
+    }
+
+    /// Has the body come first, as that for the next allocation. `NoMemory` comes where the list of bodies is full and finds no memory.
+    pub fn give_body(&mut self, body: Body) -> Result<(), NoMemory>
+        ensures given { OnOk result (self.new ≡ record self.old { bodies = body ∷ self.old.bodies }) }
+        ensures same { OnErr result (self.new ≡ self.old) }
+    {
+        self.bodies.push_front(body)?;
+        Ok(())
     }
 
     /// Gives the body for the next allocation.
