@@ -11,16 +11,22 @@ const TURNS_OF_A_STEP: u32 = 100_000;
 #[derive(Drop)]
 struct Count {
     operations: AtomicU32,
+    // How many it had done when it was told of last.
+    done: AtomicU32,
     steps: AtomicU32,
 }
 
-/// A gate that counts for each process the operations that are told, and the steps under the book's lock. It may hold each step for a while.
+/// A gate that counts for each process the operations that are told, and the steps under the book's lock. It may hold each step for a while,
+/// and ask for stretches, of which it is told the steps alone.
 #[derive(Drop)]
 pub struct Counts {
     of_each: Vec<Count>,
     // For how many turns it holds each step.
     turns: u32,
-    // Whether an operation was told twice, left out, or told before an earlier one, or a process that there is not.
+    // How many operations it lets a stretch have.
+    stretch: u32,
+    // Whether an operation was told twice, left out where there are no stretches, or told before an earlier one, or a process that there is
+    // not.
     astray: AtomicBool,
     // Whether a thread is at a step.
     in_book: AtomicBool,
@@ -33,7 +39,16 @@ impl Counts {
     ///
     /// `NoMemory` where there is no room for a count of each process.
     pub fn make(alloc: Global, processes: u32) -> Result<Counts, NoMemory> {
-        Counts::holding_for(alloc, processes, TURNS_OF_A_STEP)
+        Counts::holding_for(alloc, processes, TURNS_OF_A_STEP, NO_STRETCH)
+    }
+
+    /// The same where stretches may have so many operations.
+    ///
+    /// # Errors
+    ///
+    /// `NoMemory` where there is no room for a count of each process.
+    pub fn make_stretched(alloc: Global, processes: u32, stretch: u32) -> Result<Counts, NoMemory> {
+        Counts::holding_for(alloc, processes, TURNS_OF_A_STEP, stretch)
     }
 
     /// The same for runs of very many steps: it holds none of them.
@@ -42,27 +57,34 @@ impl Counts {
     ///
     /// `NoMemory` where there is no room for a count of each process.
     pub fn make_quick(alloc: Global, processes: u32) -> Result<Counts, NoMemory> {
-        Counts::holding_for(alloc, processes, 0)
+        Counts::holding_for(alloc, processes, 0, NO_STRETCH)
     }
 
-    fn holding_for(alloc: Global, processes: u32, turns: u32) -> Result<Counts, NoMemory> {
+    fn holding_for(
+        alloc: Global,
+        processes: u32,
+        turns: u32,
+        stretch: u32,
+    ) -> Result<Counts, NoMemory> {
         let mut of_each = Vec::new(alloc);
         for _ in 0..processes {
             of_each.push(Count {
                 operations: AtomicU32::new(0),
+                done: AtomicU32::new(0),
                 steps: AtomicU32::new(0),
             })?;
         }
         Ok(Counts {
             of_each,
             turns,
+            stretch,
             astray: AtomicBool::new(false),
             in_book: AtomicBool::new(false),
         })
     }
 
     /// How many operations of the process were told, each once and in order, and how many steps, one at a time. None where anything was
-    /// told otherwise, of whatever process.
+    /// told otherwise, of whatever process. Operations that a stretch does are not told.
     pub fn of(&self, pid: usize) -> Option<(u32, u32)> {
         if self.astray.load(Ordering::SeqCst) {
             return None;
@@ -73,8 +95,36 @@ impl Counts {
         Some((operations, steps))
     }
 
+    /// How many operations of the process were told, where `of` says it.
+    pub fn told(&self, pid: usize) -> Option<u32> {
+        let (operations, _) = self.of(pid)?;
+        Some(operations)
+    }
+
+    /// How many steps of the process were told, where `of` says it.
+    pub fn steps(&self, pid: usize) -> Option<u32> {
+        let (_, steps) = self.of(pid)?;
+        Some(steps)
+    }
+
+    /// Whether the operation with `done` before it may be told next where that with `last` was told before.
+    fn may_follow(&self, done: u32, last: u32) -> bool {
+        if self.stretch == NO_STRETCH {
+            last.checked_add(1) == Some(done)
+        } else {
+            last < done
+        }
+    }
+
     fn count_operation(&self, count: &Count, done: u32) {
-        if count.operations.fetch_add(1, Ordering::SeqCst) != done {
+        let is_first = count.operations.fetch_add(1, Ordering::SeqCst) == 0;
+        let last = count.done.swap(done, Ordering::SeqCst);
+        let in_order = if is_first {
+            done == 0
+        } else {
+            self.may_follow(done, last)
+        };
+        if !in_order {
             self.astray.store(true, Ordering::SeqCst);
         }
     }
@@ -105,6 +155,6 @@ impl Gate for Counts {
     }
 
     fn stretch(&self) -> u32 {
-        NO_STRETCH
+        self.stretch
     }
 }

@@ -85,18 +85,26 @@ impl Stop {
     }
 }
 
-/// A gate that holds each process at its stops. A stop's number is its place in the list, counted from 0.
+/// A gate that holds each process at its stops, and may ask for stretches. A stop's number is its place in the list, counted from 0.
 #[derive(Drop)]
 pub struct Stops<const N: usize> {
     stops: [Stop; N],
+    // How many operations it lets a stretch have.
+    stretch: u32,
     missed: AtomicBool,
 }
 
 impl<const N: usize> Stops<N> {
     /// The gate with these stops, none of which was reached yet.
     pub fn of(stops: [Stop; N]) -> Stops<N> {
+        Stops::stretched(stops, NO_STRETCH)
+    }
+
+    /// The same where stretches may have so many operations. It is not told of those at `BeforeOp`, and holds none of them there.
+    pub fn stretched(stops: [Stop; N], stretch: u32) -> Stops<N> {
         Stops {
             stops,
+            stretch,
             missed: AtomicBool::new(false),
         }
     }
@@ -135,6 +143,6 @@ impl<const N: usize> Gate for Stops<N> {
     }
 
     fn stretch(&self) -> u32 {
-        NO_STRETCH
+        self.stretch
     }
 }

@@ -3,7 +3,7 @@ use crate::reporting::{parts, run_report, verdict_on};
 use crate::unrun::check_unrun;
 use k_check::Verdict;
 use k_gates::{Counts, Stop, Stops};
-use k_io::{GatePlace, MemSink};
+use k_io::{GatePlace, MemSink, NO_STRETCH};
 use std::alloc::Global;
 use std::process::Abort;
 use std::sync::Wait;
@@ -136,16 +136,26 @@ p0 kill p1 = ok
     check_events(&rt, rt.alloc(), operations, &gate, events)
 }
 
-#[test]
-fn who_has_not_begun_is_ended(rt: HostRuntime) -> Result<(), Fail> {
-    let gate = Stops::of([
+/// Ends a process that is held before its first operation until that is done, and compares the events.
+pub(crate) fn check_ended_unbegun<R: Threads + Wait + Sync + Abort>(
+    rt: &R,
+    alloc: Global,
+    stretch: u32,
+) -> Result<(), Fail> {
+    let stops = [
         Stop::before(0, 0, Some(1)),
         Stop::before(1, 0, Some(2)),
         Stop::before(0, 1, None),
-    ]);
+    ];
+    let gate = Stops::stretched(stops, stretch);
     let operations = "p0 kill p1\np0 drop r0\np1 new r0 Node\n";
     let events = "p0 kill p1 = ok\np0 drop r0 = ok\n";
-    check_events(&rt, rt.alloc(), operations, &gate, events)
+    check_events(rt, alloc, operations, &gate, events)
+}
+
+#[test]
+fn who_has_not_begun_is_ended(rt: HostRuntime) -> Result<(), Fail> {
+    check_ended_unbegun(&rt, rt.alloc(), NO_STRETCH)
 }
 
 #[test]
@@ -273,17 +283,29 @@ p1 new r0 Node\np1 put r0 2 1\np1 new r1 Node\n";
     check_either(&rt, rt.alloc(), &trace, &report)
 }
 
+/// Has the gate count a run of kills and resizes, of five operations of p0 and two of p3, and compares the steps.
+pub(crate) fn check_steps_of_ending<R: Threads + Wait + Sync + Abort>(
+    rt: &R,
+    alloc: Global,
+    gate: &Counts,
+) -> Result<(), Fail> {
+    let operations = "p0 kill p1\np0 kill p1\np0 kill p0\np0 resize b 100\np0 resize b 2000
+p3 kill p2\np3 drop r0\n";
+    let trace = trace_behind(alloc, operations)?;
+    run_report(rt, alloc, &trace, gate)?;
+    // each is a step, whether it ends somebody, comes too late or is refused
+    assert_eq!(rt; gate.steps(0), Some(5));
+    assert_eq!(rt; gate.steps(3), Some(1));
+    assert_eq!(rt; gate.of(1), Some((0, 0)));
+    Ok(())
+}
+
 #[test]
 fn kills_and_resizes_are_not_left_to_the_end(rt: HostRuntime) -> Result<(), Fail> {
     let gate = Counts::make(rt.alloc(), 4)?;
-    let operations = "p0 kill p1\np0 kill p1\np0 kill p0\np0 resize b 100\np0 resize b 2000
-p3 kill p2\np3 drop r0\n";
-    let trace = trace_behind(rt.alloc(), operations)?;
-    run_report(&rt, rt.alloc(), &trace, &gate)?;
-    // each is a step, whether it ends somebody, comes too late or is refused
-    assert_eq!(rt; gate.of(0), Some((5, 5)));
-    assert_eq!(rt; gate.of(3), Some((2, 1)));
-    assert_eq!(rt; gate.of(1), Some((0, 0)));
+    check_steps_of_ending(&rt, rt.alloc(), &gate)?;
+    assert_eq!(rt; gate.told(0), Some(5));
+    assert_eq!(rt; gate.told(3), Some(2));
     Ok(())
 }
 

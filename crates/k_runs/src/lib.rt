@@ -15,4 +15,6 @@ mod rows;
 #[cfg(test)]
 mod serving;
 #[cfg(test)]
+mod stretched;
+#[cfg(test)]
 mod unrun;

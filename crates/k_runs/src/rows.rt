@@ -1,7 +1,7 @@
 //! Short traces, run with gates.
 use crate::reporting::{parts, replay_report, run_report, trace_text};
 use k_gates::{Counts, Stop, Stops, meanwhile_of_a_step, meanwhile_of_marking};
-use k_io::{Gate, GatePlace, MemSink, NoGate};
+use k_io::{Gate, GatePlace, MemSink, NO_STRETCH, NoGate};
 use std::alloc::Global;
 use std::process::Abort;
 use std::sync::Wait;
@@ -70,7 +70,7 @@ fn one_process_runs_in_the_order_of_its_lines(rt: HostRuntime) -> Result<(), Fai
 }
 
 /// Runs the operations behind the header, in which the lines `more` declare more processes, with the gate.
-fn run_behind<G: Gate, R: Threads + Wait + Sync>(
+pub(crate) fn run_behind<G: Gate, R: Threads + Wait + Sync>(
     rt: &R,
     alloc: Global,
     more: &str,
@@ -95,14 +95,24 @@ fn check_stops<const N: usize, R: Threads + Wait + Sync + Abort>(
     Ok(())
 }
 
-#[test]
-fn two_heaps_are_marked_at_once(rt: HostRuntime) -> Result<(), Fail> {
-    let gate = Stops::of([
+/// Runs two collections, each of which is held where its heap is to be marked until the other one has come there.
+pub(crate) fn check_two_markings<R: Threads + Wait + Sync + Abort>(
+    rt: &R,
+    alloc: Global,
+    stretch: u32,
+) -> Result<(), Fail> {
+    let stops = [
         Stop::at(0, GatePlace::Marking, 1),
         Stop::at(1, GatePlace::Marking, 0),
-    ]);
+    ];
+    let gate = Stops::stretched(stops, stretch);
     let operations = "p1 new r0 Node\np2 new r0 Node\np1 collect\np2 collect\n";
-    check_stops(&rt, rt.alloc(), "", operations, &gate)
+    check_stops(rt, alloc, "", operations, &gate)
+}
+
+#[test]
+fn two_heaps_are_marked_at_once(rt: HostRuntime) -> Result<(), Fail> {
+    check_two_markings(&rt, rt.alloc(), NO_STRETCH)
 }
 
 /// Runs a collection, and the operation of another process while its heap is marked.
@@ -154,16 +164,28 @@ fn no_work_inside_a_heap_needs_the_book(rt: HostRuntime) -> Result<(), Fail> {
     Ok(())
 }
 
-#[test]
-fn threads_leave_nothing_to_the_end(rt: HostRuntime) -> Result<(), Fail> {
-    let gate = Counts::make(rt.alloc(), 2)?;
+/// Has the gate count a run of two processes with five operations each, and compares their steps.
+pub(crate) fn check_steps_of_two<R: Threads + Wait + Sync + Abort>(
+    rt: &R,
+    alloc: Global,
+    gate: &Counts,
+) -> Result<(), Fail> {
     let operations =
         "p1 new r0 Node\np1 store r0 0 r0\np1 collect\np1 drop r0\np1 share s\np2 new r0 Node
 p2 dir r1\np2 store r1 0 r0\np2 kcollect\np2 exit\n";
-    run_behind(&rt, rt.alloc(), "", operations, &gate)?;
+    run_behind(rt, alloc, "", operations, gate)?;
     // a collection has two steps, its beginning and its end, and what is done inside a heap has none
-    assert_eq!(rt; gate.of(0), Some((5, 4)));
-    assert_eq!(rt; gate.of(1), Some((5, 6)));
+    assert_eq!(rt; gate.steps(0), Some(4));
+    assert_eq!(rt; gate.steps(1), Some(6));
+    Ok(())
+}
+
+#[test]
+fn threads_leave_nothing_to_the_end(rt: HostRuntime) -> Result<(), Fail> {
+    let gate = Counts::make(rt.alloc(), 2)?;
+    check_steps_of_two(&rt, rt.alloc(), &gate)?;
+    assert_eq!(rt; gate.told(0), Some(5));
+    assert_eq!(rt; gate.told(1), Some(5));
     Ok(())
 }
 
@@ -214,15 +236,26 @@ fn four_of_the_most_processes_begin_at_once(rt: HostRuntime) -> Result<(), Fail>
     check_stops(&rt, rt.alloc(), &more, &operations, &four_at_once())
 }
 
+/// Has the gate count a run of one process with six operations, by which the kernel absorbs a shared heap, and compares its steps.
+pub(crate) fn check_steps_of_absorbing<R: Threads + Wait + Sync + Abort>(
+    rt: &R,
+    alloc: Global,
+    gate: &Counts,
+) -> Result<(), Fail> {
+    let operations =
+        "p1 share s\np1 snew r0 s Node\np1 freeze s r0\np1 drop r0\np1 collect\np1 kcollect\n";
+    run_behind(rt, alloc, "", operations, gate)?;
+    // the process lets go of the shared heap, and so its collection drops the share; then the kernel absorbs that heap, which is a step,
+    // and its collection has two more
+    assert_eq!(rt; gate.steps(0), Some(9));
+    Ok(())
+}
+
 #[test]
 fn threads_absorb_orphans(rt: HostRuntime) -> Result<(), Fail> {
     let gate = Counts::make(rt.alloc(), 1)?;
-    let operations =
-        "p1 share s\np1 snew r0 s Node\np1 freeze s r0\np1 drop r0\np1 collect\np1 kcollect\n";
-    run_behind(&rt, rt.alloc(), "", operations, &gate)?;
-    // the process lets go of the shared heap, and so its collection drops the share; then the kernel absorbs that heap, which is a step,
-    // and its collection has two more
-    assert_eq!(rt; gate.of(0), Some((6, 9)));
+    check_steps_of_absorbing(&rt, rt.alloc(), &gate)?;
+    assert_eq!(rt; gate.told(0), Some(6));
     Ok(())
 }
 

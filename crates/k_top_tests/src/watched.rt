@@ -2,7 +2,7 @@
 use crate::calling::{Given, HEADER, NO_FAULTS};
 use crate::gated::{COLLECTION, check_collection};
 use k_gates::{Stop, Stops, meanwhile_of_watching};
-use k_io::NoMemory;
+use k_io::{NoMemory, OPERATIONS_A_STRETCH};
 use k_top::Status;
 use std::alloc::Global;
 use std::process::Abort;
@@ -167,4 +167,38 @@ fn samples_beyond_the_hundredth_are_new(rt: HostRuntime) -> Result<(), Fail> {
     let mut given = given_behind(rt.alloc(), "watch 130", HEADER, ONE_OBJECT)?;
     watch(&rt, rt.alloc(), &mut given, &gate);
     check_many(&rt, rt.alloc(), given.written())
+}
+
+/// Two operations, of which a stretch does the second, and one that no stretch does.
+const STRETCHED: &str = "p1 new r0 Node
+p1 new r1 Node
+p1 exit
+";
+
+/// Holds the watcher until the stretch is over, and the process behind it until the watcher has taken its sample.
+fn behind_a_stretch() -> Stops<3> {
+    Stops::stretched(
+        [
+            Stop::sampling(0, Some(1)),
+            Stop::before(0, 2, Some(2)),
+            Stop::sampling(1, None),
+        ],
+        OPERATIONS_A_STRETCH,
+    )
+}
+
+/// Compares the samples: the first has both events, and the second that of the `exit` too.
+fn check_stretched<R: Abort>(rt: &R, written: &str) -> Result<(), Fail> {
+    let (_, samples) = parts(written)?;
+    assert_eq!(rt; samples, "sample 2 120 2\nsample 3 120 1\nend\n");
+    Ok(())
+}
+
+/// A hold of the book behind which its numbers are not published is told by this.
+#[test]
+fn a_sample_behind_a_stretch_has_its_events(rt: HostRuntime) -> Result<(), Fail> {
+    let gate = behind_a_stretch();
+    let mut given = given_behind(rt.alloc(), "watch 1", HEADER, STRETCHED)?;
+    watch(&rt, rt.alloc(), &mut given, &gate);
+    check_stretched(&rt, given.written())
 }
