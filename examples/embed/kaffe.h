@@ -4,7 +4,7 @@
    is a guest, with a heap and 16 registers, which are its roots. docs/EMBEDDING.md says what a caller owes and what each code means.
 
    Every call answers, and none aborts. A call whose status is not KAFFE_OK has changed nothing.
-   After kaffe_open no call takes memory. */
+   After kaffe_open an allocation alone takes memory, and none where the supply of its process has a body of the type. */
 #ifndef KAFFE_H
 #define KAFFE_H
 #include <stddef.h>
@@ -27,7 +27,7 @@ enum kaffe_status {
     KAFFE_ENDED = 3,    /* the process has ended */
     KAFFE_PHASE = 4,    /* a collection of a heap that is touched is open: the functions of this header leave none open */
     KAFFE_FULL = 5,     /* a table of exit items may be full, or the process has done 2^32 - 1 operations */
-    KAFFE_NO_BODY = 6,  /* the process has no body left, or the type is not that of the host's objects */
+    KAFFE_NO_MEMORY = 6, /* memory is wanting for the object, and the supply of the process has no body of its type */
     KAFFE_ORPHAN = 7,   /* the shared heap to be absorbed is not the first orphan */
     KAFFE_NO_CALL = 8,  /* the request names no call */
     KAFFE_NO_HOST = 9,  /* no host could be made: see kaffe_make */
@@ -242,8 +242,8 @@ static inline uint64_t kaffe_left(kaffe_host *h) { return kaffe_ask(h, KAFFE_ASK
 /* The bytes of the kernel heap. */
 static inline uint64_t kaffe_kernel_bytes(kaffe_host *h) { return kaffe_ask(h, KAFFE_ASK_KERNEL_BYTES, 0, 0).number; }
 
-/* A host in memory of malloc, of what the text declares. Each of its objects is of the one type; each process can do that many
-   allocations (bodies), refused ones too; and all calls together can add that many events. NULL where there is none, and then `why` says:
+/* A host in memory of malloc, of what the text declares. Each process has a supply of that many bodies of the type: as many allocations of
+   it, refused ones too, take no memory. All calls together can add that many events. NULL where there is none, and then `why` says:
    seg is the first bad line and at the reason of docs/FORMATS.md; or seg is 0, and at is 1 where memory ran out, 2 where the type is
    not declared, the events are 2^30 or more, or they are fewer than three for each process, one for each shared heap and three. */
 static inline kaffe_host *kaffe_make(const char *text, uint32_t type, uint32_t bodies, uint32_t events, kaffe_answer *why) {

@@ -129,8 +129,8 @@ pub enum Lack {
     Phase,
     /// A table of exit items may be full, or the process has done 2^32 - 1 operations.
     Full,
-    /// The process has no body left, or the type is not that of the host's objects.
-    NoBody,
+    /// Memory is wanting for the object, and the supply of the process has no body of its type.
+    NoMemory,
     /// The shared heap to be absorbed is not the first orphan.
     Orphan,
     /// No more events are left than are kept for collections. `kill` asks for none of them.
@@ -217,7 +217,7 @@ fn lack_of(status: u32) -> Lack {
         3 => Lack::Ended,
         4 => Lack::Phase,
         5 => Lack::Full,
-        6 => Lack::NoBody,
+        6 => Lack::NoMemory,
         7 => Lack::Orphan,
         10 => Lack::Reserved,
         _ => Lack::NoCall,
@@ -261,8 +261,8 @@ fn target(a: Answer) -> Option<Name> {
 pub struct Host(Box<[u128]>);
 
 impl Host {
-    /// A host of what the text declares, whose objects are of the one type. Each process can do `bodies` allocations, and all calls
-    /// together can add `events` events. No later call takes memory.
+    /// A host of what the text declares. Each process has a supply of `bodies` bodies of the type: as many allocations of it, refused ones
+    /// too, take no memory, and no call but an allocation takes any. All calls together can add `events` events.
     pub fn open(text: &str, ty: TypeId, bodies: u32, events: u32) -> Result<Host, OpenError> {
         // SAFETY: `kaffe_size` asks nothing.
         let size = unsafe { kaffe_size() };
@@ -435,7 +435,7 @@ impl Host {
         self.number(call::DONE, pid, 0)
     }
 
-    /// How many allocations the process can do yet.
+    /// How many bodies the supply of the process has yet.
     pub fn bodies_left(&mut self, Pid(pid): Pid) -> Option<u64> {
         self.number(call::BODIES, pid, 0)
     }

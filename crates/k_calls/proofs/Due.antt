@@ -1,5 +1,5 @@
 -- An operation that is due can be done with the cells that it touches, once the process has published, and all serves afterwards.
-use Rattle.std.proofs.Common.{◌≡◌, ◌+◌, ◌-◌, ◌<◌, ◌≤◌, refl, sym, ap, ◌∙◌, subst, List, [], ◌∷◌, ◌++◌, append_assoc, length, arith, IsFalse}
+use Rattle.std.proofs.Common.{◌≡◌, ◌+◌, ◌<◌, ◌≤◌, refl, sym, ap, ◌∙◌, subst, List, [], ◌∷◌, ◌++◌, append_assoc, length, arith, IsFalse}
 use Rattle.std.proofs.lemmas.List.{length-append}
 use Rattle.k_types.specs.declared.event.Event.{Event}
 use Rattle.k_types.specs.declared.event.Event.TheVariants.{Done}
@@ -9,7 +9,6 @@ use Rattle.k_types.specs.declared.op.Op.{Op}
 use Rattle.k_types.specs.Agree.{book_shown_by}
 use Rattle.k_types.specs.Cells.{Cell}
 use Rattle.k_types.specs.Steps.{IsPossible, state_after}
-use Rattle.k_bounds.specs.Counts.{is_allocation, one_if}
 use Rattle.k_squares.specs.Locals.{is_local_in}
 use Rattle.k_squares.specs.Touches.{other_cells_in}
 use Rattle.k_moves.specs.Shown.{idle_part}
@@ -21,6 +20,7 @@ use Rattle.k_book.specs.Books.{BookRecord, book_entries}
 use Rattle.k_cell.specs.Holdings.{HoldingsValue}
 use Rattle.k_heap.specs.Heaps.{HeapRecord, holdings_of as heap_holdings, own_segment}
 use Rattle.k_shared.specs.SharedHeaps.{SharedRecord, holdings_of as shared_holdings}
+use Rattle.k_space.specs.Objects.{BodyValue}
 use Rattle.k_commit.specs.Changed.{bodies_after}
 use Rattle.k_commit.specs.Published.{CanPublish, HasPublished}
 use Rattle.k_commit.specs.Rooms.{HasRoomFor}
@@ -30,13 +30,13 @@ use Rattle.k_operate.specs.Own.{CanStepOwn}
 use Rattle.k_operate.specs.PairOperating.{CanStepWithKernel}
 use Rattle.k_operate.specs.Operating.{CanStepWithShared}
 use Rattle.k_guests.specs.declared.guest.Guest.{Guest}
-use Rattle.k_calls.specs.Doing.{HasDoneAlone, HasDoneWithKernel, HasDoneWithShared, HasPublishedAll, IsDueWith}
-use Rattle.k_guests.specs.Serving.{Basis, BookServes, GuestServes, KernelServes, SharedServes}
-use Rattle.k_calls.proofs.Going.{body_of, book_goes_on, guest_goes_on, kernel_goes_on, shared_goes_on}
+use Rattle.k_calls.specs.Doing.{HasDoneAlone, HasDoneWithKernel, HasDoneWithShared, HasPublishedAll, IsDueWith, bodies_for}
+use Rattle.k_guests.specs.Serving.{Basis, BookServes, GuestServes, GuestServesWith, KernelServes, SharedServes}
+use Rattle.k_calls.proofs.Going.{book_goes_on, guest_goes_on, kernel_goes_on, shared_goes_on}
 use Rattle.k_calls.proofs.Rooms.{bodies_left, entry_left, event_left, serial_left, table_room}
 
 -- publishing
-module _ (basis : Basis) (g : Guest) (b : BookRecord) (guest : GuestServes basis b.journal.table g) (book : BookServes basis b) where
+module _ (basis : Basis) {bodies : List BodyValue} (g : Guest) (b : BookRecord) (guest : GuestServesWith basis b.journal.table bodies g) (book : BookServes basis b) where
   pub can_publish : length b.journal.list + length g.cell.value.tail ≤ basis.events → CanPublish basis.trace g.cell b
   can_publish room = record {
     agrees = guest.agrees;
@@ -46,7 +46,7 @@ module _ (basis : Basis) (g : Guest) (b : BookRecord) (guest : GuestServes basis
   }
 
   module _ (w : HeapRecord) (l : BookRecord) (s : HasPublished basis.trace g.cell.value.tail g.cell w b l) where
-    pub guest_published : GuestServes basis l.journal.table (record g { cell = w })
+    pub guest_published : GuestServesWith basis l.journal.table bodies (record g { cell = w })
     guest_published =
         guest_goes_on basis b.journal.table l.journal.table g w g.bodies guest
         (s.cell_is ∙ ap (λ (x : HeapRecord). record g.cell { note = w.note; value = x.value; bodies = x.bodies }) (sym s.cell_is))
@@ -56,16 +56,23 @@ module _ (basis : Basis) (g : Guest) (b : BookRecord) (guest : GuestServes basis
     pub book_published : BookServes basis l
     book_published = book_goes_on basis b l book (s.book_is ∙ ap (λ (x : BookRecord). record b { journal = l.journal; value = x.value }) (sym s.book_is)) s.book_agrees
 
-    pub published_all : HasPublishedAll basis g (record g { cell = w }) b l
-    published_all = record {
-      keeps = record { guest = guest_published; book = book_published; same_table = s.same_table; pid = ap (λ (x : HeapRecord). x.pid) s.cell_is; bodies = refl };
-      guest_is = ap (λ (x : HeapRecord). record g { cell = x }) s.cell_is;
-      book_is = s.book_is;
-      journal = s.journal;
-    }
-
     pub longer_published : length l.journal.list ≡ length b.journal.list + length g.cell.value.tail
     longer_published = ap length s.journal ∙ length-append b.journal.list g.cell.value.tail
+
+pub published_all : (basis : Basis) (g : Guest) (b : BookRecord) (guest : GuestServes basis b.journal.table g) (book : BookServes basis b) (w : HeapRecord) (l : BookRecord) →
+    HasPublished basis.trace g.cell.value.tail g.cell w b l → HasPublishedAll basis g (record g { cell = w }) b l
+published_all basis g b guest book w l s = record {
+  keeps = record {
+    guest = guest_published basis g b guest book w l s;
+    book = book_published basis g b guest book w l s;
+    same_table = s.same_table;
+    pid = ap (λ (x : HeapRecord). x.pid) s.cell_is;
+    bodies = refl;
+  };
+  guest_is = ap (λ (x : HeapRecord). record g { cell = x }) s.cell_is;
+  book_is = s.book_is;
+  journal = s.journal;
+}
 
 module _ (basis : Basis) (g : Guest) (b : BookRecord) (op : Op) (cells : List Cell) (due : IsDueWith basis g b op cells) where
   pub can_publish_first : CanPublish basis.trace g.cell b
@@ -87,7 +94,7 @@ module _ (basis : Basis) (g : Guest) (b : BookRecord) (op : Op) (cells : List Ce
     lives_now : IsFalse (Rattle.k_heap.specs.Heaps.has_ended_in w.value.process)
     lives_now = ap (λ (c : HeapRecord). Rattle.k_heap.specs.Heaps.has_ended_in c.value.process) s.cell_is ∙ due.ready.awake.lives
 
-    guest_now : GuestServes basis l.journal.table (record g { cell = w })
+    guest_now : GuestServesWith basis l.journal.table (bodies_for basis op g.bodies) (record g { cell = w })
     guest_now = guest_published basis g b due.guest due.book w l s
 
     book_now : BookServes basis l
@@ -119,7 +126,7 @@ module _ (basis : Basis) (g : Guest) (b : BookRecord) (op : Op) (cells : List Ce
       own_room : Fits l.journal w.note → HasRoomFor basis.trace w.bodies (heap_holdings w) (own_segment w.pid) l op
       own_room fits = record {
         events = event_left basis l book_now left_now;
-        tables = table_room basis w.bodies g.bodies guest_now.stock (heap_holdings w) (own_segment w.pid) l op due.ready.stock
+        tables = table_room basis w.bodies g.bodies (heap_holdings w) (own_segment w.pid) l op guest_now.stock
             (serial_left basis l book_now left_now (User w.pid) w.value (heap_holdings w) (own_segment w.pid) refl (shows_now fits) (guest_now.serials lives_now))
             (record { exits = exits_now; entries = entry_left basis l book_now left_now items });
       }
@@ -137,7 +144,7 @@ module _ (basis : Basis) (g : Guest) (b : BookRecord) (op : Op) (cells : List Ce
         kernel_room : Fits l.journal k.note → HasRoomFor basis.trace w.bodies k 0 l op
         kernel_room fits = record {
           events = event_left basis l book_now left_now;
-          tables = table_room basis w.bodies g.bodies guest_now.stock k 0 l op due.ready.stock
+          tables = table_room basis w.bodies g.bodies k 0 l op guest_now.stock
               (serial_left basis l book_now left_now Kernel k.value k 0 refl
               ((meeting basis.trace l.journal l.value Kernel k.note k.value kernel.agrees book_now.stands.agrees fits).shows kernel.agrees.tail) kernel.serials)
               (record { exits = kernel_exits; entries = entry_left basis l book_now left_now items });
@@ -166,7 +173,7 @@ module _ (basis : Basis) (g : Guest) (b : BookRecord) (op : Op) (cells : List Ce
         shared_room : Fits l.journal t.note → HasRoomFor basis.trace w.bodies (shared_holdings t) t.seg.0 l op
         shared_room fits = record {
           events = event_left basis l book_now left_now;
-          tables = table_room basis w.bodies g.bodies guest_now.stock (shared_holdings t) t.seg.0 l op due.ready.stock
+          tables = table_room basis w.bodies g.bodies (shared_holdings t) t.seg.0 l op guest_now.stock
               (λ given there. serial_left basis l book_now left_now (Shared t.id) t.value (shared_holdings t) t.seg.0 refl (shared_shows fits)
               (shared.serials (Rattle.k_calls.proofs.Going.stands_where_made basis.trace (state_after basis.trace l.journal.list) t given (shared_shows fits) there)) given there)
               (record { exits = shared_exits; entries = entry_left basis l book_now left_now items });
@@ -186,13 +193,13 @@ module _ (basis : Basis) (g : Guest) (b : BookRecord) (op : Op) (cells : List Ce
 
     -- what the step leaves
     module _ (v : HeapRecord) (m : BookRecord) (event : Event) (d : HasStepped basis.trace op w v l m event) where
-      pub done_alone : HasDoneAlone basis op g (record { cell = v; bodies = g.bodies - one_if (is_allocation op) }) b m event
+      pub done_alone : HasDoneAlone basis op g (record g { cell = v }) b m event
       done_alone = record {
         guest =
-            guest_goes_on basis l.journal.table m.journal.table (record g { cell = w }) v (g.bodies - one_if (is_allocation op)) guest_now
+            guest_goes_on basis l.journal.table m.journal.table (record g { cell = w }) v g.bodies guest_now
             (d.cell_is ∙ ap (λ (x : HeapRecord). record w { note = v.note; value = v.value; bodies = x.bodies }) (sym d.cell_is))
             d.agrees d.table
-            (ap (λ (x : HeapRecord). x.bodies) d.cell_is ∙ ap (bodies_after op) guest_now.stock ∙ bodies_left (body_of basis) g.bodies op)
+            (ap (λ (x : HeapRecord). x.bodies) d.cell_is ∙ ap (bodies_after op) guest_now.stock ∙ bodies_left basis g.bodies op)
             (λ lives. lives_now);
         book = book_goes_on basis l m book_now d.book_is d.book_agrees;
         same_table = d.same_table ∙ s.same_table;
@@ -209,7 +216,7 @@ module _ (basis : Basis) (g : Guest) (b : BookRecord) (op : Op) (cells : List Ce
       }
 
     pub done_with_kernel : (v : HeapRecord) (m : BookRecord) (event : Event) (k x : HoldingsValue) → KernelServes basis b.journal.table k → HasSteppedWithKernel basis.trace op w v k x l m event →
-        HasDoneWithKernel basis op g (record { cell = v; bodies = g.bodies - one_if (is_allocation op) }) x b m event
+        HasDoneWithKernel basis op g (record g { cell = v }) x b m event
     done_with_kernel v m event k x kernel d = record {
       own = done_alone v m event d.own;
       kernel = kernel_goes_on basis b.journal.table m.journal.table k x kernel d.kernel_is d.agrees d.table;
@@ -217,7 +224,7 @@ module _ (basis : Basis) (g : Guest) (b : BookRecord) (op : Op) (cells : List Ce
     }
 
     pub done_with_shared : (v : HeapRecord) (m : BookRecord) (event : Event) (t x : SharedRecord) → SharedServes basis b.journal.table t → HasSteppedWithShared basis.trace op w v t x l m event →
-        HasDoneWithShared basis op g (record { cell = v; bodies = g.bodies - one_if (is_allocation op) }) t x b m event
+        HasDoneWithShared basis op g (record g { cell = v }) t x b m event
     done_with_shared v m event t x shared d = record {
       own = done_alone v m event d.own;
       shared =

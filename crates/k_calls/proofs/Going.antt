@@ -1,5 +1,5 @@
 -- What serves goes on serving after a step.
-use Rattle.std.proofs.Common.{◌≡◌, ℕ, ◌≤◌, sym, ap, ◌∙◌, subst, List, ◌++◌, append-nil, replicate, IsFalse, false, get_or, Some, None, inl, inr}
+use Rattle.std.proofs.Common.{◌≡◌, ℕ, ◌≤◌, sym, ap, ◌∙◌, subst, List, ◌++◌, append-nil, IsFalse, false, get_or, Some, None, inl, inr}
 use Rattle.std.proofs.lemmas.Bool.{cases_Bool, false≢true}
 use Rattle.atomic_table.specs.Seated.{TableId}
 use Rattle.k_types.specs.declared.event.Event.{Event}
@@ -18,22 +18,18 @@ use Rattle.k_book.specs.Books.{BookRecord, pin_room_of}
 use Rattle.k_cell.specs.Holdings.{HoldingsValue}
 use Rattle.k_heap.specs.Heaps.{HeapRecord, has_ended_in, own_segment}
 use Rattle.k_shared.specs.SharedHeaps.{SharedRecord}
-use Rattle.k_space.specs.Objects.{BodyValue, new_body}
+use Rattle.k_space.specs.Objects.{BodyValue}
 use Rattle.k_guests.proofs.CanDo.{owner_shown}
 use Rattle.k_guests.proofs.Kept.{absorbed_stays}
 use Rattle.k_guests.specs.Keeping.{is_absorbed_in}
 use Rattle.k_guests.specs.declared.guest.Guest.{Guest}
-use Rattle.k_guests.specs.Serving.{Basis, BookServes, GivesSerials, GuestServes, KernelServes, SharedServes}
-
--- the body of which a guest has some
-abbrev pub body_of : Basis → BodyValue
-body_of basis = new_body basis.trace.types basis.ty
+use Rattle.k_guests.specs.Serving.{Basis, BookServes, GivesSerials, GuestServesWith, KernelServes, SharedServes}
 
 module _ (basis : Basis) where
   -- a process whose cell has changed note, value and bodies
-  pub guest_goes_on : (old tie : TableId) (g : Guest) (w : HeapRecord) (n : ℕ) → GuestServes basis old g → w ≡ record g.cell { note = w.note; value = w.value; bodies = w.bodies } →
-      Agrees basis.trace (User w.pid) w.note w.value → w.note.table ≡ tie → w.bodies ≡ replicate n (body_of basis) →
-      (IsFalse (has_ended_in w.value.process) → IsFalse (has_ended_in g.cell.value.process)) → GuestServes basis tie (record { cell = w; bodies = n })
+  pub guest_goes_on : {had has : List BodyValue} (old tie : TableId) (g : Guest) (w : HeapRecord) (n : ℕ) → GuestServesWith basis old had g → w ≡ record g.cell { note = w.note; value = w.value; bodies = w.bodies } →
+      Agrees basis.trace (User w.pid) w.note w.value → w.note.table ≡ tie → w.bodies ≡ has →
+      (IsFalse (has_ended_in w.value.process) → IsFalse (has_ended_in g.cell.value.process)) → GuestServesWith basis tie has (record { cell = w; bodies = n })
   guest_goes_on old tie g w n serves is agrees table stock lives = record {
     rules = serves.rules;
     agrees = agrees;

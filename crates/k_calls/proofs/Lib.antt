@@ -1,4 +1,5 @@
 pub mod Rooms
+pub mod Provided
 pub mod Going
 pub mod Due
 pub mod Inside

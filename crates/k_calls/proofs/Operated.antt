@@ -18,8 +18,8 @@ use Rattle.k_shared.specs.SharedHeaps.{SharedRecord}
 use Rattle.k_operate.specs.Reaching.{CanReach}
 use Rattle.k_operate.proofs.HeapsReached.{heap_reached}
 use Rattle.k_guests.specs.declared.guest.Guest.{Guest}
-use Rattle.k_calls.specs.Doing.{CanDoInside, CanDoWithKernel, CanDoWithShared, CanOperate, HasDoneAlone, HasDoneInside, HasDoneWithKernel, HasDoneWithShared, HasEventsLeft, HasOperated, IsDueWith, IsKernelReady, IsReady, LeavesOthers, touched_by}
-use Rattle.k_guests.specs.Serving.{Basis, GuestServes, HeapsServe, KernelServes}
+use Rattle.k_calls.specs.Doing.{CanDoInside, CanDoWithKernel, CanDoWithShared, CanOperate, HasDoneAlone, HasDoneInside, HasDoneWithKernel, HasDoneWithShared, HasEventsLeft, HasOperated, IsDueWith, IsKernelReady, IsReady, LeavesOthers, bodies_for, left_after, provided_for, touched_by}
+use Rattle.k_guests.specs.Serving.{Basis, GuestServes, GuestServesWith, HeapsServe, KernelServes, supply_of}
 use Rattle.k_calls.proofs.Staying.{heaps_set, heaps_stay, kernel_stays}
 
 -- what an operation touches, where trying it inside has changed nothing
@@ -56,37 +56,30 @@ module _ (basis : Basis) (g : Guest) (k : HoldingsValue) (ss : List SharedRecord
     pub reach_can : CanReach basis.trace h.cell b op
     reach_can = subst (λ (x : Guest). CanReach basis.trace x.cell b op) (sym same) (record { book_stands = can.rest.book.stands; agrees = can.guest.agrees; in_range = ready.in_range })
 
-    pub due : (cells : List Cell) → other_cells_in basis.trace (book_shown_by b.value) (idle_part h.cell.value) h.cell.pid.0 op ≡ cells → IsDueWith basis h b op cells
-    due cells =
-        subst (λ (x : Guest). other_cells_in basis.trace (book_shown_by b.value) (idle_part x.cell.value) x.cell.pid.0 op ≡ cells → IsDueWith basis x b op cells) (sym same)
-        (λ touches. record { guest = can.guest; book = can.rest.book; ready = ready; outside = outside; room = room; touches = touches })
+    -- what the provision asks
+    pub stock : h.cell.bodies ≡ supply_of basis h.bodies
+    stock = subst (λ (x : Guest). x.cell.bodies ≡ supply_of basis x.bodies) (sym same) can.guest.stock
 
-    operated : (e : Guest) (x : HoldingsValue) (ts : List SharedRecord) (l : BookRecord) (event : Event) → KernelServes basis l.journal.table x → HeapsServe basis l.journal.table ts → HasDoneAlone basis op h e b l event →
-        LeavesOthers (touched_by basis g b op) k x ss ts → HasOperated basis op g e k x ss ts b l event
-    operated e x ts l event kernel heaps done others =
-        let d = subst (λ (y : Guest). HasDoneAlone basis op y e b l event) same done in
-        record {
-          can = record { guest = d.guest; rest = record { kernel = kernel; heaps = heaps; book = d.book } };
-          same_table = d.same_table;
-          pid = d.pid;
-          said = d.said;
-          event_is = d.event_is;
-          done = inr (record { outside = outside; appended = d.appended; settled = d.settled; idle = d.idle; bodies = d.bodies; others = others });
-        }
+    -- the process that is provided with its body serves
+    serves_provided : GuestServesWith basis b.journal.table (bodies_for basis op (left_after basis op g.bodies)) (provided_for basis op g)
+    serves_provided = record {
+      rules = can.guest.rules;
+      agrees = can.guest.agrees;
+      table = can.guest.table;
+      stock = refl;
+      exits = can.guest.exits;
+      serials = can.guest.serials;
+      tail = can.guest.tail;
+    }
 
-    pub alone_operated : (e : Guest) (l : BookRecord) (event : Event) → touched_by basis h b op ≡ [] → HasDoneAlone basis op h e b l event → HasOperated basis op g e k k ss ss b l event
-    alone_operated e l event touches d =
-        operated e k ss l event (kernel_stays basis b.journal.table l.journal.table d.same_table k can.rest.kernel) (heaps_stay basis b.journal.table l.journal.table d.same_table ss can.rest.heaps) d
-        (inl (record { touches = touched_before basis g h b op same [] touches; kernel_is = refl; shared_is = refl }))
-
-    pub can_kernel : IsKernelReady basis k → other_cells_in basis.trace (book_shown_by b.value) (idle_part h.cell.value) h.cell.pid.0 op ≡ Kernel ∷ [] → CanDoWithKernel basis h k b op
-    can_kernel kernel touches = record { due = due (Kernel ∷ []) touches; kernel = can.rest.kernel; ready = kernel }
-
-    pub kernel_operated : (e : Guest) (x : HoldingsValue) (l : BookRecord) (event : Event) → touched_by basis h b op ≡ Kernel ∷ [] → HasDoneWithKernel basis op h e x b l event →
-        HasOperated basis op g e k x ss ss b l event
-    kernel_operated e x l event touches d =
-        operated e x ss l event d.kernel (heaps_stay basis b.journal.table l.journal.table d.own.same_table ss can.rest.heaps) d.own
-        (inr (inl (record { touches = touched_before basis g h b op same (Kernel ∷ []) touches; idle = d.idle; shared_is = refl })))
+    ready_provided : IsReady basis (provided_for basis op g) op
+    ready_provided = record {
+      in_range = ready.in_range;
+      no_collection = ready.no_collection;
+      goes_on = ready.goes_on;
+      awake = record { lives = ready.awake.lives; idle = ready.awake.idle };
+      room = record { exits = ready.room.exits; count = ready.room.count };
+    }
 
     pub heap_there : (id : SharedId) → other_cells_in basis.trace (book_shown_by b.value) (idle_part h.cell.value) h.cell.pid.0 op ≡ Shared id ∷ [] → id.0 < length ss
     heap_there id touches =
@@ -94,17 +87,54 @@ module _ (basis : Basis) (g : Guest) (k : HoldingsValue) (ss : List SharedRecord
         let count = can.rest.heaps.count in
         omega (arith, known, count)
 
-    module _ (id : SharedId) (s : SharedRecord) (at : slice_get ss id.0 ≡ Some s) where
-      pub can_shared : length s.value.exits < basis.events → other_cells_in basis.trace (book_shown_by b.value) (idle_part h.cell.value) h.cell.pid.0 op ≡ Shared id ∷ [] → CanDoWithShared basis h s b op
-      can_shared few touches = record {
-        due = due (Shared s.id ∷ []) (touches ∙ ap (λ (i : SharedId). Shared i ∷ []) (sym (ap (λ n. record { 0 = n }) (can.rest.heaps.placed id.0 s at))));
-        shared = can.rest.heaps.each id.0 s at;
-        exits = few;
-      }
+    -- an operation whose process is provided with its body
+    module _ (p : Guest) (is : p ≡ provided_for basis op h) where
+      provided : p ≡ provided_for basis op g
+      provided = is ∙ ap (provided_for basis op) same
 
-      pub shared_operated : (e : Guest) (t : SharedRecord) (l : BookRecord) (event : Event) → touched_by basis h b op ≡ Shared id ∷ [] → HasDoneWithShared basis op h e s t b l event →
-          HasOperated basis op g e k k ss (set ss id.0 t) b l event
-      shared_operated e t l event touches d =
-          operated e k (set ss id.0 t) l event (kernel_stays basis b.journal.table l.journal.table d.own.same_table k can.rest.kernel)
-          (heaps_set basis b.journal.table l.journal.table d.own.same_table ss id.0 s t can.rest.heaps at d.shared d.same) d.own
-          (inr (inr (record { id = id; after = t; touches = touched_before basis g h b op same (Shared id ∷ []) touches; kernel_is = refl; shared_is = refl })))
+      pub due : (cells : List Cell) → touched_by basis h b op ≡ cells → IsDueWith basis p b op cells
+      due cells touches =
+          subst (λ (x : Guest). IsDueWith basis x b op cells) (sym provided)
+          (record { guest = serves_provided; book = can.rest.book; ready = ready_provided; outside = outside; room = room; touches = touched_before basis g h b op same cells touches })
+
+      operated : (e : Guest) (x : HoldingsValue) (ts : List SharedRecord) (l : BookRecord) (event : Event) → KernelServes basis l.journal.table x → HeapsServe basis l.journal.table ts → HasDoneAlone basis op p e b l event →
+          LeavesOthers (touched_by basis g b op) k x ss ts → HasOperated basis op g e k x ss ts b l event
+      operated e x ts l event kernel heaps done others =
+          let d = subst (λ (y : Guest). HasDoneAlone basis op y e b l event) provided done in
+          record {
+            can = record { guest = d.guest; rest = record { kernel = kernel; heaps = heaps; book = d.book } };
+            same_table = d.same_table;
+            pid = d.pid;
+            said = d.said;
+            event_is = d.event_is;
+            done = inr (record { outside = outside; appended = record { journal = d.appended.journal; possible = d.appended.possible }; settled = d.settled; idle = d.idle; bodies = d.bodies; others = others });
+          }
+
+      pub alone_operated : (e : Guest) (l : BookRecord) (event : Event) → touched_by basis h b op ≡ [] → HasDoneAlone basis op p e b l event → HasOperated basis op g e k k ss ss b l event
+      alone_operated e l event touches d =
+          operated e k ss l event (kernel_stays basis b.journal.table l.journal.table d.same_table k can.rest.kernel) (heaps_stay basis b.journal.table l.journal.table d.same_table ss can.rest.heaps) d
+          (inl (record { touches = touched_before basis g h b op same [] touches; kernel_is = refl; shared_is = refl }))
+
+      pub can_kernel : IsKernelReady basis k → other_cells_in basis.trace (book_shown_by b.value) (idle_part h.cell.value) h.cell.pid.0 op ≡ Kernel ∷ [] → CanDoWithKernel basis p k b op
+      can_kernel kernel touches = record { due = due (Kernel ∷ []) touches; kernel = can.rest.kernel; ready = kernel }
+
+      pub kernel_operated : (e : Guest) (x : HoldingsValue) (l : BookRecord) (event : Event) → touched_by basis h b op ≡ Kernel ∷ [] → HasDoneWithKernel basis op p e x b l event →
+          HasOperated basis op g e k x ss ss b l event
+      kernel_operated e x l event touches d =
+          operated e x ss l event d.kernel (heaps_stay basis b.journal.table l.journal.table d.own.same_table ss can.rest.heaps) d.own
+          (inr (inl (record { touches = touched_before basis g h b op same (Kernel ∷ []) touches; idle = d.idle; shared_is = refl })))
+
+      module _ (id : SharedId) (s : SharedRecord) (at : slice_get ss id.0 ≡ Some s) where
+        pub can_shared : length s.value.exits < basis.events → other_cells_in basis.trace (book_shown_by b.value) (idle_part h.cell.value) h.cell.pid.0 op ≡ Shared id ∷ [] → CanDoWithShared basis p s b op
+        can_shared few touches = record {
+          due = due (Shared s.id ∷ []) (touches ∙ ap (λ (i : SharedId). Shared i ∷ []) (sym (ap (λ n. record { 0 = n }) (can.rest.heaps.placed id.0 s at))));
+          shared = can.rest.heaps.each id.0 s at;
+          exits = few;
+        }
+
+        pub shared_operated : (e : Guest) (t : SharedRecord) (l : BookRecord) (event : Event) → touched_by basis h b op ≡ Shared id ∷ [] → HasDoneWithShared basis op p e s t b l event →
+            HasOperated basis op g e k k ss (set ss id.0 t) b l event
+        shared_operated e t l event touches d =
+            operated e k (set ss id.0 t) l event (kernel_stays basis b.journal.table l.journal.table d.own.same_table k can.rest.kernel)
+            (heaps_set basis b.journal.table l.journal.table d.own.same_table ss id.0 s t can.rest.heaps at d.shared d.same) d.own
+            (inr (inr (record { id = id; after = t; touches = touched_before basis g h b op same (Shared id ∷ []) touches; kernel_is = refl; shared_is = refl })))

@@ -1,7 +1,5 @@
 -- Where the journal has room for an event, the tables have room for what it adds.
-use Rattle.std.proofs.Common.{◌≡◌, ℕ, zero, suc, ◌+◌, ◌-◌, ◌<◌, ◌≤◌, ◌==◌, sym, ap, ◌∙◌, List, ◌∷◌, length, replicate, get_or, arith, Option, Some, None}
-use Rattle.std.proofs.lemmas.List.{drop-replicate}
-use Rattle.k_types.specs.declared.names.TypeId.{TypeId}
+use Rattle.std.proofs.Common.{◌≡◌, ℕ, ◌+◌, ◌<◌, ◌≤◌, ◌==◌, refl, sym, ap, ◌∙◌, List, length, get_or, arith, Option, Some, None}
 use Rattle.k_types.specs.declared.op.Op.{Op}
 use Rattle.k_types.specs.declared.op.Op.TheVariants.{New, KNew, SNew, Store}
 use Rattle.k_types.specs.Agree.{CellValue}
@@ -10,7 +8,7 @@ use Rattle.k_types.specs.Counted.{counted}
 use Rattle.k_types.specs.State.{State}
 use Rattle.k_types.specs.Steps.{state_after}
 use Rattle.k_base.proofs.Sums.{sum_same}
-use Rattle.k_bounds.specs.Counts.{has_allocated_in, has_stored, is_allocation, one_if}
+use Rattle.k_bounds.specs.Counts.{has_allocated_in, has_stored}
 use Rattle.k_bounds.proofs.AllExits.{exits_at_most_stores}
 use Rattle.k_bounds.proofs.Counting.{count_low, one_if_low}
 use Rattle.k_bounds.proofs.Distinct.{entries_few}
@@ -18,14 +16,14 @@ use Rattle.k_bounds.proofs.SerialBounds.{serials_at_most_allocations}
 use Rattle.k_agree.specs.Agreement.{Shows}
 use Rattle.k_entry.specs.Entries.{AreEntries, objects}
 use Rattle.k_entry.proofs.WholeWalks.{all_distinct, few_items}
-use Rattle.k_space.specs.Objects.{BodyValue, new_body}
+use Rattle.k_space.specs.Objects.{BodyValue}
 use Rattle.k_book.specs.Books.{BookRecord, book_entries}
 use Rattle.k_cell.specs.Holdings.{HasSerialLeft, HoldingsValue}
 use Rattle.k_commit.specs.Changed.{bodies_after}
-use Rattle.k_commit.specs.Rooms.{HasBody, HasEventRoom, HasExitRoom, HasTableRoom}
+use Rattle.k_commit.specs.Rooms.{HasEventRoom, HasExitRoom, HasTableRoom}
 use Rattle.k_guests.proofs.CanDo.{owner_shown, serial_shown}
-use Rattle.k_calls.specs.Doing.{HasItsBody}
-use Rattle.k_guests.specs.Serving.{Basis, BookServes, GivesSerials}
+use Rattle.k_calls.specs.Doing.{bodies_for}
+use Rattle.k_guests.specs.Serving.{Basis, BookServes, GivesSerials, supply_of}
 
 module _ (basis : Basis) (b : BookRecord) (serves : BookServes basis b) (left : length b.journal.list < basis.events) where
   abbrev now : State
@@ -62,38 +60,18 @@ module _ (basis : Basis) (b : BookRecord) (serves : BookServes basis b) (left : 
       let enough = can.enough in
       record { given = given; room = can.room; there = there; can_give = can.there; left = omega (arith, is, few, left, enough) }
 
-replicate_one_more : {A : Type 0} (n : ℕ) (x : A) → 0 < n → replicate n x ≡ x ∷ replicate (n - 1) x
-replicate_one_more zero x some = absurd (omega (arith, some))
-replicate_one_more (suc n) x some = ap (λ k. x ∷ replicate k x) (omega arith)
+module _ (basis : Basis) (bodies : List BodyValue) (n : ℕ) (h : HoldingsValue) (seg : ℕ) (b : BookRecord) where
+  -- room in the tables of a heap, for an operation whose body comes first
+  pub table_room : (op : Op) → bodies ≡ bodies_for basis op n → ((given : ℕ) → get_or h.value.made seg None ≡ Some given → HasSerialLeft h seg) → HasExitRoom h b → HasTableRoom basis.trace bodies h seg b op
+  table_room (New r ty) stock serial exits = record { body = record { rest = supply_of basis n; first = stock }; serial = serial }
+  table_room (KNew r ty) stock serial exits = record { body = record { rest = supply_of basis n; first = stock }; serial = serial }
+  table_room (SNew r s ty) stock serial exits = record { body = record { rest = supply_of basis n; first = stock }; serial = serial }
+  table_room (Store base i value) stock serial exits = exits
+  table_room _ stock serial exits = tt
 
-module _ (basis : Basis) (bodies : List BodyValue) (n : ℕ) (stock : bodies ≡ replicate n (new_body basis.trace.types basis.ty)) where
-  has_body : (ty : TypeId) → ty.0 ≡ basis.ty.0 → 0 < n → HasBody basis.trace ty bodies
-  has_body ty same some = record {
-    rest = replicate (n - 1) (new_body basis.trace.types basis.ty);
-    first =
-        stock ∙ replicate_one_more n (new_body basis.trace.types basis.ty) some
-        ∙ ap (λ k. new_body basis.trace.types (record { 0 = k }) ∷ replicate (n - 1) (new_body basis.trace.types basis.ty)) (sym same);
-  }
-
-  module _ (h : HoldingsValue) (seg : ℕ) (b : BookRecord) where
-    -- room in the tables of a heap, for an operation that finds its body
-    pub table_room : (op : Op) → HasItsBody basis n op → ((given : ℕ) → get_or h.value.made seg None ≡ Some given → HasSerialLeft h seg) → HasExitRoom h b → HasTableRoom basis.trace bodies h seg b op
-    table_room (New r ty) body serial exits = record { body = has_body ty body.0 body.1; serial = serial }
-    table_room (KNew r ty) body serial exits = record { body = has_body ty body.0 body.1; serial = serial }
-    table_room (SNew r s ty) body serial exits = record { body = has_body ty body.0 body.1; serial = serial }
-    table_room (Store base i value) body serial exits = exits
-    table_room _ body serial exits = tt
-
--- the bodies that are left once the operation has taken its own
-pub bodies_left : (x : BodyValue) (n : ℕ) (op : Op) → bodies_after op (replicate n x) ≡ replicate (n - one_if (is_allocation op)) x
-bodies_left x n (New r ty) = drop-replicate 1 n x
-bodies_left x n (KNew r ty) = drop-replicate 1 n x
-bodies_left x n (SNew r s ty) = drop-replicate 1 n x
-bodies_left x n _ = ap (λ k. replicate k x) (omega arith)
-
--- an operation takes no more bodies than there are
-pub takes_few : (basis : Basis) (n : ℕ) (op : Op) → HasItsBody basis n op → one_if (is_allocation op) ≤ n
-takes_few basis n (New r ty) body = omega (arith, body.1)
-takes_few basis n (KNew r ty) body = omega (arith, body.1)
-takes_few basis n (SNew r s ty) body = omega (arith, body.1)
-takes_few basis n _ body = omega arith
+-- the supply is left once the operation has taken its body
+pub bodies_left : (basis : Basis) (n : ℕ) (op : Op) → bodies_after op (bodies_for basis op n) ≡ supply_of basis n
+bodies_left basis n (New r ty) = refl
+bodies_left basis n (KNew r ty) = refl
+bodies_left basis n (SNew r s ty) = refl
+bodies_left basis n _ = refl

@@ -1,18 +1,20 @@
 -- What an operation of a host asks and leaves.
-use Rattle.std.specs.Prelude.{◌≡◌, ◌⊎◌, ℕ, ◌+◌, ◌-◌, ◌^◌, ◌<◌, ◌≤◌, IsFalse, IsTrue, List, [], ◌∷◌, ◌++◌, length, slice_set}
+use Rattle.std.specs.Prelude.{◌≡◌, ◌⊎◌, ℕ, ◌+◌, ◌-◌, ◌^◌, ◌<◌, ◌≤◌, ◌==◌, Bool, false, IfSome, IsFalse, IsTrue, List, [], ◌∷◌, ◌++◌, length, None, Option, Some, slice_set}
 use Rattle.k_types.specs.declared.event.Event.{Event}
 use Rattle.k_types.specs.declared.event.Event.TheVariants.{Done}
 use Rattle.k_types.specs.declared.event.Reply.{Reply}
 use Rattle.k_types.specs.declared.names.CellPhase.TheVariants.{Idle}
 use Rattle.k_types.specs.declared.names.Heap.TheVariants.{Kernel, Shared}
+use Rattle.k_types.specs.declared.names.Field.{Field}
 use Rattle.k_types.specs.declared.names.SharedId.{SharedId}
+use Rattle.k_types.specs.declared.names.TypeId.{TypeId}
 use Rattle.k_types.specs.declared.op.Op.{Op}
-use Rattle.k_types.specs.declared.op.Op.TheVariants.{New, KNew, SNew, Store, Load, Move, Clear, Dir, Put, Get, Collect, KCollect, Share, Freeze, Attach, Exit, Kill, Resize}
 use Rattle.k_types.specs.Agree.{book_shown_by}
 use Rattle.k_types.specs.Cells.{Cell}
 use Rattle.k_types.specs.Steps.{IsPossible, in_range, state_after}
 use Rattle.k_frame.specs.PartUpdates.{done_in}
-use Rattle.k_bounds.specs.Counts.{is_allocation, one_if}
+use Rattle.k_bodies.specs.Bodies.{type_made}
+use Rattle.k_bounds.specs.Counts.{one_if}
 use Rattle.k_squares.specs.Locals.{is_local_in}
 use Rattle.k_squares.specs.Touches.{other_cells_in}
 use Rattle.k_moves.specs.Shown.{idle_part}
@@ -23,29 +25,42 @@ use Rattle.k_local.specs.Locals.{after_local}
 use Rattle.k_operate.specs.Own.{is_collect}
 use Rattle.k_operate.specs.PairOperating.{collects_or_exits}
 use Rattle.k_shared.specs.SharedHeaps.{SharedRecord}
+use Rattle.k_space.specs.Objects.{BodyValue, new_body}
 use Rattle.k_guests.specs.declared.guest.Guest.{Guest}
-use Rattle.k_guests.specs.Serving.{Basis, BookServes, GuestServes, KeepsPair, KernelServes, RestServes, SharedServes}
+use Rattle.k_guests.specs.Serving.{Basis, BookServes, GuestServes, GuestServesWith, KeepsPair, KernelServes, RestServes, SharedServes, supply_of}
 
--- an allocation finds a body of its type
+-- an allocation finds a body of its type in the supply
 abbrev pub HasItsBody : Basis → ℕ → Op → Type 0
-HasItsBody basis bodies (New r ty) = (ty.0 ≡ basis.ty.0) × (0 < bodies)
-HasItsBody basis bodies (KNew r ty) = (ty.0 ≡ basis.ty.0) × (0 < bodies)
-HasItsBody basis bodies (SNew r s ty) = (ty.0 ≡ basis.ty.0) × (0 < bodies)
-HasItsBody basis bodies (Store base i value) = Unit {0}
-HasItsBody basis bodies (Load r base i) = Unit {0}
-HasItsBody basis bodies (Move r from) = Unit {0}
-HasItsBody basis bodies (Clear r) = Unit {0}
-HasItsBody basis bodies (Dir r) = Unit {0}
-HasItsBody basis bodies (Put base i number) = Unit {0}
-HasItsBody basis bodies (Get base i) = Unit {0}
-HasItsBody basis bodies Collect = Unit {0}
-HasItsBody basis bodies KCollect = Unit {0}
-HasItsBody basis bodies (Share s) = Unit {0}
-HasItsBody basis bodies (Freeze s root) = Unit {0}
-HasItsBody basis bodies (Attach r s) = Unit {0}
-HasItsBody basis bodies Exit = Unit {0}
-HasItsBody basis bodies (Kill q) = Unit {0}
-HasItsBody basis bodies (Resize m max) = Unit {0}
+HasItsBody basis bodies op = IfSome (type_made op) (λ ty. (ty.0 ≡ basis.ty.0) × (0 < bodies))
+
+-- the object that is made, if one is, is of the supply's type
+abbrev pub is_of : Basis → Option TypeId → Bool
+is_of basis (Some ty) = ty.0 == basis.ty.0
+is_of basis None = false
+
+-- the operation makes an object of the supply's type
+abbrev pub is_supplied : Basis → Op → Bool
+is_supplied basis op = is_of basis (type_made op)
+
+-- how many bodies of so many the supply has once the operation has taken its own, if one was there
+abbrev pub left_after : Basis → Op → ℕ → ℕ
+left_after basis op bodies = bodies - one_if (is_supplied basis op)
+
+-- the body of the object that is made, if one is
+abbrev pub body_made : List (List Field) → Option TypeId → List BodyValue
+body_made types (Some ty) = new_body types ty ∷ []
+body_made types None = []
+
+-- the body of the object that the operation makes comes before those of the supply
+abbrev pub bodies_for : Basis → Op → ℕ → List BodyValue
+bodies_for basis op bodies = body_made basis.trace.types (type_made op) ++ supply_of basis bodies
+
+-- the process has the body of the object that the operation makes, which is taken from the supply or made, and nothing else has changed
+abbrev pub provided_for : Basis → Op → Guest → Guest
+provided_for basis op g = record {
+  cell = record g.cell { bodies = bodies_for basis op (left_after basis op g.bodies) };
+  bodies = left_after basis op g.bodies;
+}
 
 -- the process lives, and its heap is not collected
 pub record IsAwake (g : Guest) : Type 0 where
@@ -65,14 +80,13 @@ HasEventsLeft basis g b = length b.journal.list + length g.cell.value.tail < bas
 abbrev pub HasRoomToPublish : Basis → Guest → BookRecord → Type 0
 HasRoomToPublish basis g b = length b.journal.list + length g.cell.value.tail ≤ basis.events
 
--- the process is awake, and the operation names what the setup declares, begins no collection, ends no process, and has what it needs
+-- the process is awake and has room, and the operation names what the setup declares, begins no collection and ends no process
 pub record IsReady (basis : Basis) (g : Guest) (op : Op) : Type 0 where
   pub in_range : IsTrue (in_range basis.trace op)
   pub no_collection : IsFalse (is_collect op)
   pub goes_on : IsFalse (collects_or_exits op)
   pub awake : IsAwake g
   pub room : HasItemRoom basis g
-  pub stock : HasItsBody basis g.bodies op
 
 -- the process serves and is awake, the operation names what the setup declares, and the cell has room for one more unpublished event
 pub record CanDoInside (basis : Basis) (g : Guest) (op : Op) : Type 0 where
@@ -95,9 +109,10 @@ pub record HasPublishedAll (basis : Basis) (old g : Guest) (old_b b : BookRecord
   pub book_is : b ≡ record old_b { journal = b.journal }
   pub journal : b.journal.list ≡ old_b.journal.list ++ old.cell.value.tail
 
--- process and book serve and are ready for the operation, which is not done inside the heap and touches these cells beside the own
+-- process and book serve and are ready for the operation, which is not done inside the heap and touches these cells beside the own; the
+-- process has the body of the object that it makes
 pub record IsDueWith (basis : Basis) (g : Guest) (b : BookRecord) (op : Op) (cells : List Cell) : Type 0 where
-  pub guest : GuestServes basis b.journal.table g
+  pub guest : GuestServesWith basis b.journal.table (bodies_for basis op g.bodies) g
   pub book : BookServes basis b
   pub ready : IsReady basis g op
   pub outside : IsFalse (is_local_in (idle_part g.cell.value) g.cell.pid.0 op)
@@ -110,7 +125,7 @@ pub record IsAppended (basis : Basis) (old : Guest) (old_b b : BookRecord) (even
   pub possible : IsPossible basis.trace (state_after basis.trace (old_b.journal.list ++ old.cell.value.tail)) event
 
 -- process and book serve still, and the event of the operation is appended; the process has nothing unpublished, its heap is not
--- collected, and an allocation has taken one of its bodies
+-- collected, and it has its supply of bodies still
 pub record HasDoneAlone (basis : Basis) (op : Op) (old g : Guest) (old_b b : BookRecord) (event : Event) : Type 0 where
   pub guest : GuestServes basis b.journal.table g
   pub book : BookServes basis b
@@ -121,7 +136,7 @@ pub record HasDoneAlone (basis : Basis) (op : Op) (old g : Guest) (old_b b : Boo
   pub appended : IsAppended basis old old_b b event
   pub settled : g.cell.value.tail ≡ []
   pub idle : g.cell.value.collection ≡ Idle
-  pub bodies : g.bodies ≡ old.bodies - one_if (is_allocation op)
+  pub bodies : g.bodies ≡ old.bodies
 
 -- the kernel's heap is not collected, and can have one exit item more
 pub record IsKernelReady (basis : Basis) (k : HoldingsValue) : Type 0 where
@@ -195,13 +210,13 @@ pub record IsKept (basis : Basis) (op : Op) (old g : Guest) (old_k k : HoldingsV
   pub book_is : b ≡ old_b
 
 -- the operation does not need the process's heap alone. Its event is appended behind what the process had unpublished; the process has
--- nothing unpublished, its heap is not collected, and an allocation has taken one of its bodies
+-- nothing unpublished, its heap is not collected, and an allocation has taken a body of its type from the supply if one was there
 pub record IsRecorded (basis : Basis) (op : Op) (old g : Guest) (old_k k : HoldingsValue) (old_shared shared : List SharedRecord) (old_b b : BookRecord) (event : Event) : Type 0 where
   pub outside : IsFalse (is_local_in (idle_part old.cell.value) old.cell.pid.0 op)
   pub appended : IsAppended basis old old_b b event
   pub settled : g.cell.value.tail ≡ []
   pub idle : g.cell.value.collection ≡ Idle
-  pub bodies : g.bodies ≡ old.bodies - one_if (is_allocation op)
+  pub bodies : g.bodies ≡ left_after basis op old.bodies
   pub others : LeavesOthers (touched_by basis old old_b op) old_k k old_shared shared
 
 -- all serves still, and the event of the operation is kept by the process or recorded in the journal

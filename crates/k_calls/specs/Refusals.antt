@@ -15,7 +15,7 @@ use Rattle.k_shared.specs.SharedHeaps.{SharedRecord}
 use Rattle.k_guests.specs.declared.guest.Guest.{Guest}
 use Rattle.k_guests.specs.Serving.{Basis}
 use Rattle.k_calls.specs.declared.errors.HostError.{HostError}
-use Rattle.k_calls.specs.declared.errors.HostError.TheVariants.{Unknown, OwnCall, Ended, Phase, Full, NoBody}
+use Rattle.k_calls.specs.declared.errors.HostError.TheVariants.{Unknown, OwnCall, Ended, Phase, Full, NoMemory}
 use Rattle.k_calls.specs.Doing.{HasEventsLeft, HasItemRoom, HasItsBody, HasRoomToPublish, touched_by}
 
 -- the error that a call answers is this one, since what it asks for does not hold
@@ -31,15 +31,15 @@ IsNotAwake g why = Lacks Ended (IsFalse (has_ended_in g.cell.value.process)) why
 abbrev pub is_plain : Op → Bool
 is_plain op = not (is_collect op || collects_or_exits op)
 
--- an operation is not ready: it names what the setup does not declare, has a call of its own or no body, or its process is not awake
--- or has no room for what the operation may add to its tables
+-- an operation is not ready: it names what the setup does not declare or has a call of its own, its process is not awake or has no room
+-- for what the operation may add to its tables, or the supply has no body for its object and memory is wanting
 abbrev pub IsNotReady : Basis → Guest → Op → HostError → Type 0
 IsNotReady basis g op why =
     Lacks Unknown (IsTrue (in_range basis.trace op)) why
     ⊎ Lacks OwnCall (IsTrue (is_plain op)) why
     ⊎ IsNotAwake g why
     ⊎ Lacks Full (HasItemRoom basis g) why
-    ⊎ Lacks NoBody (HasItsBody basis g.bodies op) why
+    ⊎ Lacks NoMemory (HasItsBody basis g.bodies op) why
 
 -- the kernel's heap is not ready: a collection of it is open, or its table of exit items is full
 abbrev pub IsKernelNotReady : Basis → HoldingsValue → HostError → Type 0

@@ -1,7 +1,6 @@
 //! One operation of a process, with the cells that it touches and the book.
 ghost use Rattle.std.specs.Prelude.{◌≡◌, IfNone, IfSome, IsFalse, [], is_some};
 ghost use Rattle.k_book.specs.Books.{book_entries};
-ghost use Rattle.k_bounds.specs.Counts.{is_allocation, one_if};
 ghost use Rattle.k_entry.specs.Entries.{AreEntries};
 ghost use Rattle.k_moves.specs.Shown.{idle_part};
 ghost use Rattle.k_squares.specs.Locals.{is_local_in};
@@ -61,22 +60,6 @@ fn know_entries(book: &Book)
     book.first_entry(Heap::Kernel);
 }
 
-/// How many bodies the operation takes.
-fn bodies_taken(op: &Op) -> u32
-    ensures { result ≡ one_if (is_allocation op.now) }
-{
-    match *op {
-        Op::New { reg: _, ty: _ } => 1,
-        Op::KNew { reg: _, ty: _ } => 1,
-        Op::SNew {
-            reg: _,
-            shared: _,
-            ty: _,
-        } => 1,
-        _ => 0,
-    }
-}
-
 /// Publishes, and does an operation that touches the process's own cell alone.
 pub fn do_alone(terms: &Terms, guest: &mut Guest, book: &mut Book, op: &Op) -> Event
     ghost basis: { Basis }
@@ -86,9 +69,7 @@ pub fn do_alone(terms: &Terms, guest: &mut Guest, book: &mut Book, op: &Op) -> E
     let _setup = &terms.setup;
     publish(&mut guest.cell, book);
     know_entries(book);
-    let event = step_own(&mut guest.cell, book, op);
-    guest.bodies -= bodies_taken(op);
-    event
+    step_own(&mut guest.cell, book, op)
 }
 
 /// Publishes, and does an operation that touches the kernel's cell too.
@@ -106,9 +87,7 @@ pub(crate) fn do_with_kernel(
     let _setup = &terms.setup;
     publish(&mut guest.cell, book);
     know_entries(book);
-    let event = step_kernel(&mut guest.cell, kernel, book, op);
-    guest.bodies -= bodies_taken(op);
-    event
+    step_kernel(&mut guest.cell, kernel, book, op)
 }
 
 /// Publishes, and does an operation that touches a shared heap's cell too.
@@ -126,7 +105,5 @@ pub(crate) fn do_with_shared(
     let _setup = &terms.setup;
     publish(&mut guest.cell, book);
     know_entries(book);
-    let event = step_shared(&mut guest.cell, shared, book, op);
-    guest.bodies -= bodies_taken(op);
-    event
+    step_shared(&mut guest.cell, shared, book, op)
 }

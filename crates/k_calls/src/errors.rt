@@ -13,8 +13,8 @@ pub enum HostError {
     Phase,
     /// There may be no room for the event, or for what it adds to a table.
     Full,
-    /// There is no body for the allocation, or only one of another type.
-    NoBody,
+    /// The allocation finds no memory for its object, and the supply has no body of its type.
+    NoMemory,
     /// A shared heap is an orphan, or the one to be absorbed is none.
     Orphan,
     /// No more events are left than those that are kept for collections.

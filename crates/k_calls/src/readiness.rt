@@ -1,6 +1,6 @@
 //! What an operation asks beyond what a host keeps, tested when it is called.
-ghost use Rattle.std.specs.Prelude.{◌≡◌, ◌<◌, ◌↔◌, IfErr, IsTrue, OnOk};
-ghost use Rattle.k_calls.specs.Doing.{HasEventsLeft, HasItemRoom, HasItsBody, HasRoomToPublish, IsAwake, IsKernelReady, IsReady};
+ghost use Rattle.std.specs.Prelude.{◌≡◌, ◌↔◌, IfErr, IsTrue, OnOk};
+ghost use Rattle.k_calls.specs.Doing.{HasEventsLeft, HasItemRoom, HasRoomToPublish, IsAwake, IsKernelReady, IsReady};
 ghost use Rattle.k_calls.specs.Refusals.{IsKernelNotReady, IsNotAwake, IsNotReady, Lacks, is_plain};
 ghost use Rattle.k_guests.specs.Serving.{basis_of};
 
@@ -9,7 +9,7 @@ use crate::ranges::is_in_range;
 use k_book::Book;
 use k_guests::{Guest, Terms};
 use k_kernel::KernelCell;
-use k_types::{CellPhase, Op, TypeId};
+use k_types::{CellPhase, Op};
 
 /// Whether the operation has no call of its own.
 fn is_plain(op: &Op) -> bool
@@ -132,55 +132,6 @@ pub(crate) fn has_item_room(terms: &Terms, guest: &Guest) -> bool
     guest.cell.exit_count() < terms.events && guest.cell.done() < u32::MAX
 }
 
-/// Whether a body of the type is left.
-fn has_body_of(terms: &Terms, guest: &Guest, ty: TypeId) -> bool
-    ensures { IsTrue result ↔ ((ty.0 ≡ terms.now.ty.0) × (0 < guest.now.bodies)) }
-{
-    ty.0 == terms.ty.0 && 0 < guest.bodies
-}
-
-/// Whether the operation finds its body, if it needs one.
-fn has_its_body(terms: &Terms, guest: &Guest, op: &Op) -> bool
-    ensures { IsTrue result ↔ HasItsBody (basis_of terms.now) guest.now.bodies op.now }
-{
-    match *op {
-        Op::New { reg: _, ty } => has_body_of(terms, guest, ty),
-        Op::KNew { reg: _, ty } => has_body_of(terms, guest, ty),
-        Op::SNew {
-            reg: _,
-            shared: _,
-            ty,
-        } => has_body_of(terms, guest, ty),
-        Op::Store {
-            base: _,
-            field: _,
-            value: _,
-        } => true,
-        Op::Load {
-            reg: _,
-            base: _,
-            field: _,
-        } => true,
-        Op::Move { reg: _, from: _ } => true,
-        Op::Clear { reg: _ } => true,
-        Op::Dir { reg: _ } => true,
-        Op::Put {
-            base: _,
-            field: _,
-            number: _,
-        } => true,
-        Op::Get { base: _, field: _ } => true,
-        Op::Collect => true,
-        Op::KCollect => true,
-        Op::Share { shared: _ } => true,
-        Op::Freeze { shared: _, root: _ } => true,
-        Op::Attach { reg: _, shared: _ } => true,
-        Op::Exit => true,
-        Op::Kill { target: _ } => true,
-        Op::Resize { limit: _, max: _ } => true,
-    }
-}
-
 /// Whether the process can try the operation now.
 pub fn ready(terms: &Terms, guest: &Guest, op: &Op) -> Result<(), HostError>
     ensures ok { OnOk result (IsReady (basis_of terms.now) guest.now op.now) }
@@ -195,9 +146,6 @@ pub fn ready(terms: &Terms, guest: &Guest, op: &Op) -> Result<(), HostError>
     awake(guest)?;
     if !has_item_room(terms, guest) {
         return Err(HostError::Full);
-    }
-    if !has_its_body(terms, guest, op) {
-        return Err(HostError::NoBody);
     }
     Ok(())
 }

@@ -8,6 +8,7 @@ ghost use Rattle.k_calls.specs.Refusals.{CanNotDoInside, CanNotOperateAlone, Can
 
 use crate::doing::{do_alone, do_inside, do_with_kernel, do_with_shared, publish_all, reached};
 use crate::errors::HostError;
+use crate::providing::provide;
 use crate::ranges::is_in_range;
 use crate::readiness::{awake, has_item_room, has_room_to_publish, kernel_ready, ready, room_left};
 use k_book::Book;
@@ -16,6 +17,7 @@ use k_kernel::KernelCell;
 use k_operate::Reach;
 use k_shared::SharedCell;
 use k_types::{Event, Op, Reply};
+use std::alloc::Global;
 
 /// Does the operation inside the process's own heap, if it needs that heap alone and there is room.
 pub fn try_inside(terms: &Terms, guest: &mut Guest, op: &Op) -> Result<Option<Reply>, HostError>
@@ -51,9 +53,10 @@ pub fn try_publish(terms: &Terms, guest: &mut Guest, book: &mut Book) -> Result<
     Ok(())
 }
 
-/// Does the operation with whatever it touches, if it is ready and there is room. A `kill` that ends another process has a call of its
-/// own, which is lent that process too.
+/// Does the operation with whatever it touches, if it is ready and there is room, and memory for the object that it makes. A `kill` that
+/// ends another process has a call of its own, which is lent that process too.
 pub fn operate_with(
+    alloc: Global,
     terms: &Terms,
     guest: &mut Guest,
     kernel: &mut KernelCell,
@@ -77,9 +80,13 @@ pub fn operate_with(
         });
     }
     match reached(terms, guest, book, op) {
-        Reach::Own => Ok(do_alone(terms, guest, book, op)),
+        Reach::Own => {
+            provide(alloc, terms, guest, op)?;
+            Ok(do_alone(terms, guest, book, op))
+        }
         Reach::Kernel => {
             kernel_ready(terms, kernel)?;
+            provide(alloc, terms, guest, op)?;
             Ok(do_with_kernel(terms, guest, kernel, book, op))
         }
         Reach::Shared(id) => {
@@ -87,6 +94,7 @@ pub fn operate_with(
             if heap.exit_count() >= terms.events {
                 return Err(HostError::Full);
             }
+            provide(alloc, terms, guest, op)?;
             Ok(do_with_shared(terms, guest, heap, book, op))
         }
         Reach::End(_) => Err(HostError::OwnCall),

@@ -125,7 +125,7 @@ pub(crate) fn lacking(why: HostError) -> Answer
         HostError::Ended => 3,
         HostError::Phase => 4,
         HostError::Full => 5,
-        HostError::NoBody => 6,
+        HostError::NoMemory => 6,
         HostError::Orphan => 7,
         HostError::Reserved => 10,
     };

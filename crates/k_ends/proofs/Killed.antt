@@ -23,8 +23,8 @@ use Rattle.k_commit.specs.Standing.{HeapStands}
 use Rattle.k_calls.specs.DepartKilling.{CanKill, HasKilled, ReachesEnd, kill_of}
 use Rattle.k_calls.specs.Reaching.{CanReach}
 use Rattle.k_guests.specs.declared.guest.Guest.{Guest}
-use Rattle.k_guests.specs.Serving.{Basis, BookServes, GivesSerials, GuestServes, KernelServes}
-use Rattle.k_calls.specs.Doing.{HasEventsLeft, IsDueWith, IsReady, touched_by}
+use Rattle.k_guests.specs.Serving.{Basis, BookServes, GivesSerials, GuestServes, GuestServesWith, KernelServes}
+use Rattle.k_calls.specs.Doing.{HasEventsLeft, IsDueWith, IsReady, bodies_for, touched_by}
 use Rattle.k_calls.proofs.Due.{book_published, can_publish, guest_published, longer_published}
 use Rattle.k_calls.proofs.Going.{book_goes_on, guest_goes_on}
 use Rattle.k_calls.proofs.Rooms.{event_left}
@@ -188,7 +188,14 @@ module _ (basis : Basis) (g t : Guest) (b : BookRecord) (op : Op) (guest : Guest
   outside = ap (is_local_in (idle_part g.cell.value) g.cell.pid.0) asks
 
   pub due_alone : touched_by basis g b op ≡ [] → IsDueWith basis g b op []
-  due_alone touches = record { guest = guest; book = book; ready = ready; outside = outside; room = room; touches = touches }
+  due_alone touches = record {
+    guest = subst (λ (o : Op). GuestServesWith basis b.journal.table (bodies_for basis o g.bodies) g) (sym asks) guest;
+    book = book;
+    ready = ready;
+    outside = outside;
+    room = room;
+    touches = touches;
+  }
 
   -- a kill does not reach one cell
   pub never_one_now : (cell : Cell) → touched_by basis g b op ≡ cell ∷ [] → ⊥

@@ -12,7 +12,7 @@ use Rattle.k_book.specs.Books.{BookRecord}
 use Rattle.k_cell.specs.Holdings.{HoldingsValue}
 use Rattle.k_heap.specs.Heaps.{has_ended_in, own_segment}
 use Rattle.k_shared.specs.SharedHeaps.{SharedRecord}
-use Rattle.k_space.specs.Objects.{new_body}
+use Rattle.k_space.specs.Objects.{BodyValue, new_body}
 use Rattle.k_locked.specs.Standing.{BookStands}
 use Rattle.k_locked.specs.Keeping.{is_absorbed_in}
 use Rattle.k_guests.specs.declared.guest.Guest.{Guest}
@@ -22,8 +22,8 @@ use Rattle.k_guests.specs.declared.terms.Terms.{Terms}
 abbrev pub open_trace : Setup → Trace
 open_trace setup = trace_of setup (replicate (length setup.procs.items) []) []
 
--- what all parts of a host have in common: the trace with which they agree, the type of the objects that are allocated, and how many
--- events there can be
+-- what all parts of a host have in common: the trace with which they agree, the type of the objects for which there is a supply of
+-- bodies, and how many events there can be
 pub record Basis : Type 0 where
   pub trace : Trace
   pub ty : TypeId
@@ -39,16 +39,24 @@ pub record GivesSerials (events : ℕ) (rooms : List (Option ℕ)) (seg : ℕ) :
   pub there : slice_index_or rooms seg None ≡ Some room
   pub enough : events < room
 
--- the cell of a process agrees with the trace, which keeps the rules, and is of the journal's table; it has as many bodies as are
--- counted, and its tables have room for each event
-pub record GuestServes (basis : Basis) (tie : TableId) (g : Guest) : Type 0 where
+-- the cell of a process agrees with the trace, which keeps the rules, and is of the journal's table; it has these bodies, and its
+-- tables have room for each event
+pub record GuestServesWith (basis : Basis) (tie : TableId) (bodies : List BodyValue) (g : Guest) : Type 0 where
   pub rules : KeepsRules basis.trace
   pub agrees : Agrees basis.trace (User g.cell.pid) g.cell.note g.cell.value
   pub table : g.cell.note.table ≡ tie
-  pub stock : g.cell.bodies ≡ replicate g.bodies (new_body basis.trace.types basis.ty)
+  pub stock : g.cell.bodies ≡ bodies
   pub exits : basis.events ≤ g.cell.exit_room
   pub serials : IsFalse (has_ended_in g.cell.value.process) → GivesSerials basis.events g.cell.serial_rooms (own_segment g.cell.pid)
   pub tail : basis.events ≤ g.cell.tail_room
+
+-- the bodies of a supply: so many new ones, of the type that the terms name
+abbrev pub supply_of : Basis → ℕ → List BodyValue
+supply_of basis bodies = replicate bodies (new_body basis.trace.types basis.ty)
+
+-- a process serves, and has as many bodies of its supply as are counted
+abbrev pub GuestServes : Basis → TableId → Guest → Type 0
+GuestServes basis tie g = GuestServesWith basis tie (supply_of basis g.bodies) g
 
 -- the kernel's cell agrees with the trace, which keeps the rules, and is of the journal's table; its tables have room for each event,
 -- and it has a number for each segment

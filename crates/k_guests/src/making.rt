@@ -157,8 +157,8 @@ fn make_book(alloc: Global, terms: &Terms, tie: Tie, seat: JournalSeat) -> Resul
     }
 }
 
-/// The parts of a host for these terms, before the first event. It takes all memory that the calls on them will need: for each process
-/// its bodies, and for each heap and the book tables with room for all events.
+/// The parts of a host for these terms, before the first event. It takes all memory that the calls on them will need, but for objects
+/// beside a supply: for each process its bodies, and for each heap and the book tables with room for all events.
 ///
 /// # Errors
 ///

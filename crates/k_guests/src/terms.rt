@@ -5,9 +5,9 @@ use k_types::{Setup, TypeId};
 #[derive(Drop)]
 pub struct Terms {
     pub setup: Setup,
-    /// The type of all objects that its processes allocate.
+    /// The type of the objects for which each process has a supply of bodies.
     pub ty: TypeId,
-    /// How many allocations each process can do, refused ones too.
+    /// How many bodies the supply of each process has: allocations of that type, refused ones too, that take no memory.
     pub bodies: u32,
     /// How many events the journal can have.
     pub events: u32,

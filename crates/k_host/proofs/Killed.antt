@@ -1,5 +1,5 @@
 -- A kill among the processes of a host: who is killed, and what it leaves of the host.
-use Rattle.std.proofs.Common.{◌≡◌, ◌≢◌, ◌⊎◌, ◌==◌, ◌&&◌, ◌<◌, ℕ, refl, sym, ap, ◌∙◌, subst, Bool, true, false, cond, not, nat_lt, List, length, Some, None, slice_get, slice_set, IfErr, OnErr, Result, Ok, Err, arith, inl, inr, eqb-true}
+use Rattle.std.proofs.Common.{◌≡◌, ◌≢◌, ◌⊎◌, ◌==◌, ◌&&◌, ◌-◌, ◌<◌, ℕ, refl, sym, ap, ◌∙◌, subst, Bool, true, false, cond, not, nat_lt, List, length, Some, None, slice_get, slice_set, IfErr, OnErr, Result, Ok, Err, arith, inl, inr, eqb-true}
 use Rattle.std.specs.Prelude.{IfOk}
 use Rattle.std.proofs.lemmas.Bool.{and_parts, eq-eqb, false≢true}
 use Rattle.std.proofs.lemmas.Bool.Decides.{nat_tests}
@@ -21,7 +21,7 @@ use Rattle.k_squares.specs.Locals.{is_local_in}
 use Rattle.k_guests.specs.declared.guest.Guest.{Guest}
 use Rattle.k_guests.specs.Serving.{Basis, BookServes, GuestServes, KernelServes}
 use Rattle.k_ends.specs.HostError.{HostError}
-use Rattle.k_ends.specs.Doing.{HasOperated}
+use Rattle.k_ends.specs.Doing.{HasOperated, left_after}
 use Rattle.k_ends.specs.CallsRefusals.{CanNotOperateAlone, EndsAnother}
 use Rattle.k_ends.proofs.Staying.{guests_set, heaps_stay}
 use Rattle.k_ends.specs.Killing.{CanNotKill, HasEndedNobody, HasKilledNow, HasTriedToKill}
@@ -206,6 +206,13 @@ module _ (basis : Basis) (gs : List Guest) (k : HoldingsValue) (ss : List Shared
     unfolding is_local_in
     outside = ap (is_local_in (idle_part g.cell.value) g.cell.pid.0) asks
 
+    all_left : g.bodies ≡ g.bodies - 0
+    all_left = omega arith
+
+    -- a kill takes no body of the supply
+    none_taken : g.bodies ≡ left_after basis op g.bodies
+    none_taken = all_left ∙ ap (λ (o : Op). left_after basis o g.bodies) (sym asks)
+
     spared_operated : (own other : Guest) (x : HoldingsValue) (l : BookRecord) (event : Event) → HasEndedNobody basis op g own t other k x b l event → HasOperated basis op g own k x ss ss b l event
     spared_operated own other x l event d = record {
       can = record {
@@ -225,7 +232,7 @@ module _ (basis : Basis) (gs : List Guest) (k : HoldingsValue) (ss : List Shared
         appended = d.alone.appended;
         settled = d.alone.settled;
         idle = d.alone.idle;
-        bodies = d.alone.bodies;
+        bodies = d.alone.bodies ∙ none_taken;
         others = inl (record { touches = d.touches; kernel_is = d.kernel_is; shared_is = refl });
       });
     }

@@ -43,8 +43,8 @@ impl Model for Host {
 }
 
 impl Host {
-    /// A host for these terms, before the first event. It takes all memory that its calls will need: time and memory are in proportion to
-    /// the bodies, and to the events for each heap.
+    /// A host for these terms, before the first event. It takes all memory that its calls will need, but for objects of which the supply of
+    /// their process has no body: time and memory are in proportion to the bodies, and to the events for each heap.
     ///
     /// # Errors
     ///
@@ -112,7 +112,7 @@ impl Host {
     ///
     /// # Errors
     ///
-    /// Each changes nothing: `Unknown`, `OwnCall`, `Ended` and `NoBody` as they say, `Phase` where a collection is open of the process's
+    /// Each changes nothing: `Unknown`, `OwnCall`, `Ended` and `NoMemory` as they say, `Phase` where a collection is open of the process's
     /// heap, or of the kernel's or a killed process's where the operation touches that, and `Full` where the journal has no room for what
     /// is unpublished and one event more, or the tables of a heap that is touched may have none for what the operation adds.
     pub fn operate(&mut self, pid: Pid, op: &Op) -> Result<Event, HostError>
@@ -132,8 +132,10 @@ impl Host {
                 op,
             );
         }
+        let alloc = *self.guests.allocator();
         let guest = &mut self.guests[at];
         operate_with(
+            alloc,
             &self.terms,
             guest,
             &mut self.kernel,

@@ -23,6 +23,8 @@ mod opening;
 #[cfg(test)]
 mod refusals;
 #[cfg(test)]
+mod several;
+#[cfg(test)]
 mod usual;
 #[cfg(test)]
 mod whole;

@@ -54,10 +54,12 @@ fn the_kernel_and_the_dead_refuse(rt: HostRuntime) -> Result<(), Fail> {
     end
 }
 
-/// The one body of a process, and the room for two events; where nothing is unpublished, publishing needs none.
+/// The one body of a supply, beside which another is made, and the room for three events; where nothing is unpublished, publishing
+/// needs none.
 fn run_out<R: Abort>(rt: &R, host: &mut Host) -> Result<(), Fail> {
     operate(host, P1, &new(0))?;
-    check_refused(rt, host, P1, &new(1), HostError::NoBody);
+    assert_eq!(rt; host.bodies_left(P1), Some(0));
+    operate(host, P1, &new(1))?;
     operate(host, P2, &new(0))?;
     check_refused(rt, host, P2, &clear(0), HostError::Full);
     assert_eq!(rt; begin_heap(host, P1).err(), Some(HostError::Full));
@@ -67,7 +69,7 @@ fn run_out<R: Abort>(rt: &R, host: &mut Host) -> Result<(), Fail> {
 
 #[test]
 fn what_runs_out_is_told(rt: HostRuntime) -> Result<(), Fail> {
-    let mut host = Host::read(rt.alloc(), USUAL, NODE, 1, 2)?;
+    let mut host = Host::read(rt.alloc(), USUAL, NODE, 1, 3)?;
     let end = run_out(&rt, &mut host);
     let_go(host);
     end

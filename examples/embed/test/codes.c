@@ -77,10 +77,11 @@ static void lacks(void) {
     STATUS(kaffe_ask(h, KAFFE_ASK_ORPHAN, 0, 0), KAFFE_UNKNOWN);
     STATUS(kaffe_collect(h, PROCESSES), KAFFE_UNKNOWN);
     STATUS(kaffe_kill(h, PROCESSES), KAFFE_UNKNOWN);
-    STATUS(kaffe_new(h, GUEST, 0, LEAF), KAFFE_NO_BODY);
-    for (int i = 0; i < 3; i++) FAULT(kaffe_new(h, GUEST, 0, NODE), KAFFE_DONE);
-    STATUS(kaffe_new(h, GUEST, 0, NODE), KAFFE_NO_BODY);
-    due("the charge after", kaffe_charge(h, GUEST), 120);
+    FAULT(kaffe_new(h, GUEST, 0, LEAF), KAFFE_DONE); /* not of the supply's type */
+    due("the supply", kaffe_ask(h, KAFFE_ASK_BODIES, GUEST, 0).number, 3);
+    for (int i = 0; i < 4; i++) FAULT(kaffe_new(h, GUEST, 0, NODE), KAFFE_DONE);
+    due("the supply after", kaffe_ask(h, KAFFE_ASK_BODIES, GUEST, 0).number, 0);
+    due("the charge after", kaffe_charge(h, GUEST), 184);
     STATUS(kaffe_absorb(h, ONE), KAFFE_ORPHAN);
     FAULT(kaffe_share(h, GUEST, ONE), KAFFE_DONE);
     STATUS(kaffe_kill(h, GUEST), KAFFE_OK);
@@ -94,7 +95,7 @@ static void lacks(void) {
     due("the orphan", kaffe_ask(h, KAFFE_ASK_ORPHAN, 0, 0).number, ONE);
     kaffe_answer freed = kaffe_kcollect(h, HOST);
     due("the kernel's collection", freed.status, KAFFE_OK);
-    due("what it freed", freed.number, 120);
+    due("what it freed", freed.number, 184);
     due("the numbers", freed.what, KAFFE_FREED);
     kaffe_free(h);
 }

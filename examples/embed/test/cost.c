@@ -18,6 +18,7 @@ static const struct {
     kaffe_request request;
 } CALLS[] = {
     {"new", {KAFFE_CALL_NEW, GUEST, NODE, 0, 3, 0, 0, 0, 0, 0}},
+    {"make", {KAFFE_CALL_NEW, GUEST, NODE, 0, 3, 0, 0, 0, 0, 0}}, /* where the guest has no supply */
     {"store", {KAFFE_CALL_STORE, GUEST, 1, 0, LIST, LAST, 0, 0, 0, 0}},
     {"load", {KAFFE_CALL_LOAD, GUEST, 0, 0, 3, LIST, 0, 0, 0, 0}},
     {"put", {KAFFE_CALL_PUT, GUEST, NUMBER_FIELD, 0, 0, LIST, 0, 0, 0, 7}},
@@ -72,7 +73,7 @@ int main(int count, char **words) {
     long times = atol(words[2]);
     for (size_t i = 0; i < sizeof CALLS / sizeof CALLS[0]; i++) {
         if (strcmp(words[1], CALLS[i].name) != 0) continue;
-        kaffe_host *h = opened(2, 1, 20000, 100000);
+        kaffe_host *h = opened(2, 1, strcmp(words[1], "make") == 0 ? 0 : 20000, 100000);
         long often = prepare(h, words[1], times);
         measured(h, CALLS[i].request, often);
         kaffe_free(h);

@@ -9,7 +9,7 @@ import random
 import struct
 import sys
 
-UNKNOWN, ENDED, NO_BODY, ORPHAN, NO_CALL, RESERVED = 1, 3, 6, 7, 8, 10
+UNKNOWN, ENDED, ORPHAN, NO_CALL, RESERVED = 1, 3, 7, 8, 10
 NOTHING, NAME, NUMBER, FREED = range(4)
 FAULTS = ("Done Null Foreign NotSharer NoField WrongKind Frozen Segv NotPopulating NotFrozen Taken LimitFull KernelFull "
           "ProcNotBelow LimitNotBelow InUse").split()
@@ -29,7 +29,7 @@ class Refused(Exception):
 
 
 class Host:
-    """The one-thread machine of one declaration, with a number of bodies for each process."""
+    """The one-thread machine of one declaration, with a supply of bodies of one type for each process."""
 
     def __init__(self, ceiling, directory, types, limits, procs, shared, of_type, bodies, events):
         self.ceiling, self.types, self.limits, self.procs, self.of_type = ceiling, types, limits, procs, of_type
@@ -175,7 +175,8 @@ class Host:
     # One operation, which counts as done whether or not it is refused.
     def operate(self, q):
         regs = self.registers[q.pid]
-        size = 16 + 8 * len(self.types[self.of_type])
+        if q.call in (NEW, KNEW, SNEW):
+            size = 16 + 8 * len(self.types[q.to if q.call == SNEW else q.at])
         if q.call == NEW:
             self.fits(q.pid, size)
             return self.make(q.pid, q.reg, 1 + q.pid, q.at)
@@ -320,10 +321,8 @@ class Host:
             return answer(status=RESERVED)
         if not self.is_declared(q):
             return answer(status=UNKNOWN)
-        if q.call in (NEW, KNEW, SNEW):
-            if (q.to if q.call == SNEW else q.at) != self.of_type or self.bodies[q.pid] == 0:
-                return answer(status=NO_BODY)
-            self.bodies[q.pid] -= 1
+        if q.call in (NEW, KNEW, SNEW) and (q.to if q.call == SNEW else q.at) == self.of_type:
+            self.bodies[q.pid] = max(0, self.bodies[q.pid] - 1)
         self.done[q.pid] += 1
         self.left -= 1
         try:
@@ -430,7 +429,7 @@ def declaration(rng, events):
               for n, (parent, hard, most) in enumerate(limits)]
     procs = [rng.randrange(len(limits)) for _ in range(procs_count)]
     lines += [f"proc p{n} m{at}" for n, at in enumerate(procs)] + [f"shared s{n}" for n in range(shared)]
-    of_type, bodies = rng.randrange(len(types)), rng.choice([events // 10, events, events])
+    of_type, bodies = rng.randrange(len(types)), rng.choice([0, events // 20, events])
     text = ("\n".join(lines) + "\n").encode()
     fewest = 3 * len(procs) + shared + 3
     room = rng.choice([2 * events + 100, 2 * events + 100, fewest + events // 4, fewest])
@@ -451,10 +450,10 @@ def some_call(rng, host):
     pid = rng.randrange(len(host.procs) + odd)
     at = rng.randrange(4) if rng.random() < 0.9 else rng.choice([0, 5, 16, (1 << 32) - 1])
     if call in (NEW, KNEW):
-        at = rng.choice([host.of_type] * 30 + [0, 1, 3])
+        at = rng.randrange(len(host.types)) if rng.random() < 0.97 else 3
     if call in (SNEW, SHARE, FREEZE, ATTACH, ABSORB) and host.shared_count and not odd:
         at = rng.randrange(host.shared_count)
-    to = rng.choice([host.of_type] * 30 + [0, 1, 3])
+    to = rng.randrange(len(host.types)) if rng.random() < 0.97 else 3
     reg, base = (rng.randrange(6) if not odd else rng.choice([15, 16, 255]) for _ in range(2))
     number = rng.getrandbits(64)
     if call == KILL_BY and not odd:

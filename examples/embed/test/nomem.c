@@ -1,5 +1,6 @@
 /* Want of memory at each allocation of the opening in turn, at that one alone and from that one on: no host is made, and all that was taken is
-   given back. After the opening no call allocates. Linked with -Wl,--wrap=malloc,--wrap=realloc,--wrap=free. */
+   given back. After the opening a call takes memory only for an object of which the supply has no body, and where it is refused nothing has
+   changed. Linked with -Wl,--wrap=malloc,--wrap=realloc,--wrap=free. */
 #include "../kaffe.h"
 #include <stdio.h>
 
@@ -39,8 +40,9 @@ void __wrap_free(void *p) {
     __real_free(p);
 }
 
-static const char *DECLARED = "kaffe 1\nkernel 4096 4\ntype Node ref ref int\nlimit root 100000\nproc host root\nproc guest root\nshared s\n";
+static const char *DECLARED = "kaffe 1\nkernel 4096 4\ntype Node ref ref int\ntype Leaf int\nlimit root 100000\nproc host root\nproc guest root\nshared s\n";
 
+enum { NODE, LEAF };
 enum { PROCESSES = 2, BODIES = 3, EVENTS = 200 };
 /* The room for the host is an allocation, each body is one, and each process has tables. */
 enum { LEAST_ALLOCATIONS = 1 + PROCESSES * BODIES + PROCESSES };
@@ -65,7 +67,36 @@ static int is_each_answered(long allocations) {
     return 1;
 }
 
-/* Calls of each kind, of which none takes memory. */
+/* Want of memory at each allocation of the call in turn is answered, and has changed nothing: an object in each kind of heap. */
+static int is_object_answered(kaffe_host *h, kaffe_request q) {
+    kaffe_answer a;
+    uint64_t left = kaffe_left(h), charge = kaffe_charge(h, q.pid), kernel = kaffe_kernel_bytes(h);
+    uint64_t done = kaffe_ask(h, KAFFE_ASK_DONE, q.pid, 0).number;
+    long n = 0;
+    for (;; n++) {
+        taken = 0;
+        refused_at = n;
+        a = kaffe_call(h, q);
+        refused_at = -1;
+        if (a.status == KAFFE_OK) break;
+        if (a.status != KAFFE_NO_MEMORY) return 0;
+        if (kaffe_left(h) != left || kaffe_charge(h, q.pid) != charge || kaffe_kernel_bytes(h) != kernel) return 0;
+        if (kaffe_ask(h, KAFFE_ASK_DONE, q.pid, 0).number != done) return 0;
+    }
+    return n > 0 && a.fault == KAFFE_DONE && kaffe_ask(h, KAFFE_ASK_DONE, q.pid, 0).number == done + 1;
+}
+
+/* Objects of another type than the supply's, and one of its type where the supply is used up. */
+static int are_objects_answered(kaffe_host *h) {
+    kaffe_request own = {KAFFE_CALL_NEW, 1, LEAF, 0, 0, 0, 0, 0, 0, 0}, kernel = {KAFFE_CALL_KNEW, 1, LEAF, 0, 0, 0, 0, 0, 0, 0};
+    kaffe_request shared = {KAFFE_CALL_SNEW, 1, 0, LEAF, 0, 0, 0, 0, 0, 0}, node = {KAFFE_CALL_NEW, 1, NODE, 0, 0, 0, 0, 0, 0, 0};
+    kaffe_share(h, 1, 0);
+    if (!is_object_answered(h, own) || !is_object_answered(h, kernel) || !is_object_answered(h, shared)) return 0;
+    for (int i = 0; i < BODIES; i++) kaffe_new(h, 1, 0, NODE);
+    return is_object_answered(h, node);
+}
+
+/* Calls of each kind, of which none takes memory: the supply has a body for each allocation. */
 static int is_served(kaffe_host *h) {
     taken = 0;
     refused_at = 0;
@@ -92,8 +123,12 @@ int main(void) {
     if (!is_served(h)) return fprintf(stderr, "nomem: a call takes memory, or is not done\n"), 1;
     kaffe_free(h);
     if (live != 0) return fprintf(stderr, "nomem: memory is left\n"), 1;
+    h = opened(-1, &why);
+    if (!are_objects_answered(h)) return fprintf(stderr, "nomem: want of memory for an object is not answered\n"), 1;
+    kaffe_free(h);
+    if (live != 0) return fprintf(stderr, "nomem: memory for objects is left\n"), 1;
     for (is_alone = 0; is_alone < 2; is_alone++)
         if (!is_each_answered(allocations)) return 1;
-    printf("want of memory at each of the %ld allocations of an opening is answered\n", allocations);
+    printf("want of memory at each of the %ld allocations of an opening, and at those of an object, is answered\n", allocations);
     return 0;
 }

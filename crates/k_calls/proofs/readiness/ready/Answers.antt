@@ -3,8 +3,8 @@ use Rattle.k_types.specs.Steps.{in_range}
 use Rattle.k_operate.specs.Own.{is_collect}
 use Rattle.k_operate.specs.PairOperating.{collects_or_exits}
 use Rattle.k_limits.proofs.Making.{handed_on}
-use Rattle.k_calls.specs.declared.errors.HostError.TheVariants.{Full, NoBody, OwnCall, Unknown}
-use Rattle.k_calls.specs.Doing.{HasItemRoom, HasItsBody}
+use Rattle.k_calls.specs.declared.errors.HostError.TheVariants.{Full, OwnCall, Unknown}
+use Rattle.k_calls.specs.Doing.{HasItemRoom}
 use Rattle.k_calls.specs.Refusals.{IsNotReady, is_plain}
 use Rattle.k_guests.specs.Serving.{basis_of, open_trace}
 use Rattle.k_calls.proofs.Refused.{lacks, lacks_test}
@@ -25,10 +25,6 @@ pub returns-then-not-has_item_room-clause-why : goal.returns-then-not-has_item_r
 returns-then-not-has_item_room-clause-why c =
     inr (inr (inr (inl (lacks Full (HasItemRoom (basis_of c.args.terms.now) c.args.guest.now) c.has_item_room.result c.has_item_room.ensures c.if-not-has_item_room.true))))
 
-pub returns-then-not-has_its_body-clause-why : goal.returns-then-not-has_its_body-clause-why
-returns-then-not-has_its_body-clause-why c =
-    inr (inr (inr (inr (lacks NoBody (HasItsBody (basis_of c.args.terms.now) c.args.guest.now.bodies c.args.op.now) c.has_its_body.result c.has_its_body.ensures c.if-not-has_its_body.true))))
-
 pub returns-clause-ok : goal.returns-clause-ok
 returns-clause-ok c =
     let plain = neither (is_collect c.args.op.now) (collects_or_exits c.args.op.now) (sym c.is_plain.ensures ∙ c.if-not-is_plain.false) in
@@ -38,5 +34,4 @@ returns-clause-ok c =
       goes_on = plain.1;
       awake = c.in_ok-awake.ensures.ok;
       room = c.has_item_room.ensures.0 c.if-not-has_item_room.false;
-      stock = c.has_its_body.ensures.0 c.if-not-has_its_body.false;
     }

@@ -6,6 +6,7 @@ use Rattle.k_limits.proofs.Making.{handed_on}
 use Rattle.k_calls.specs.Refusals.{CanNotOperateAlone}
 use Rattle.k_guests.specs.Serving.{basis_of}
 use Rattle.k_calls.proofs.Operated.{alone_operated, can_shared, heap_there, inside_operated, kernel_operated, shared_operated, touched_before}
+use Rattle.k_calls.proofs.Provided.{typed}
 use Rattle.k_calls.proofs.stepping.operate_with.Goals as goal
 
 pub index_mut-heap-requires : goal.index_mut-heap-requires
@@ -49,14 +50,14 @@ returns-then-exit_count-terms-clause-why c =
 
 pub do_with_shared-requires : goal.do_with_shared-requires
 do_with_shared-requires c =
-    can_shared (basis_of c.args.terms.now) c.args.guest.now c.args.kernel.now c.args.shared.now.items c.args.book.now c.args.op.now c.requires c.in_ok-ready.ensures.ok c.in_ok-room_left.ensures.ok c.do_inside.new.guest c.in_default.ensures.none c.in_default.ensures.outside c.in-Shared.id c.index_mut-heap.result.now
+    can_shared (basis_of c.args.terms.now) c.args.guest.now c.args.kernel.now c.args.shared.now.items c.args.book.now c.args.op.now c.requires c.in_ok-ready.ensures.ok c.in_ok-room_left.ensures.ok c.do_inside.new.guest c.in_default.ensures.none c.in_default.ensures.outside c.provide-in-Shared.new.guest c.in_ok-provide-in-Shared.ensures.provided c.in-Shared.id c.index_mut-heap.result.now
     (found_at c.args.shared.now.items (length c.args.shared.now.items) c.in-Shared.id.0 c.in-Shared.id.0 c.index_mut-heap.result.now c.index_mut-heap.result.now refl
     (heap_there (basis_of c.args.terms.now) c.args.guest.now c.args.kernel.now c.args.shared.now.items c.args.book.now c.args.op.now c.requires c.in_ok-ready.ensures.ok c.in_ok-room_left.ensures.ok c.do_inside.new.guest c.in_default.ensures.none c.in_default.ensures.outside c.in-Shared.id (sym c.in-Shared.ensures)) refl c.index_mut-heap.ensures.value refl)
     (omega (arith, c.if-exit_count-terms.false, c.exit_count.ensures.len)) (sym c.in-Shared.ensures)
 
-pub returns-else-exit_count-terms-clause-done : goal.returns-else-exit_count-terms-clause-done
-returns-else-exit_count-terms-clause-done c =
-    shared_operated (basis_of c.args.terms.now) c.args.guest.now c.args.kernel.now c.args.shared.now.items c.args.book.now c.args.op.now c.requires c.in_ok-ready.ensures.ok c.in_ok-room_left.ensures.ok c.do_inside.new.guest c.in_default.ensures.none c.in_default.ensures.outside c.in-Shared.id c.index_mut-heap.result.now
+pub returns-in_ok-provide-in-Shared-clause-done : goal.returns-in_ok-provide-in-Shared-clause-done
+returns-in_ok-provide-in-Shared-clause-done c =
+    shared_operated (basis_of c.args.terms.now) c.args.guest.now c.args.kernel.now c.args.shared.now.items c.args.book.now c.args.op.now c.requires c.in_ok-ready.ensures.ok c.in_ok-room_left.ensures.ok c.do_inside.new.guest c.in_default.ensures.none c.in_default.ensures.outside c.provide-in-Shared.new.guest c.in_ok-provide-in-Shared.ensures.provided c.in-Shared.id c.index_mut-heap.result.now
     (found_at c.args.shared.now.items (length c.args.shared.now.items) c.in-Shared.id.0 c.in-Shared.id.0 c.index_mut-heap.result.now c.index_mut-heap.result.now refl
     (heap_there (basis_of c.args.terms.now) c.args.guest.now c.args.kernel.now c.args.shared.now.items c.args.book.now c.args.op.now c.requires c.in_ok-ready.ensures.ok c.in_ok-room_left.ensures.ok c.do_inside.new.guest c.in_default.ensures.none c.in_default.ensures.outside c.in-Shared.id (sym c.in-Shared.ensures)) refl c.index_mut-heap.ensures.value refl)
     c.do_with_shared.new.guest c.do_with_shared.new.shared c.do_with_shared.new.book c.do_with_shared.result (sym c.in-Shared.ensures) c.do_with_shared.ensures
@@ -66,14 +67,14 @@ returns-in-Some-clause-done c =
     inside_operated (basis_of c.args.terms.now) c.args.guest.now c.args.kernel.now c.args.shared.now.items c.args.book.now c.args.op.now c.requires c.in_ok-ready.ensures.ok c.in_ok-room_left.ensures.ok
     c.do_inside.new.guest c.pid-pid.result c.in-Some.reply (sym c.in-Some.ensures.told) c.in-Some.ensures.some c.pid-pid.ensures
 
-pub returns-in-Own-clause-done : goal.returns-in-Own-clause-done
-returns-in-Own-clause-done c =
-    alone_operated (basis_of c.args.terms.now) c.args.guest.now c.args.kernel.now c.args.shared.now.items c.args.book.now c.args.op.now c.requires c.in_ok-ready.ensures.ok c.in_ok-room_left.ensures.ok c.do_inside.new.guest c.in_default.ensures.none c.in_default.ensures.outside
+pub returns-in_ok-provide-in-Own-clause-done : goal.returns-in_ok-provide-in-Own-clause-done
+returns-in_ok-provide-in-Own-clause-done c =
+    alone_operated (basis_of c.args.terms.now) c.args.guest.now c.args.kernel.now c.args.shared.now.items c.args.book.now c.args.op.now c.requires c.in_ok-ready.ensures.ok c.in_ok-room_left.ensures.ok c.do_inside.new.guest c.in_default.ensures.none c.in_default.ensures.outside c.provide.new.guest c.in_ok-provide-in-Own.ensures.provided
     c.do_alone.new.guest c.do_alone.new.book c.do_alone.result (sym c.in-Own.ensures) c.do_alone.ensures
 
-pub returns-in_ok-kernel_ready-in-Kernel-clause-done : goal.returns-in_ok-kernel_ready-in-Kernel-clause-done
-returns-in_ok-kernel_ready-in-Kernel-clause-done c =
-    kernel_operated (basis_of c.args.terms.now) c.args.guest.now c.args.kernel.now c.args.shared.now.items c.args.book.now c.args.op.now c.requires c.in_ok-ready.ensures.ok c.in_ok-room_left.ensures.ok c.do_inside.new.guest c.in_default.ensures.none c.in_default.ensures.outside
+pub returns-in_ok-provide-in-Kernel-clause-done : goal.returns-in_ok-provide-in-Kernel-clause-done
+returns-in_ok-provide-in-Kernel-clause-done c =
+    kernel_operated (basis_of c.args.terms.now) c.args.guest.now c.args.kernel.now c.args.shared.now.items c.args.book.now c.args.op.now c.requires c.in_ok-ready.ensures.ok c.in_ok-room_left.ensures.ok c.do_inside.new.guest c.in_default.ensures.none c.in_default.ensures.outside c.provide-in-Kernel.new.guest c.in_ok-provide-in-Kernel.ensures.provided
     c.do_with_kernel.new.guest c.do_with_kernel.new.kernel c.do_with_kernel.new.book c.do_with_kernel.result (sym c.in-Kernel.ensures) c.do_with_kernel.ensures
 
 pub returns-in-End-clause-same : goal.returns-in-End-clause-same
@@ -87,3 +88,12 @@ returns-in-End-clause-why c =
       touches = touched_before (basis_of c.args.terms.now) c.args.guest.now c.do_inside.new.guest c.args.book.now c.args.op.now c.in_default.ensures.none (User c.in-End.field-0 ∷ Kernel ∷ []) (sym c.in-End.ensures);
       error_is = refl;
     })
+
+pub provide-requires-clause-typed : goal.provide-requires-clause-typed
+provide-requires-clause-typed c = typed (basis_of c.args.terms.now) c.args.op.now c.in_ok-ready.ensures.ok.in_range
+
+pub provide-requires-in-Kernel-clause-typed : goal.provide-requires-in-Kernel-clause-typed
+provide-requires-in-Kernel-clause-typed c = typed (basis_of c.args.terms.now) c.args.op.now c.in_ok-ready.ensures.ok.in_range
+
+pub provide-requires-in-Shared-clause-typed : goal.provide-requires-in-Shared-clause-typed
+provide-requires-in-Shared-clause-typed c = typed (basis_of c.args.terms.now) c.args.op.now c.in_ok-ready.ensures.ok.in_range
