@@ -12,5 +12,6 @@ pub mod Distinct
 pub mod Ordered
 pub mod Exits
 pub mod Totals
+pub mod Places
 pub mod Owners
 pub mod Shares

@@ -65,7 +65,7 @@ listed_step p first n k false e t ih = elim (cases_eq first k) [
   | inr ne ↦ ih ne
 ]
 
-listed_from : (p : ℕ → Bool) (first n k : ℕ) → first ≤ k → k < first + n → IsTrue (p k) → IsTrue (among k (filter p (numbers_from first n)))
+pub listed_from : (p : ℕ → Bool) (first n k : ℕ) → first ≤ k → k < first + n → IsTrue (p k) → IsTrue (among k (filter p (numbers_from first n)))
 listed_from p first zero k low high t = absurd (omega arith)
 listed_from p first (suc n) k low high t = listed_step p first n k (p first) refl t (λ ne. listed_from p (suc first) n k (omega (arith, ne, low)) (omega arith) t)
 

@@ -3,7 +3,7 @@ use Rattle.std.proofs.Common.{◌≡◌, ℕ, ◌&&◌, ◌||◌, cond, Bool, tr
 use Rattle.std.specs.List.{list_any}
 use Rattle.std.proofs.lemmas.Bool.{and_from, false≢true, or_parts, or_cases, or_left, or_right}
 use Rattle.k_types.specs.declared.names.Name.{Name}
-use Rattle.k_types.specs.Names.{name_eq, name_lt}
+use Rattle.k_types.specs.Names.{name_eq, name_lt, name_among}
 use Rattle.k_types.specs.State.{Object, Content, has, object_at, refers, refers_in, content_leads_to}
 use Rattle.k_types.specs.Updates.{with_object, object_after_write}
 use Rattle.k_base.proofs.Lists.{any-set}
@@ -81,6 +81,11 @@ found xs n h = some_is (object_at xs n) (is_some-object_at xs n ∙ h)
 pub has_found : (xs : List Object) (n : Name) (o : Object) → object_at xs n ≡ Some o → has xs n ≡ true
 has_found [] n o e = grind arith
 has_found (x ∷ xs) n o e = grind (arith, has_found xs n o)
+
+-- the names of objects
+pub names_have : (xs : List Object) (n : Name) → name_among n (map (λ (o : Object). o.name) xs) ≡ has xs n
+names_have [] n = refl
+names_have (x ∷ xs) n = ap (λ b. name_eq x.name n || b) (names_have xs n)
 
 pub refers_found : (xs : List Object) (x y : Name) (o : Object) → object_at xs x ≡ Some o → refers o y ≡ true → refers_in xs x y ≡ true
 refers_found [] x y o found leads = absurd (cc found)

@@ -1,13 +1,15 @@
 -- Objects in the order of their names.
-use Rattle.std.proofs.Common.{List, [], ◌∷◌, IsTrue, ◌≡◌, true, false, sym, ap, ◌∙◌, inl, inr, cond, refl, ℕ, map}
+use Rattle.std.proofs.Common.{List, [], ◌∷◌, IsTrue, ◌≡◌, true, false, sym, ap, ◌∙◌, inl, inr, cond, refl, ℕ, map, Option, Some, subst}
 use Rattle.k_types.specs.declared.names.Name.{Name}
 use Rattle.k_types.specs.Names.{name_lt, name_eq}
-use Rattle.k_types.specs.State.{Object, has, Content}
+use Rattle.k_types.specs.State.{Object, has, Content, object_at}
 use Rattle.k_types.specs.Sound.{IsOrdered, IsOrderedFrom}
-use Rattle.k_base.proofs.NameTests.{name_lt_trans, name_eq-true, name_lt_total}
+use Rattle.k_base.proofs.NameTests.{name_lt_trans, name_eq-true, name_lt_total, name_eq_refl, name_lt_apart}
 use Rattle.std.proofs.lemmas.Bool.{or_cases, false≢true, or_parts}
 use Rattle.k_types.specs.Updates.{with_object, object_after_write}
-use Rattle.k_base.proofs.Objects.{written_name}
+use Rattle.k_base.proofs.Objects.{written_name, found_name}
+use Rattle.std.specs.List.{AllByRecursion}
+use Rattle.k_base.proofs.Lists.{found_holds}
 
 pub ordered_tail : (m : Name) (xs : List Object) → IsOrderedFrom m xs → IsOrdered xs
 ordered_tail m [] t = tt
@@ -59,3 +61,25 @@ ordered-written_from x i c m (o ∷ xs) t = rw (written_name x i c o) (t.0, orde
 pub ordered-written : (x : Name) (i : ℕ) (c : Content) (xs : List Object) → IsOrdered xs → IsOrdered (map (object_after_write x i c) xs)
 ordered-written x i c [] t = tt
 ordered-written x i c (o ∷ xs) t = rw (written_name x i c o) (ordered-written_from x i c o.name xs t)
+
+-- an object comes before each of a list
+all_after : (x : Object) (xs : List Object) → IsBefore x xs → AllByRecursion (λ (o : Object). name_lt x.name o.name ≡ true) xs
+all_after x [] before = tt
+all_after x (y ∷ ys) before = (before.0, all_after x ys before.1)
+
+-- and has another name
+apart : (x : Object) (xs : List Object) (n : Name) (o : Object) → IsBefore x xs → object_at xs n ≡ Some o → name_eq x.name n ≡ false
+apart x xs n o before at =
+    name_lt_apart x.name n
+    (subst (λ (m : Name). name_lt x.name m ≡ true) (found_name xs n o at)
+    (found_holds (λ (p : Object). name_lt x.name p.name ≡ true) (λ (p : Object). name_eq p.name n) xs o (all_after x xs before) at))
+
+-- what holds of each that is found holds of all
+pub all_found : (P : Object → Type 0) (xs : List Object) → ((n : Name) (o : Object) → object_at xs n ≡ Some o → P o) → IsOrdered xs → AllByRecursion P xs
+all_found P [] found ordered = tt
+all_found P (x ∷ xs) found ordered = (
+  found x.name x (ap (λ b. cond b (Some x) (object_at xs x.name)) (name_eq_refl x.name)),
+  all_found P xs
+      (λ n o at. found n o (ap (λ b. cond b (Some x) (object_at xs n)) (apart x xs n o (ordered_before x xs ordered) at) ∙ at))
+      (ordered_tail x.name xs ordered),
+)

@@ -1,10 +1,11 @@
 -- Sums over lists.
-use Rattle.std.proofs.Common.{◌≡◌, ◌≢◌, ◌⊎◌, ℕ, zero, suc, ◌+◌, ◌*◌, ◌<◌, ◌≤◌, ◌==◌, ◌&&◌, ◌||◌, not, Bool, true, false, cond, refl, sym, ap, ap₂, ◌∙◌, List, [], ◌∷◌, ◌++◌, filter, length, set, get_or, count_by, arith, eq-eqb, ne_eqb, inl, inr, zero-le}
+use Rattle.std.proofs.Common.{◌≡◌, ◌≢◌, ◌⊎◌, ℕ, zero, suc, ◌+◌, ◌*◌, ◌<◌, ◌≤◌, ◌==◌, ◌&&◌, ◌||◌, not, Bool, true, false, cond, refl, sym, ap, ap₂, ◌∙◌, List, [], ◌∷◌, ◌++◌, filter, length, set, get_or, count_by, arith, eq-eqb, ne_eqb, inl, inr, zero-le, map}
 use Rattle.std.proofs.lemmas.Bool.{cases_eq, false≢true}
 use Rattle.std.proofs.lemmas.List.Recursion.{is_count_by}
 use Rattle.k_types.specs.Totals.{total}
 use Rattle.k_types.specs.Numbers.{numbers_from}
 use Rattle.k_types.specs.State.{Object}
+use Rattle.k_base.specs.Counts.{one_if_same}
 
 abbrev pub bit : Bool → ℕ
 bit b = cond b 1 0
@@ -69,10 +70,22 @@ pub total_at_most : {A : Type 0} (f g : A → ℕ) → ((x : A) → f x ≤ g x)
 total_at_most f g less [] = zero-le
 total_at_most f g less (x ∷ xs) = omega (arith, less x, total_at_most f g less xs)
 
+-- the sum over what a function gives
+pub total_map : {A B : Type 0} (f : B → ℕ) (g : A → B) (xs : List A) → total f (map g xs) ≡ total (λ x. f (g x)) xs
+total_map f g [] = refl
+total_map f g (x ∷ xs) = ap (λ n. f (g x) + n) (total_map f g xs)
+
 -- ones add up to the length
 pub ones : {A : Type 0} (xs : List A) → total (λ x. 1) xs ≡ length xs
 ones [] = refl
 ones (x ∷ xs) = omega (arith, ones xs)
+
+-- a number is itself, and no other
+pub one_if_same-same : (c : ℕ) → one_if_same c c ≡ 1
+one_if_same-same c = ap (λ (b : Bool). cond b 1 0) (eq-eqb c c refl)
+
+pub one_if_same-other : (x c : ℕ) → x ≢ c → one_if_same x c ≡ 0
+one_if_same-other x c n = ap (λ (b : Bool). cond b 1 0) (ne_eqb x c n)
 
 -- a count is a sum
 pub count_is_total : {A : Type 0} (p : A → Bool) (xs : List A) → count_by p xs ≡ total (λ x. bit (p x)) xs

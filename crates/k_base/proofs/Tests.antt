@@ -1,5 +1,5 @@
 -- Tests that are one.
-use Rattle.std.proofs.Common.{◌≡◌, ◌&&◌, ◌||◌, not, Bool, true, false, refl, IsTrue}
+use Rattle.std.proofs.Common.{◌≡◌, ◌&&◌, ◌||◌, not, Bool, true, false, refl, IsTrue, sym}
 use Rattle.std.proofs.lemmas.Bool.{false≢true}
 
 -- two tests with the same yes are one
@@ -22,3 +22,8 @@ pub neither : (a b : Bool) → not (a || b) ≡ true → (a ≡ false) × (b ≡
 neither true b e = absurd cc
 neither false true e = absurd cc
 neither false false e = (refl, refl)
+
+-- one of two tests holds, and not the first
+pub or_second : (a b : Bool) → (a || b) ≡ true → a ≡ false → b ≡ true
+or_second true b e f = absurd (false≢true (sym f))
+or_second false b e f = e

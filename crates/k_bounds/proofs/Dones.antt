@@ -1,21 +1,18 @@
 -- A process has done as many operations as the history has of it, and how long a history is.
-use Rattle.std.proofs.Common.{◌≡◌, ℕ, ◌+◌, ◌*◌, ◌≤◌, ◌<◌, ◌==◌, Bool, true, false, cond, refl, ap, sym, ◌∙◌, inl, inr, List, [], ◌∷◌, ◌++◌, length, set, Option, Some, None, arith, eq-eqb, ne_eqb, get_or, get_or-set_same, get_or-set_other}
+use Rattle.std.proofs.Common.{◌≡◌, ℕ, ◌+◌, ◌*◌, ◌≤◌, ◌<◌, ◌==◌, Bool, true, false, cond, refl, ap, sym, ◌∙◌, inl, inr, List, [], ◌∷◌, ◌++◌, length, set, arith, eq-eqb, ne_eqb, get_or, get_or-set_same, get_or-set_other}
 use Rattle.std.proofs.lemmas.Bool.{cases_eq}
 use Rattle.std.proofs.lemmas.List.{length-append}
-use Rattle.k_types.specs.declared.names.Name.{Name}
 use Rattle.k_types.specs.declared.names.Pid.{Pid}
 use Rattle.k_types.specs.declared.names.Heap.{Heap}
 use Rattle.k_types.specs.declared.op.Op.{Op}
-use Rattle.k_types.specs.declared.op.Op.TheVariants.{Store, Put, Freeze, Kill}
-use Rattle.k_types.specs.declared.event.Fault.{Fault}
 use Rattle.k_types.specs.declared.event.Event.{Event}
 use Rattle.k_types.specs.declared.event.Event.TheVariants.{Done, Ended, Absorbed, Closing}
 use Rattle.k_types.specs.TraceRules.{AreLimits}
 use Rattle.k_types.specs.Trace.{Trace, process_count}
-use Rattle.k_types.specs.State.{State, opening, register}
+use Rattle.k_types.specs.State.{State, opening}
 use Rattle.k_types.specs.Replies.{first_fault, faults}
-use Rattle.k_types.specs.Updates.{count_done, set_register, create, open_scan, set_phase, add_share, keep_objects, keep_exits, keep_shares, close_scan, clear_registers, end_process, turn_exits, close, set_max}
-use Rattle.k_types.specs.Effects.{step, effect, effect_unless, after_operation, after_store, after_put, after_freeze, after_end_of, after_ended, after_absorbed, after_closing}
+use Rattle.k_types.specs.Updates.{count_done, open_scan, set_phase, keep_objects, keep_exits, keep_shares, close_scan, close}
+use Rattle.k_types.specs.Effects.{step, after_operation, after_ended, after_absorbed, after_closing}
 use Rattle.k_types.specs.Steps.{IsPossible, IsLegalHistory, run, state_after, done_by}
 use Rattle.k_bounds.specs.Counts.{one_if, operation_count, is_operation, ended_count, is_end, absorbed_count, is_absorption, closing_count, is_closing_event, begun_count, has_begun, begins_collection}
 use Rattle.k_bounds.proofs.Counting.{one_if_low}
@@ -24,33 +21,12 @@ use Rattle.k_bounds.proofs.ScanCounts.{collections_balance}
 use Rattle.k_frame.proofs.Histories.{history_induction, state_next, done_append}
 use Rattle.k_base.proofs.Lists.{get_or-set_cases}
 use Rattle.k_frame.proofs.Sizes.{history_sized, zeros_at}
-use Rattle.k_frame.proofs.Rest.{store_rest, put_rest, freeze_rest, kill_rest}
+use Rattle.k_frame.proofs.Effects.{unless_done}
 
 module _ (trace : Trace) where
-  store_done : (st : State) (x : Option Name) (i : ℕ) (v : Option Name) → (after_store trace x i v st).done ≡ st.done
-  store_done st x i v = ap (λ (s : State). s.done) (store_rest trace st x i v)
-
-  put_done : (st : State) (x : Option Name) (i n : ℕ) → (after_put x i n st).done ≡ st.done
-  put_done st x i n = ap (λ (s : State). s.done) (put_rest st x i n)
-
-  freeze_done : (st : State) (s : ℕ) (root : Option Name) → (after_freeze s root st).done ≡ st.done
-  freeze_done st s root = ap (λ (s : State). s.done) (freeze_rest st s root)
-
-  effect_done : (st : State) (p : ℕ) (op : Op) → (effect trace p op st).done ≡ st.done
-  unfolding effect set_register create open_scan add_share set_phase after_end_of end_process clear_registers keep_shares turn_exits set_max
-  effect_done st p (Store base i value) = store_done st (register st.registers p base.0) i (register st.registers p value.0)
-  effect_done st p (Put base i number) = put_done st (register st.registers p base.0) i number
-  effect_done st p (Freeze s root) = freeze_done st s.0 (register st.registers p root.0)
-  effect_done st p (Kill q) = ap (λ (s : State). s.done) (kill_rest trace st q.0)
-  effect_done st p _ = refl
-
-  unless_done : (f : Option Fault) (st : State) (p : ℕ) (op : Op) → (effect_unless f trace p op st).done ≡ st.done
-  unless_done None st p op = effect_done st p op
-  unless_done (Some f) st p op = refl
-
   done_is : (st : State) (p : ℕ) (op : Op) → (after_operation trace p op st).done ≡ set st.done p (get_or st.done p 0 + 1)
   unfolding after_operation count_done
-  done_is st p op = ap (λ done. set done p (get_or done p 0 + 1)) (unless_done (first_fault (faults trace st p op)) st p op)
+  done_is st p op = ap (λ done. set done p (get_or done p 0 + 1)) (unless_done (first_fault (faults trace st p op)) trace p op st)
 
   -- one operation more of the process that acts
   pub done_at : (st : State) (q p : ℕ) (op : Op) → q < length st.done → get_or (after_operation trace q op st).done p 0 ≡ get_or st.done p 0 + one_if (q == p)

@@ -1,6 +1,5 @@
 -- The objects that are there are at most the allocations, and one more for the directory.
-use Rattle.std.proofs.Common.{◌≡◌, ℕ, suc, ◌+◌, ◌≤◌, Bool, true, false, cond, refl, ap, ◌∙◌, List, [], ◌∷◌, length, filter, Option, Some, None, arith}
-use Rattle.std.proofs.lemmas.List.{length-map}
+use Rattle.std.proofs.Common.{◌≡◌, ℕ, suc, ◌+◌, ◌≤◌, Bool, true, false, cond, refl, ap, List, [], ◌∷◌, length, filter, Option, Some, None, arith}
 use Rattle.k_types.specs.declared.names.Name.{Name}
 use Rattle.k_types.specs.declared.names.TypeId.{TypeId}
 use Rattle.k_types.specs.declared.names.Heap.TheVariants.{Kernel, Shared}
@@ -9,16 +8,17 @@ use Rattle.k_types.specs.declared.op.Op.TheVariants.{New, KNew, SNew, Store, Put
 use Rattle.k_types.specs.declared.event.Fault.{Fault}
 use Rattle.k_types.specs.declared.event.Event.{Event}
 use Rattle.k_types.specs.declared.event.Event.TheVariants.{Done, Ended, Absorbed, Closing}
-use Rattle.k_types.specs.Names.{heap_eq, name_lt}
+use Rattle.k_types.specs.Names.{name_lt}
 use Rattle.k_types.specs.Trace.{Trace, segment_of}
-use Rattle.k_types.specs.State.{State, Object, Refers, Holds, opening, register}
-use Rattle.k_types.specs.Owners.{user, owner_of}
+use Rattle.k_types.specs.State.{State, Object, opening, register}
+use Rattle.k_types.specs.Owners.{user}
 use Rattle.k_types.specs.Replies.{first_fault, faults}
-use Rattle.k_types.specs.Updates.{count_done, set_register, create, with_object, write, object_after_write, add_exit, open_scan, set_phase, add_share, keep_objects, keep_exits, keep_shares, close_scan, clear_registers, end_process, turn_exits, close, set_max}
-use Rattle.k_types.specs.Effects.{step, survives, effect, effect_unless, after_new, after_operation, after_store, after_put, after_freeze, after_end_of, after_ended, after_absorbed, after_closing, with_exit_of_store}
+use Rattle.k_types.specs.Updates.{count_done, set_register, create, with_object, open_scan, set_phase, add_share, keep_objects, keep_exits, keep_shares, close_scan, clear_registers, end_process, turn_exits, close, set_max}
+use Rattle.k_types.specs.Effects.{step, survives, effect, effect_unless, after_new, after_operation, after_freeze, after_end_of, after_ended, after_absorbed, after_closing}
 use Rattle.k_types.specs.Steps.{run, state_after}
 use Rattle.k_bounds.specs.Counts.{one_if, is_allocation, has_allocated, allocations}
 use Rattle.k_frame.proofs.Rest.{freeze_rest, kill_rest}
+use Rattle.k_frame.proofs.Effects.{stored_length, put_length}
 
 placed_length : (o : Object) (xs : List Object) → length (with_object o xs) ≡ length xs + 1
 placed_length o [] = refl
@@ -41,25 +41,6 @@ module _ (trace : Trace) where
   unfolding set_register create
   new_objects st p r seg ty = placed_length _ st.objects
 
-  linked_objects : (st : State) (x : Name) (v : Option Name) → (with_exit_of_store trace x v st).objects ≡ st.objects
-  unfolding with_exit_of_store add_exit
-  linked_objects st x None = refl
-  linked_objects st x (Some y) =
-      elim (heap_eq (owner_of trace st x.seg.0) (owner_of trace st y.seg.0)) as (λ b. (cond b st (add_exit (owner_of trace st x.seg.0) y st)).objects ≡ st.objects) [
-        | true ↦ refl
-        | false ↦ refl
-      ]
-
-  store_objects : (st : State) (x : Option Name) (i : ℕ) (v : Option Name) → length (after_store trace x i v st).objects ≡ length st.objects
-  unfolding after_store write
-  store_objects st None i v = refl
-  store_objects st (Some x) i v = length-map (with_exit_of_store trace x v st).objects (object_after_write x i (Refers v)) ∙ ap (λ (xs : List Object). length xs) (linked_objects st x v)
-
-  put_objects : (st : State) (x : Option Name) (i n : ℕ) → length (after_put x i n st).objects ≡ length st.objects
-  unfolding after_put write
-  put_objects st None i n = refl
-  put_objects st (Some x) i n = length-map st.objects (object_after_write x i (Holds n))
-
   freeze_objects : (st : State) (s : ℕ) (root : Option Name) → (after_freeze s root st).objects ≡ st.objects
   freeze_objects st s root = ap (λ (s : State). s.objects) (freeze_rest st s root)
 
@@ -68,8 +49,8 @@ module _ (trace : Trace) where
   effect_objects st p (New r ty) = omega (arith, new_objects st p r.0 (segment_of trace (user p)) ty)
   effect_objects st p (KNew r ty) = omega (arith, new_objects st p r.0 (segment_of trace Kernel) ty)
   effect_objects st p (SNew r s ty) = omega (arith, new_objects st p r.0 (segment_of trace (Shared s)) ty)
-  effect_objects st p (Store base i value) = omega (arith, store_objects st (register st.registers p base.0) i (register st.registers p value.0))
-  effect_objects st p (Put base i number) = omega (arith, put_objects st (register st.registers p base.0) i number)
+  effect_objects st p (Store base i value) = omega (arith, stored_length trace st (register st.registers p base.0) i (register st.registers p value.0))
+  effect_objects st p (Put base i number) = omega (arith, put_length trace st (register st.registers p base.0) i number)
   effect_objects st p (Freeze s root) = omega (arith, ap (λ (xs : List Object). length xs) (freeze_objects st s.0 (register st.registers p root.0)))
   effect_objects st p (Kill q) = omega (arith, ap (λ (s : State). length s.objects) (kill_rest trace st q.0))
   effect_objects st p _ = omega arith

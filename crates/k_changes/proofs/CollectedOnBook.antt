@@ -74,9 +74,6 @@ module _ (trace : Trace) (st : State) (h : Heap) (sound : IsSound trace st) wher
   own_bytes : bytes_of trace (after_ended trace h st) h ≡ bytes_in (collected (part trace st h))
   own_bytes = shows trace (after_ended trace h st) h ∙ ap (λ (c : CellPart). bytes_in c) (ended_on_cell trace st h)
 
-  fewer : (p : Object → Bool) (xs : List Object) → total object_bytes (filter p xs) ≤ total object_bytes xs
-  fewer p xs = let all = kept_and_gone object_bytes p xs in omega arith
-
 module _ (trace : Trace) (st : State) (sound : IsSound trace st) where
   kernel_stays : (e : Sharing) → share_stays trace st Kernel e ≡ true
   unfolding share_stays
@@ -175,7 +172,7 @@ module _ (trace : Trace) (limits : AreLimits trace) (st : State) (p : ℕ) (soun
   credit = (bytes_in heap - bytes_in (collected heap)) + shared_by trace (book_part trace st) p (λ t. not (stays t))
 
   freed : bytes_in (collected heap) ≤ bytes_in heap
-  freed = fewer trace st (user p) sound (λ o. has (reached_in heap) o.name) heap.objects
+  freed = let all = kept_and_gone object_bytes (λ o. has (reached_in heap) o.name) heap.objects in omega arith
 
   charge_of_own : charge_of trace st p ≡ charge_of trace after p + credit
   unfolding after after_ended keep_objects keep_exits keep_shares close_scan

@@ -1,5 +1,5 @@
 -- What the end of a process and the absorption of a shared heap change in the parts of the heap's cell and of the kernel's.
-use Rattle.std.proofs.Common.{◌≡◌, ℕ, ◌==◌, ◌&&◌, ◌||◌, not, Bool, true, false, cond, refl, sym, ap, ap₂, ◌∙◌, inl, inr, List, [], ◌∷◌, ◌++◌, filter, replicate, Some, None, get_or, set, get_or-set_same, eq-eqb, IsTrue, IsFalse}
+use Rattle.std.proofs.Common.{◌≡◌, ℕ, ◌==◌, ◌&&◌, ◌||◌, not, Bool, true, false, cond, refl, sym, ap, ap₂, ◌∙◌, inl, inr, List, [], ◌∷◌, ◌++◌, filter, replicate, Some, None, get_or, set, get_or-set_same, eq-eqb, IsFalse}
 use Rattle.std.proofs.Math.Path.{fun_ext}
 use Rattle.std.proofs.lemmas.Bool.{false≢true, or_cases, or_left, or_right, and_parts, and_from, false_from_ne_true, not_from_false, not-true}
 use Rattle.std.proofs.lemmas.List.Folds.{list_any-append}
@@ -24,7 +24,7 @@ use Rattle.k_laws.specs.Changes.{MayAbsorb, MayExit}
 use Rattle.k_laws.specs.Termination.{StaysOrPasses}
 use Rattle.k_laws.proofs.Merge.{merged}
 use Rattle.k_laws.proofs.Means.{exit_from, exit_comes}
-use Rattle.k_laws.proofs.SoundAbsorbed.{is_merged as absorbed_owner, shared_to}
+use Rattle.k_laws.proofs.SoundAbsorbed.{is_merged as absorbed_owner, to_kernel}
 use Rattle.k_laws.proofs.SoundExited.{is_merged as ended_owner}
 use Rattle.k_base.proofs.Tests.{same_test}
 
@@ -128,9 +128,6 @@ module _ (trace : Trace) (st : State) (s : ℕ) (sound : IsSound trace st) (may 
   gone : (seg : ℕ) → owner_of trace (after_absorbed trace s st) seg ≡ merged (shared s) (owner_of trace st seg)
   gone seg = absorbed_owner trace st s sound may seg
 
-  pub to_kernel : (n : Name) → IsTrue (has_exit st.exits (shared s) n) → owner_of trace st n.seg.0 ≡ Kernel
-  to_kernel n e = shared_to s (owner_of trace st n.seg.0) (sound.exits.allowed (shared s) n e) (sound.exits.leave (shared s) n e)
-
   exits_then : (h : Heap) (n : Name) → has_exit (after_absorbed trace s st).exits h n ≡ (has_exit st.exits h n && stays_after_absorb trace st s (record { heap = h; target = n }))
   unfolding after_absorbed set_phase keep_exits
   exits_then h n = has_exit-kept (stays_after_absorb trace st s) st.exits h n
@@ -140,7 +137,7 @@ module _ (trace : Trace) (st : State) (s : ℕ) (sound : IsSound trace st) (may 
     where
       go : (b : Bool) → has_exit st.exits (shared s) n ≡ b → (b && stays_after_absorb trace st s (record { heap = shared s; target = n })) ≡ false
       go false e = refl
-      go true e = ap (λ h. not ((heap_eq (shared s) (shared s) && heap_eq h Kernel) || (heap_eq (shared s) Kernel && heap_eq h (shared s)))) (to_kernel n e)
+      go true e = ap (λ h. not ((heap_eq (shared s) (shared s) && heap_eq h Kernel) || (heap_eq (shared s) Kernel && heap_eq h (shared s)))) (to_kernel trace st s sound n e)
           ∙ ap (λ b. not ((b && true) || false)) (heap_eq_refl (shared s))
 
   never_shared : (n : Name) → (has_exit st.exits (shared s) n && is_shared_heap (owner_of trace st n.seg.0)) ≡ false
@@ -148,7 +145,7 @@ module _ (trace : Trace) (st : State) (s : ℕ) (sound : IsSound trace st) (may 
     where
       go : (b : Bool) → has_exit st.exits (shared s) n ≡ b → (b && is_shared_heap (owner_of trace st n.seg.0)) ≡ false
       go false e = refl
-      go true e = ap is_shared_heap (to_kernel n e)
+      go true e = ap is_shared_heap (to_kernel trace st s sound n e)
 
   kernel_then : (n : Name) → has_exit (after_absorbed trace s st).exits Kernel n
       ≡ ((has_exit st.exits Kernel n && not (heap_eq (owner_of trace st n.seg.0) (shared s))) || (has_exit st.exits (shared s) n && is_shared_heap (owner_of trace st n.seg.0)))

@@ -22,12 +22,12 @@ use Rattle.k_laws.specs.Changes.{MayAbsorb}
 use Rattle.k_changes.specs.BookChanges.{when_taken}
 use Rattle.k_changes.proofs.OnBook.{map_changed}
 use Rattle.k_changes.proofs.EntryCounts.{entries_left}
-use Rattle.k_changes.proofs.GivenAway.{nothing_owned, to_kernel}
+use Rattle.k_changes.proofs.GivenAway.{nothing_owned}
 use Rattle.k_base.proofs.Sums.{bit, sum_same}
 use Rattle.k_frame.proofs.ElsewhereOther.{owned_agree}
 use Rattle.k_base.proofs.NameTests.{heap_eq-true, heap_eq_refl, heap_eq_sym}
 use Rattle.k_laws.proofs.Merge.{merged}
-use Rattle.k_laws.proofs.SoundAbsorbed.{is_merged}
+use Rattle.k_laws.proofs.SoundAbsorbed.{is_merged, to_kernel}
 
 merged_same : (g o h : Heap) → IsFalse (heap_eq g h) → IsFalse (heap_eq Kernel h) → heap_eq (merged g o) h ≡ heap_eq o h
 merged_same g o h apart kernel = go (heap_eq o g) refl
@@ -96,7 +96,7 @@ module _ (trace : Trace) (st : State) (s : ℕ) (sound : IsSound trace st) (may 
       go : (b : Bool) → has_exit st.exits (shared s) n ≡ b → (b && not (stays_after_absorb trace st s (record { heap = shared s; target = n }))) ≡ b
       go false e = refl
       go true e =
-          ap (λ h. not (not ((heap_eq (shared s) (shared s) && heap_eq h Kernel) || (heap_eq (shared s) Kernel && heap_eq h (shared s))))) (to_kernel trace st s sound may n e)
+          ap (λ h. not (not ((heap_eq (shared s) (shared s) && heap_eq h Kernel) || (heap_eq (shared s) Kernel && heap_eq h (shared s))))) (to_kernel trace st s sound n e)
           ∙ ap (λ b. not (not ((b && true) || false))) (heap_eq_refl (shared s))
 
   kernel_goes : (n : Name) → not (stays_after_absorb trace st s (record { heap = Kernel; target = n })) ≡ heap_eq (owner_of trace st n.seg.0) (shared s)

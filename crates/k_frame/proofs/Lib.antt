@@ -9,6 +9,7 @@ pub mod LocalSteps
 pub mod LocalEffects
 pub mod LocalBook
 pub mod Rest
+pub mod Effects
 pub mod Sizes
 pub mod Tails
 pub mod Exact

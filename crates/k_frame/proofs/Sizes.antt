@@ -70,7 +70,7 @@ module _ (trace : Trace) where
   unfolding set_register
   register_sized st p r v z = row_sized st p (set (get_or st.registers p []) r v) (λ q e known. length-set (get_or st.registers p []) r v ∙ ap (λ k. length (get_or st.registers k [])) (sym e) ∙ z.each q known) z
 
-  create_sized : (st : State) (seg : ℕ) (ty : TypeId) (kinds : List Field) → IsSized trace st → IsSized trace (create seg ty kinds st)
+  pub create_sized : (st : State) (seg : ℕ) (ty : TypeId) (kinds : List Field) → IsSized trace st → IsSized trace (create seg ty kinds st)
   unfolding create
   create_sized st seg ty kinds z = record { made = length-set st.made seg _ ∙ z.made; registers = z.registers; each = z.each; done = z.done; phases = z.phases; maxima = z.maxima }
 
@@ -78,7 +78,7 @@ module _ (trace : Trace) where
   unfolding set_phase
   phase_sized st s phase z = record { made = z.made; registers = z.registers; each = z.each; done = z.done; phases = length-set st.phases s _ ∙ z.phases; maxima = z.maxima }
 
-  share_sized : (st : State) (p s : ℕ) → IsSized trace st → IsSized trace (add_share p s st)
+  pub share_sized : (st : State) (p s : ℕ) → IsSized trace st → IsSized trace (add_share p s st)
   unfolding add_share
   share_sized st p s z = record { made = z.made; registers = z.registers; each = z.each; done = z.done; phases = z.phases; maxima = z.maxima }
 

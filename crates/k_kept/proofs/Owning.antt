@@ -1,13 +1,12 @@
 -- Who has ended stays ended, and a segment's owner stays or becomes the kernel.
 use Rattle.std.proofs.Common.{◌≡◌, ℕ, ◌-◌, ◌==◌, nat_le, not, true, false, cond, refl, sym, ap, ◌∙◌, inl, inr, ◌⊎◌, List, [], ◌∷◌, ◌++◌, Option, Some, None, set, IsTrue, IsFalse}
-use Rattle.std.proofs.lemmas.Bool.{or_left, false≢true, false_from_ne_true, not-false}
-use Rattle.std.proofs.lemmas.List.Folds.{list_any-append}
+use Rattle.std.proofs.lemmas.Bool.{false≢true, false_from_ne_true, not-false}
 use Rattle.k_types.specs.declared.names.Name.{Name}
 use Rattle.k_types.specs.declared.names.Heap.TheVariants.{Kernel}
 use Rattle.k_types.specs.declared.names.Phase.{Phase}
 use Rattle.k_types.specs.declared.names.Phase.TheVariants.{Unmade, Populating, Frozen, Absorbed}
 use Rattle.k_types.specs.declared.op.Op.{Op}
-use Rattle.k_types.specs.declared.op.Op.TheVariants.{Store, Put, Share, Freeze, Exit, Kill}
+use Rattle.k_types.specs.declared.op.Op.TheVariants.{Store, Put, Share, Freeze, Kill}
 use Rattle.k_types.specs.declared.event.Event.{Event}
 use Rattle.k_types.specs.declared.event.Event.TheVariants.{Done, Ended, Absorbed as AbsorbedEvent, Closing}
 use Rattle.k_types.specs.declared.event.Fault.{Fault}
@@ -18,39 +17,20 @@ use Rattle.k_types.specs.State.{State, opening, register}
 use Rattle.k_types.specs.Owners.{is_absorbed, owner_of, owner_of_process, owner_of_segment, owner_of_shared, phase_of, shared, user}
 use Rattle.k_types.specs.Replies.{at_base, fault_where, faults, first_fault, is_populating, is_unmade}
 use Rattle.k_types.specs.Updates.{add_share, clear_registers, close, close_scan, count_done, create, end_process, keep_exits, keep_objects, keep_shares, open_scan, set_phase, set_register, turn_exits, set_max}
-use Rattle.k_types.specs.Effects.{after_absorbed, after_closing, after_end_of, after_ended, after_freeze, after_operation, effect, effect_unless, step, after_kill}
+use Rattle.k_types.specs.Effects.{after_absorbed, after_closing, after_end_of, after_ended, after_freeze, after_operation, effect, effect_unless, step}
 use Rattle.k_types.specs.Steps.{run, state_after}
 use Rattle.k_frame.proofs.FrameSteps.{none_on}
 use Rattle.k_base.proofs.Lists.{get_or-set_cases}
-use Rattle.k_frame.proofs.Rest.{freeze_rest, put_rest, store_rest, kill_rest}
+use Rattle.k_frame.proofs.Rest.{put_rest, store_rest, kill_rest}
 use Rattle.k_frame.proofs.Histories.{run_append}
 use Rattle.k_laws.proofs.SoundEffects.{is_populating_by, is_unmade_so}
 use Rattle.k_kept.specs.Kept.{KeepsOrGives}
+use Rattle.k_frame.proofs.Effects.{unless_ended}
 
 module _ (trace : Trace) where
-  killed_ended : (st : State) (k q : ℕ) → IsTrue (among q st.ended) → IsTrue (among q (after_kill trace k st).ended)
-  unfolding after_kill after_end_of end_process clear_registers keep_shares turn_exits
-  killed_ended st k q t = elim (among k st.ended) as (λ b. IsTrue (among q (cond b st (after_end_of trace k st)).ended)) [
-    | true ↦ t
-    | false ↦ list_any-append (λ m. m == q) st.ended (k ∷ []) ∙ or_left (among q st.ended) _ t
-  ]
-
-  effect_ended : (st : State) (p : ℕ) (op : Op) (q : ℕ) → IsTrue (among q st.ended) → IsTrue (among q (effect trace p op st).ended)
-  unfolding effect set_register create open_scan add_share set_phase after_end_of end_process clear_registers keep_shares turn_exits set_max
-  effect_ended st p (Store base i value) q t = ap (λ (s : State). among q s.ended) (store_rest trace st (register st.registers p base.0) i (register st.registers p value.0)) ∙ t
-  effect_ended st p (Put base i number) q t = ap (λ (s : State). among q s.ended) (put_rest st (register st.registers p base.0) i number) ∙ t
-  effect_ended st p (Freeze s root) q t = ap (λ (s : State). among q s.ended) (freeze_rest st s.0 (register st.registers p root.0)) ∙ t
-  effect_ended st p Exit q t = list_any-append (λ m. m == q) st.ended (p ∷ []) ∙ or_left (among q st.ended) _ t
-  effect_ended st p (Kill k) q t = killed_ended st k.0 q t
-  effect_ended st p _ q t = t
-
-  unless_ended : (f : Option Fault) (st : State) (p : ℕ) (op : Op) (q : ℕ) → IsTrue (among q st.ended) → IsTrue (among q (effect_unless f trace p op st).ended)
-  unless_ended None st p op q t = effect_ended st p op q t
-  unless_ended (Some f) st p op q t = t
-
   pub step_ended : (st : State) (event : Event) (q : ℕ) → IsTrue (among q st.ended) → IsTrue (among q (step trace st event).ended)
   unfolding step after_operation count_done after_ended after_absorbed after_closing close_scan keep_shares keep_exits keep_objects close set_phase open_scan
-  step_ended st (Done pid op said) q t = unless_ended (first_fault (faults trace st pid.0 op)) st pid.0 op q t
+  step_ended st (Done pid op said) q t = unless_ended trace (first_fault (faults trace st pid.0 op)) st pid.0 op q t
   step_ended st (Ended h a b c d) q t = t
   step_ended st (AbsorbedEvent s) q t = t
   step_ended st Closing q t = t

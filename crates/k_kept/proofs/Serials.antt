@@ -1,5 +1,5 @@
 -- Serials are given once.
-use Rattle.std.proofs.Common.{◌≡◌, ℕ, ◌+◌, ◌<◌, cond, true, false, refl, sym, ap, ◌∙◌, inl, inr, List, [], ◌∷◌, ◌++◌, map, Option, Some, None, get_or, subst, arith, le_of_eq, le_trans, IsTrue}
+use Rattle.std.proofs.Common.{◌≡◌, ℕ, ◌+◌, ◌<◌, true, false, refl, sym, ap, ◌∙◌, inl, inr, List, [], ◌∷◌, ◌++◌, map, Option, Some, None, get_or, subst, arith, le_of_eq, le_trans, IsTrue}
 use Rattle.std.proofs.lemmas.Bool.{and_parts, or_cases, false≢true, false_from_ne_true}
 use Rattle.k_types.specs.declared.names.Name.{Name}
 use Rattle.k_types.specs.declared.names.TypeId.{TypeId}
@@ -9,12 +9,12 @@ use Rattle.k_types.specs.declared.event.Event.{Event}
 use Rattle.k_types.specs.declared.event.Event.TheVariants.{Done, Ended, Absorbed, Closing}
 use Rattle.k_types.specs.declared.event.Fault.{Fault}
 use Rattle.k_types.specs.declared.names.Heap.TheVariants.{Kernel, Shared}
-use Rattle.k_types.specs.Names.{heap_eq, name_eq}
+use Rattle.k_types.specs.Names.{name_eq}
 use Rattle.k_types.specs.Trace.{Trace, kinds_of, segment_of}
 use Rattle.k_types.specs.State.{State, Refers, Holds, fresh, has, opening, register}
-use Rattle.k_types.specs.Owners.{owner_of, user}
+use Rattle.k_types.specs.Owners.{user}
 use Rattle.k_types.specs.Replies.{faults, first_fault}
-use Rattle.k_types.specs.Updates.{add_exit, add_share, clear_registers, close, close_scan, count_done, create, end_process, keep_exits, keep_objects, keep_shares, next_name, open_scan, set_phase, set_register, turn_exits, write, set_max}
+use Rattle.k_types.specs.Updates.{add_share, clear_registers, close, close_scan, count_done, create, end_process, keep_exits, keep_objects, keep_shares, next_name, open_scan, set_phase, set_register, turn_exits, write, set_max}
 use Rattle.k_types.specs.Effects.{after_absorbed, after_closing, after_end_of, after_ended, after_new, after_operation, after_put, after_store, effect, effect_unless, step, survives, with_exit_of_store}
 use Rattle.k_types.specs.Steps.{run, state_after}
 use Rattle.k_base.proofs.NameTests.{name_eq-true}
@@ -23,6 +23,7 @@ use Rattle.k_base.proofs.Objects.{has-kept, has-placed, has-written}
 use Rattle.k_frame.proofs.Rest.{freeze_rest, put_rest, store_rest, kill_rest}
 use Rattle.k_frame.proofs.Histories.{run_append}
 use Rattle.k_kept.specs.Kept.{GivesSerials, IsSpent}
+use Rattle.k_frame.proofs.Effects.{linked_objects}
 
 same_gives : (st after : State) → after.made ≡ st.made → ((n : Name) → IsTrue (has after.objects n) → IsTrue (has st.objects n)) → GivesSerials st after
 same_gives st after made back = record {
@@ -44,17 +45,11 @@ new_gives trace st p r seg ty = record {
 }
 
 module _ (trace : Trace) where
-  linked_objects : (st : State) (x : Name) (v : Option Name) → (with_exit_of_store trace x v st).objects ≡ st.objects
-  unfolding with_exit_of_store add_exit
-  linked_objects st x None = refl
-  linked_objects st x (Some y) =
-      elim (heap_eq (owner_of trace st x.seg.0) (owner_of trace st y.seg.0)) as (λ b. (cond b st (add_exit (owner_of trace st x.seg.0) y st)).objects ≡ st.objects) [ true ↦ refl | false ↦ refl ]
-
   store_back : (st : State) (b : Option Name) (i : ℕ) (v : Option Name) (n : Name) → IsTrue (has (after_store trace b i v st).objects n) → IsTrue (has st.objects n)
   unfolding after_store write
   store_back st None i v n there = there
   store_back st (Some x) i v n there =
-      ap (λ objects. has objects n) (sym (linked_objects st x v)) ∙ sym (has-written x i (Refers v) (with_exit_of_store trace x v st).objects n) ∙ there
+      ap (λ objects. has objects n) (sym (linked_objects trace st x v)) ∙ sym (has-written x i (Refers v) (with_exit_of_store trace x v st).objects n) ∙ there
 
   put_back : (st : State) (b : Option Name) (i number : ℕ) (n : Name) → IsTrue (has (after_put b i number st).objects n) → IsTrue (has st.objects n)
   unfolding after_put write

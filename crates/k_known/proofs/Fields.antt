@@ -13,19 +13,20 @@ use Rattle.k_types.specs.declared.event.Event.{Event}
 use Rattle.k_types.specs.declared.event.Event.TheVariants.{Done, Ended, Absorbed, Closing}
 use Rattle.k_types.specs.declared.event.Fault.{Fault}
 use Rattle.k_types.specs.Bounds.{most_fields}
-use Rattle.k_types.specs.Names.{heap_eq, name_eq, name_lt}
+use Rattle.k_types.specs.Names.{name_eq, name_lt}
 use Rattle.k_types.specs.Trace.{Trace, kinds_of, segment_of}
 use Rattle.k_types.specs.TraceRules.{AreOperations, is_spelled}
 use Rattle.k_types.specs.State.{Content, Holds, Object, Refers, State, fields_of, fresh, object_at, opening, register}
-use Rattle.k_types.specs.Owners.{owner_of, user}
+use Rattle.k_types.specs.Owners.{user}
 use Rattle.k_types.specs.Replies.{faults, field_at, first_fault, number_in}
-use Rattle.k_types.specs.Updates.{add_exit, add_share, clear_registers, close, close_scan, count_done, create, end_process, keep_exits, keep_objects, keep_shares, next_name, object_after_write, open_scan, set_phase, set_register, turn_exits, with_object, write, set_max}
+use Rattle.k_types.specs.Updates.{add_share, clear_registers, close, close_scan, count_done, create, end_process, keep_exits, keep_objects, keep_shares, next_name, object_after_write, open_scan, set_phase, set_register, turn_exits, with_object, write, set_max}
 use Rattle.k_types.specs.Effects.{after_absorbed, after_closing, after_end_of, after_ended, after_operation, after_put, after_store, effect, effect_unless, step, survives, with_exit_of_store}
 use Rattle.k_types.specs.Steps.{IsLegalHistory, run, state_after}
 use Rattle.k_base.proofs.Lists.{get_or-set_cases, found_holds}
 use Rattle.k_frame.proofs.Rest.{freeze_rest, kill_rest}
 use Rattle.k_known.specs.Fits.{DoesOperationsOf, IsSpelledEvent, NumbersFit}
 use Rattle.k_known.proofs.Counted.{operations_bounded, serials_bounded, spelled_history}
+use Rattle.k_frame.proofs.Effects.{linked_objects}
 
 -- each number among the fields has 64 bits
 abbrev AreSmall : List Content → Type 0
@@ -75,16 +76,10 @@ small_placed o (x ∷ xs) small all =
     ]
 
 module _ (trace : Trace) where
-  linked_objects : (st : State) (x : Name) (v : Option Name) → (with_exit_of_store trace x v st).objects ≡ st.objects
-  unfolding with_exit_of_store add_exit
-  linked_objects st x None = refl
-  linked_objects st x (Some y) =
-      elim (heap_eq (owner_of trace st x.seg.0) (owner_of trace st y.seg.0)) as (λ b. (cond b st (add_exit (owner_of trace st x.seg.0) y st)).objects ≡ st.objects) [ true ↦ refl | false ↦ refl ]
-
   stored_small : (st : State) (b : Option Name) (i : ℕ) (v : Option Name) → HaveSmall st.objects → HaveSmall (after_store trace b i v st).objects
   unfolding after_store write
   stored_small st None i v all = all
-  stored_small st (Some x) i v all = small_written x i (Refers v) (with_exit_of_store trace x v st).objects (omega arith) (subst HaveSmall (sym (linked_objects st x v)) all)
+  stored_small st (Some x) i v all = small_written x i (Refers v) (with_exit_of_store trace x v st).objects (omega arith) (subst HaveSmall (sym (linked_objects trace st x v)) all)
 
   put_small : (st : State) (b : Option Name) (i n : ℕ) → n < 2 ^ 64 → HaveSmall st.objects → HaveSmall (after_put b i n st).objects
   unfolding after_put write

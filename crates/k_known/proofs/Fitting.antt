@@ -12,16 +12,16 @@ use Rattle.k_types.specs.declared.event.Event.{Event}
 use Rattle.k_types.specs.declared.event.Event.TheVariants.{Done, Ended, Absorbed, Closing}
 use Rattle.k_types.specs.declared.event.Fault.{Fault}
 use Rattle.k_types.specs.Bounds.{most_fields, register_count}
-use Rattle.k_types.specs.Names.{heap_eq, name_eq, name_lt}
+use Rattle.k_types.specs.Names.{name_eq, name_lt}
 use Rattle.k_types.specs.Totals.{total}
 use Rattle.k_types.specs.Types.{object_size}
 use Rattle.k_types.specs.Trace.{Trace, kinds_of, process_count, segment_of}
 use Rattle.k_types.specs.TraceRules.{AreLimits}
-use Rattle.k_types.specs.State.{Object, Refers, Holds, State, field_kind, fresh, has, object_at, register}
-use Rattle.k_types.specs.Owners.{object_bytes, owner_of, user}
+use Rattle.k_types.specs.State.{Object, State, field_kind, fresh, has, object_at, register}
+use Rattle.k_types.specs.Owners.{object_bytes, user}
 use Rattle.k_types.specs.Replies.{faults, first_fault}
-use Rattle.k_types.specs.Updates.{add_exit, add_share, clear_registers, close, close_scan, count_done, create, end_process, keep_exits, keep_objects, keep_shares, next_name, object_after_write, open_scan, set_phase, set_register, turn_exits, write, set_max}
-use Rattle.k_types.specs.Effects.{after_absorbed, after_closing, after_end_of, after_ended, after_freeze, after_operation, after_put, after_store, effect, effect_unless, step, survives, with_exit_of_store, after_kill}
+use Rattle.k_types.specs.Updates.{add_share, clear_registers, close, close_scan, count_done, create, end_process, keep_exits, keep_objects, keep_shares, next_name, open_scan, set_phase, set_register, turn_exits, set_max}
+use Rattle.k_types.specs.Effects.{after_absorbed, after_closing, after_end_of, after_ended, after_freeze, after_operation, after_put, after_store, effect, effect_unless, step, survives, after_kill}
 use Rattle.k_types.specs.Steps.{IsLegalHistory, IsPossible, in_range, state_after}
 use Rattle.k_types.specs.Sound.{IsOrdered, IsOrderedFrom, IsSized, IsTyped, kinds_by}
 use Rattle.k_base.proofs.NameTests.{name_eq-true, name_eq_refl, name_lt_irrefl, name_lt_trans}
@@ -35,6 +35,7 @@ use Rattle.k_base.proofs.Sums.{total_set}
 use Rattle.k_base.proofs.Ordered.{ordered_tail}
 use Rattle.std.proofs.lemmas.List.{length-map}
 use Rattle.k_base.proofs.Lists.{length-kept}
+use Rattle.k_frame.proofs.Effects.{stored_length, put_length}
 
 -- the object has few fields
 few_by : (trace : Trace) → HasFewFields trace → (ty : Option TypeId) → length (kinds_by trace ty) ≤ most_fields
@@ -90,22 +91,6 @@ module _ (trace : Trace) where
       let made = total_set (λ given. given) st.made seg (get_or st.made seg 0 + 1) 0 inside in
       omega (arith, made, within, length-placed (record { name = next_name seg st; ty = Some ty; fields = map fresh (kinds_of trace ty) }) st.objects)
 
-  linked_objects : (st : State) (x : Name) (v : Option Name) → (with_exit_of_store trace x v st).objects ≡ st.objects
-  unfolding with_exit_of_store add_exit
-  linked_objects st x None = refl
-  linked_objects st x (Some y) =
-      elim (heap_eq (owner_of trace st x.seg.0) (owner_of trace st y.seg.0)) as (λ b. (cond b st (add_exit (owner_of trace st x.seg.0) y st)).objects ≡ st.objects) [ true ↦ refl | false ↦ refl ]
-
-  stored_length : (st : State) (b : Option Name) (i : ℕ) (v : Option Name) → length (after_store trace b i v st).objects ≡ length st.objects
-  unfolding after_store write
-  stored_length st None i v = refl
-  stored_length st (Some x) i v = length-map (with_exit_of_store trace x v st).objects (object_after_write x i (Refers v)) ∙ ap length (linked_objects st x v)
-
-  put_length : (st : State) (b : Option Name) (i n : ℕ) → length (after_put b i n st).objects ≡ length st.objects
-  unfolding after_put write
-  put_length st None i n = refl
-  put_length st (Some x) i n = length-map st.objects (object_after_write x i (Holds n))
-
   effect_within : (st : State) (p : ℕ) (op : Op) → IsSized trace st → p < process_count trace → IsTrue (in_range trace op) → Within st → Within (effect trace p op st)
   unfolding effect set_register open_scan add_share set_phase after_end_of end_process clear_registers keep_shares turn_exits in_range set_max
   effect_within st p (New r ty) sized known ranged within = new_within st (segment_of trace (user p)) ty (omega (arith, sized.made, known)) within
@@ -114,9 +99,9 @@ module _ (trace : Trace) where
       let inside = ltb-true _ _ (and_parts (nat_lt r.0 register_count) (nat_lt s.0 trace.shared_heaps) (and_parts (nat_lt r.0 register_count && nat_lt s.0 trace.shared_heaps) (nat_lt ty.0 (length trace.types)) ranged).0).1 in
       new_within st (segment_of trace (Shared s)) ty (omega (arith, sized.made, inside)) within
   effect_within st p (Store base i value) sized known ranged within =
-      same_within st (after_store trace (register st.registers p base.0) i (register st.registers p value.0) st) (omega (arith, stored_length st (register st.registers p base.0) i (register st.registers p value.0))) (ap (λ (s : State). s.made) (store_rest trace st (register st.registers p base.0) i (register st.registers p value.0))) within
+      same_within st (after_store trace (register st.registers p base.0) i (register st.registers p value.0) st) (omega (arith, stored_length trace st (register st.registers p base.0) i (register st.registers p value.0))) (ap (λ (s : State). s.made) (store_rest trace st (register st.registers p base.0) i (register st.registers p value.0))) within
   effect_within st p (Put base i number) sized known ranged within =
-      same_within st (after_put (register st.registers p base.0) i number st) (omega (arith, put_length st (register st.registers p base.0) i number)) (ap (λ (s : State). s.made) (put_rest st (register st.registers p base.0) i number)) within
+      same_within st (after_put (register st.registers p base.0) i number st) (omega (arith, put_length trace st (register st.registers p base.0) i number)) (ap (λ (s : State). s.made) (put_rest st (register st.registers p base.0) i number)) within
   effect_within st p (Freeze s root) sized known ranged within =
       let rest = freeze_rest st s.0 (register st.registers p root.0) in
       same_within st (after_freeze s.0 (register st.registers p root.0) st) (omega (arith, ap (λ (s : State). length s.objects) rest)) (ap (λ (s : State). s.made) rest) within

@@ -96,16 +96,20 @@ leads_from (Refers r ∷ content) zero y e = or_left _ _ (ap (λ m. leads_to m y
 leads_from (Holds n ∷ content) zero y e = absurd (cc e)
 leads_from (c ∷ content) (suc i) y e = or_right (content_leads_to y c) _ (leads_from content i y e)
 
+-- the object's field refers to what is read there
+pub field_refers : (st : State) (x : Name) (i : ℕ) (y : Name) → reference (field_at st x i) ≡ Some y → IsTrue (refers_in st.objects x y)
+field_refers st x i y e = go (object_at st.objects x) refl e
+  where
+    go : (o : Option Object) → object_at st.objects x ≡ o → reference (get_or (fields_of o) i (Holds 0)) ≡ Some y → IsTrue (refers_in st.objects x y)
+    go None found leads = absurd (cc leads)
+    go (Some o) found leads = refers_found st.objects x y o found (leads_from o.fields i y leads)
+
 module _ (trace : Trace) (st : State) (rules : AreLimits trace) (sound : IsSound trace st) (p : ℕ) (known : p < process_count trace) where
   there_known : (n : Name) → IsTrue (has st.objects n) → IsKnownName trace n
   there_known n there = (sound.shape.placed n there).1
 
   field_known : (x : Name) (i : ℕ) (y : Name) → reference (field_at st x i) ≡ Some y → IsKnownName trace y
-  field_known x i y e = there_known y (sound.no_dangling.fields x y (go (object_at st.objects x) refl e))
-    where
-      go : (o : Option Object) → object_at st.objects x ≡ o → reference (get_or (fields_of o) i (Holds 0)) ≡ Some y → IsTrue (refers_in st.objects x y)
-      go None found leads = absurd (cc leads)
-      go (Some o) found leads = refers_found st.objects x y o found (leads_from o.fields i y leads)
+  field_known x i y e = there_known y (sound.no_dangling.fields x y (field_refers st x i y e))
 
   in_register : (r : ℕ) → IfSome (register st.registers p r) (IsKnownName trace)
   in_register r = if_some (IsKnownName trace) (register st.registers p r) (λ n e. there_known n (sound.no_dangling.registers p n (register_holds st.registers p r n e)))

@@ -15,12 +15,8 @@ use Rattle.k_types.specs.Sound.{IsSound, AreDistinctExits}
 use Rattle.k_laws.specs.Meaning.{heaps_of}
 use Rattle.k_base.proofs.NameTests.{name_eq_refl, name_eq-true, heap_eq-true, heap_eq_refl}
 use Rattle.k_base.proofs.Charges.{bit_turned}
-use Rattle.k_base.proofs.Sums.{bit, sum_same, sum_added, one_counts}
+use Rattle.k_base.proofs.Sums.{bit, sum_same, sum_added, one_counts, total_map}
 use Rattle.k_base.proofs.Sums.{total_append, zeros}
-
-total_map : {A B : Type 0} (f : B → ℕ) (g : A → B) (xs : List A) → total f (map g xs) ≡ total (λ x. f (g x)) xs
-total_map f g [] = refl
-total_map f g (x ∷ xs) = ap (λ n. f (g x) + n) (total_map f g xs)
 
 parts_of : (trace : Trace) (f : Heap → ℕ) → total f (heaps_of trace)
     ≡ f Kernel + (total (λ p. f (user p)) (numbers_below (process_count trace)) + total (λ s. f (shared s)) (numbers_below trace.shared_heaps))

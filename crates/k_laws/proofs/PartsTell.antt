@@ -99,18 +99,20 @@ unfolding owner_of_segment
 owners_same procs ended ended' phases phases' same e seg =
     ap₂ (λ p s. cond (seg == 0) Kernel (cond (nat_le seg procs) p s)) (ap (λ b. cond b Kernel (user (seg - 1))) (same (seg - 1))) (ap (λ f. owner_of_shared f (seg - 1 - procs)) e)
 
-module _ (trace : Trace) (st su : State) (sound : IsSound trace st) (sound' : IsSound trace su) (same : SameParts trace st su) where
-  ended_same : (p : ℕ) → among p st.ended ≡ among p su.ended
+-- what the book's part tells of who has ended, of phases and of owners
+module _ (trace : Trace) (st su : State) (book : book_part trace st ≡ book_part trace su) where
+  pub ended_same : (p : ℕ) → among p st.ended ≡ among p su.ended
   unfolding book_part
-  ended_same p = ap (λ (b : BookPart). b.ended p) same.book
+  ended_same p = ap (λ (b : BookPart). b.ended p) book
 
-  phases_same : st.phases ≡ su.phases
+  pub phases_same : st.phases ≡ su.phases
   unfolding book_part
-  phases_same = ap (λ (b : BookPart). b.phases) same.book
+  phases_same = ap (λ (b : BookPart). b.phases) book
 
-  owner_same : (seg : ℕ) → owner_of trace st seg ≡ owner_of trace su seg
+  pub owner_same : (seg : ℕ) → owner_of trace st seg ≡ owner_of trace su seg
   owner_same seg = owners_same (process_count trace) st.ended su.ended st.phases su.phases ended_same phases_same seg
 
+module _ (trace : Trace) (st su : State) (sound : IsSound trace st) (sound' : IsSound trace su) (same : SameParts trace st su) where
   made_same : st.made ≡ su.made
   unfolding part
   made_same =
@@ -119,7 +121,7 @@ module _ (trace : Trace) (st su : State) (sound : IsSound trace st) (sound' : Is
       let c = owner_of trace st k in
       let both = ap (λ (q : CellPart). q.made k) (same.cells c (owner_known trace st k known)) in
       let left = ap (λ b. cond b (Some (get_or st.made k 0)) None) (heap_eq_refl c) in
-      let right = ap (λ b. cond b (Some (get_or su.made k 0)) None) (ap (λ g. heap_eq g c) (sym (owner_same k)) ∙ heap_eq_refl c) in
+      let right = ap (λ b. cond b (Some (get_or su.made k 0)) None) (ap (λ g. heap_eq g c) (sym (owner_same trace st su same.book k)) ∙ heap_eq_refl c) in
       some_one (sym left ∙ both ∙ right))
 
   process_same : (p : ℕ) → p < process_count trace → (get_or st.registers p [] ≡ get_or su.registers p []) × (get_or st.done p 0 ≡ get_or su.done p 0)
@@ -161,7 +163,7 @@ module _ (trace : Trace) (st su : State) (sound : IsSound trace st) (sound' : Is
   objects_at : (h : Heap) → IsHeap trace h → objects_of (owner_of trace st) h st.objects ≡ objects_of (owner_of trace st) h su.objects
   unfolding part
   objects_at h known =
-      ap (λ (q : CellPart). q.objects) (same.cells h known) ∙ ap (λ own. objects_of own h su.objects) (sym (fun_ext owner_same))
+      ap (λ (q : CellPart). q.objects) (same.cells h known) ∙ ap (λ own. objects_of own h su.objects) (sym (fun_ext (owner_same trace st su same.book)))
 
   is_known : (xs : List Object) (h : Heap) (x : Object) (rest : List Object) → ((n : Name) → IsTrue (has xs n) → n.seg.0 < segment_count trace) → objects_of (owner_of trace st) h xs ≡ x ∷ rest → IsHeap trace h
   is_known [] h x rest low e = absurd (cc e)
@@ -197,8 +199,8 @@ module _ (trace : Trace) (st su : State) (sound : IsSound trace st) (sound' : Is
     done = done_same;
     exits = exits_same;
     shares = λ p s. ap (λ (b : BookPart). b.shares p s) same.book;
-    phases = phases_same;
-    ended = ended_same;
+    phases = phases_same trace st su same.book;
+    ended = ended_same trace st su same.book;
     scans = scans_same;
     closed = ap (λ (b : BookPart). b.closed) same.book;
     maxima = ap (λ (b : BookPart). b.maxima) same.book;

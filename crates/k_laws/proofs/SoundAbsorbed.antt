@@ -50,6 +50,10 @@ bytes_fewer own own' h less (x ∷ xs) =
 pub merged_fewer : (g h k : Heap) → IsFalse (heap_eq Kernel h) → IsTrue (heap_eq (merged g k) h) → IsTrue (heap_eq k h)
 merged_fewer g h k kernel = elim (heap_eq k g) as (λ b. IsTrue (heap_eq (cond b Kernel k) h) → IsTrue (heap_eq k h)) [ true ↦ λ t. absurd (false≢true (sym kernel ∙ t)) | false ↦ λ t. t ]
 
+-- what the shared heap's exit items lead to is the kernel's
+pub to_kernel : (trace : Trace) (st : State) (s : ℕ) → IsSound trace st → (n : Name) → IsTrue (has_exit st.exits (shared s) n) → owner_of trace st n.seg.0 ≡ Kernel
+to_kernel trace st s sound n e = shared_to s (owner_of trace st n.seg.0) (sound.exits.allowed (shared s) n e) (sound.exits.leave (shared s) n e)
+
 module _ (trace : Trace) (st : State) (s : ℕ) (sound : IsSound trace st) (may : MayAbsorb trace st s) where
   abbrev pub after : State
   after = after_absorbed trace s st
@@ -89,16 +93,12 @@ module _ (trace : Trace) (st : State) (s : ℕ) (sound : IsSound trace st) (may 
   unfolding exits'
   exit_parts h n e = and_parts (has_exit st.exits h n) (stays_after_absorb trace st s (record { heap = h; target = n })) (sym (has_exit-kept (stays_after_absorb trace st s) st.exits h n) ∙ e)
 
-  -- what the shared heap's exit items lead to is the kernel's
-  to_kernel : (n : Name) → IsTrue (has_exit st.exits (shared s) n) → owner_of trace st n.seg.0 ≡ Kernel
-  to_kernel n e = shared_to s (owner_of trace st n.seg.0) (sound.exits.allowed (shared s) n e) (sound.exits.leave (shared s) n e)
-
   merge : AreMerged (owner_of trace after) (shared s) st.exits exits'
   unfolding exits'
   merge = record {
     stay = λ h n apart e leaves. has_exit-kept (stays_after_absorb trace st s) st.exits h n ∙ and_from _ _ e (stays_if h n apart leaves);
-    turn = λ n e apart. absurd (false≢true (sym apart ∙ heap_eq-same Kernel (owner_of trace after n.seg.0) (sym (is_merged n.seg.0 ∙ ap (merged (shared s)) (to_kernel n e)))));
-    none = λ n. false_from_ne_true _ (λ e. let parts = exit_parts (shared s) n e in false≢true (sym (goes (shared s) n (or_left _ _ (and_from _ _ (heap_eq_refl (shared s)) (heap_eq-same _ _ (to_kernel n parts.0))))) ∙ parts.1));
+    turn = λ n e apart. absurd (false≢true (sym apart ∙ heap_eq-same Kernel (owner_of trace after n.seg.0) (sym (is_merged n.seg.0 ∙ ap (merged (shared s)) (to_kernel trace st s sound n e)))));
+    none = λ n. false_from_ne_true _ (λ e. let parts = exit_parts (shared s) n e in false≢true (sym (goes (shared s) n (or_left _ _ (and_from _ _ (heap_eq_refl (shared s)) (heap_eq-same _ _ (to_kernel trace st s sound n parts.0))))) ∙ parts.1));
     leave = λ h n e. let parts = exit_parts h n e in leaves_still h n parts.0 parts.1;
     come = λ h n e. inl (exit_parts h n e).0;
   }

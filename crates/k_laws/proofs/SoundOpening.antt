@@ -39,6 +39,11 @@ no_references : (n : ℕ) (m : Name) → list_any (content_leads_to m) (replicat
 no_references zero m = refl
 no_references (suc n) m = no_references n m
 
+-- nobody is charged at first
+pub charged_nothing : (trace : Trace) (p : ℕ) → charge_of trace (opening trace) p ≡ 0
+unfolding bytes_by owner_of_segment
+charged_nothing trace p = refl
+
 module _ (trace : Trace) (limits : AreLimits trace) where
   only_directory : (n : Name) → IsTrue (has (opening trace).objects n) → directory ≡ n
   only_directory n t = elim (or_cases (name_eq directory n) false t) [ inl e ↦ name_eq-true directory n e | inr e ↦ absurd (false≢true e) ]
@@ -53,14 +58,10 @@ module _ (trace : Trace) (limits : AreLimits trace) where
   held_nowhere : (p : ℕ) (n : Name) → IsTrue (in_registers (opening trace).registers p n) → ⊥
   held_nowhere p n t = false≢true (sym (none_held (process_count trace) p n) ∙ t)
 
-  charged_nothing : (p : ℕ) → charge_of trace (opening trace) p ≡ 0
-  unfolding bytes_by owner_of_segment
-  charged_nothing p = refl
-
   direct_nothing : (m : ℕ) → direct_by trace (charge_of trace (opening trace)) m ≤ 0
   direct_nothing m =
       let mine = filter (λ p. limit_of trace p == m) (numbers_below (process_count trace)) in
-      le_trans (total_at_most (charge_of trace (opening trace)) (λ p. 0) (λ p. omega (arith, charged_nothing p)) mine) (omega (arith, zeros mine))
+      le_trans (total_at_most (charge_of trace (opening trace)) (λ p. 0) (λ p. omega (arith, charged_nothing trace p)) mine) (omega (arith, zeros mine))
 
   use_fits : (m : ℕ) → m < length trace.limits → use_of trace (opening trace) m ≤ max_of (limits_in trace (opening trace)) m
   use_fits m known =

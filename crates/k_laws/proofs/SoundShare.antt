@@ -19,18 +19,20 @@ use Rattle.k_types.specs.Updates.{set_phase}
 use Rattle.k_laws.proofs.Shapes.{declared-phase}
 use Rattle.k_laws.specs.Changes.{MayFreeze}
 
+-- which heaps are absorbed stays, where the phase that is set is absorbed as the one before it was
+pub absorbed_kept : (phases : List Phase) (s : ℕ) (phase : Phase) → is_absorbed phase ≡ is_absorbed (phase_of phases s) → (q : ℕ) →
+    is_absorbed (phase_of (set phases s phase) q) ≡ is_absorbed (phase_of phases q)
+absorbed_kept phases s phase same q =
+    elim (get_or-set_cases phases s q phase Unmade) [
+      | inl e ↦ ap is_absorbed e
+      | inr e ↦ ap is_absorbed e.1 ∙ same ∙ ap (λ k. is_absorbed (phase_of phases k)) (sym e.0)
+    ]
+
 owner_phase_same : (procs : ℕ) (ended : List ℕ) (phases : List Phase) (s : ℕ) (phase : Phase) → is_absorbed phase ≡ is_absorbed (phase_of phases s) → (seg : ℕ) →
     owner_of_segment procs ended (set phases s phase) seg ≡ owner_of_segment procs ended phases seg
 unfolding owner_of_segment
 owner_phase_same procs ended phases s phase same seg =
-    ap (λ b. cond (seg == 0) Kernel (cond (nat_le seg procs) (owner_of_process ended (seg - 1)) (cond b Kernel (shared (seg - 1 - procs))))) (absorbed_same (seg - 1 - procs))
-  where
-    absorbed_same : (q : ℕ) → is_absorbed (phase_of (set phases s phase) q) ≡ is_absorbed (phase_of phases q)
-    absorbed_same q =
-        elim (get_or-set_cases phases s q phase Unmade) [
-          | inl e ↦ ap is_absorbed e
-          | inr e ↦ ap is_absorbed e.1 ∙ same ∙ ap (λ k. is_absorbed (phase_of phases k)) (sym e.0)
-        ]
+    ap (λ b. cond (seg == 0) Kernel (cond (nat_le seg procs) (owner_of_process ended (seg - 1)) (cond b Kernel (shared (seg - 1 - procs))))) (absorbed_kept phases s phase same (seg - 1 - procs))
 
 -- a phase that changes no owner leaves owners, so all that depends on them, as they were
 pub owner_kept : (trace : Trace) (st : State) (s : ℕ) (phase : Phase) → is_absorbed phase ≡ is_absorbed (phase_of st.phases s) → owner_of trace (set_phase s phase st) ≡ owner_of trace st

@@ -6,7 +6,6 @@ use Rattle.k_types.specs.declared.names.Heap.TheVariants.{Kernel, User, Shared}
 use Rattle.k_types.specs.declared.op.Op.{Op}
 use Rattle.k_types.specs.declared.op.Op.TheVariants.{Store, Load, Put, Get, Kill}
 use Rattle.k_types.specs.declared.event.Fault.TheVariants.{NotSharer}
-use Rattle.k_types.specs.Names.{among}
 use Rattle.k_types.specs.Trace.{Trace}
 use Rattle.k_types.specs.TraceRules.{AreLimits}
 use Rattle.k_types.specs.State.{State, object_at, register, has_share}
@@ -20,27 +19,18 @@ use Rattle.k_changes.specs.CellChanges.{next_name_in}
 use Rattle.k_changes.specs.BookChanges.{owner_in, bytes_in}
 use Rattle.k_changes.specs.Told.{full_limit_in, full_for_in}
 use Rattle.k_changes.proofs.OnBook.{owner_told}
-use Rattle.k_changes.proofs.ToldBy.{object_told, register_told, name_told, bytes_told, shared_bytes_told, limit_told, use_told, full_for_told}
+use Rattle.k_changes.proofs.ToldBy.{object_told, register_told, name_told, bytes_told, shared_bytes_told, limit_told, full_for_told}
+use Rattle.k_laws.proofs.UseShown.{use_is_shown}
+use Rattle.k_laws.proofs.PartsTell.{owner_same, phases_same, ended_same}
 
 -- by the book
 module _ (trace : Trace) (st su : State) (book : book_part trace st ≡ book_part trace su) where
   pub owners_same : owner_of trace st ≡ owner_of trace su
   owners_same = sym (owner_told trace st) ∙ ap (owner_in trace) book ∙ owner_told trace su
 
-  pub owner_same : (seg : ℕ) → owner_of trace st seg ≡ owner_of trace su seg
-  owner_same seg = ap (λ own. own seg) owners_same
-
   pub shares_same : (p s : ℕ) → has_share st.shares p s ≡ has_share su.shares p s
   unfolding book_part
   shares_same p s = ap (λ (b : BookPart). b.shares p s) book
-
-  pub phases_same : st.phases ≡ su.phases
-  unfolding book_part
-  phases_same = ap (λ (b : BookPart). b.phases) book
-
-  pub ended_same : (p : ℕ) → among p st.ended ≡ among p su.ended
-  unfolding book_part
-  ended_same p = ap (λ (b : BookPart). b.ended p) book
 
   pub closed_same : st.closed ≡ su.closed
   unfolding book_part
@@ -51,7 +41,7 @@ module _ (trace : Trace) (st su : State) (book : book_part trace st ≡ book_par
       sym (limit_told trace limits st m n known) ∙ ap (λ b. full_limit_in trace b m n) book ∙ limit_told trace limits su m n known
 
   pub use_same : (m : ℕ) → m < length trace.limits → use_of trace st m ≡ use_of trace su m
-  use_same m known = sym (use_told trace st m known) ∙ ap (λ b. use_shown trace b m) book ∙ use_told trace su m known
+  use_same m known = sym (use_is_shown trace st m known) ∙ ap (λ b. use_shown trace b m) book ∙ use_is_shown trace su m known
 
   pub full_for_same : AreLimits trace → (m max : ℕ) → m < length trace.limits → full_for trace st m max ≡ full_for trace su m max
   full_for_same limits m max known =
@@ -69,7 +59,7 @@ module _ (trace : Trace) (st su : State) (book : book_part trace st ≡ book_par
   pub frozen_same : (h : Heap) → is_frozen_heap st h ≡ is_frozen_heap su h
   frozen_same Kernel = refl
   frozen_same (User q) = refl
-  frozen_same (Shared s) = ap (λ phases. is_frozen (phase_of phases s.0)) phases_same
+  frozen_same (Shared s) = ap (λ phases. is_frozen (phase_of phases s.0)) (phases_same trace st su book)
 
   -- the cells of an access
   base_same : (h : Heap) (p : ℕ) → base_cell st p h ≡ base_cell su p h
@@ -79,17 +69,17 @@ module _ (trace : Trace) (st su : State) (book : book_part trace st ≡ book_par
 
   access_same : (p : ℕ) (r : Option Name) → access_cell trace st p r ≡ access_cell trace su p r
   access_same p None = refl
-  access_same p (Some x) = base_same (owner_of trace st x.seg.0) p ∙ ap (base_cell su p) (owner_same x.seg.0)
+  access_same p (Some x) = base_same (owner_of trace st x.seg.0) p ∙ ap (base_cell su p) (owner_same trace st su book x.seg.0)
 
   -- by the cell of an object's owner
   module _ (c : Heap) (same : part trace st c ≡ part trace su c) where
     pub object_same : (x : Name) → owner_of trace st x.seg.0 ≡ c → object_at st.objects x ≡ object_at su.objects x
     object_same x own =
-        sym (object_told trace st c x own) ∙ ap (λ (q : CellPart). object_at q.objects x) same ∙ object_told trace su c x (sym (owner_same x.seg.0) ∙ own)
+        sym (object_told trace st c x own) ∙ ap (λ (q : CellPart). object_at q.objects x) same ∙ object_told trace su c x (sym (owner_same trace st su book x.seg.0) ∙ own)
 
     pub name_same : (seg : ℕ) → owner_of trace st seg ≡ c → next_name seg st ≡ next_name seg su
     name_same seg own =
-        sym (name_told trace st c seg own) ∙ ap (next_name_in seg) same ∙ name_told trace su c seg (sym (owner_same seg) ∙ own)
+        sym (name_told trace st c seg own) ∙ ap (next_name_in seg) same ∙ name_told trace su c seg (sym (owner_same trace st su book seg) ∙ own)
 
     pub bytes_same : bytes_of trace st c ≡ bytes_of trace su c
     bytes_same = sym (bytes_told trace st c) ∙ ap bytes_in same ∙ bytes_told trace su c
@@ -108,5 +98,5 @@ module _ (trace : Trace) (st su : State) (book : book_part trace st ≡ book_par
     others_same (Load r base i) = through base.0
     others_same (Put base i number) = through base.0
     others_same (Get base i) = through base.0
-    others_same (Kill q) = ap (λ b. cond (is_above trace p q.0 && not b) (User q ∷ Kernel ∷ []) []) (ended_same q.0)
+    others_same (Kill q) = ap (λ b. cond (is_above trace p q.0 && not b) (User q ∷ Kernel ∷ []) []) (ended_same trace st su book q.0)
     others_same _ = refl

@@ -28,9 +28,10 @@ use Rattle.k_types.specs.Steps.{in_range}
 use Rattle.k_types.specs.Replies.{fault_where, first_fault, faults, access_faults, sharer_fault, at_base, answer, reply_to, refused_or, field_at, field_count, is_ref, reference_from, reference, passes_barrier, is_foreign, is_frozen_heap, is_frozen, is_populating, is_unmade, root_of, load_faults, store_faults, number_faults, number_from, number_in, size_fault, limit_fault, may_resize}
 use Rattle.k_types.specs.Cells.{part, book_part, base_cell, access_cell, other_cells, cells_touched}
 use Rattle.k_locality.specs.Same.{SameToEvent}
-use Rattle.k_locality.proofs.SameRead.{owners_same, owner_same, shares_same, phases_same, limit_same, shared_bytes_same, sharer_same, frozen_same, object_same, name_same, bytes_same, register_same, others_same, full_for_same, use_same}
+use Rattle.k_locality.proofs.SameRead.{owners_same, shares_same, limit_same, shared_bytes_same, sharer_same, frozen_same, object_same, name_same, bytes_same, register_same, others_same, full_for_same, use_same}
 use Rattle.k_base.proofs.NameTests.{heap_eq_refl}
 use Rattle.k_frame.proofs.OwnerOf.{owner_kernel, owner_user, owner_shared}
+use Rattle.k_laws.proofs.PartsTell.{owner_same, phases_same}
 
 -- an access through a register, where its cells have the same parts
 module _ (trace : Trace) (st su : State) (book : book_part trace st ≡ book_part trace su) (p : ℕ) (own : part trace st (user p) ≡ part trace su (user p)) where

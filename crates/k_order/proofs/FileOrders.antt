@@ -36,6 +36,12 @@ pub order_end : (trace : Trace) (st : State) → file_order_from trace st [] ≡
 unfolding file_order_from
 order_end trace st = refl
 
+-- the next operation of the first process comes first
+pub order_next : (trace : Trace) (st : State) (q : ℕ) (order : List ℕ) (op : Op) → next_operation trace st q ≡ Some op →
+    file_order_from trace st (q ∷ order) ≡ events_of trace st q (Some op) ++ file_order_from trace (run trace st (events_of trace st q (Some op))) order
+unfolding file_order_from
+order_next trace st q order op e = ap (λ next. events_of trace st q next ++ file_order_from trace (run trace st (events_of trace st q next)) order) e
+
 module _ (trace : Trace) (rules : AreOperations trace) where
   -- the events do first operations of what each process has left to do, all of them where it lives on, and end with the last
   -- collection where all have ended
@@ -123,11 +129,6 @@ module _ (trace : Trace) (rules : AreOperations trace) where
     ends = λ t. absurd (false≢true (sym going ∙ t));
   }
 
-  order_next : (st : State) (q : ℕ) (order : List ℕ) (op : Op) → next_operation trace st q ≡ Some op →
-      file_order_from trace st (q ∷ order) ≡ events_of trace st q (Some op) ++ file_order_from trace (run trace st (events_of trace st q (Some op))) order
-  unfolding file_order_from
-  order_next st q order op e = ap (λ next. events_of trace st q next ++ file_order_from trace (run trace st (events_of trace st q next)) order) e
-
   -- the line of a process that has ended is passed over
   order_skip : (st : State) (q : ℕ) (order : List ℕ) → IsTrue (among q st.ended) → file_order_from trace st (q ∷ order) ≡ file_order_from trace st order
   unfolding file_order_from
@@ -171,7 +172,7 @@ module _ (trace : Trace) (rules : AreOperations trace) where
             let next = line trace rules st q order ready (ltb-true _ _ parts.0) lives in
             let op = next.0 in
             let rest = filed order (run trace st (events_of trace st q (Some op))) next.2.ready parts.1 in
-            subst (Filed st) (sym (order_next st q order op next.1)) (after_line st order (events_of trace st q (Some op)) (file_order_from trace (run trace st (events_of trace st q (Some op))) order) next.2 rest)
+            subst (Filed st) (sym (order_next trace st q order op next.1)) (after_line st order (events_of trace st q (Some op)) (file_order_from trace (run trace st (events_of trace st q (Some op))) order) next.2 rest)
       ]
 
   begins : Ready trace (opening trace) trace.order

@@ -23,6 +23,7 @@ use Rattle.k_base.proofs.Numbered.{all_at_below, occurrences, occurrences_count}
 use Rattle.k_rows.specs.Words.{Header, trace_doing, doers, Undone, undone_by, trace_asking}
 use Rattle.k_types.specs.Names.{among}
 use Rattle.std.proofs.lemmas.List.{length-append}
+use Rattle.k_base.proofs.Lists.{mapped_length}
 
 -- the parent stands before its child
 abbrev parent_before : Option LimitId → ℕ → Bool
@@ -122,10 +123,6 @@ mapped_at : (f : ℕ → List Op) (first n k : ℕ) → k < n → slice_index_or
 mapped_at f first zero k inside = absurd (omega arith)
 mapped_at f first (suc n) zero inside = ap f (omega arith)
 mapped_at f first (suc n) (suc k) inside = mapped_at f (suc first) n k (omega (arith, inside)) ∙ ap f (omega arith)
-
-mapped_length : (f : ℕ → List Op) (first n : ℕ) → length (map f (numbers_from first n)) ≡ n
-mapped_length f first zero = refl
-mapped_length f first (suc n) = ap suc (mapped_length f (suc first) n)
 
 module _ (header : Header) (history : List Event) (undone : List Undone) where
   abbrev of_all : Trace

@@ -1,10 +1,9 @@
 -- What the effect of an operation and the other events make of the book's part.
-use Rattle.std.proofs.Common.{◌≡◌, ℕ, zero, suc, ◌+◌, ◌<◌, ◌&&◌, nat_lt, not, Bool, true, false, cond, refl, sym, ap, ap₂, ◌∙◌, List, [], ◌∷◌, length, length-set, Option, Some, None, get_or, set, arith, IsTrue, IsFalse, inl, inr}
+use Rattle.std.proofs.Common.{◌≡◌, ℕ, zero, suc, ◌+◌, ◌<◌, ◌&&◌, nat_lt, not, Bool, true, false, cond, refl, sym, ap, ap₂, ◌∙◌, List, [], ◌∷◌, length, Option, Some, None, get_or, set, arith, IsTrue, IsFalse, inl, inr}
 use Rattle.std.proofs.lemmas.Bool.{ltb-true, and_parts, not-false, cases_Bool, false≢true, false_from_ne_true}
 use Rattle.k_types.specs.declared.names.Name.{Name}
 use Rattle.k_types.specs.declared.names.Reg.{Reg}
 use Rattle.k_types.specs.declared.names.TypeId.{TypeId}
-use Rattle.k_types.specs.declared.names.Field.{Field}
 use Rattle.k_types.specs.declared.names.SharedId.{SharedId}
 use Rattle.k_types.specs.declared.names.Heap.TheVariants.{Kernel, User}
 use Rattle.k_types.specs.declared.names.Phase.TheVariants.{Unmade, Populating, Frozen}
@@ -39,6 +38,7 @@ use Rattle.k_squares.specs.CellAfter.{register_in}
 use Rattle.k_squares.specs.BookAfter.{book_repinned, book_stored, book_frozen, book_attached, book_operated}
 use Rattle.k_squares.proofs.CellSquares.{told, populates, populating_phase, freezes, may_exit, killed, kills, may_end_other, ends_told}
 use Rattle.k_base.proofs.Shares.{sharer_of}
+use Rattle.k_frame.proofs.Sizes.{create_sized, share_sized}
 
 -- a number of a list that is set to what it is
 set_again : (xs : List ℕ) (k : ℕ) → set xs k (get_or xs k 0 + 0) ≡ xs
@@ -48,14 +48,6 @@ set_again (x ∷ xs) (suc k) = ap (λ ys. x ∷ ys) (set_again xs k)
 
 charge_none : (m n : ℕ) (b : BookPart) → n ≡ 0 → with_charge m n b ≡ b
 charge_none m n b e = ap (λ k. with_charge m k b) e ∙ ap (λ direct. record b { direct = direct }) (set_again b.direct m)
-
-created_sized : (trace : Trace) (st : State) (seg : ℕ) (ty : TypeId) (kinds : List Field) → IsSized trace st → IsSized trace (create seg ty kinds st)
-unfolding create
-created_sized trace st seg ty kinds z = record { made = length-set st.made seg _ ∙ z.made; registers = z.registers; each = z.each; done = z.done; phases = z.phases; maxima = z.maxima }
-
-shared_sized : (trace : Trace) (st : State) (p s : ℕ) → IsSized trace st → IsSized trace (add_share p s st)
-unfolding add_share
-shared_sized trace st p s z = record { made = z.made; registers = z.registers; each = z.each; done = z.done; phases = z.phases; maxima = z.maxima }
 
 -- the number of the first register that an operation in range names
 small_register : (r : Reg) (rest : Bool) → IsTrue (nat_lt r.0 register_count && rest) → r.0 < register_count
@@ -130,7 +122,7 @@ module _ (trace : Trace) (st : State) where
         book_part trace (set_register p r.0 v (create seg ty (kinds_of trace ty) st)) ≡ book_repinned trace (book_part trace st) (part trace st) p r.0 v after
     unfolding create
     new_book seg r ty v after known small made =
-        repinned (create seg ty (kinds_of trace ty) st) p r.0 v (created_sized trace st seg ty (kinds_of trace ty) sound.shape.sized) known small refl refl
+        repinned (create seg ty (kinds_of trace ty) st) p r.0 v (create_sized trace st seg ty (kinds_of trace ty) sound.shape.sized) known small refl refl
         ∙ ap (book_repinned trace (book_part trace st) (part trace st) p r.0 v) made
 
     set_book : (r : Reg) (v : Option Name) → p < process_count trace → r.0 < register_count → book_part trace (set_register p r.0 v st) ≡ book_repinned trace (book_part trace st) (part trace st) p r.0 v (book_part trace st)
@@ -140,7 +132,7 @@ module _ (trace : Trace) (st : State) where
         book_part trace (set_register p r.0 v (add_share p s st)) ≡ book_repinned trace (book_part trace st) (part trace st) p r.0 v (book_attached trace p s (book_part trace st))
     unfolding add_share
     attach_book r s v known lives small inside =
-        repinned (add_share p s st) p r.0 v (shared_sized trace st p s sound.shape.sized) known small refl refl
+        repinned (add_share p s st) p r.0 v (share_sized trace st p s sound.shape.sized) known small refl refl
         ∙ ap (book_repinned trace (book_part trace st) (part trace st) p r.0 v) (attached_book s known lives inside)
 
     share_book : (s : SharedId) → Acts trace st p (Share s) → book_part trace (add_share p s.0 (set_phase s.0 (Populating (record { 0 = p })) st)) ≡ with_share p s.0 (with_phase s.0 (Populating (record { 0 = p })) (book_part trace st))

@@ -29,13 +29,14 @@ use Rattle.k_frame.specs.PartUpdates.{held_in}
 use Rattle.k_frame.proofs.OwnerOf.{owner_user, owner_kernel, owner_shared}
 use Rattle.k_changes.specs.BookChanges.{owner_in}
 use Rattle.k_changes.proofs.OnBook.{owner_told}
-use Rattle.k_changes.proofs.ToldBy.{register_told, object_told, name_told, bytes_told, shared_bytes_told, limit_told, full_for_told, use_told}
+use Rattle.k_changes.proofs.ToldBy.{register_told, object_told, name_told, bytes_told, shared_bytes_told, limit_told, full_for_told}
 use Rattle.k_squares.specs.CellAfter.{register_in}
 use Rattle.k_squares.specs.Answers.{field_in, field_count_in, sharer_fault_in, is_frozen_in, size_fault_in, passes_barrier_in, access_faults_in, store_faults_in, load_faults_in, number_faults_in, freeze_faults_in, faults_in, reference_from_in, number_from_in, answer_in, reply_in}
 use Rattle.k_squares.specs.Touches.{base_cell_in, access_cell_in, other_cells_in, touched_in}
 use Rattle.k_squares.specs.Locals.{is_local_store_in, is_local_load_in, is_local_in}
 use Rattle.k_squares.proofs.CellSquares.{told, populates, populating_phase}
 use Rattle.k_types.specs.Limits.{is_above}
+use Rattle.k_laws.proofs.UseShown.{use_is_shown}
 
 -- the faults at a base by two functions that agree
 at_base_same : (r : Option Name) (f g : Name → List (Option Fault)) → ((x : Name) → f x ≡ g x) → at_base r f ≡ at_base r g
@@ -193,7 +194,7 @@ module _ (trace : Trace) (st : State) where
     faults_told (Resize m max) inside =
         let known = ltb-true _ _ (and_parts (nat_lt m.0 (length trace.limits)) (nat_lt max maximum_below) inside).0 in
         ap₂ (λ full used. cond (may_resize trace p m.0) (limit_fault full) None ∷ fault_where (not (may_resize trace p m.0)) (LimitNotBelow m) ∷ fault_where (may_resize trace p m.0 && nat_lt max used) (InUse m) ∷ [])
-        (sym (full_for_told trace limits st m.0 max known)) (sym (use_told trace st m.0 known))
+        (sym (full_for_told trace limits st m.0 max known)) (sym (use_is_shown trace st m.0 known))
     faults_told _ inside = refl
 
     answer_told : (op : Op) → IsFalse (among p st.ended) → first_fault (faults trace st p op) ≡ None → answer trace st p op ≡ answer_in trace (book_part trace st) (part trace st) p op

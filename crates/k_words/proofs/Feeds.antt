@@ -1,5 +1,5 @@
 -- Lines and their line feeds.
-use Rattle.std.proofs.Common.{◌≡◌, ℕ, Bool, true, false, eqb, List, [], ◌∷◌, ◌++◌, refl, ap, inl, inr}
+use Rattle.std.proofs.Common.{◌≡◌, ℕ, Bool, true, false, eqb, List, [], ◌∷◌, ◌++◌, refl, ap, inl, inr, length}
 use Rattle.std.specs.List.{flat_map, onto_first}
 use Rattle.std.proofs.lemmas.Bool.{eqb-true}
 use Rattle.k_words.specs.Words.{Text, lines_of, AreText}
@@ -27,3 +27,8 @@ joined_cons b bytes false e h = rw e (onto b bytes (lines_of bytes) h)
 pub joined : (bytes : Text) → Joined bytes
 joined [] = inl refl
 joined (b ∷ bytes) = joined_cons b bytes (eqb b 10) refl (joined bytes)
+
+-- no bytes have no line
+pub no_lines : (bytes : Text) → length bytes ≡ 0 → length (lines_of bytes) ≡ 0
+no_lines [] e = refl
+no_lines (b ∷ bytes) e = absurd cc

@@ -4,5 +4,6 @@ pub mod Digits
 pub mod Spelled
 pub mod Again
 pub mod Feeds
+pub mod Numbered
 pub mod Proper
 pub mod Cuts
