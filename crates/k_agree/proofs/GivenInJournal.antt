@@ -25,11 +25,11 @@ use Rattle.k_agree.specs.Agreement.{BookAgrees, Shows}
 use Rattle.k_agree.specs.GivingAway.{HasTakenIn, absorbed_cell, ended_cell, with_one_done}
 use Rattle.k_agree.proofs.AtTheEnd.{book_sound}
 use Rattle.k_agree.proofs.GivenAway.{absorb_cell, absorb_kernel, exit_cell, exit_kernel, still_idle}
-use Rattle.k_agree.proofs.GivenOnTheBook.{absorbed_event, exit_event, may_absorb, may_exit}
+use Rattle.k_agree.proofs.GivenOnTheBook.{absorbed_event, may_absorb, may_exit}
 use Rattle.k_types.specs.Names.{heap_eq, among}
 use Rattle.k_types.specs.Replies.{ends_other}
 use Rattle.k_types.specs.Limits.{is_above}
-use Rattle.k_laws.proofs.Ending.{kill_event, may_end_other}
+use Rattle.k_laws.proofs.Ending.{kill_event, may_end_other, exit_event}
 use Rattle.k_base.proofs.Ancestors.{above_another}
 use Rattle.k_frame.proofs.ElsewhereOther.{exited_elsewhere}
 use Rattle.std.proofs.lemmas.Bool.{and_parts}

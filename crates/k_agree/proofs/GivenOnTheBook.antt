@@ -14,13 +14,13 @@ use Rattle.k_types.specs.declared.op.Op.TheVariants.{Exit, Kill}
 use Rattle.k_types.specs.Agree.{BookValue, CellValue, book_shown_by}
 use Rattle.k_types.specs.Counted.{counted}
 use Rattle.k_types.specs.Cells.{BookPart, CellPart, ShownPart, part, book_part, pins_of, cells_touched, other_cells}
-use Rattle.k_types.specs.Effects.{after_absorbed, after_end_of, after_operation, effect, step}
+use Rattle.k_types.specs.Effects.{after_absorbed, after_end_of, step}
 use Rattle.k_types.specs.Names.{among, heap_eq, name_among}
 use Rattle.k_types.specs.Numbers.{numbers_below, numbers_from}
 use Rattle.k_types.specs.Owners.{owner_of, owner_of_segment, shared, user, object_bytes, is_absorbed, phase_of}
 use Rattle.k_types.specs.Reach.{is_shared_heap}
 use Rattle.k_types.specs.Sound.{IsSound}
-use Rattle.k_types.specs.Replies.{faults, first_fault, ends_other}
+use Rattle.k_types.specs.Replies.{ends_other}
 use Rattle.k_types.specs.State.{State, has_share, is_scanned}
 use Rattle.k_types.specs.Steps.{IsPossible, has_sharer, is_live, state_after}
 use Rattle.k_types.specs.Totals.{total}
@@ -45,7 +45,7 @@ use Rattle.k_tie.specs.Values.{JournalValue}
 use Rattle.k_agree.proofs.AtTheEnd.{book_sound}
 use Rattle.k_agree.proofs.Swept.{among_kept}
 use Rattle.k_base.proofs.Lists.{none_is}
-use Rattle.k_laws.proofs.Ending.{kill_event, may_end_other}
+use Rattle.k_laws.proofs.Ending.{kill_event, may_end_other, exit_event}
 
 -- a list over numbers of which one is given another value
 map_above : {A : Type 0} (f g : ℕ → A) (first n k : ℕ) → k < first → ((q : ℕ) → q ≢ k → g q ≡ f q) → map g (numbers_from first n) ≡ map f (numbers_from first n)
@@ -255,10 +255,6 @@ module _ (trace : Trace) (limits : AreLimits trace) (st : State) (p : ℕ) (heap
 pub absorbed_event : (trace : Trace) (st : State) (s : SharedId) → step trace st (AbsorbedEvent s) ≡ after_absorbed trace s.0 st
 unfolding step
 absorbed_event trace st s = refl
-
-pub exit_event : (trace : Trace) (st : State) (pid : Pid) (said : Reply) → step trace st (Done pid Exit said) ≡ count_done pid.0 (after_end_of trace pid.0 st)
-unfolding step after_operation effect faults first_fault
-exit_event trace st pid said = refl
 
 pub may_absorb : (trace : Trace) (st : State) (s : SharedId) → IsPossible trace st (AbsorbedEvent s) → MayAbsorb trace st s.0
 may_absorb trace st s may = record {

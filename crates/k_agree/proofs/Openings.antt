@@ -18,12 +18,13 @@ use Rattle.k_base.proofs.NameTests.{heap_eq-same, heap_eq-true}
 use Rattle.k_frame.proofs.OwnerOf.{owner_user, owner_shared}
 use Rattle.k_frame.proofs.Sizes.{get_or-same, zeros_at}
 use Rattle.k_base.proofs.Sums.{sum_same, zeros}
-use Rattle.k_laws.proofs.SoundOpening.{all_unmade}
+use Rattle.k_laws.proofs.SoundOpening.{all_unmade, charged_nothing}
 use Rattle.k_tie.specs.Values.{blank_note, empty_journal}
 use Rattle.k_agree.specs.Agreement.{BookShows, Agrees, BookAgrees}
 use Rattle.k_agree.specs.Opening.{opening_cell, opening_book, serials_at_first, made_at_first, homes_at_first}
 use Rattle.k_agree.proofs.Meetings.{no_tail}
 use Rattle.k_base.proofs.Lists.{at_number}
+use Rattle.k_base.proofs.Owners.{segment_known}
 
 pub past_numbers : {A : Type 0} (f : ℕ → A) (first n k : ℕ) (d : A) → n ≤ k → get_or (map f (numbers_from first n)) k d ≡ d
 past_numbers f first zero k d h = refl
@@ -75,11 +76,6 @@ module _ (trace : Trace) where
   first_serials (User p) = no_serials (length trace.procs + trace.shared_heaps) (p.0 + 1) (omega arith)
   first_serials (Shared s) = no_serials (length trace.procs + trace.shared_heaps) (1 + process_count trace + s.0) (omega arith)
 
-  inside : (c : Cell) → IsHeap trace c → segment_of trace c < segment_count trace
-  inside Kernel there = omega arith
-  inside (User p) there = omega (arith, there)
-  inside (Shared s) there = omega (arith, there)
-
   made_first : (c : Cell) → IsHeap trace c → (seg : ℕ) → get_or (made_at_first trace c) seg None ≡ made_of (owner_of trace (opening trace)) (opening trace).made c seg
   made_first c there seg = found (nat_le (segment_count trace) seg) refl ∙ mine (seg == segment_of trace c) refl
     where
@@ -89,7 +85,7 @@ module _ (trace : Trace) where
       found : (b : Bool) → nat_le (segment_count trace) seg ≡ b → get_or (made_at_first trace c) seg None ≡ wanted
       found true f =
           let high = leb-true (segment_count trace) seg f in
-          let low = inside c there in
+          let low = segment_known trace c there in
           past_numbers _ 0 (segment_count trace) seg None high
           ∙ ap (λ b. cond b (Some (serials_at_first c)) None) (sym (false_from_ne_true (seg == segment_of trace c) (λ e. let same = eqb-true seg (segment_of trace c) e in absurd (omega (arith, high, low, same)))))
       found false f =
@@ -136,14 +132,10 @@ module _ (trace : Trace) where
   }
 
   -- the book
-  charged_nothing : (p : ℕ) → charge_of trace (opening trace) p ≡ 0
-  unfolding bytes_by owner_of_segment
-  charged_nothing p = refl
-
   direct_nothing : (m : ℕ) → direct_by trace (charge_of trace (opening trace)) m ≡ 0
   direct_nothing m =
       let mine = filter (λ p. limit_of trace p == m) (numbers_below (process_count trace)) in
-      sum_same (charge_of trace (opening trace)) (λ p. 0) charged_nothing mine ∙ zeros mine
+      sum_same (charge_of trace (opening trace)) (λ p. 0) (charged_nothing trace) mine ∙ zeros mine
 
   bytes_nothing : (s : ℕ) → bytes_of trace (opening trace) (shared s) ≡ 0
   unfolding bytes_by owner_of_segment

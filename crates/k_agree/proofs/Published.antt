@@ -89,7 +89,7 @@ module _ (trace : Trace) (journal : JournalValue) (p : ℕ) (note : NoteValue) (
   totals c there =
       let before = b.totals c there in
       let count = next_count trace journal event c in
-      let one = ap (λ m. Rattle.k_tie.specs.Rule.one_if_same m (segment_of trace c)) a.number ∙ one_number trace (user p) c a.there there in
+      let one = ap (λ m. Rattle.k_base.specs.Counts.one_if_same m (segment_of trace c)) a.number ∙ one_number trace (user p) c a.there there in
       let is : ◌≡◌ {A = ℕ} (cond (touches trace now event c) 1 0) (cond (heap_eq (user p) c) 1 0) = ap (λ b. cond b 1 0) (own.alone c) in
       omega (arith, before, count, one, is)
 

@@ -19,7 +19,7 @@ use Rattle.k_types.specs.Steps.{MayEnd}
 use Rattle.k_types.specs.Totals.{total}
 use Rattle.k_types.specs.Trace.{Trace}
 use Rattle.k_base.proofs.NameTests.{name_eq-true, name_eq_refl, heap_eq_refl}
-use Rattle.k_base.proofs.Sums.{bit, sum_same, sum-filter, zeros, count_is_total}
+use Rattle.k_base.proofs.Sums.{bit, sum_same, sum-filter, zeros, count_is_total, not_or_bit}
 use Rattle.k_base.proofs.Tests.{same_test}
 use Rattle.k_laws.proofs.Means.{reach_is}
 use Rattle.k_laws.proofs.Turned.{some_element}
@@ -128,10 +128,6 @@ module _ (trace : Trace) (st : State) (p : ℕ) (value : CellValue) (book : Book
 
   no_way : ℕ → ℕ
   no_way t = bit (not (has_way_into (owner_of trace st) (book_part trace st) (part trace st (user p)) p t))
-
-  not_or_bit : (a b : Bool) → bit (not (not a || b)) ≡ cond a (bit (not b)) 0
-  not_or_bit true b = refl
-  not_or_bit false b = refl
 
   shares_told : count_by (λ e. not (share_stays trace st (user p) e)) st.shares ≡ total (λ t. cond (has_share st.shares p t) (no_way t) 0) (numbers_below trace.shared_heaps)
   unfolding no_way

@@ -8,9 +8,10 @@ use Rattle.k_types.specs.Cells.{Cell}
 use Rattle.k_types.specs.Names.{heap_eq}
 use Rattle.k_types.specs.Trace.{Trace, IsHeap, segment_of}
 use Rattle.k_base.proofs.NameTests.{heap_eq-true, heap_eq_refl}
-use Rattle.k_tie.specs.Rule.{total_of, one_if_same}
+use Rattle.k_tie.specs.Rule.{total_of}
 use Rattle.k_tie.specs.Values.{JournalValue}
 use Rattle.k_agree.specs.Committing.{NotedCell, cells_of, numbers_of, cell_among, AreDistinctCells, touches_after, IsReady}
+use Rattle.k_base.specs.Counts.{one_if_same}
 
 -- cells of one number are one
 pub same_number : (trace : Trace) (a b : Cell) → IsHeap trace a → IsHeap trace b → segment_of trace a ≡ segment_of trace b → a ≡ b

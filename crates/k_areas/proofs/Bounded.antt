@@ -1,14 +1,14 @@
 -- How much a sweep can free.
-use Rattle.std.proofs.Common.{◌≡◌, ℕ, ◌+◌, ◌-◌, ◌*◌, ◌≤◌, Bool, true, false, cond, List, [], ◌∷◌, length, get_or, sum_by, Option, Some, None, arith}
+use Rattle.std.proofs.Common.{◌≡◌, ℕ, ◌-◌, ◌*◌, ◌≤◌, List, [], ◌∷◌, length, get_or, sum_by, Option, Some, None, arith}
 use Rattle.std.specs.List.{AllByRecursion}
 use Rattle.std.proofs.lemmas.List.Sums.{sum_by-cons}
 use Rattle.k_types.specs.State.{Object}
-use Rattle.k_types.specs.Types.{object_size}
 use Rattle.k_types.specs.Owners.{object_bytes}
 use Rattle.k_types.specs.Totals.{total}
-use Rattle.k_space.specs.Segments.{Row, SegmentValue, IsSegment, made, is_marked, object_of, objects_from, segment_bytes}
+use Rattle.k_space.specs.Segments.{Row, SegmentValue, IsSegment, made, segment_bytes}
 use Rattle.k_mark.proofs.SweepSteps.{dead_rows}
 use Rattle.k_mark.specs.Sweeping.{dead_row, dead_bytes_of, dead_objects, dead_bytes}
+use Rattle.k_mark.proofs.Rows.{dead_sum}
 
 -- the first serial has no object
 rows_within : (rows : List (Option Row)) → get_or rows 0 None ≡ None → sum_by dead_row rows ≤ length rows - 1
@@ -16,25 +16,13 @@ rows_within [] first = omega arith
 rows_within (None ∷ rows) first = omega (arith, sum_by-cons dead_row None rows, dead_rows rows)
 rows_within (Some row ∷ rows) first = absurd (cc)
 
-row_bytes_most : (number serial : ℕ) (row : Row) → dead_bytes_of (Some row) ≤ object_bytes (object_of number serial row)
-row_bytes_most number serial row = by_mark (is_marked row.color)
-  where
-    by_mark : (b : Bool) → cond b 0 (object_size (length row.fields)) ≤ object_size (length row.fields)
-    by_mark true = omega arith
-    by_mark false = omega arith
-
-rows_bytes_most : (number : ℕ) (rows : List (Option Row)) (serial : ℕ) → sum_by dead_bytes_of rows ≤ total object_bytes (objects_from number serial rows)
-rows_bytes_most number [] serial = omega arith
-rows_bytes_most number (None ∷ rows) serial = omega (arith, sum_by-cons dead_bytes_of None rows, rows_bytes_most number rows (serial + 1))
-rows_bytes_most number (Some row ∷ rows) serial = omega (arith, sum_by-cons dead_bytes_of (Some row) rows, row_bytes_most number serial row, rows_bytes_most number rows (serial + 1))
-
 -- in an area of one segment
 pub one_most : (s : SegmentValue) (room : ℕ) → IsSegment s → dead_objects (record { segments = s ∷ []; room = room }) ≤ made s
 one_most s room sound = omega (arith, sum_by-cons (λ (x : SegmentValue). sum_by dead_row x.rows) s [], rows_within s.rows sound.first)
 
 pub one_bytes_most : (s : SegmentValue) (room : ℕ) → IsSegment s → dead_bytes (record { segments = s ∷ []; room = room }) ≤ 144 * made s
 one_bytes_most s room sound =
-    let most : sum_by dead_bytes_of s.rows ≤ segment_bytes s = rows_bytes_most s.number s.rows 0 in
+    let most : sum_by dead_bytes_of s.rows ≤ segment_bytes s = dead_sum s.number 0 s.rows in
     omega (arith, sum_by-cons (λ (x : SegmentValue). sum_by dead_bytes_of x.rows) s [], most, sound.bytes)
 
 -- of any objects

@@ -1,11 +1,11 @@
 -- The lists of names of an area and of exit items.
-use Rattle.std.proofs.Common.{◌≡◌, ◌&&◌, ◌||◌, ℕ, zero, suc, ◌+◌, ◌<◌, ◌≤◌, Bool, true, false, cond, refl, sym, ap, ap₂, ◌∙◌, inl, inr, List, [], ◌∷◌, length, map, filter, get_or, Option, Some, None, is_some, option_map, arith}
+use Rattle.std.proofs.Common.{◌≡◌, ◌&&◌, ◌||◌, ℕ, zero, suc, ◌≤◌, Bool, true, false, cond, refl, sym, ap, ap₂, ◌∙◌, inl, inr, List, [], ◌∷◌, length, map, filter, get_or, Option, Some, None, is_some, option_map, arith}
 use Rattle.std.proofs.lemmas.Bool.{cases_lt, or_parts}
 use Rattle.k_types.specs.declared.names.Name.{Name}
 use Rattle.k_types.specs.Names.{name_eq, name_among}
 use Rattle.k_types.specs.Numbers.{numbers_from}
-use Rattle.k_types.specs.State.{Object, has}
-use Rattle.k_base.proofs.Objects.{has-kept}
+use Rattle.k_types.specs.State.{Object}
+use Rattle.k_base.proofs.Objects.{has-kept, names_have}
 use Rattle.k_space.specs.Segments.{Row, SegmentValue, made, some_gray, some_black, unmarked_row as white_row}
 use Rattle.k_space.specs.Areas.{AreaValue, segment_at, row_of_name, gray_at, black_at, unmarked}
 use Rattle.k_base.proofs.NameTests.{name_eq_refl}
@@ -14,42 +14,28 @@ use Rattle.k_areas.specs.Shown.{area_objects, HasNoneFrom}
 use Rattle.k_areas.specs.Lists.{made_list, names_where, gray_names, black_names, marked_targets}
 use Rattle.k_areas.proofs.Foreign.{area_has}
 use Rattle.k_areas.proofs.Looked.{row_unmarked}
-
--- a list of numbers, each with what is given for it
-numbered_at : (f : ℕ → Option ℕ) (first n i : ℕ) → i < n → get_or (map f (numbers_from first n)) i None ≡ f (first + i)
-numbered_at f first zero i within = absurd (omega (arith, within))
-numbered_at f first (suc n) zero within = ap f (omega arith)
-numbered_at f first (suc n) (suc i) within = numbered_at f (suc first) n i (omega (arith, within)) ∙ ap f (omega arith)
+use Rattle.k_base.proofs.Lists.{at_number, mapped_length}
 
 numbered_past : (f : ℕ → Option ℕ) (first n i : ℕ) → n ≤ i → get_or (map f (numbers_from first n)) i None ≡ None
 numbered_past f first zero i past = refl
 numbered_past f first (suc n) zero past = absurd (omega (arith, past))
 numbered_past f first (suc n) (suc i) past = numbered_past f (suc first) n i (omega (arith, past))
 
-numbered_length : (f : ℕ → Option ℕ) (first n : ℕ) → length (map f (numbers_from first n)) ≡ n
-numbered_length f first zero = refl
-numbered_length f first (suc n) = ap suc (numbered_length f (suc first) n)
-
 pub made_listed : (segments : List SegmentValue) (bound number : ℕ) → HasNoneFrom segments bound → get_or (made_list bound segments) number None ≡ option_map made (segment_at segments number)
 made_listed segments bound number none =
     elim (cases_lt number bound) [
-      | inl within ↦ numbered_at (λ k. option_map made (segment_at segments k)) 0 bound number within ∙ ap (λ k. option_map made (segment_at segments k)) (omega arith)
+      | inl within ↦ at_number (λ k. option_map made (segment_at segments k)) 0 bound number None within ∙ ap (λ k. option_map made (segment_at segments k)) (omega arith)
       | inr past ↦ numbered_past (λ k. option_map made (segment_at segments k)) 0 bound number past ∙ sym (ap (option_map made) (none number past))
     ]
 
 pub made_length : (segments : List SegmentValue) (bound : ℕ) → length (made_list bound segments) ≡ bound
-made_length segments bound = numbered_length (λ k. option_map made (segment_at segments k)) 0 bound
-
--- the names of objects
-among_names : (n : Name) (os : List Object) → name_among n (map (λ (o : Object). o.name) os) ≡ has os n
-among_names n [] = refl
-among_names n (o ∷ os) = ap (λ b. name_eq o.name n || b) (among_names n os)
+made_length segments bound = mapped_length (λ k. option_map made (segment_at segments k)) 0 bound
 
 -- of those that pass a test which only what is there passes
 named_where : (t : Name → Bool) (g : Option Row → Bool) (segments : List SegmentValue) (bound : ℕ) (n : Name) → t n ≡ g (row_of_name segments n) → g None ≡ false → HasNoneFrom segments bound →
     name_among n (names_where t bound segments) ≡ t n
 named_where t g segments bound n is off none =
-    among_names n (filter (λ o. t o.name) (area_objects bound segments))
+    names_have (filter (λ o. t o.name) (area_objects bound segments)) n
     ∙ has-kept t (area_objects bound segments) n
     ∙ ap₂ (λ a b. a && b) (area_has segments bound none n) is
     ∙ by_row (row_of_name segments n)

@@ -18,7 +18,7 @@ use Rattle.k_types.specs.Cells.{CellPart}
 use Rattle.k_frame.specs.PartUpdates.{with_written}
 use Rattle.k_space.specs.Objects.{new_body}
 use Rattle.k_space.specs.Segments.{Row, Color, White, Gray, Black, is_gray, is_black, is_marked, some_gray, some_black, some_marked, SegmentValue, object_of, placed, made, new_row, with_row, unmarked_row, unmarked_segment}
-use Rattle.k_space.specs.Areas.{AreaValue, black_at, is_foreign, marked_at, place_of, row_of_name, segment_at, with_segment, with_row_of, unmarked}
+use Rattle.k_space.specs.Areas.{AreaValue, black_at, is_foreign, marked_at, place_of, row_of_name, segment_at, with_segment, with_row_of, unmarked, gray_at}
 use Rattle.k_space.proofs.AreaRows.{Found, found, number_found, changed_is}
 use Rattle.k_base.proofs.NameTests.{name_eq_refl}
 use Rattle.k_space.proofs.Numbers.{distinct_push}
@@ -40,6 +40,20 @@ use Rattle.k_areas.specs.Parts.{AreExitsMarked}
 use Rattle.k_areas.proofs.Named.{black_named, marked_named}
 use Rattle.k_areas.proofs.Sums.{dead_counted, dead_weighed}
 use Rattle.k_mark.proofs.KeptMarked.{at_same, at_other}
+use Rattle.k_base.proofs.Lists.{some_one}
+
+-- what is black is what is marked, where nothing is gray
+pub black_marked : (a : AreaValue) → ((n : Name) → gray_at a n ≡ false) → (n : Name) → black_at a n ≡ marked_at a n
+black_marked a off n = by_row (row_of_name a.segments n) (off n)
+  where
+    by_color : (color : Color) → is_gray color ≡ false → is_black color ≡ is_marked color
+    by_color White f = refl
+    by_color Gray f = absurd (cc)
+    by_color Black f = refl
+
+    by_row : (o : Option Row) → some_gray o ≡ false → some_black o ≡ some_marked o
+    by_row None f = refl
+    by_row (Some row) f = by_color row.color f
 
 -- the serials given are those of the segment found
 made_some : (c : CellPart) (segments : List SegmentValue) (number : ℕ) (o : Option SegmentValue) → c.made number ≡ option_map made (segment_at segments number) → segment_at segments number ≡ o → c.made number ≡ option_map made o
@@ -52,13 +66,10 @@ module _ (segments : List SegmentValue) (s t : SegmentValue) (at : segment_at se
   set_begun here begun number x there =
       elim (cases_eq number s.number) [
         | inl e ↦
-            let one : t ≡ x = same_segment (sym (at_set_same segments s.number s t at same) ∙ ap (segment_at (set segments (place_of segments s.number) t)) (sym e) ∙ there) in
+            let one : t ≡ x = some_one (sym (at_set_same segments s.number s t at same) ∙ ap (segment_at (set segments (place_of segments s.number) t)) (sym e) ∙ there) in
             subst (λ (y : SegmentValue). 0 < length y.rows) one here
         | inr ne ↦ begun number x (sym (at_set_other segments s.number s t at same number ne) ∙ there)
       ]
-    where
-      same_segment : {x y : SegmentValue} → ◌≡◌ {A = Option SegmentValue} (Some x) (Some y) → x ≡ y
-      same_segment e = cc
 
   made_same : (number : ℕ) → number ≡ s.number → option_map made (segment_at (set segments (place_of segments s.number) t) number) ≡ Some (made t)
   made_same number e = ap (λ k. option_map made (segment_at (set segments (place_of segments s.number) t) k)) e ∙ ap (option_map made) (at_set_same segments s.number s t at same)
@@ -271,16 +282,7 @@ module _ (bound : ℕ) (begun ended : AreaValue) (c : CellPart) (p : IsMarkedPar
   bytes_part = dead_weighed ended bound shown_ended.numbered ∙ ap₂ (λ (t : Name → Bool) os. total object_bytes (filter (λ o. not (t o.name)) os)) (fun_ext same_mark) (sym shown_ended.objects)
 
   same_black : (n : Name) → black_at ended n ≡ marked_at ended n
-  same_black n = by_row (row_of_name ended.segments n) (p.marked.black n)
-    where
-      by_color : (color : Color) → is_gray color ≡ false → is_black color ≡ is_marked color
-      by_color White off = refl
-      by_color Gray off = absurd (cc)
-      by_color Black off = refl
-
-      by_row : (o : Option Row) → some_gray o ≡ false → some_black o ≡ some_marked o
-      by_row None off = refl
-      by_row (Some row) off = by_color row.color off
+  same_black = black_marked ended p.marked.black
 
   pub black_reached : (n : Name) → name_among n (black_names bound ended) ≡ has (reached_in c) n
   black_reached n = black_named ended bound n shown_ended.numbered.none ∙ same_black n ∙ same_mark n

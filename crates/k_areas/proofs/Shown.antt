@@ -13,6 +13,7 @@ use Rattle.k_areas.specs.Shown.{area_objects, objects_of_some, HasNoneFrom}
 use Rattle.k_space.proofs.AreaRows.{number_found}
 use Rattle.k_base.proofs.NameTests.{name_eq-true}
 use Rattle.k_space.proofs.NameTests.{name_eq-parts}
+use Rattle.std.proofs.lemmas.List.Folds.{list_any-append}
 
 -- what a test says of the object of a name, if there is one
 abbrev pub at_row : (Object → Bool) → Name → Option Row → Bool
@@ -59,14 +60,6 @@ module _ (t : Object → Bool) (n : Name) (off : (o : Object) → name_eq o.name
   any_segment : (s : SegmentValue) → s.number ≡ n.seg.0 → list_any t (segment_objects s) ≡ at_row t n (row_at s n.serial.0)
   any_segment s e = ap (λ k. list_any t (objects_from k 0 s.rows)) e ∙ any_from 0 s.rows n.serial.0 (omega arith)
 
-  any_append : (xs ys : List Object) → list_any t (xs ++ ys) ≡ (list_any t xs || list_any t ys)
-  any_append [] ys = refl
-  any_append (x ∷ xs) ys = ap (λ b. t x || b) (any_append xs ys) ∙ or_assoc (t x) (list_any t xs) (list_any t ys)
-    where
-      or_assoc : (a b c : Bool) → (a || (b || c)) ≡ ((a || b) || c)
-      or_assoc true b c = refl
-      or_assoc false b c = refl
-
   none_of : (segments : List SegmentValue) (m : ℕ) → m ≢ n.seg.0 → list_any t (objects_of_some (segment_at segments m)) ≡ false
   none_of segments m differs = by_segment (segment_at segments m) refl
     where
@@ -77,7 +70,7 @@ module _ (t : Object → Bool) (n : Name) (off : (o : Object) → name_eq o.name
   none_below : (segments : List SegmentValue) (m : ℕ) → m ≤ n.seg.0 → list_any t (area_objects m segments) ≡ false
   none_below segments zero within = refl
   none_below segments (suc m) within =
-      any_append (area_objects m segments) (objects_of_some (segment_at segments m))
+      list_any-append t (area_objects m segments) (objects_of_some (segment_at segments m))
       ∙ ap₂ (λ a b. a || b) (none_below segments m (omega (arith, within))) (none_of segments m (λ s. omega (arith, within, s)))
 
   here_is : (segments : List SegmentValue) → list_any t (objects_of_some (segment_at segments n.seg.0)) ≡ at_row t n (row_of_name segments n)
@@ -91,7 +84,7 @@ module _ (t : Object → Bool) (n : Name) (off : (o : Object) → name_eq o.name
   any_within : (segments : List SegmentValue) (m : ℕ) → n.seg.0 < m → list_any t (area_objects m segments) ≡ at_row t n (row_of_name segments n)
   any_within segments zero within = absurd (omega (arith, within))
   any_within segments (suc m) within =
-      any_append (area_objects m segments) (objects_of_some (segment_at segments m))
+      list_any-append t (area_objects m segments) (objects_of_some (segment_at segments m))
       ∙ by_place (cases_eq n.seg.0 m) (any_within segments m)
     where
       by_place : (n.seg.0 ≡ m) ⊎ (n.seg.0 ≢ m) → (n.seg.0 < m → list_any t (area_objects m segments) ≡ at_row t n (row_of_name segments n)) →

@@ -1,19 +1,14 @@
 -- The seventh and the eighth point by their tests.
-use Rattle.std.proofs.Common.{◌≡◌, ◌∙◌, ◌↔◌, ◌&&◌, ◌==◌, ◌⊎◌, inl, inr, ℕ, zero, suc, ◌+◌, ◌-◌, ◌^◌, ◌<◌, ◌≤◌, min, Bool, true, false, cond, List, [], ◌∷◌, length, map, filter, get_or, refl, sym, ap, ap₂, eq-eqb, eqb-true, le-leb, leb-true, arith}
+use Rattle.std.proofs.Common.{◌≡◌, ◌∙◌, ◌↔◌, ◌&&◌, ◌==◌, ℕ, suc, ◌+◌, ◌-◌, ◌^◌, ◌<◌, ◌≤◌, min, Bool, true, List, [], ◌∷◌, length, map, get_or, refl, ap, ap₂, eq-eqb, eqb-true, le-leb, leb-true, arith}
 use Rattle.std.specs.List.{list_all}
-use Rattle.std.proofs.lemmas.Bool.{and_from, and_parts, cases_eq, false≢true}
-use Rattle.std.proofs.lemmas.Bool.Decides.{nat_tests}
+use Rattle.std.proofs.lemmas.Bool.{and_from, and_parts}
 use Rattle.k_types.specs.declared.names.Heap.{Heap}
 use Rattle.k_types.specs.declared.names.Heap.TheVariants.{Kernel}
-use Rattle.k_types.specs.declared.setup.LimitRow.{LimitRow}
-use Rattle.k_types.specs.Limits.{direct_by, limits_in, max_of, use_of, use_within}
+use Rattle.k_types.specs.Limits.{limits_in, max_of, use_of}
 use Rattle.k_types.specs.Numbers.{numbers_below, numbers_from}
 use Rattle.k_types.specs.Owners.{bytes_of, charge_of, owner_of}
 use Rattle.k_types.specs.State.{State}
-use Rattle.k_types.specs.Totals.{total}
-use Rattle.k_types.specs.Trace.{Trace, limit_of, process_count}
-use Rattle.k_types.specs.TraceRules.{AreLimits}
-use Rattle.k_base.proofs.Maxima.{length_in}
+use Rattle.k_types.specs.Trace.{Trace, process_count}
 use Rattle.k_base.proofs.Numbered.{all_at_below, all_below}
 use Rattle.k_audit.specs.Agreeing.{agree, claims_agree, kernel_agrees, owners_agree, shared_bytes}
 use Rattle.k_audit.specs.Claims.{Claims, claims_of}
@@ -21,6 +16,7 @@ use Rattle.k_audit.specs.Grammar.{AreSpelledClaims}
 use Rattle.k_audit.specs.Sums.{UsesFit}
 use Rattle.k_audit.specs.Tests.{use_fits}
 use Rattle.k_audit.proofs.Owners.{owners_law}
+use Rattle.k_base.proofs.Lists.{get_mapped}
 
 pub uses_law : (trace : Trace) (st : State) → (list_all (use_fits trace st) (numbers_below (length trace.limits)) ≡ true) ↔ UsesFit trace st
 uses_law trace st = (
@@ -37,11 +33,6 @@ agree_from f (x ∷ xs) first each =
     let rest = agree_from f xs (suc first) (λ k inside. each (suc k) (omega arith) ∙ ap f (let e : first + suc k ≡ suc first + k = omega arith in e)) in
     ap₂ (λ (y : ℕ) (ys : List ℕ). y ∷ ys) here rest
 
-same_at : (f : ℕ → ℕ) (n first k : ℕ) → k < n → get_or (map f (numbers_from first n)) k 0 ≡ f (first + k)
-same_at f zero first k inside = absurd (omega arith)
-same_at f (suc n) first zero inside = ap f (let e : first ≡ first + 0 = omega arith in e)
-same_at f (suc n) first (suc k) inside = same_at f n (suc first) k (omega arith) ∙ ap f (let e : suc first + k ≡ first + suc k = omega arith in e)
-
 pub agree_law : (f : ℕ → ℕ) (xs : List ℕ) (n : ℕ) → length xs ≡ n → (agree f xs n ≡ true) ↔ (xs ≡ map f (numbers_below n))
 agree_law f xs n long =
     let test : ℕ → Bool = λ k. get_or xs k 0 == f k in (
@@ -49,7 +40,7 @@ agree_law f xs n long =
           agree_from f xs 0 (λ k inside. eqb-true (get_or xs k 0) (f k) (all_at_below (λ k. get_or xs k 0 == f k) n k all (omega (arith, long))) ∙ ap f (let e : k ≡ 0 + k = omega arith in e))
           ∙ ap (λ m. map f (numbers_from 0 m)) long,
       λ same. all_below (λ k. get_or xs k 0 == f k) n (λ k inside.
-          eq-eqb (get_or xs k 0) (f k) (ap (λ (ys : List ℕ). get_or ys k 0) same ∙ same_at f n 0 k inside ∙ ap f (let e : 0 + k ≡ k = omega arith in e))),
+          eq-eqb (get_or xs k 0) (f k) (ap (λ (ys : List ℕ). get_or ys k 0) same ∙ get_mapped f 0 n k inside ∙ ap f (let e : 0 + k ≡ k = omega arith in e))),
     )
 
 -- ---- sums that fit
@@ -57,37 +48,6 @@ agree_law f xs n long =
 -- a number that is small is not cut
 pub not_cut : (n result max : ℕ) → n ≤ max → max < 2 ^ 40 → result ≡ min n (2 ^ 64 - 1) → result ≡ n
 not_cut n result max le small is = omega (arith, le, small, is)
-
-total_at : (f : ℕ → ℕ) (g : ℕ → Bool) (first n p : ℕ) → first ≤ p → p < first + n → g p ≡ true → f p ≤ total f (filter g (numbers_from first n))
-total_at f g first zero p low high on = absurd (omega arith)
-total_at f g first (suc n) p low high on =
-    first_or (cases_eq first p) (g first) refl
-    (λ other. total_at f g (suc first) n p (omega arith) (omega arith) on)
-  where
-    rest : (b : Bool) → f p ≤ total f (filter g (numbers_from (suc first) n)) → f p ≤ total f (cond b (first ∷ filter g (numbers_from (suc first) n)) (filter g (numbers_from (suc first) n)))
-    rest true le = omega arith
-    rest false le = le
-
-    first_or : (first ≡ p) ⊎ (first ≡ p → ⊥) → (b : Bool) → g first ≡ b → ((first ≡ p → ⊥) → f p ≤ total f (filter g (numbers_from (suc first) n))) →
-        f p ≤ total f (cond b (first ∷ filter g (numbers_from (suc first) n)) (filter g (numbers_from (suc first) n)))
-    first_or (inl same) true e later = let here = ap f same in omega arith
-    first_or (inl same) false e later = absurd (false≢true (sym e ∙ ap g same ∙ on))
-    first_or (inr other) b e later = rest b (later other)
-
-direct_at_most : (rows : List LimitRow) (direct : ℕ → ℕ) (depth m : ℕ) → 0 < depth → direct m ≤ use_within rows direct depth m
-unfolding use_within
-direct_at_most rows direct zero m positive = absurd (omega arith)
-direct_at_most rows direct (suc depth) m positive = omega arith
-
--- a process is charged no more than is used at its limit
-pub charge_at_most : (trace : Trace) (st : State) (p : ℕ) → p < process_count trace → AreLimits trace → charge_of trace st p ≤ use_of trace st (limit_of trace p)
-charge_at_most trace st p known rules =
-    let limited = rules.limited p known in
-    let long = length_in trace.limits st.maxima in
-    let direct = direct_at_most (limits_in trace st) (direct_by trace (charge_of trace st)) (length (limits_in trace st)) (limit_of trace p) (omega arith) in
-    let own : (limit_of trace p == limit_of trace p) ≡ true = grind (arith, nat_tests) in
-    let here = total_at (charge_of trace st) (λ q. limit_of trace q == limit_of trace p) 0 (process_count trace) p (omega arith) (omega arith) own in
-    omega (arith, here, direct)
 
 -- ---- the point
 

@@ -1,5 +1,5 @@
 -- The second point by its test.
-use Rattle.std.proofs.Common.{◌≡◌, ◌∙◌, ◌↔◌, ◌&&◌, ℕ, ◌≤◌, Bool, true, false, List, [], length, get_or, Option, Some, None, refl, sym, ap, subst, inl, inr, arith}
+use Rattle.std.proofs.Common.{◌≡◌, ◌∙◌, ◌↔◌, ◌&&◌, ℕ, ◌≤◌, Bool, true, false, List, [], length, get_or, Option, Some, None, refl, sym, subst, inl, inr, arith}
 use Rattle.std.specs.Prelude.{IsTrue}
 use Rattle.std.specs.List.{list_all, list_any}
 use Rattle.std.proofs.lemmas.Bool.{and_from, and_parts, false≢true}
@@ -12,12 +12,12 @@ use Rattle.k_types.specs.Names.{directory, heap_eq, leads_to, name_eq}
 use Rattle.k_types.specs.Numbers.{numbers_below}
 use Rattle.k_types.specs.Owners.{phase_of}
 use Rattle.k_types.specs.Sound.{HasNoDangling, IsSized}
-use Rattle.k_types.specs.State.{Content, ExitItem, Holds, Object, Refers, Scan, State, content_leads_to, has, has_exit, in_registers, refers, refers_in, scan_of}
+use Rattle.k_types.specs.State.{Content, ExitItem, Holds, Object, Refers, State, content_leads_to, has, has_exit, in_registers, refers, refers_in}
 use Rattle.k_types.specs.Trace.{Trace, process_count}
 use Rattle.k_base.proofs.NameTests.{heap_eq-true, heap_eq_refl, name_eq-true, name_eq_refl}
 use Rattle.k_base.proofs.Numbered.{all_at_below, all_below}
 use Rattle.k_audit.specs.Tests.{all_registers_there, content_there, is_there, nothing_dangles, object_there, registers_there, root_there, roots_there, target_there}
-use Rattle.k_audit.proofs.Means.{all_say, order, said_of_all}
+use Rattle.k_audit.proofs.Means.{all_say, order, said_of_all, none_scanned}
 
 -- the object of that name is there
 abbrev there : List Object → Name → Type 0
@@ -125,9 +125,6 @@ root_holds objects Absorbed each = refl
 
 -- ---- the point
 
-scans_none : (scans : List Scan) (h : Heap) (roots : List Name) → scans ≡ [] → scan_of scans h ≡ Some roots → ⊥
-scans_none scans h roots none is = let bad : (let r : Option (List Name) = None in r) ≡ Some roots = ap (λ (xs : List Scan). scan_of xs h) (sym none) ∙ is in absurd cc
-
 pub dangling_law : (trace : Trace) (st : State) → IsSized trace st → st.scans ≡ [] → (nothing_dangles trace st ≡ true) ↔ HasNoDangling st
 dangling_law trace st sized none = (
   λ all.
@@ -140,7 +137,7 @@ dangling_law trace st sized none = (
         fields = fields_say st.objects d.1;
         registers = registers_say trace st sized c.1;
         exits = exits_say (λ pair. there st.objects pair.1) (target_there st.objects) (λ e ok. ok) st.exits b.1;
-        scans = λ h roots n is among. absurd (scans_none st.scans h roots none is);
+        scans = λ h roots n is among. absurd (none_scanned st.scans h roots none is);
         frozen = λ s root is. phase_at trace st sized (λ t phase. root_there st.objects phase) a.1 s (Frozen root) is (λ e. absurd cc);
       },
   λ holds.

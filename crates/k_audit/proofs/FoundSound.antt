@@ -12,9 +12,9 @@ use Rattle.k_audit.specs.Ranges.{IsInRange}
 use Rattle.k_audit.specs.Snapshots.{snapshot_text}
 use Rattle.k_audit.specs.Verdicts.{HoldsAt, IsSoundText}
 use Rattle.k_audit.proofs.Sayable.{spelled_claims, spelled_state}
-use Rattle.k_audit.proofs.Shaped.{none_scanned}
 use Rattle.k_audit.proofs.Stilled.{claims_same, ended_same, exit_same, own_same, share_same, sharer_same, use_same}
 use Rattle.k_audit.proofs.Written.{text_is}
+use Rattle.k_audit.proofs.Means.{none_scanned}
 
 module _ (trace : Trace) (st : State) (sound : IsSound trace st) where
   own_at : (segment : ℕ) → owner_of trace (still trace st) segment ≡ owner_of trace st segment

@@ -1,24 +1,25 @@
 -- The fifth point by its test.
-use Rattle.std.proofs.Common.{◌≡◌, ◌∙◌, ◌↔◌, ◌&&◌, ◌||◌, ◌==◌, ℕ, Bool, true, false, not, List, [], ◌∷◌, get_or, Option, Some, None, refl, sym, ap, subst, inl, inr, eq-eqb, eqb-true, arith}
+use Rattle.std.proofs.Common.{◌≡◌, ◌∙◌, ◌↔◌, ◌&&◌, ◌||◌, ◌==◌, ℕ, Bool, true, false, not, List, [], get_or, Option, Some, None, refl, sym, ap, subst, inl, inr, eq-eqb, eqb-true, arith}
 use Rattle.std.specs.Prelude.{IsTrue, IsFalse}
 use Rattle.std.specs.List.{list_all, list_any}
-use Rattle.std.proofs.lemmas.Bool.{and_from, and_parts, false≢true, false_from_ne_true, not-true, not_from_false, or_cases, or_left, or_right}
+use Rattle.std.proofs.lemmas.Bool.{and_from, and_parts, false≢true, false_from_ne_true, not-true, not_from_false}
 use Rattle.k_types.specs.declared.names.Heap.{Heap}
 use Rattle.k_types.specs.declared.names.Heap.TheVariants.{Kernel, User, Shared}
 use Rattle.k_types.specs.declared.names.Name.{Name}
-use Rattle.k_types.specs.declared.names.Phase.{Phase}
-use Rattle.k_types.specs.declared.names.Phase.TheVariants.{Unmade, Populating, Frozen, Absorbed}
+use Rattle.k_types.specs.declared.names.Phase.TheVariants.{Absorbed}
 use Rattle.k_types.specs.Names.{among, leads_to}
 use Rattle.k_types.specs.Owners.{is_absorbed, phase_of, shared, user}
 use Rattle.k_types.specs.Sound.{AreGone, IsSized}
-use Rattle.k_types.specs.State.{Scan, Sharing, State, has_exit, has_share, in_registers, scan_of}
+use Rattle.k_types.specs.State.{Sharing, State, has_exit, has_share, in_registers}
 use Rattle.k_types.specs.Steps.{has_sharer}
 use Rattle.k_types.specs.Trace.{Trace, process_count}
 use Rattle.k_base.proofs.NameTests.{name_eq_refl}
 use Rattle.k_base.proofs.Numbered.{all_at_below, all_below}
 use Rattle.k_audit.specs.Tests.{all_registers_gone, exits_stay, heap_stays, is_null, nothing_left, registers_gone, share_stays}
-use Rattle.k_audit.proofs.Means.{all_say, order, said_of_all}
+use Rattle.k_audit.proofs.Means.{all_say, order, said_of_all, no_scan}
 use Rattle.k_audit.proofs.DanglingLaw.{exits_hold, exits_say, no_registers}
+use Rattle.k_base.proofs.Owners.{absorbed_is}
+use Rattle.k_base.proofs.Shares.{sharer_of}
 
 -- ---- registers
 
@@ -76,15 +77,6 @@ shares_hold says test each shares holds =
     (λ e here. each e (here (e.process, e.heap) (and_from (e.process == e.process) (e.heap == e.heap) (eq-eqb e.process e.process refl) (eq-eqb e.heap e.heap refl))))
     shares (λ pair there. holds pair.0 pair.1 there)
 
--- whoever shares a heap is a sharer of it
-pub sharer_of : (shares : List Sharing) (p s : ℕ) → has_share shares p s ≡ true → has_sharer shares s ≡ true
-sharer_of [] p s there = there
-sharer_of (e ∷ shares) p s there =
-    elim (or_cases ((e.process == p) && (e.heap == s)) (has_share shares p s) there) [
-      | inl here ↦ or_left (e.heap == s) (has_sharer shares s) (and_parts (e.process == p) (e.heap == s) here).1
-      | inr later ↦ or_right (e.heap == s) (has_sharer shares s) (sharer_of shares p s later)
-    ]
-
 -- what holds of the heap of each share holds of each heap with a sharer
 pub sharers_say : (says : ℕ → Type 0) (test : Sharing → Bool) → ((e : Sharing) → test e ≡ true → says e.heap) → (shares : List Sharing) → list_all test shares ≡ true → (s : ℕ) → has_sharer shares s ≡ true → says s
 sharers_say says test each shares all s there =
@@ -105,12 +97,6 @@ share_holds st e stays =
     and_from (not (among e.process st.ended)) (not (is_absorbed (phase_of st.phases e.heap)))
     (not_from_false (among e.process st.ended) stays.lives) (not_from_false (is_absorbed (phase_of st.phases e.heap)) stays.there)
 
-absorbed_is : (phase : Phase) → is_absorbed phase ≡ true → phase ≡ Absorbed
-absorbed_is Unmade e = absurd (false≢true e)
-absorbed_is (Populating p) e = absurd (false≢true e)
-absorbed_is (Frozen root) e = absurd (false≢true e)
-absorbed_is Absorbed e = refl
-
 -- ---- exit items
 
 heap_holds : (st : State) (h : Heap) → ((p : ℕ) → h ≡ user p → IsFalse (among p st.ended)) → ((s : ℕ) → h ≡ shared s → phase_of st.phases s ≡ Absorbed → ⊥) → heap_stays st.ended st.phases h ≡ true
@@ -129,9 +115,6 @@ exits_true st gone =
 
 -- ---- the point
 
-no_scans : (scans : List Scan) (h : Heap) → scans ≡ [] → scan_of scans h ≡ None
-no_scans scans h none = ap (λ (xs : List Scan). scan_of xs h) none
-
 pub gone_law : (trace : Trace) (st : State) → IsSized trace st → st.scans ≡ [] → (nothing_left trace st ≡ true) ↔ AreGone st
 gone_law trace st sized none = (
   λ all.
@@ -143,7 +126,7 @@ gone_law trace st sized none = (
         registers = registers_say trace st sized b.0;
         shares = λ p s ended. false_from_ne_true (has_share st.shares p s) (λ there.
             false≢true (sym (shares_say (Stays st) (share_stays st.ended st.phases) (share_says st) st.shares b.1 p s there).lives ∙ ended));
-        scans = λ p ended. no_scans st.scans (user p) none;
+        scans = λ p ended. no_scan st.scans (user p) none;
         exits = λ p n ended. false_from_ne_true (has_exit st.exits (user p) n) (λ there. false≢true (sym (not-true (among p st.ended) (stays (user p) n there)) ∙ ended));
         absorbed_shares = λ s absorbed. false_from_ne_true (has_sharer st.shares s) (λ there.
             false≢true (sym (sharers_say (λ t. IsFalse (is_absorbed (phase_of st.phases t))) (share_stays st.ended st.phases) (λ e ok. (share_says st e ok).there) st.shares b.1 s there)

@@ -1,5 +1,5 @@
 -- The third point by its test.
-use Rattle.std.proofs.Common.{◌≡◌, ◌↔◌, ◌&&◌, ◌||◌, ℕ, Bool, true, false, List, Option, Some, None, refl, sym, subst}
+use Rattle.std.proofs.Common.{◌≡◌, ◌↔◌, ◌&&◌, ◌||◌, ℕ, Bool, true, false, List, Option, Some, None, refl, subst}
 use Rattle.std.specs.Prelude.{IsTrue, IsFalse}
 use Rattle.std.specs.List.{list_all}
 use Rattle.std.proofs.lemmas.Bool.{and_from, and_parts, false≢true}
@@ -10,27 +10,20 @@ use Rattle.k_types.specs.Sound.{AreGuarded, IsLegalStore}
 use Rattle.k_types.specs.State.{Content, ExitItem, Holds, Object, Refers, content_leads_to, has_exit, refers, refers_in}
 use Rattle.k_base.proofs.NameTests.{name_eq-true, name_eq_refl}
 use Rattle.k_audit.specs.Tests.{content_guarded, object_guarded, passes, reference_guarded}
-use Rattle.k_audit.proofs.Means.{all_say, said_of_all}
+use Rattle.k_audit.proofs.Means.{all_say, said_of_all, or_where}
+use Rattle.k_base.proofs.Tests.{or_second}
 
 -- a reference of an object of the heap to that name is lawful
 record IsLawful (own : ℕ → Heap) (exits : List ExitItem) (from : Heap) (n : Name) : Type 0 where
   allowed : IsLegalStore from (own n.seg.0)
   listed : IsFalse (heap_eq from (own n.seg.0)) → IsTrue (has_exit exits from n)
 
-or_if : (a b : Bool) → (a || b) ≡ true → a ≡ false → b ≡ true
-or_if true b e f = absurd (false≢true (sym f))
-or_if false b e f = e
-
-or_where : (a b : Bool) → (a ≡ false → b ≡ true) → (a || b) ≡ true
-or_where true b e = refl
-or_where false b e = e refl
-
 reference_says : (own : ℕ → Heap) (exits : List ExitItem) (from : Heap) (r : Option Name) (n : Name) → reference_guarded own exits from r ≡ true → leads_to r n ≡ true → IsLawful own exits from n
 reference_says own exits from None n ok leads = absurd (false≢true leads)
 reference_says own exits from (Some m) n ok leads =
     let parts = and_parts (passes from (own m.seg.0)) (heap_eq from (own m.seg.0) || has_exit exits from m) ok in
     subst (IsLawful own exits from) (name_eq-true m n leads)
-    (record { allowed = parts.0; listed = or_if (heap_eq from (own m.seg.0)) (has_exit exits from m) parts.1 })
+    (record { allowed = parts.0; listed = or_second (heap_eq from (own m.seg.0)) (has_exit exits from m) parts.1 })
 
 reference_holds : (own : ℕ → Heap) (exits : List ExitItem) (from : Heap) (r : Option Name) → ((n : Name) → leads_to r n ≡ true → IsLawful own exits from n) → reference_guarded own exits from r ≡ true
 reference_holds own exits from None each = refl

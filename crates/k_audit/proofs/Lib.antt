@@ -1,7 +1,6 @@
 pub mod Parts
 pub mod Worked
 pub mod Setups
-mod Numbers
 mod Means
 mod NumberedLaw
 mod DanglingLaw

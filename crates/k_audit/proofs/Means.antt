@@ -1,7 +1,10 @@
 -- What a test of all elements says, and where it holds.
-use Rattle.std.proofs.Common.{◌≡◌, ◌⊎◌, ℕ, ◌<◌, ◌≤◌, nat_lt, Bool, true, false, inl, inr, refl, List, [], ◌∷◌, ltb-false, ltb-true}
+use Rattle.std.proofs.Common.{◌≡◌, ◌⊎◌, ℕ, ◌<◌, ◌≤◌, nat_lt, Bool, true, false, inl, inr, refl, List, [], ◌∷◌, ltb-false, ltb-true, ◌||◌, ◌∙◌, ap, sym, None, Some}
 use Rattle.std.specs.List.{list_all, list_any}
 use Rattle.std.proofs.lemmas.Bool.{and_from, and_parts, false≢true, or_cases, or_left, or_right}
+use Rattle.k_types.specs.declared.names.Heap.{Heap}
+use Rattle.k_types.specs.declared.names.Name.{Name}
+use Rattle.k_types.specs.State.{Scan, scan_of}
 
 -- what each element that passes says of what it leads to holds of all that any of them leads to
 pub all_say : {A N : Type 0} (leads : N → A → Bool) (says : N → Type 0) (test : A → Bool) → ((a : A) (n : N) → test a ≡ true → leads n a ≡ true → says n) →
@@ -30,3 +33,15 @@ order a b =
       | true ↦ λ e. inl (ltb-true a b e)
       | false ↦ λ e. inr (ltb-false a b e)
     ]) refl
+
+-- the second of two tests holds where the first does not
+pub or_where : (a b : Bool) → (a ≡ false → b ≡ true) → (a || b) ≡ true
+or_where true b e = refl
+or_where false b e = e refl
+
+-- where no collection is open none is of the heap
+pub no_scan : (scans : List Scan) (h : Heap) → scans ≡ [] → scan_of scans h ≡ None
+no_scan scans h none = ap (λ (xs : List Scan). scan_of xs h) none
+
+pub none_scanned : (scans : List Scan) (h : Heap) (roots : List Name) → scans ≡ [] → scan_of scans h ≡ Some roots → ⊥
+none_scanned scans h roots none is = let bad = sym (no_scan scans h none) ∙ is in absurd cc

@@ -1,5 +1,5 @@
 -- The sixth point by its test.
-use Rattle.std.proofs.Common.{◌≡◌, ◌∙◌, ◌↔◌, ◌&&◌, ◌||◌, ℕ, Bool, true, false, List, refl, sym, ap, subst, eq-eqb, eqb-true}
+use Rattle.std.proofs.Common.{◌≡◌, ◌∙◌, ◌↔◌, ◌&&◌, ℕ, true, false, List, refl, sym, ap, subst, eq-eqb, eqb-true}
 use Rattle.std.specs.Prelude.{IsTrue, IsFalse}
 use Rattle.std.specs.List.{list_all}
 use Rattle.std.proofs.lemmas.Bool.{and_from, and_parts, false≢true, false_from_ne_true}
@@ -18,9 +18,11 @@ use Rattle.k_types.specs.Trace.{Trace}
 use Rattle.k_base.proofs.NameTests.{heap_eq-same, heap_eq-true, name_eq-true, name_eq_refl}
 use Rattle.k_base.proofs.Numbered.{all_below}
 use Rattle.k_audit.specs.Tests.{all_phases_fit, is_made, object_fits, owner_made, phase_fits, phases_agree, share_fits, sharer_fits}
-use Rattle.k_audit.proofs.Means.{all_say, said_of_all}
+use Rattle.k_audit.proofs.Means.{all_say, said_of_all, or_where}
 use Rattle.k_audit.proofs.DanglingLaw.{phase_at}
-use Rattle.k_audit.proofs.GoneLaw.{sharer_of, sharers_say, shares_hold, shares_say}
+use Rattle.k_audit.proofs.GoneLaw.{sharers_say, shares_hold, shares_say}
+use Rattle.k_base.proofs.Shares.{sharer_of}
+use Rattle.k_base.proofs.Tests.{or_second}
 
 -- ---- sharers
 
@@ -76,14 +78,6 @@ objects_hold own phases objects each =
 
 -- ---- phases
 
-or_if : (a b : Bool) → (a || b) ≡ true → a ≡ false → b ≡ true
-or_if true b e f = absurd (false≢true (sym f))
-or_if false b e f = e
-
-or_where : (a b : Bool) → (a ≡ false → b ≡ true) → (a || b) ≡ true
-or_where true b e = refl
-or_where false b e = e refl
-
 phase_holds : (own : ℕ → Heap) (ended : List ℕ) (shares : List Sharing) (s : ℕ) (phase : Phase) → ((q : Pid) → phase ≡ Populating q → IsFalse (among q.0 ended) → IsTrue (has_share shares q.0 s)) →
     ((root : Name) → phase ≡ Frozen root → own root.seg.0 ≡ shared s) → phase_fits own ended shares s phase ≡ true
 phase_holds own ended shares s Unmade populated frozen = refl
@@ -106,7 +100,7 @@ phases_law trace st sized =
             unmade_objects = λ s n unmade there is. objects_say own st.phases st.objects b.1 n there s is unmade;
             populating = λ s q p is there. the_maker (phase_of st.phases s) p q (fits p s there) is;
             populated = λ s q is lives.
-                or_if (among q.0 st.ended) (has_share st.shares q.0 s)
+                or_second (among q.0 st.ended) (has_share st.shares q.0 s)
                 (phase_at trace st sized (phase_fits own st.ended st.shares) a.1 s (Populating q) is (λ e. absurd cc)) lives;
             frozen = λ s root is. heap_eq-true (own root.seg.0) (shared s) (phase_at trace st sized (phase_fits own st.ended st.shares) a.1 s (Frozen root) is (λ e. absurd cc));
           },

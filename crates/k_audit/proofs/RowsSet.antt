@@ -7,6 +7,7 @@ use Rattle.k_types.specs.declared.names.Name.{Name}
 use Rattle.k_words.specs.Words.{Text}
 use Rattle.k_trace.specs.Named.{DeclaredNames}
 use Rattle.k_audit.proofs.RootRuns.{root_words, row_lines, rows_lines}
+use Rattle.k_state.proofs.Shapes.{all_at_index}
 
 -- no register from that number on is set; the first row is that of this process
 abbrev pub AreNullFrom : ℕ → ℕ → List (List (Option Name)) → Type 0
@@ -69,19 +70,14 @@ all_set holds [] i x all one = all
 all_set holds (y ∷ xs) zero x all one = (one, all.1)
 all_set holds (y ∷ xs) (suc i) x all one = (all.0, all_set holds xs i x all.1 one)
 
-all_at : {A : Type 0} (holds : A → Type 0) (xs : List A) (i : ℕ) (d : A) → AllByRecursion holds xs → i < length xs → holds (get_or xs i d)
-all_at holds [] i d all inside = absurd (omega (arith, inside))
-all_at holds (x ∷ xs) zero d all inside = all.0
-all_at holds (x ∷ xs) (suc i) d all inside = all_at holds xs i d all.1 (omega (arith, inside))
-
 pub rows_sixteen : (rows : List (List (Option Name))) (p r : ℕ) (n : Name) → p < length rows → AllByRecursion (λ row. length row ≡ 16) rows → AllByRecursion (λ row. length row ≡ 16) (set rows p (set (get_or rows p []) r (Some n)))
 rows_sixteen rows p r n inside each =
-    all_set (λ row. length row ≡ 16) rows p (set (get_or rows p []) r (Some n)) each (length-set (get_or rows p []) r (Some n) ∙ all_at (λ (row : List (Option Name)). length row ≡ 16) rows p [] each inside)
+    all_set (λ row. length row ≡ 16) rows p (set (get_or rows p []) r (Some n)) each (length-set (get_or rows p []) r (Some n) ∙ all_at_index (λ (row : List (Option Name)). length row ≡ 16) rows p [] each inside)
 
 pub rows_spelled : (holds : Name → Type 0) (rows : List (List (Option Name))) (p r : ℕ) (n : Name) → p < length rows → holds n → AllByRecursion (AllByRecursion (λ x. IfSome x holds)) rows → AllByRecursion (AllByRecursion (λ x. IfSome x holds)) (set rows p (set (get_or rows p []) r (Some n)))
 rows_spelled holds rows p r n inside one all =
     all_set (AllByRecursion (λ x. IfSome x holds)) rows p (set (get_or rows p []) r (Some n)) all
-    (all_set (λ x. IfSome x holds) (get_or rows p []) r (Some n) (all_at (AllByRecursion (λ (x : Option Name). IfSome x holds)) rows p [] all inside) one)
+    (all_set (λ x. IfSome x holds) (get_or rows p []) r (Some n) (all_at_index (AllByRecursion (λ (x : Option Name). IfSome x holds)) rows p [] all inside) one)
 
 pub rows_null : (rows : List (List (Option Name))) (p r least : ℕ) (n : Name) → p < length rows → r < 16 → least ≤ p * 16 + r → AreNullFrom 0 least rows → AreNullFrom 0 (p * 16 + r + 1) (set rows p (set (get_or rows p []) r (Some n)))
 rows_null rows p r least n inside small low null i q there below high =

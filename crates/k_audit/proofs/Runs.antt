@@ -2,7 +2,7 @@
 -- be completed to what is spelled.
 use Rattle.std.proofs.Common.{◌≡◌, ◌∙◌, ◌&&◌, ℕ, zero, suc, ◌+◌, ◌-◌, ◌<◌, ◌≤◌, Bool, true, false, cond, List, [], ◌∷◌, ◌++◌, length, map, take, drop, Option, Some, None, Result, Ok, Err, refl, sym, ap, ap₂, subst, arith, append-nil, length-append, eqb, eqb-true}
 use Rattle.std.specs.Prelude.{option_and_then}
-use Rattle.std.specs.List.{flat_map, join_with_byte}
+use Rattle.std.specs.List.{join_with_byte}
 use Rattle.std.proofs.lemmas.Bool.{false≢true}
 use Rattle.k_types.specs.Trace.{Trace}
 use Rattle.k_words.specs.Words.{Text, line_text, text_of}
@@ -15,6 +15,8 @@ use Rattle.k_audit.specs.declared.errors.SnapshotError.TheVariants.{Bad}
 use Rattle.k_audit.specs.Reading.{Reading, ReadsSnap, is_over, is_whole, read_line, read_lines, unread}
 use Rattle.k_audit.specs.Verdicts.{Fits, IsBadLine, Spells, fed_lines, onto_fed}
 use Rattle.k_audit.specs.declared.places.Place.TheVariants.{Over}
+use Rattle.std.proofs.lemmas.List.{take-append-drop, length-take-le}
+use Rattle.k_words.proofs.Feeds.{fed}
 
 -- ---- lists
 
@@ -27,37 +29,23 @@ take_through : {A : Type 0} (xs : List A) (x : A) (ys : List A) → take (suc (l
 take_through [] x ys = refl
 take_through (y ∷ xs) x ys = ap (λ zs. y ∷ zs) (take_through xs x ys)
 
-take_and_drop : {A : Type 0} (m : ℕ) (xs : List A) → take m xs ++ drop m xs ≡ xs
-take_and_drop zero xs = refl
-take_and_drop (suc m) [] = refl
-take_and_drop (suc m) (x ∷ xs) = ap (λ ys. x ∷ ys) (take_and_drop m xs)
-
-length_taken : {A : Type 0} (m : ℕ) (xs : List A) → m ≤ length xs → length (take m xs) ≡ m
-length_taken zero xs low = refl
-length_taken (suc m) [] low = absurd (omega (arith, low))
-length_taken (suc m) (x ∷ xs) low = ap suc (length_taken m xs (omega (arith, low)))
-
 -- ---- lines with their line feeds
-
--- the lines, each with its line feed
-abbrev pub fed : List Text → Text
-fed lines = flat_map (λ line. line ++ 10 ∷ []) lines
 
 fed_onto : (b : ℕ) (bytes : Text) (lines : List Text) → fed lines ≡ bytes → 0 < length bytes → fed (onto_fed b lines) ≡ b ∷ bytes
 fed_onto b bytes [] e some = absurd (let none = ap length e in omega (arith, none, some))
 fed_onto b bytes (l ∷ ls) e some = ap (λ (t : Text). b ∷ t) e
 
-abbrev Joined : Text → Type 0
-Joined bytes = is_whole bytes ≡ true → fed (fed_lines bytes) ≡ bytes
+abbrev IsItsLines : Text → Type 0
+IsItsLines bytes = is_whole bytes ≡ true → fed (fed_lines bytes) ≡ bytes
 
-joined_cons : (b : ℕ) (bytes : Text) (t : Bool) → eqb b 10 ≡ t → Joined bytes → Joined (b ∷ bytes)
+joined_cons : (b : ℕ) (bytes : Text) (t : Bool) → eqb b 10 ≡ t → IsItsLines bytes → IsItsLines (b ∷ bytes)
 joined_cons b [] true e ih whole = rw e (ap (λ (n : ℕ). n ∷ []) (sym (eqb-true b 10 e)))
 joined_cons b (c ∷ bytes) true e ih whole = rw e (ap₂ (λ (n : ℕ) (t : Text). n ∷ t) (sym (eqb-true b 10 e)) (ih whole))
 joined_cons b [] false e ih whole = absurd (false≢true (sym e ∙ whole))
 joined_cons b (c ∷ bytes) false e ih whole = rw e (fed_onto b (c ∷ bytes) (fed_lines (c ∷ bytes)) (ih whole) (omega arith))
 
 -- a whole text is its lines
-pub joined : (bytes : Text) → Joined bytes
+pub joined : (bytes : Text) → IsItsLines bytes
 joined [] whole = refl
 joined (b ∷ bytes) whole = joined_cons b bytes (eqb b 10) refl (joined bytes) whole
 
@@ -236,7 +224,7 @@ module _ (names : DeclaredNames) (trace : Trace) where
   past_front laws bytes n front (line ∷ rest) end parts read at stuck fits =
       let lines = line_bytes names trace fits.snap in
       let taken : take n (fed_lines bytes) ≡ front ++ line ∷ [] = ap (λ (ls : List Text). take n ls) (sym parts) ∙ ap (λ k. take k (front ++ line ∷ rest)) (let e : n ≡ suc (length front) = omega (arith, at) in e) ∙ take_through front line rest in
-      let whole : run names trace (unread trace) (take n lines ++ drop n lines) ≡ Some (read_whole fits.snap) = ap (run names trace (unread trace)) (take_and_drop n lines) ∙ laws.complete fits.snap fits.spelled in
+      let whole : run names trace (unread trace) (take n lines ++ drop n lines) ≡ Some (read_whole fits.snap) = ap (run names trace (unread trace)) (take-append-drop n lines) ∙ laws.complete fits.snap fits.spelled in
       let some = front_read names trace (unread trace) (read_whole fits.snap) (take n lines) (drop n lines) whole in
       let first : run names trace (unread trace) (front ++ line ∷ []) ≡ Some some.0 = ap (run names trace (unread trace)) (sym taken ∙ fits.same) ∙ some.1 in
       let two = front_read names trace (unread trace) some.0 front (line ∷ []) first in
@@ -246,11 +234,11 @@ module _ (names : DeclaredNames) (trace : Trace) where
   -- what was read fits
   front_fits : (laws : AreReaderLaws names trace) (bytes : Text) (front rest : List Text) (end : Reading) (m : ℕ) → front ++ rest ≡ fed_lines bytes → run names trace (unread trace) front ≡ Some end → m ≤ length front → Fits names trace bytes m
   front_fits laws bytes front rest end m parts read low =
-      let cut : run names trace (unread trace) (take m front ++ drop m front) ≡ Some end = ap (run names trace (unread trace)) (take_and_drop m front) ∙ read in
+      let cut : run names trace (unread trace) (take m front ++ drop m front) ≡ Some end = ap (run names trace (unread trace)) (take-append-drop m front) ∙ read in
       let some = front_read names trace (unread trace) end (take m front) (drop m front) cut in
       let begins = laws.sound (take m front) some.0 some.1 in
       let here : take m (fed_lines bytes) ≡ take m front = ap (λ (ls : List Text). take m ls) (sym parts) ∙ take_front front rest m low in
-      let long = length_taken m front low in
+      let long = length-take-le m front low in
       let there : take m (line_bytes names trace begins.snap) ≡ take m front
       = ap (λ (ls : List Text). take m ls) begins.starts ∙ take_front (take m front) begins.rest m (omega (arith, long)) ∙ take_again m front low in
       record {

@@ -1,5 +1,5 @@
 -- A sound state whose numbers are in range is one that a snapshot's text can say.
-use Rattle.std.proofs.Common.{◌≡◌, ◌∙◌, ◌&&◌, ◌==◌, ℕ, zero, suc, ◌-◌, ◌^◌, ◌<◌, ◌≤◌, nat_le, true, false, cond, List, [], ◌∷◌, map, length, get_or, Option, Some, refl, sym, ap, subst, arith, eq-eqb, leb-true, leb-false}
+use Rattle.std.proofs.Common.{◌≡◌, ◌∙◌, ◌&&◌, ◌==◌, ℕ, zero, suc, ◌-◌, ◌^◌, ◌<◌, ◌≤◌, nat_le, true, false, cond, List, [], ◌∷◌, map, length, get_or, Option, refl, sym, ap, subst, arith, eq-eqb, leb-true, leb-false}
 use Rattle.std.specs.Prelude.{IfSome}
 use Rattle.std.specs.List.{AllByRecursion, list_any}
 use Rattle.std.proofs.lemmas.Bool.{and_from, eqb-false, or_left, or_right}
@@ -10,21 +10,21 @@ use Rattle.k_types.specs.declared.names.Name.{Name}
 use Rattle.k_types.specs.declared.names.Phase.{Phase}
 use Rattle.k_types.specs.declared.names.Phase.TheVariants.{Unmade, Populating, Frozen, Absorbed}
 use Rattle.k_types.specs.Limits.{use_of}
-use Rattle.k_types.specs.Names.{among, heap_eq, leads_to, name_eq, name_lt}
+use Rattle.k_types.specs.Names.{among, heap_eq, leads_to, name_eq}
 use Rattle.k_types.specs.Numbers.{numbers_below}
 use Rattle.k_types.specs.Owners.{bytes_of, charge_of, is_absorbed, owner_of, owner_of_process, owner_of_segment, owner_of_shared, phase_of, shared, user}
-use Rattle.k_types.specs.Sound.{IsOrdered, IsSound, IsTyped}
-use Rattle.k_types.specs.State.{Content, ExitItem, Holds, Object, Refers, Sharing, State, content_leads_to, has, has_exit, has_share, object_at, refers}
+use Rattle.k_types.specs.Sound.{IsSound, IsTyped}
+use Rattle.k_types.specs.State.{Content, ExitItem, Holds, Object, Refers, Sharing, State, content_leads_to, has, has_exit, has_share, refers}
 use Rattle.k_types.specs.Trace.{IsHeap, Trace, process_count, segment_count}
-use Rattle.k_base.proofs.Lists.{found_holds, if_some, numbers_length}
-use Rattle.k_base.proofs.NameTests.{heap_eq_refl, name_eq_refl, name_lt_apart}
+use Rattle.k_base.proofs.Lists.{if_some, numbers_length}
+use Rattle.k_base.proofs.NameTests.{heap_eq_refl, name_eq_refl}
 use Rattle.k_base.proofs.Objects.{found_name, has_found, refers_found}
-use Rattle.k_base.proofs.Ordered.{IsBefore, ordered_before, ordered_tail}
 use Rattle.k_audit.specs.Claims.{claims_of, exits_in_order, shares_in_order, still}
 use Rattle.k_audit.specs.Grammar.{AreSpelledClaims, IsSpelledContent, IsSpelledExit, IsSpelledName, IsSpelledObject, IsSpelledPhase, IsSpelledShare, IsSpelledState}
 use Rattle.k_audit.specs.Ranges.{HoldsNumber, IsInRange}
 use Rattle.k_audit.proofs.Rising.{ended_known, ended_rise, exits_rise, shares_rise}
 use Rattle.k_audit.proofs.Stilled.{exit_same, share_same}
+pub use Rattle.k_base.proofs.Ordered.{all_found}
 
 -- ---- lists
 
@@ -42,28 +42,6 @@ at_place P d (x ∷ xs) (suc i) other all = at_place P d xs i other all.1
 both_all : {A : Type 0} (P Q R : A → Type 0) → ((x : A) → P x → Q x → R x) → (xs : List A) → AllByRecursion P xs → AllByRecursion Q xs → AllByRecursion R xs
 both_all P Q R both [] p q = tt
 both_all P Q R both (x ∷ xs) p q = (both x p.0 q.0, both_all P Q R both xs p.1 q.1)
-
--- an object comes before each of a list
-all_after : (x : Object) (xs : List Object) → IsBefore x xs → AllByRecursion (λ (o : Object). name_lt x.name o.name ≡ true) xs
-all_after x [] before = tt
-all_after x (y ∷ ys) before = (before.0, all_after x ys before.1)
-
--- and has another name
-apart : (x : Object) (xs : List Object) (n : Name) (o : Object) → IsBefore x xs → object_at xs n ≡ Some o → name_eq x.name n ≡ false
-apart x xs n o before at =
-    name_lt_apart x.name n
-    (subst (λ (m : Name). name_lt x.name m ≡ true) (found_name xs n o at)
-    (found_holds (λ (p : Object). name_lt x.name p.name ≡ true) (λ (p : Object). name_eq p.name n) xs o (all_after x xs before) at))
-
--- what holds of each that is found holds of all
-pub all_found : (P : Object → Type 0) (xs : List Object) → ((n : Name) (o : Object) → object_at xs n ≡ Some o → P o) → IsOrdered xs → AllByRecursion P xs
-all_found P [] found ordered = tt
-all_found P (x ∷ xs) found ordered = (
-  found x.name x (ap (λ b. cond b (Some x) (object_at xs x.name)) (name_eq_refl x.name)),
-  all_found P xs
-      (λ n o at. found n o (ap (λ b. cond b (Some x) (object_at xs n)) (apart x xs n o (ordered_before x xs ordered) at) ∙ at))
-      (ordered_tail x.name xs ordered),
-)
 
 -- what holds of all that registers hold
 held : (P : Name → Type 0) (rs : List (Option Name)) → ((n : Name) → list_any (λ r. leads_to r n) rs ≡ true → P n) → AllByRecursion (λ r. IfSome r P) rs

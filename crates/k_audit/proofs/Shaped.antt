@@ -1,5 +1,5 @@
 -- A snapshot whose points hold says a sound state: what a text can say has the shape of a state of a run.
-use Rattle.std.proofs.Common.{◌≡◌, ◌∙◌, ◌↔◌, ◌⊎◌, ◌==◌, ◌&&◌, inl, inr, ℕ, zero, suc, ◌+◌, ◌<◌, ◌≤◌, Bool, true, false, cond, List, [], ◌∷◌, map, Option, Some, None, refl, sym, ap, ap₂, subst, eqb-true, arith}
+use Rattle.std.proofs.Common.{◌≡◌, ◌↔◌, ◌⊎◌, ◌==◌, ◌&&◌, inl, inr, ℕ, zero, suc, ◌+◌, ◌<◌, ◌≤◌, Bool, true, false, cond, List, [], ◌∷◌, map, Option, Some, None, refl, sym, ap₂, subst, eqb-true, arith}
 use Rattle.std.specs.List.{AllByRecursion, list_any, find}
 use Rattle.std.proofs.lemmas.Bool.{and_parts, false≢true, false_from_ne_true, or_cases}
 use Rattle.k_types.specs.declared.names.Heap.{Heap}
@@ -9,7 +9,7 @@ use Rattle.k_types.specs.declared.names.Phase.{Phase}
 use Rattle.k_types.specs.Names.{heap_eq, name_eq}
 use Rattle.k_types.specs.Owners.{phase_of}
 use Rattle.k_types.specs.Sound.{AreDistinctExits, AreDistinctScans, AreDistinctShares, IsShaped, IsSound, IsTyped}
-use Rattle.k_types.specs.State.{ExitItem, Object, Scan, Sharing, State, has_exit, has_share, scan_of}
+use Rattle.k_types.specs.State.{ExitItem, Object, Sharing, State, has_exit, has_share}
 use Rattle.k_types.specs.Trace.{IsHeap, Trace, process_count, segment_count}
 use Rattle.k_words.specs.Words.{Text}
 use Rattle.k_trace.specs.Named.{DeclaredNames}
@@ -19,6 +19,7 @@ use Rattle.k_audit.specs.Grammar.{AreExitsFrom, AreRisingFrom, IsSpelledExit, Is
 use Rattle.k_audit.specs.Tests.{exit_lt}
 use Rattle.k_audit.specs.Verdicts.{HoldsAt, IsSoundText, Spells}
 use Rattle.k_audit.proofs.ExitPlaces.{exit_from, exit_irrefl, exit_trans, is_same, same_is, seg}
+use Rattle.k_audit.proofs.Means.{no_scan, none_scanned}
 
 -- what each element says of what it leads to holds of all that any of them leads to
 any_says : {A N : Type 0} (holds : A → Type 0) (leads : N → A → Bool) (says : N → Type 0) → ((a : A) (n : N) → holds a → leads n a ≡ true → says n) →
@@ -136,12 +137,6 @@ phase_spelled trace [] zero all = tt
 phase_spelled trace [] (suc s) all = tt
 phase_spelled trace (phase ∷ phases) zero all = all.0
 phase_spelled trace (phase ∷ phases) (suc s) all = phase_spelled trace phases s all.1
-
-no_scan : (scans : List Scan) (h : Heap) → scans ≡ [] → scan_of scans h ≡ None
-no_scan scans h none = ap (λ (xs : List Scan). scan_of xs h) none
-
-pub none_scanned : (scans : List Scan) (h : Heap) (roots : List Name) → scans ≡ [] → scan_of scans h ≡ Some roots → ⊥
-none_scanned scans h roots none is = let bad = sym (no_scan scans h none) ∙ is in absurd cc
 
 -- ---- the state
 

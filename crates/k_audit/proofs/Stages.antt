@@ -1,6 +1,5 @@
 -- The stages of a reading: what was read at each, and the lines that say it.
 use Rattle.std.proofs.Common.{◌≡◌, ◌∙◌, ℕ, ◌+◌, ◌≤◌, false, List, [], ◌∷◌, ◌++◌, length, map, replicate, Option, Some, None, refl, ap, arith, codes}
-use Rattle.std.specs.List.{AllByRecursion}
 use Rattle.k_types.specs.declared.names.Heap.{Heap}
 use Rattle.k_types.specs.declared.names.Name.{Name}
 use Rattle.k_types.specs.declared.names.Phase.{Phase}
@@ -167,10 +166,6 @@ gone_last least (q ∷ ps) p = gone_last (q + 1) ps p
 pub rising_last : (least : ℕ) (ps : List ℕ) (p : ℕ) → AreRisingFrom least ps → gone_after least ps ≤ p → AreRisingFrom least (ps ++ p ∷ [])
 rising_last least [] p rising low = (low, tt)
 rising_last least (q ∷ ps) p rising low = (rising.0, rising_last (q + 1) ps p rising.1 low)
-
-pub all_last : {A : Type 0} (holds : A → Type 0) (xs : List A) (x : A) → AllByRecursion holds xs → holds x → AllByRecursion holds (xs ++ x ∷ [])
-all_last holds [] x all one = (one, tt)
-all_last holds (y ∷ xs) x all one = (all.0, all_last holds xs x all.1 one)
 
 pub graph_last : (last : Option Name) (objects : List Object) (o : Object) → graph_after last (objects ++ o ∷ []) ≡ Some o.name
 graph_last last [] o = refl

@@ -26,9 +26,10 @@ use Rattle.k_audit.proofs.Means.{order}
 use Rattle.k_audit.proofs.Plainly.{IsHeader, line_of}
 use Rattle.k_audit.proofs.RootRuns.{nulls, root_words, rows_lines}
 use Rattle.k_audit.proofs.RowsSet.{AreNullFrom, null_rows, rows_null, rows_set, rows_sixteen, rows_spelled}
-use Rattle.k_audit.proofs.Stages.{Parts, Stage, AtStart, AtGone, AtMade, AtGraph, AtRoots, AtExits, AtShares, AtKernel, AtLimits, AtProcesses, AtHeaps, AtOver, all_last, at, blank_rows, claims_with, exits_last, gone_after, gone_last, graph_after, graph_last, heaps_last, limits_last, made_last, objects_last, part1, part2, part3, part4, part5, part6, part7, part8, part9, part10, processes_last, reading_at, rising_last, said, segment_after, segment_last, shares_after, shares_last, shares_rise, state_with, target_after, target_last}
+use Rattle.k_audit.proofs.Stages.{Parts, Stage, AtStart, AtGone, AtMade, AtGraph, AtRoots, AtExits, AtShares, AtKernel, AtLimits, AtProcesses, AtHeaps, AtOver, at, blank_rows, claims_with, exits_last, gone_after, gone_last, graph_after, graph_last, heaps_last, limits_last, made_last, objects_last, part1, part2, part3, part4, part5, part6, part7, part8, part9, part10, processes_last, reading_at, rising_last, said, segment_after, segment_last, shares_after, shares_last, shares_rise, state_with, target_after, target_last}
 use Rattle.k_audit.proofs.Upto.{Upto2, Upto3, Upto4, Upto5, Upto6, Upto7, Upto8, Upto9, Good}
 use Rattle.k_audit.proofs.WordsBack.{and_then_some, exit_back, gone_back, line_words, made_back, object_back, root_back, share_back}
+use Rattle.k_base.proofs.Lists.{all_push}
 
 -- where a line leads, which is said behind those before
 pub record IsStep (names : DeclaredNames) (trace : Trace) (next : Reading) (line : Text) (before : List (List Text)) : Type 0 where
@@ -119,7 +120,7 @@ module _ (names : DeclaredNames) (trace : Trace) (header : IsHeader names trace)
       record {
         stage = AtGone;
         parts = record x { ended = ended };
-        good = record { rising = rising_last 0 x.ended p.0.0 good.rising (leb-true (gone_after 0 x.ended) p.0.0 t.0); known = all_last (λ q. q < process_count trace) x.ended p.0.0 good.known back.0 };
+        good = record { rising = rising_last 0 x.ended p.0.0 good.rising (leb-true (gone_after 0 x.ended) p.0.0 t.0); known = all_push (λ q. q < process_count trace) x.ended p.0.0 good.known back.0 };
         is = sym (some_is (add_gone p.0.0 rd) next t.1) ∙ ap (λ k. at (Gone k) (state_with trace ended [] [] (blank_rows trace) [] [] [] []) (claims_with [] 0 0 [] [] [])) (sym (gone_last 0 x.ended p.0.0));
         words = gone_words names p.0.0;
         line_is = ap line_of (sym back.1) ∙ line_words line;
@@ -141,7 +142,7 @@ module _ (names : DeclaredNames) (trace : Trace) (header : IsHeader names trace)
       record {
         stage = AtMade;
         parts = record x { made = made };
-        good = (ended, record { small = all_last (λ m. m < 2 ^ 32) x.made n.from good.small back.0; few = omega (arith, long, lt) });
+        good = (ended, record { small = all_push (λ m. m < 2 ^ 32) x.made n.from good.small back.0; few = omega (arith, long, lt) });
         is = sym n.made ∙ ap (λ k. at (Made k) (state_with trace x.ended made [] (blank_rows trace) [] [] [] []) (claims_with [] 0 0 [] [] [])) (let e : seg + 1 ≡ length made = omega (arith, long) in e);
         words = made_words names seg n.from;
         line_is = ap line_of (sym back.1) ∙ line_words line;
@@ -208,9 +209,9 @@ module _ (names : DeclaredNames) (trace : Trace) (header : IsHeader names trace)
           two,
           record {
             after = after_last None x.objects o.0.object good.after (after_back (graph_after None x.objects) o.0.object.name t.0);
-            spelled = all_last _ x.objects o.0.object good.spelled back.object;
+            spelled = all_push _ x.objects o.0.object good.spelled back.object;
             same = omega (arith, long, wide, same);
-            known = all_last _ x.owners o.0.owner good.known back.owner;
+            known = all_push _ x.owners o.0.owner good.known back.owner;
           },
         );
         is = sym (some_is (add_object o.0 rd) next t.1) ∙ ap (λ (last : Option Name). at (Graph last) (state_with trace x.ended x.made objects (blank_rows trace) [] [] [] []) (claims_with owners 0 0 [] [] [])) (sym (graph_last None x.objects o.0.object));
@@ -293,7 +294,7 @@ module _ (names : DeclaredNames) (trace : Trace) (header : IsHeader names trace)
           four,
           record {
             ordered = exits_last trace 0 None x.exits y.0 good.ordered (exit_after_back trace seg last y.0 t.0);
-            spelled = all_last _ x.exits y.0 good.spelled back.0;
+            spelled = all_push _ x.exits y.0 good.spelled back.0;
           },
         );
         is = sym (some_is (add_exit trace y.0 rd) next t.1)
@@ -330,7 +331,7 @@ module _ (names : DeclaredNames) (trace : Trace) (header : IsHeader names trace)
           five,
           record {
             rising = shares_rise trace 0 x.shares y.0 good.rising (leb-true least (share_place trace y.0) t.0);
-            spelled = all_last _ x.shares y.0 good.spelled back.0;
+            spelled = all_push _ x.shares y.0 good.spelled back.0;
           },
         );
         is = sym (some_is (add_share trace y.0 rd) next t.1)
@@ -377,8 +378,8 @@ module _ (names : DeclaredNames) (trace : Trace) (header : IsHeader names trace)
                 record {
                   same = omega (arith, long, wide, same);
                   few = omega (arith, long, inside);
-                  small = all_last IsNumber x.bytes back.bytes good.small back.small;
-                  spelled = all_last _ x.phases back.phase good.spelled back.spelled;
+                  small = all_push IsNumber x.bytes back.bytes good.small back.small;
+                  spelled = all_push _ x.phases back.phase good.spelled back.spelled;
                 },
               );
               is = sym back.next_is ∙ ap (λ n. at (Charges n) (state_with trace x.ended x.made x.objects x.rows x.exits x.shares x.maxima phases) (claims_with x.owners x.kernel x.ceiling x.uses x.charges bytes))
@@ -416,7 +417,7 @@ module _ (names : DeclaredNames) (trace : Trace) (header : IsHeader names trace)
             record {
               stage = AtProcesses;
               parts = record x { charges = charges };
-              good = (eight, record { few = omega (arith, long, inside); small = all_last IsNumber x.charges back.charge good.small back.small });
+              good = (eight, record { few = omega (arith, long, inside); small = all_push IsNumber x.charges back.charge good.small back.small });
               is = sym back.next_is ∙ ap (λ n. at (Charges n) (state_with trace x.ended x.made x.objects x.rows x.exits x.shares x.maxima []) (claims_with x.owners x.kernel x.ceiling x.uses charges []))
                   (let e : k + 1 ≡ 1 + length trace.limits + length charges = omega (arith, long) in e);
               words = process_charge_words (word_at names.procs p) back.charge;
@@ -455,8 +456,8 @@ module _ (names : DeclaredNames) (trace : Trace) (header : IsHeader names trace)
                 record {
                   same = omega (arith, long, wide, same);
                   few = omega (arith, long, inside);
-                  small = all_last IsNumber x.uses back.used good.small back.small;
-                  below = all_last _ x.maxima back.max good.below back.below;
+                  small = all_push IsNumber x.uses back.used good.small back.small;
+                  below = all_push _ x.maxima back.max good.below back.below;
                 },
               );
               is = sym back.next_is ∙ ap (λ n. at (Charges n) (state_with trace x.ended x.made x.objects x.rows x.exits x.shares maxima []) (claims_with x.owners x.kernel x.ceiling uses [] []))

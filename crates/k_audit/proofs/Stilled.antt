@@ -27,23 +27,17 @@ use Rattle.k_audit.proofs.Means.{order}
 use Rattle.k_audit.proofs.Rising.{shares_rise}
 use Rattle.k_audit.proofs.Shaped.{distinct_shares}
 use Rattle.k_audit.specs.Claims.{Claims, claims_of, ended_in_order, exits_in_order, items_of, share_of, shares_in_order, still}
+use Rattle.k_base.proofs.Exits.{targets_among}
+use Rattle.k_base.proofs.Shares.{sharer_from, sharer_of}
 
 -- ---- exit items
 
 abbrev item : Heap → Name → ExitItem
 item h n = record { heap = h; target = n }
 
-targets : (exits : List ExitItem) (h : Heap) (n : Name) → name_among n (map (λ e. e.target) (filter (λ e. heap_eq e.heap h) exits)) ≡ has_exit exits h n
-targets [] h n = refl
-targets (e ∷ exits) h n =
-    elim (heap_eq e.heap h) as (λ b. name_among n (map (λ x. x.target) (cond b (e ∷ filter (λ x. heap_eq x.heap h) exits) (filter (λ x. heap_eq x.heap h) exits))) ≡ ((b && name_eq e.target n) || has_exit exits h n)) [
-      | true ↦ ap (λ (b : Bool). name_eq e.target n || b) (targets exits h n)
-      | false ↦ targets exits h n
-    ]
-
 -- among the ordered targets of a heap are those of its exit items
 pub among_exits : (exits : List ExitItem) (h : Heap) (n : Name) → name_among n (exits_of exits h) ≡ has_exit exits h n
-among_exits exits h n = in_order_among n (map (λ e. e.target) (filter (λ e. heap_eq e.heap h) exits)) ∙ targets exits h n
+among_exits exits h n = in_order_among n (map (λ e. e.target) (filter (λ e. heap_eq e.heap h) exits)) ∙ targets_among exits h n
 
 -- what is an exit item of such a list is one of that heap, with a target of the list
 of_heap : (g : Heap) (ns : List Name) (h : Heap) (n : Name) → has_exit (map (item g) ns) h n ≡ true → (g ≡ h) × (name_among n ns ≡ true)
@@ -179,23 +173,6 @@ module _ (st : State) where
             (subst (λ (x : ℕ). has_share (flat_map (share_of st x) (numbers_below heaps)) p s ≡ true) same (row_there p s 0 heaps (omega arith) (omega (arith, inside)) there))
       ]
 
--- a heap has a sharer where some process shares it
-sharer_of : (xs : List Sharing) (s : ℕ) → has_sharer xs s ≡ true → (p : ℕ) × (has_share xs p s ≡ true)
-sharer_of [] s there = absurd cc
-sharer_of (e ∷ xs) s there =
-    elim (or_cases (e.heap == s) (has_sharer xs s) there) [
-      | inl here ↦ (e.process, or_left ((e.process == e.process) && (e.heap == s)) (has_share xs e.process s) (and_from (e.process == e.process) (e.heap == s) (eq-eqb e.process e.process refl) here))
-      | inr later ↦ let found = sharer_of xs s later in (found.0, or_right ((e.process == found.0) && (e.heap == s)) (has_share xs found.0 s) found.1)
-    ]
-
-shared_by : (xs : List Sharing) (p s : ℕ) → has_share xs p s ≡ true → has_sharer xs s ≡ true
-shared_by [] p s there = absurd cc
-shared_by (e ∷ xs) p s there =
-    elim (or_cases ((e.process == p) && (e.heap == s)) (has_share xs p s) there) [
-      | inl here ↦ or_left (e.heap == s) (has_sharer xs s) (and_parts (e.process == p) (e.heap == s) here).1
-      | inr later ↦ or_right (e.heap == s) (has_sharer xs s) (shared_by xs p s later)
-    ]
-
 -- ---- the claims
 
 -- what is true of a state, by who owns what and by uses and charges
@@ -265,8 +242,8 @@ module _ (trace : Trace) (st : State) (sound : IsSound trace st) where
   pub sharer_same : (s : ℕ) → has_sharer (shares_in_order trace st) s ≡ has_sharer st.shares s
   sharer_same s =
       same_test (has_sharer (shares_in_order trace st) s) (has_sharer st.shares s)
-      (λ there. let found = sharer_of (shares_in_order trace st) s there in shared_by st.shares found.0 s (sym (share_same found.0 s) ∙ found.1))
-      (λ there. let found = sharer_of st.shares s there in shared_by (shares_in_order trace st) found.0 s (share_same found.0 s ∙ found.1))
+      (λ there. let found = sharer_from (shares_in_order trace st) s there in sharer_of st.shares found.0 s (sym (share_same found.0 s) ∙ found.1))
+      (λ there. let found = sharer_from st.shares s there in sharer_of (shares_in_order trace st) found.0 s (share_same found.0 s ∙ found.1))
 
   -- ---- charges, uses and claims
 

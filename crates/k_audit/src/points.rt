@@ -106,7 +106,7 @@ fn registers_there(lists: &PlainLists, registers: &[Option<Name>]) -> bool
 }
 
 /// Whether what the registers of all processes lead to is there.
-#[tactic(auto, using(crate::proofs::Numbers::all_next, crate::proofs::Numbers::all_last))]
+#[tactic(auto, using(k_state::proofs::Sums::all_next, k_state::proofs::Sums::all_over))]
 fn all_registers_there(lists: &PlainLists) -> bool
     ensures { result ≡ all_registers_there lists.now.setup lists.now.state }
 {
@@ -142,7 +142,7 @@ fn root_there(lists: &PlainLists, phase: Phase) -> bool
 }
 
 /// Whether the roots of the phases are there.
-#[tactic(auto, using(crate::proofs::Numbers::all_next, crate::proofs::Numbers::all_last))]
+#[tactic(auto, using(k_state::proofs::Sums::all_next, k_state::proofs::Sums::all_over))]
 fn roots_there(lists: &PlainLists) -> bool
     ensures { result ≡ roots_there lists.now.setup lists.now.state }
 {

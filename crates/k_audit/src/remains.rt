@@ -30,7 +30,7 @@ fn registers_gone(lists: &PlainLists, pid: Pid) -> bool
 }
 
 /// Whether the registers of all processes that have ended are null.
-#[tactic(auto, using(crate::proofs::Numbers::all_next, crate::proofs::Numbers::all_last))]
+#[tactic(auto, using(k_state::proofs::Sums::all_next, k_state::proofs::Sums::all_over))]
 fn all_registers_gone(lists: &PlainLists) -> bool
     ensures { result ≡ all_registers_gone lists.now.setup lists.now.state }
 {
@@ -165,7 +165,7 @@ fn phase_fits(lists: &PlainLists, shared: SharedId) -> bool
 }
 
 /// Whether that holds of all shared heaps.
-#[tactic(auto, using(crate::proofs::Numbers::all_next, crate::proofs::Numbers::all_last))]
+#[tactic(auto, using(k_state::proofs::Sums::all_next, k_state::proofs::Sums::all_over))]
 fn phases_fit(lists: &PlainLists) -> bool
     ensures { result ≡ all_phases_fit lists.now.setup lists.now.state }
 {

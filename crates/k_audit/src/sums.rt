@@ -24,7 +24,7 @@ fn use_fits(lists: &PlainLists, limit: LimitId) -> bool
 }
 
 /// Whether that holds of all limits.
-#[tactic(auto, using(crate::proofs::Numbers::all_next, crate::proofs::Numbers::all_last))]
+#[tactic(auto, using(k_state::proofs::Sums::all_next, k_state::proofs::Sums::all_over))]
 fn all_uses_fit(lists: &PlainLists) -> bool
     ensures { result ≡ list_all (use_fits lists.now.setup lists.now.state) (numbers_below (length lists.now.setup.limits)) }
 {
@@ -69,7 +69,7 @@ fn use_is(lists: &PlainLists, limit: LimitId, claimed: u64) -> bool
 }
 
 /// Whether the claimed uses are those of the limits.
-#[tactic(auto, using(crate::proofs::Numbers::all_next, crate::proofs::Numbers::all_last))]
+#[tactic(auto, using(k_state::proofs::Sums::all_next, k_state::proofs::Sums::all_over))]
 fn uses_agree(lists: &PlainLists, uses: &[u64]) -> bool
     requires all { length uses.now ≡ length lists.now.setup.limits }
     requires fit { UsesFit lists.now.setup lists.now.state }
@@ -96,7 +96,7 @@ fn charge_is(lists: &PlainLists, pid: Pid, claimed: u64) -> bool
 }
 
 /// Whether the claimed charges are those of the processes.
-#[tactic(auto, using(crate::proofs::Numbers::all_next, crate::proofs::Numbers::all_last))]
+#[tactic(auto, using(k_state::proofs::Sums::all_next, k_state::proofs::Sums::all_over))]
 fn charges_agree(lists: &PlainLists, charges: &[u64]) -> bool
     requires all { length charges.now ≡ process_count lists.now.setup }
     requires fit { UsesFit lists.now.setup lists.now.state }
@@ -112,7 +112,7 @@ fn charges_agree(lists: &PlainLists, charges: &[u64]) -> bool
 }
 
 /// Whether the claimed bytes are those of the shared heaps.
-#[tactic(auto, using(crate::proofs::Numbers::all_next, crate::proofs::Numbers::all_last))]
+#[tactic(auto, using(k_state::proofs::Sums::all_next, k_state::proofs::Sums::all_over))]
 fn heaps_agree(lists: &PlainLists, bytes: &[u64]) -> bool
     requires { length bytes.now ≡ lists.now.setup.shared_heaps }
     ensures { result ≡ agree (shared_bytes lists.now.setup lists.now.state) bytes.now lists.now.setup.shared_heaps }

@@ -1,7 +1,7 @@
 -- How many operations there are, and what they all pass.
 use Rattle.std.proofs.Common.{◌≡◌, ◌∙◌, ℕ, zero, suc, ◌+◌, ◌*◌, ◌<◌, ◌≤◌, ◌^◌, ◌==◌, ◌||◌, nat_lt, Bool, true, false, cond, refl, sym, ap, ap₂, List, [], ◌∷◌, ◌++◌, length, replicate, arith, eq-eqb, ne_eqb, add-one, inl, inr}
 use Rattle.std.specs.List.{flat_map, list_all}
-use Rattle.std.proofs.lemmas.Bool.{lt-ltb, cases_eq, false≢true}
+use Rattle.std.proofs.lemmas.Bool.{lt-ltb, cases_eq}
 use Rattle.std.proofs.lemmas.List.{length-append}
 use Rattle.std.proofs.lemmas.List.Concat.{flat_map-cons}
 use Rattle.std.proofs.lemmas.List.Folds.{list_all-append, list_any-append}
@@ -15,7 +15,7 @@ use Rattle.k_types.specs.TraceRules.{EndsWithExit, is_exit, is_of_version, is_sp
 use Rattle.k_base.proofs.Sums.{bit, count_is_total, one_counts, sum_same, total_append}
 use Rattle.k_laws.proofs.UsesRaised.{times}
 use Rattle.k_trace.specs.Grown.{has_exit}
-use Rattle.k_trace.proofs.OpLists.{ends_push}
+use Rattle.k_trace.proofs.OpLists.{ends_push, none_ends}
 use Rattle.k_big.specs.Workload.{r, node, round, ending, operations_for, turns, declared_for}
 use Rattle.k_big.proofs.Rounds.{pieces_more, pieces_pass}
 
@@ -194,14 +194,6 @@ no_exit_in_rounds i first (suc n) =
     ap has_exit (flat_map-cons (round i) first (numbers_from (suc first) n))
     ∙ list_any-append is_exit (round i first) (flat_map (round i) (numbers_from (suc first) n))
     ∙ ap₂ (λ a b. a || b) (no_exit_if (first % 5 == 0) ((first + 1) % 10 == 0) i first) (no_exit_in_rounds i (suc first) n)
-
-none_ends : (ops : List Op) → has_exit ops ≡ false → EndsWithExit ops
-none_ends ops none first op rest parted exit =
-    absurd (false≢true (sym none ∙ ap has_exit parted ∙ list_any-append is_exit first (op ∷ rest) ∙ rw exit (or_true (has_exit first))))
-  where
-    or_true : (b : Bool) → (b || true) ≡ true
-    or_true true = refl
-    or_true false = refl
 
 ends_if : (b : Bool) (ops : List Op) → has_exit ops ≡ false → EndsWithExit (ops ++ cond b (Exit ∷ []) [])
 ends_if true ops none = ends_push ops Exit none

@@ -1,7 +1,7 @@
 -- The body of the object that an operation makes is there, or it is made.
-use Rattle.std.proofs.Common.{◌≡◌, ◌↔◌, ℕ, zero, suc, ◌-◌, ◌<◌, ◌==◌, ◌&&◌, Bool, false, OnOk, Result, Ok, Err, sym, ap, ap₂, ◌∙◌, List, ◌∷◌, ◌++◌, length, replicate, arith, nat_lt, ltb-true, ltb-false, eq-eqb, eqb-true, IfSome, IsTrue, Option, Some, None, inl, inr}
+use Rattle.std.proofs.Common.{◌≡◌, ℕ, zero, suc, ◌-◌, ◌<◌, ◌==◌, ◌&&◌, OnOk, Result, Ok, Err, sym, ap, ap₂, ◌∙◌, List, ◌∷◌, ◌++◌, length, replicate, arith, nat_lt, ltb-true, ltb-false, eq-eqb, eqb-true, IfSome, IsTrue, Option, Some, None, inl, inr}
 use Rattle.std.specs.Bool.{⊤}
-use Rattle.std.proofs.lemmas.Bool.{and_parts, cases_Bool, false≢true}
+use Rattle.std.proofs.lemmas.Bool.{and_parts, cases_Bool}
 use Rattle.k_types.specs.Bounds.{register_count}
 use Rattle.k_types.specs.declared.names.TypeId.{TypeId}
 use Rattle.k_types.specs.declared.op.Op.{Op}
@@ -80,7 +80,3 @@ module _ (basis : Basis) (op : Op) (g : Guest) (stock : g.cell.bodies ≡ supply
       pub made_or_refused : (came : Result ⊤ HostError) (n : Guest) → OnOk came (n ≡ changed (new_body basis.trace.types ty ∷ g.cell.bodies) g.bodies) → OnOk came (n ≡ provided_for basis op g)
       made_or_refused (Ok done) n is = is ∙ provided_made
       made_or_refused (Err why) n is = tt
-
--- what a test decides is lacking where the test fails
-pub lacked : (test : Bool) (asked : Type 0) → (IsTrue test ↔ asked) → test ≡ false → ¬ asked
-lacked test asked decides fails holds = false≢true (sym fails ∙ decides.1 holds)

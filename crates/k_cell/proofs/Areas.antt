@@ -15,13 +15,10 @@ use Rattle.k_areas.proofs.Found.{at_map, at_set_same, at_set_other, set_number, 
 use Rattle.k_areas.proofs.Changed.{same_area}
 use Rattle.k_areas.proofs.Named.{made_listed}
 use Rattle.k_cell.specs.Holdings.{serial_rooms_of, AreBegun}
-use Rattle.k_base.proofs.Lists.{set_below}
+use Rattle.k_base.proofs.Lists.{set_below, some_one}
 
 pub same_below : {A : Type 0} (f g : ℕ → A) (n : ℕ) → ((i : ℕ) → f i ≡ g i) → map f (numbers_below n) ≡ map g (numbers_below n)
 same_below f g n same = ap (λ h. map h (numbers_below n)) (fun_ext same)
-
-pub one_segment : {x y : SegmentValue} → ◌≡◌ {A = Option SegmentValue} (Some x) (Some y) → x ≡ y
-one_segment e = cc
 
 -- a segment in the place of another of that number
 module _ (segments : List SegmentValue) (number : ℕ) (s t : SegmentValue) (at : segment_at segments number ≡ Some s) (same : t.number ≡ number) where
@@ -29,7 +26,7 @@ module _ (segments : List SegmentValue) (number : ℕ) (s t : SegmentValue) (at 
   set_begun here begun k x there =
       elim (cases_eq k number) [
         | inl e ↦
-            let one : t ≡ x = one_segment (sym (at_set_same segments number s t at same) ∙ ap (segment_at (set segments (place_of segments number) t)) (sym e) ∙ there) in
+            let one : t ≡ x = some_one (sym (at_set_same segments number s t at same) ∙ ap (segment_at (set segments (place_of segments number) t)) (sym e) ∙ there) in
             subst (λ (y : SegmentValue). 0 < length y.rows) one here
         | inr ne ↦ begun k x (sym (at_set_other segments number s t at same k ne) ∙ there)
       ]
@@ -133,7 +130,7 @@ module _ (a b : AreaValue) (same : unmarked b ≡ unmarked a) where
       by_segment : (o : Option SegmentValue) → segment_at a.segments k ≡ o → Some (unmarked_segment x) ≡ option_map unmarked_segment o → 0 < length x.rows
       by_segment None at e = absurd (cc)
       by_segment (Some s) at e =
-          let one : unmarked_segment x ≡ unmarked_segment s = one_segment e in
+          let one : unmarked_segment x ≡ unmarked_segment s = some_one e in
           let long : length (map unmarked_row x.rows) ≡ length (map unmarked_row s.rows) = ap (λ (y : SegmentValue). length y.rows) one in
           omega (arith, long, length-map x.rows unmarked_row, length-map s.rows unmarked_row, begun k s at)
 

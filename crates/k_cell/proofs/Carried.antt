@@ -15,7 +15,7 @@ use Rattle.k_types.specs.State.{Content, Holds, content_leads_to}
 use Rattle.k_base.proofs.Lists.{some_one}
 use Rattle.k_base.proofs.NameTests.{name_eq-true}
 use Rattle.k_space.specs.Objects.{BodyValue}
-use Rattle.k_space.specs.Segments.{Color, White, Gray, Black, Row, gray_or_black, is_black, is_marked, new_row, placed, some_black, some_gray, some_marked, unmarked_row}
+use Rattle.k_space.specs.Segments.{Row, gray_or_black, is_marked, new_row, placed, some_black, some_gray, some_marked, unmarked_row}
 use Rattle.k_space.specs.Areas.{AreaValue, black_at, fields_at, gray_at, grayed, grayed_row, is_foreign, row_in_segment, row_of_name, segment_at, unmarked, with_segment}
 use Rattle.k_space.proofs.AreaRows.{found, after_other, after_same, number_found}
 use Rattle.k_exit.specs.Exits.{ExitRow, has_target}
@@ -28,7 +28,9 @@ use Rattle.k_areas.proofs.Looked.{row_swept, row_unmarked}
 use Rattle.k_cell.specs.Carried.{AreNoted, IsCarried}
 use Rattle.k_cell.specs.Holdings.{AreHoldings}
 use Rattle.k_cell.specs.Placed.{IsIntAt, IsPlacedIn, IsWrittenIn}
-use Rattle.k_cell.proofs.Marks.{black_marked, grayed_same}
+use Rattle.k_cell.proofs.Marks.{grayed_same}
+use Rattle.k_areas.proofs.OfParts.{black_marked}
+use Rattle.k_mark.proofs.KeptMarked.{marked_of_black}
 
 -- of the same objects that refer to the same
 kept_of_reached : {kept : Name → Bool} {refers : Name → Name → Bool} {start : Name → Bool} (n : Name) → IsReached kept refers start n → kept n ≡ true
@@ -263,14 +265,9 @@ lives_swept a off n = ap (λ o. is_some (option_map (λ (row : Row). row.fields)
 fields_swept : (a : AreaValue) (n : Name) → black_at a n ≡ true → fields_at (swept a) n ≡ fields_at a n
 fields_swept a n e = ap (option_map (λ (row : Row). row.fields)) (row_swept a n) ∙ by_row (row_of_name a.segments n) e
   where
-    marked_of : (c : Color) → is_black c ≡ true → is_marked c ≡ true
-    marked_of White e = e
-    marked_of Gray e = refl
-    marked_of Black e = refl
-
     by_row : (o : Option Row) → some_black o ≡ true → option_map (λ (row : Row). row.fields) (survivor o) ≡ option_map (λ (row : Row). row.fields) o
     by_row None e = refl
-    by_row (Some row) e = ap (λ b. option_map (λ (r : Row). r.fields) (cond b (Some row) None)) (marked_of row.color e)
+    by_row (Some row) e = ap (λ b. option_map (λ (r : Row). r.fields) (cond b (Some row) None)) (marked_of_black (Some row) e)
 
 swept_here : (a : AreaValue) (start : Name → Bool) (next : ℕ) → ((n : Name) → gray_at a n ≡ false) → IsKept (black_at a) (refers_at a) start next → IsKept (old_at (swept a) next) (refers_at (swept a)) start next
 swept_here a start next off k = same_kept (black_at a) (old_at (swept a) next) (refers_at a) (refers_at (swept a)) start next same (λ n m e. ap (λ o. some_lead_to o m) (fields_swept a n e)) k

@@ -14,7 +14,7 @@ use Rattle.k_types.specs.Reach.{reach_among}
 use Rattle.k_types.specs.State.{Object, refers, refers_in}
 use Rattle.k_types.specs.Totals.{total}
 use Rattle.k_base.proofs.NameTests.{name_eq-same}
-use Rattle.k_space.specs.Segments.{Color, White, Gray, Black, Row, SegmentValue, is_black, is_gray, is_marked, gray_or_black, made, some_black, some_gray, some_marked, unmarked_row}
+use Rattle.k_space.specs.Segments.{Color, White, Gray, Black, Row, SegmentValue, is_black, is_marked, gray_or_black, made, some_black}
 use Rattle.k_space.specs.Areas.{AreaValue, black_at, gray_at, grayed, grayed_row, is_foreign, marked_at, row_of_name, segment_at, unmarked}
 use Rattle.k_space.proofs.AreaRows.{same_unmarked}
 use Rattle.k_exit.specs.Exits.{ExitList, ExitRow, IsTaken, has_target, target_marked, targets, unmarked as unmarked_exits}
@@ -31,7 +31,7 @@ use Rattle.k_areas.proofs.Foreign.{area_has}
 use Rattle.k_areas.proofs.Found.{at_map, map_number, same_numbered}
 use Rattle.k_areas.proofs.Looked.{black_same, gray_one, gray_swept, row_swept, row_unmarked}
 use Rattle.k_areas.proofs.Named.{black_named, gray_named, made_listed, marked_named, targets_named, unmarked_gray_empty}
-use Rattle.k_areas.proofs.OfParts.{black_reached, exits_reached, map_begun, leads}
+use Rattle.k_areas.proofs.OfParts.{black_reached, exits_reached, map_begun, leads, black_marked}
 use Rattle.k_areas.proofs.Shown.{any_area}
 use Rattle.k_areas.proofs.Sums.{dead_counted, dead_weighed}
 use Rattle.k_cell.specs.Changes.{HasDroppedExit, HasItsExits, HasMarked, HasRoot, with_black_alone}
@@ -42,6 +42,7 @@ use Rattle.k_cell.proofs.Seen.{same_cell, same_holdings}
 use Rattle.k_base.proofs.Lists.{filter_stronger}
 use Rattle.k_base.proofs.Sums.{parts_sum}
 use Rattle.k_space.proofs.Segs.{unmarked_twice}
+use Rattle.k_mark.proofs.Rows.{black_unmarked}
 
 -- what the holdings are besides, with another area that differs in marks
 kept_alike : (bound bytes : ℕ) (phase other : CellPhase) (a b : AreaValue) (items others : List ExitRow) → AreAlike bound a b → AreHoldings bound bytes phase a items → AreMarksKept other b others → AreHoldings bound bytes other b others
@@ -62,12 +63,8 @@ module _ (bound : ℕ) (phase : CellPhase) (a new : AreaValue) (e added : ExitLi
   pub begun_kept : (bytes : ℕ) → AreHoldings bound bytes phase a e.items → AreHoldings bound bytes Begun new added.items
   begun_kept bytes kept = kept_alike bound bytes phase Begun a new e.items added.items like kept (not_black, not_marked)
     where
-      by_row : (o : Option Row) → some_black (unmarked_row o) ≡ false
-      by_row None = refl
-      by_row (Some row) = refl
-
       not_black : (n : Name) → black_at new n ≡ false
-      not_black n = ap (λ (x : AreaValue). black_at x n) area_is ∙ ap some_black (row_unmarked a n) ∙ by_row (row_of_name a.segments n)
+      not_black n = ap (λ (x : AreaValue). black_at x n) area_is ∙ ap some_black (row_unmarked a n) ∙ black_unmarked (row_of_name a.segments n)
 
       not_marked : (n : Name) → target_marked added.items n ≡ false
       not_marked n = ap (λ (x : ExitList). target_marked x.items n) exits_is ∙ none_target_marked e.items n
@@ -183,19 +180,6 @@ pub marked_rest : (bound : ℕ) (phase : CellPhase) (a new : AreaValue) (e after
 marked_rest bound phase a new e after note m =
     let like = alike a new m.kept bound in
     same_holdings note bound refl like.room like.rooms m.room
-
--- what is black is what is marked, where nothing is gray
-pub black_marked : (a : AreaValue) → ((n : Name) → gray_at a n ≡ false) → (n : Name) → black_at a n ≡ marked_at a n
-black_marked a off n = by_row (row_of_name a.segments n) (off n)
-  where
-    by_color : (color : Color) → is_gray color ≡ false → is_black color ≡ is_marked color
-    by_color White f = refl
-    by_color Gray f = absurd (cc)
-    by_color Black f = refl
-
-    by_row : (o : Option Row) → some_gray o ≡ false → some_black o ≡ some_marked o
-    by_row None f = refl
-    by_row (Some row) f = by_color row.color f
 
 -- objects swept
 module _ (bound bytes : ℕ) (a new : AreaValue) (items : List ExitRow) (kept : AreHoldings bound bytes Marked a items) (is : new ≡ swept a) where

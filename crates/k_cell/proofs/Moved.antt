@@ -21,11 +21,11 @@ use Rattle.k_areas.proofs.Named.{made_listed}
 use Rattle.k_areas.proofs.Sums.{segments_fewer}
 use Rattle.k_cell.specs.declared.rooms.HoldingRooms.{HoldingRooms}
 use Rattle.k_cell.specs.Holdings.{AreBegun, AreHoldings, HasGivenSegment, fresh_holdings, holdings_seen, serial_rooms_of, with_segment_added}
-use Rattle.k_cell.proofs.Areas.{one_segment, rooms_listed, same_below}
+use Rattle.k_cell.proofs.Areas.{rooms_listed, same_below}
 use Rattle.k_cell.proofs.Lists.{total_joined}
 use Rattle.k_cell.proofs.Seen.{same_cell, same_holdings}
 use Rattle.k_mark.proofs.KeptMarked.{at_same, at_other}
-use Rattle.k_base.proofs.Lists.{set_below}
+use Rattle.k_base.proofs.Lists.{set_below, some_one}
 
 -- one segment alone
 module _ (seg : ℕ) (rooms : HoldingRooms) (s : SegmentValue) (is : s ≡ record { number = seg; room = rooms.objects; rows = None ∷ [] }) (below : seg < rooms.bound) where
@@ -77,7 +77,7 @@ module _ (seg : ℕ) (rooms : HoldingRooms) (s : SegmentValue) (is : s ≡ recor
       begun k x there =
           elim (cases_eq s.number k) [
             | inl e ↦
-                let one : s ≡ x = one_segment (sym (at_same s [] k e) ∙ there) in
+                let one : s ≡ x = some_one (sym (at_same s [] k e) ∙ there) in
                 let long : length s.rows ≡ 1 = ap (λ (y : SegmentValue). length y.rows) is in
                 subst (λ (y : SegmentValue). 0 < length y.rows) one (omega (arith, long))
             | inr ne ↦ let off : None ≡ Some x = sym (at_other s [] k ne) ∙ there in absurd (cc)
@@ -113,7 +113,7 @@ module _ (bound bytes : ℕ) (a : AreaValue) (items : List ExitRow) (s : Segment
       begun : AreBegun (a.segments ++ s ∷ [])
       begun k x there =
           elim (cases_eq k s.number) [
-            | inl e ↦ subst (λ (y : SegmentValue). 0 < length y.rows) (one_segment (sym (at_push_same a.segments s none) ∙ ap (segment_at (a.segments ++ s ∷ [])) (sym e) ∙ there)) own
+            | inl e ↦ subst (λ (y : SegmentValue). 0 < length y.rows) (some_one (sym (at_push_same a.segments s none) ∙ ap (segment_at (a.segments ++ s ∷ [])) (sym e) ∙ there)) own
             | inr ne ↦ kept.begun k x (sym (at_push_other a.segments s k (λ e. ne (sym e))) ∙ there)
           ]
 

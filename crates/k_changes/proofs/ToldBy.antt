@@ -63,9 +63,7 @@ limit_told trace limits st m n known =
     let low = path_low (limits_in trace st) (tree_in trace.limits st.maxima limits.tree) (length (limits_in trace st)) m q (omega (arith, known, long)) t in
     ap (λ used. nat_lt (max_of (limits_in trace st) q) (used + n)) (use_is_shown trace st q (omega (arith, low, known))))
 
--- the use and the maximum of a limit, and the limit that is full where another maximum is asked for
-pub use_told : (trace : Trace) (st : State) (m : ℕ) → m < length trace.limits → use_shown trace (book_part trace st) m ≡ use_of trace st m
-use_told = use_is_shown
+-- the maximum of a limit, and the limit that is full where another maximum is asked for
 
 pub maxima_told : (trace : Trace) (st : State) → limits_shown trace (book_part trace st) ≡ limits_in trace st
 unfolding book_part

@@ -6,8 +6,6 @@ use Rattle.k_types.specs.declared.event.Event.{Event}
 use Rattle.k_types.specs.declared.event.Event.TheVariants.{Ended}
 use Rattle.k_types.specs.declared.names.Heap.TheVariants.{Kernel, User}
 use Rattle.k_types.specs.declared.names.Name.{Name}
-use Rattle.k_types.specs.declared.names.Phase.{Phase}
-use Rattle.k_types.specs.declared.names.Phase.TheVariants.{Absorbed, Frozen, Populating, Unmade}
 use Rattle.k_types.specs.Agree.{AreMarks, BookValue, CellValue, shown_by}
 use Rattle.k_types.specs.Cells.{BookPart, Cell, ShownPart, book_part, cells_touched, part}
 use Rattle.k_types.specs.Counted.{counted}
@@ -52,12 +50,7 @@ use Rattle.k_collect.proofs.Sizes.{credit_is_charged, freed_light, freed_own, un
 use Rattle.k_collect.proofs.Unshared.{same_bytes_lost}
 use Rattle.k_collect.proofs.Ways.{way_kept}
 use Rattle.k_types.specs.declared.names.LimitId.{LimitId}
-
-absorbed_is : (phase : Phase) → is_absorbed phase ≡ true → phase ≡ Absorbed
-absorbed_is Unmade e = absurd (false≢true e)
-absorbed_is (Populating q) e = absurd (false≢true e)
-absorbed_is (Frozen root) e = absurd (false≢true e)
-absorbed_is Absorbed e = refl
+use Rattle.k_base.proofs.Owners.{absorbed_is}
 
 -- a cell that has met the journal and is marked, of whatever heap
 module _ (trace : Trace) (cell : Cell) (note : NoteValue) (v : CellValue) (b : BookRecord) (can : CanSweep trace cell note v b) where

@@ -1,5 +1,5 @@
 -- The objects that are gray once all roots were walked.
-use Rattle.std.proofs.Common.{◌≡◌, ◌<◌, ◌||◌, ◌&&◌, nat_lt, Bool, true, false, refl, sym, ap, ◌∙◌, List, [], ◌∷◌, map, filter, length}
+use Rattle.std.proofs.Common.{◌≡◌, ◌<◌, ◌||◌, ◌&&◌, nat_lt, Bool, true, false, refl, sym, ap, ◌∙◌, List, [], map, filter, length}
 use Rattle.std.proofs.lemmas.Bool.{and_parts, false≢true}
 use Rattle.k_types.specs.declared.names.Heap.{Heap}
 use Rattle.k_types.specs.declared.names.Heap.TheVariants.{User}
@@ -9,12 +9,12 @@ use Rattle.k_types.specs.Agree.{CellValue, book_shown_by}
 use Rattle.k_types.specs.Bounds.{register_count}
 use Rattle.k_types.specs.Cells.{ShownPart, part}
 use Rattle.k_types.specs.Counted.{counted}
-use Rattle.k_types.specs.Names.{heap_eq, name_among, name_eq}
+use Rattle.k_types.specs.Names.{heap_eq, name_among}
 use Rattle.k_types.specs.Owners.{objects_of, owner_of}
 use Rattle.k_types.specs.Sound.{IsSound}
 use Rattle.k_types.specs.State.{Object, State, has}
 use Rattle.k_types.specs.Trace.{Trace, process_count}
-use Rattle.k_base.proofs.Objects.{has-kept}
+use Rattle.k_base.proofs.Objects.{has-kept, names_have}
 use Rattle.k_agree.specs.Agreement.{BookShows, Shows}
 use Rattle.k_agree.specs.Marking.{begun, idle_part, roots_seen}
 use Rattle.k_agree.proofs.Openings.{home_at}
@@ -23,10 +23,6 @@ use Rattle.k_changes.specs.BookChanges.{registers_in}
 use Rattle.k_changes.specs.Roots.{entered_in, held_by}
 use Rattle.k_entry.specs.Entries.{home_of}
 use Rattle.k_collect.specs.Graying.{HasGrayed, is_root_by}
-
-names_have : (objects : List Object) (n : Name) → name_among n (map (λ (o : Object). o.name) objects) ≡ has objects n
-names_have [] n = refl
-names_have (o ∷ objects) n = ap (λ b. name_eq o.name n || b) (names_have objects n)
 
 listed : (p : Name → Bool) (objects : List Object) (n : Name) → name_among n (map (λ (o : Object). o.name) (filter (λ o. p o.name) objects)) ≡ (has objects n && p n)
 listed p objects n = names_have (filter (λ o. p o.name) objects) n ∙ has-kept p objects n

@@ -21,7 +21,7 @@ use Rattle.k_base.proofs.Ancestors.{ancestors_in}
 use Rattle.k_base.proofs.Maxima.{length_in, parent_in}
 use Rattle.k_laws.proofs.SoundSteps.{legal_sound}
 use Rattle.k_changes.specs.Told.{full_for_in}
-use Rattle.k_changes.proofs.ToldBy.{full_for_told, use_told}
+use Rattle.k_changes.proofs.ToldBy.{full_for_told}
 use Rattle.k_limits.specs.declared.error.ResizeRefusal.{ResizeRefusal}
 use Rattle.k_limits.specs.declared.error.ResizeRefusal.TheVariants.{InUse as UsedUp, Full}
 use Rattle.k_limits.specs.Limits.{use_at}
@@ -31,6 +31,7 @@ use Rattle.k_book.specs.Books.{BookRecord, book_limits}
 use Rattle.k_book.specs.Machine.{IsBookOf, TellsTheLimits}
 use Rattle.k_book.proofs.Telling.{tells_limits}
 use Rattle.k_commit.specs.Resizing.{CanCompare, CanResize, HasResized, refused_by}
+use Rattle.k_laws.proofs.UseShown.{use_is_shown}
 
 -- a limit with an ancestor has a parent
 some_parent : (rows : List LimitRow) (depth m q : ℕ) → among q (ancestors_within rows depth m) ≡ true → is_some (row_of rows m).parent ≡ true
@@ -88,7 +89,7 @@ module _ (trace : Trace) (b : BookRecord) (p : Pid) (m : LimitId) (max : ℕ) (c
       ∙ ap (λ (x : BookPart). full_for_in trace x m.0 max) (sym can.stands.agrees.shows.part)
 
   use_is : use_at (book_limits b) m.0 ≡ use_shown trace shown m.0
-  use_is = told.uses m.0 can.limit ∙ sym (use_told trace now m.0 can.limit) ∙ ap (λ (x : BookPart). use_shown trace x m.0) (sym can.stands.agrees.shows.part)
+  use_is = told.uses m.0 can.limit ∙ sym (use_is_shown trace now m.0 can.limit) ∙ ap (λ (x : BookPart). use_shown trace x m.0) (sym can.stands.agrees.shows.part)
 
   -- where no more than its maximum is wanted, the limit asks nothing of its parent
   kept_full : (hard more : Bool) (full : Option ℕ) → more ≡ false → cond (hard && more) full None ≡ None

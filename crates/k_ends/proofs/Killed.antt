@@ -208,7 +208,6 @@ module _ (basis : Basis) (g t : Guest) (b : BookRecord) (op : Op) (guest : Guest
   pub ends_this : (q : Pid) → touched_by basis g b op ≡ User q ∷ Kernel ∷ [] → EndsThis basis g t b op
   ends_this q reached =
       let by = ends_by basis.trace (book_shown_by b.value) g.cell.pid.0 q (idle_part g.cell.value) op reached in
-      reached ∙ ap (λ (r : Pid). User r ∷ Kernel ∷ []) (target_of (sym by.0 ∙ asks))
-    where
-      target_of : {a c : Pid} → Kill a ≡ Kill c → a ≡ c
-      target_of e = cc e
+      let kill : Kill q ≡ Kill t.cell.pid = sym by.0 ∙ asks in
+      let same : q ≡ t.cell.pid = cc kill in
+      reached ∙ ap (λ (r : Pid). User r ∷ Kernel ∷ []) same

@@ -3,7 +3,7 @@ use Rattle.std.proofs.Common.{◌≡◌, ◌∙◌, ◌⊎◌, ℕ, ◌<◌, Boo
 use Rattle.std.specs.List.{list_all}
 use Rattle.std.proofs.lemmas.Bool.{cases_lt, eqb-true}
 use Rattle.std.proofs.lemmas.Bool.Decides.{nat_tests}
-use Rattle.std.proofs.lemmas.List.{append-nil}
+use Rattle.std.proofs.lemmas.List.{append-nil, append_cancel_left}
 use Rattle.k_types.specs.declared.names.Heap.{Heap}
 use Rattle.k_types.specs.declared.names.Heap.TheVariants.{Kernel}
 use Rattle.k_types.specs.declared.op.Op.{Op}
@@ -94,16 +94,12 @@ decide_possible trace st Closing = decide_closing trace st
 
 -- ---- one event more
 
-pub same_front : {A : Type 0} (xs ys zs : List A) → xs ++ ys ≡ xs ++ zs → ys ≡ zs
-same_front [] ys zs e = e
-same_front {A} (x ∷ xs) ys zs e = same_front {A = A} xs ys zs (let f : xs ++ ys ≡ xs ++ zs = cc in f)
-
 -- The next operation is that one.
 pub next_op : (done ops : List Op) (op : Op) (rest : List Op) → done ++ rest ≡ ops → Decided (IsPrefixOf (done ++ op ∷ []) ops)
-next_op done ops op [] e = inr (λ w. absurd (let f : op ∷ w.0 ≡ [] = same_front done (op ∷ w.0) [] (sym (append_assoc done (op ∷ []) w.0) ∙ w.1 ∙ sym e) in cc))
+next_op done ops op [] e = inr (λ w. absurd (let f : op ∷ w.0 ≡ [] = append_cancel_left done (op ∷ w.0) [] (sym (append_assoc done (op ∷ []) w.0) ∙ w.1 ∙ sym e) in cc))
 next_op done ops op (o ∷ rest) e = decide_as
     (λ same. (rest, append_assoc done (op ∷ []) rest ∙ ap (λ (x : Op). done ++ x ∷ rest) same ∙ e))
-    (λ w. let f : op ∷ w.0 ≡ o ∷ rest = same_front done (op ∷ w.0) (o ∷ rest) (sym (append_assoc done (op ∷ []) w.0) ∙ w.1 ∙ sym e) in cc)
+    (λ w. let f : op ∷ w.0 ≡ o ∷ rest = append_cancel_left done (op ∷ w.0) (o ∷ rest) (sym (append_assoc done (op ∷ []) w.0) ∙ w.1 ∙ sym e) in cc)
     (same_op op o)
 
 -- What holds, and then what is decided by it.

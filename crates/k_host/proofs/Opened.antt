@@ -1,7 +1,6 @@
 -- The rules of a trace that speak of its setup are kept where no process has an operation, and a host is read as it is made.
-use Rattle.std.proofs.Common.{◌≡◌, ◌↔◌, ℕ, false, ◌<◌, refl, sym, ap, ◌∙◌, subst, Bool, List, [], ◌∷◌, length, zero-le, Result, Ok, Err, IfErr, IsTrue, OnOk}
+use Rattle.std.proofs.Common.{◌≡◌, ℕ, ◌<◌, refl, sym, ap, subst, List, [], ◌∷◌, length, zero-le, Result, Ok, Err, IfErr, IsTrue, OnOk}
 use Rattle.std.specs.Prelude.{IfOk}
-use Rattle.std.proofs.lemmas.Bool.{false≢true}
 use Rattle.std.proofs.lemmas.List.{length-replicate}
 use Rattle.k_types.specs.declared.names.TypeId.{TypeId}
 use Rattle.k_types.specs.declared.op.Op.{Op}
@@ -62,10 +61,6 @@ module _ (setup : Setup) where
       room = zero-le;
     };
   }
-
--- a test that fails decides
-pub decided : (asked : Type 0) (test : Bool) → (IsTrue test ↔ asked) → test ≡ false → ¬ asked
-decided asked test decides fails = λ holds. false≢true (sym fails ∙ decides.1 holds)
 
 -- the terms for which a host is read
 abbrev pub terms_of : ReadTrace → TypeId → ℕ → ℕ → Terms

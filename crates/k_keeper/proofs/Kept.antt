@@ -22,7 +22,7 @@ use Rattle.k_keeper.specs.Keeping.{IsIdle, IsKept, owed_by}
 use Rattle.k_keeper.specs.Kept.{IsAlive}
 use Rattle.k_keeper.proofs.Insides.{idle_inside}
 use Rattle.k_keeper.proofs.Sums.{each_set, one_of, total_at}
-use Rattle.k_base.proofs.Lists.{slice_get-set_other}
+use Rattle.k_base.proofs.Lists.{slice_get-set_other, some_one}
 
 -- what a process owes
 bit_low : (b : Bool) → (if b then 0 else 1) ≤ 1
@@ -97,10 +97,7 @@ module _ (h : HostValue) (left : ℕ) (kept : IsKept h left) where
 
   -- a process that lives, found by its number
   same_guest : (pid : Pid) (g : Guest) (a : IsAlive h pid) → slice_get h.guests pid.0 ≡ Some g → IsFalse (has_ended_of g)
-  same_guest pid g a at = ap has_ended_of (some_same (sym at ∙ a.there)) ∙ a.lives
-    where
-      some_same : {y z : Guest} → Some y ≡ Some z → y ≡ z
-      some_same e = cc e
+  same_guest pid g a at = ap has_ended_of (some_one (sym at ∙ a.there)) ∙ a.lives
 
   -- the end of a process takes what was kept for it
   pub kept_exited : (n : HostValue) (pid : Pid) (event : Event) → IsAlive h pid → HostServes n → HasExitedIn h n pid event → IsKept n left

@@ -6,12 +6,12 @@ use Rattle.k_guests.specs.Serving.{Basis}
 use Rattle.k_host.specs.declared.errors.OpenError.TheVariants.{Terms}
 use Rattle.k_host.specs.Hosts.{HostValue, IsFresh}
 use Rattle.k_host.specs.Opening.{HasRead}
-use Rattle.k_host.proofs.Opened.{decided}
 use Rattle.k_keeper.specs.Keeping.{IsKept, needed_to_operate, owed_by}
 use Rattle.k_keeper.specs.Kept.{HasFewEvents, HasOpened}
 use Rattle.k_keeper.proofs.Kept.{owed_settled}
 use Rattle.k_keeper.proofs.Refused.{keeper_of}
 use Rattle.k_keeper.proofs.Sums.{total_low}
+use Rattle.std.proofs.lemmas.Bool.{iff_false}
 
 fresh_kept : (basis : Basis) (bodies : ℕ) (h : HostValue) (left : ℕ) → IsFresh basis bodies h → left + length h.guests ≤ basis.events → IsKept h left
 fresh_kept basis bodies h left f enough = record {
@@ -38,5 +38,5 @@ module _ (text : Text) (ty : TypeId) (bodies events : ℕ) (h : HostValue) (read
     error_is = refl;
     host = h;
     read = read;
-    few = decided (needed_to_operate h + length h.guests ≤ events) test decides fails;
+    few = iff_false decides fails;
   }

@@ -132,7 +132,7 @@ same_shape below a n =
     by_row None = refl
     by_row (Some row) = refl
 
-marked_of_black : (o : Option Row) → some_black o ≡ true → some_marked o ≡ true
+pub marked_of_black : (o : Option Row) → some_black o ≡ true → some_marked o ≡ true
 marked_of_black None e = e
 marked_of_black (Some row) e = by_color row.color e
   where

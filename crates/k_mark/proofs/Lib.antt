@@ -2,6 +2,7 @@ pub mod Left
 pub mod Looks
 pub mod Marked
 pub mod KeptMarked
+pub mod Rows
 pub mod Lower
 pub mod Traces
 pub mod Work

@@ -1,27 +1,13 @@
 -- How much a sweep can free.
-use Rattle.std.proofs.Common.{◌≡◌, ℕ, ◌+◌, ◌<◌, ◌≤◌, Bool, true, false, cond, ap, List, [], ◌∷◌, length, sum_by, Option, Some, None, arith}
+use Rattle.std.proofs.Common.{◌≡◌, ℕ, ◌<◌, ap, List, [], ◌∷◌, length, sum_by, Option, Some, arith}
 use Rattle.std.proofs.lemmas.List.Sums.{sum_by-cons}
-use Rattle.k_types.specs.Totals.{total}
-use Rattle.k_types.specs.Owners.{object_bytes}
-use Rattle.k_types.specs.Types.{object_size}
-use Rattle.k_space.specs.Segments.{SegmentValue, Row, objects_from, segment_bytes, is_marked, made}
+use Rattle.k_space.specs.Segments.{SegmentValue, Row, segment_bytes, made}
 use Rattle.k_space.specs.Areas.{AreaValue, rows_total, segment_at}
 use Rattle.k_mark.proofs.SweepSteps.{dead_rows}
 use Rattle.k_mark.specs.Sweeping.{dead_row, dead_bytes_of, dead_objects, dead_bytes}
 use Rattle.k_measure.specs.Inside.{IsOne}
 use Rattle.k_measure.proofs.Inside.{one_found}
-
-bytes_within : (row : Row) → dead_bytes_of (Some row) ≤ object_size (length row.fields)
-bytes_within row = by_mark (is_marked row.color)
-  where
-    by_mark : (b : Bool) → cond b 0 (object_size (length row.fields)) ≤ object_size (length row.fields)
-    by_mark true = omega arith
-    by_mark false = omega arith
-
-dead_sum : (number serial : ℕ) (rows : List (Option Row)) → sum_by dead_bytes_of rows ≤ total object_bytes (objects_from number serial rows)
-dead_sum number serial [] = omega arith
-dead_sum number serial (None ∷ rows) = omega (arith, sum_by-cons dead_bytes_of None rows, dead_sum number (serial + 1) rows)
-dead_sum number serial (Some row ∷ rows) = omega (arith, sum_by-cons dead_bytes_of (Some row) rows, bytes_within row, dead_sum number (serial + 1) rows)
+use Rattle.k_mark.proofs.Rows.{dead_sum}
 
 -- a sum over the one segment of an area
 one_total : (g : Option Row → ℕ) (a : AreaValue) (one : IsOne a) → rows_total g a ≡ sum_by g one.segment.rows

@@ -25,6 +25,7 @@ use Rattle.k_mark.proofs.Looks.{test_after, black_gray}
 use Rattle.k_mark.proofs.Marked.{refers_fields}
 use Rattle.k_measure.specs.Inside.{LeadNowhere, LeadTo, AllLeadTo, IsInside, IsInsideOrExit, AreNew, KeepsInside, KeepsExits, IsOne, IsOneWith, HasNoBlack}
 use Rattle.k_space.proofs.Segs.{unmarked_twice}
+use Rattle.k_mark.proofs.Rows.{black_unmarked}
 
 -- what stands in a list with one more element stood there, or is that element
 at_pushed : (rows : List (Option Row)) (new row : Row) (i : ℕ) → get_or (rows ++ Some new ∷ []) i None ≡ Some row → (get_or rows i None ≡ Some row) ⊎ (new ≡ row)
@@ -250,11 +251,6 @@ pub grayed_by : (a : AreaValue) (n : Name) (o : Option Row) → row_of_name a.se
 grayed_by a n None e = refl
 grayed_by a n (Some row) e = same_unmarked a n row (gray_or_black row.color) e
 
--- no object is black
-black_of : (o : Option Row) → some_black (unmarked_row o) ≡ false
-black_of None = refl
-black_of (Some row) = refl
-
 black_by : (a : AreaValue) (n : Name) (o : Option Row) → row_of_name a.segments n ≡ o → (m : Name) → black_at (grayed_row a n o) m ≡ black_at a m
 black_by a n None e m = refl
 black_by a n (Some row) e m =
@@ -268,7 +264,7 @@ clean_grayed a n clean m = black_by a n (row_of_name a.segments n) refl m ∙ cl
 
 found_unmarked : (xs : List SegmentValue) (i serial : ℕ) → some_black (row_in_segment (slice_get (map unmarked_segment xs) i) serial) ≡ false
 found_unmarked [] i serial = refl
-found_unmarked (x ∷ xs) zero serial = ap some_black (get_or-map unmarked_row x.rows serial None) ∙ black_of (row_at x serial)
+found_unmarked (x ∷ xs) zero serial = ap some_black (get_or-map unmarked_row x.rows serial None) ∙ black_unmarked (row_at x serial)
 found_unmarked (x ∷ xs) (suc i) serial = found_unmarked xs i serial
 
 pub clean_unmarked : (a : AreaValue) → HasNoBlack (unmarked a)

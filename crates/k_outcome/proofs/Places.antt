@@ -1,7 +1,6 @@
 -- Heaps and the segments with which they begin, and rows that are filled one after the other.
 use Rattle.std.proofs.Common.{◌≡◌, ℕ, zero, suc, ◌-◌, ◌<◌, ◌==◌, cond, nat_le, Bool, true, false, refl, sym, ap, ◌∙◌, List, [], ◌∷◌, ◌++◌, Vec, Global, arith}
 use Rattle.std.proofs.lemmas.Bool.Decides.{nat_tests}
-use Rattle.k_types.specs.declared.names.Heap.{Heap}
 use Rattle.k_types.specs.declared.names.Heap.TheVariants.{Kernel, Shared, User}
 use Rattle.k_types.specs.declared.names.Name.{Name}
 use Rattle.k_types.specs.Trace.{IsHeap, Trace, process_count, segment_count, segment_of}
@@ -27,12 +26,6 @@ begun_by trace seg known = go (seg == 0) refl (nat_le seg (process_count trace))
     go true is b low = grind (arith, nat_tests)
     go false not true low = grind (arith, nat_tests)
     go false not false high = grind (arith, nat_tests)
-
--- the segment with which a heap of the trace begins is one of the trace
-pub segment_known : (trace : Trace) (h : Heap) → IsHeap trace h → segment_of trace h < segment_count trace
-segment_known trace Kernel known = omega arith
-segment_known trace (User p) known = omega (arith, known)
-segment_known trace (Shared s) known = omega (arith, known)
 
 pub none_empty : AreEmpty []
 none_empty k row at = absurd (cc at)

@@ -1,4 +1,3 @@
-pub mod DoneCounts
 pub mod Ends
 pub mod Held
 pub mod Moved

@@ -1,3 +1,2 @@
 pub mod FirstFaults
 pub mod Used
-pub mod Walks

@@ -58,7 +58,7 @@ pub fn is_orphan(lists: &PlainLists, shared: SharedId) -> bool
 }
 
 /// Whether no shared heap is an orphan. Walks over all shares for each shared heap.
-#[tactic(auto, using(crate::proofs::Walks::all_next, crate::proofs::Walks::all_over))]
+#[tactic(auto, using(k_state::proofs::Sums::all_next, k_state::proofs::Sums::all_over))]
 pub fn no_orphan(lists: &PlainLists) -> bool
     ensures { result ≡ no_orphan lists.now.setup lists.now.state }
 {
@@ -71,7 +71,7 @@ pub fn no_orphan(lists: &PlainLists) -> bool
 }
 
 /// Whether every process of the trace has ended.
-#[tactic(auto, using(crate::proofs::Walks::all_next, crate::proofs::Walks::all_over))]
+#[tactic(auto, using(k_state::proofs::Sums::all_next, k_state::proofs::Sums::all_over))]
 pub fn all_ended(lists: &PlainLists) -> bool
     ensures { result ≡ all_ended lists.now.setup lists.now.state }
 {

@@ -13,13 +13,12 @@ use Rattle.k_types.specs.Bounds.{most_operations}
 use Rattle.k_types.specs.Owners.{phase_of}
 use Rattle.k_types.specs.Totals.{total}
 use Rattle.k_types.specs.Trace.{Trace}
-use Rattle.k_types.specs.State.{State, Holds, Object, fields_of, has, object_at, refers_in, register}
+use Rattle.k_types.specs.State.{State, has, register}
 use Rattle.k_types.specs.Replies.{answer, faults, field_at, first_fault, number_from, reference, reference_from, refused_or, reply_to, root_of}
 use Rattle.k_types.specs.Sound.{IsSound}
-use Rattle.k_base.proofs.Objects.{refers_found}
 use Rattle.k_known.specs.Fits.{NumbersFit}
 use Rattle.k_history.specs.Spelled.{makes, IsReplyInRange}
-use Rattle.k_known.proofs.Replied.{leads_from}
+use Rattle.k_known.proofs.Replied.{field_refers}
 
 -- A list of numbers that are each at most the bound has at most so many times the bound in all.
 pub total_bounded : (bound : ℕ) (ns : List ℕ) → ((i : ℕ) → get_or ns i 0 ≤ bound) → total (λ n. n) ns ≤ length ns * bound
@@ -46,11 +45,7 @@ module _ (trace : Trace) (history : List Event) (st : State) (sound : IsSound tr
   there_low n there = omega (arith, sound.names.numbered n there, fit.serials n.seg.0)
 
   field_there : (x : Name) (i : ℕ) (y : Name) → reference (field_at st x i) ≡ Some y → IsTrue (has st.objects y)
-  field_there x i y e = sound.no_dangling.fields x y (go (object_at st.objects x) refl e)
-    where
-      go : (o : Option Object) → object_at st.objects x ≡ o → reference (get_or (fields_of o) i (Holds 0)) ≡ Some y → IsTrue (refers_in st.objects x y)
-      go None found leads = absurd (cc leads)
-      go (Some o) found leads = refers_found st.objects x y o found (leads_from o.fields i y leads)
+  field_there x i y e = sound.no_dangling.fields x y (field_refers st x i y e)
 
   -- The object that a load through the register reads has a serial below 2^32.
   loaded_low : (base : Option Name) (i : ℕ) (n : Name) → reference_from st base i ≡ Some n → n.serial.0 < 2 ^ 32

@@ -3,10 +3,6 @@ use Rattle.std.proofs.Common.{◌≡◌, ℕ, ◌≤◌, Bool, false, refl, List
 use Rattle.std.specs.List.{list_any}
 use Rattle.std.proofs.lemmas.List.{get_or_past}
 use Rattle.k_types.specs.declared.names.Name.{Name}
-use Rattle.k_types.specs.State.{in_registers}
-
-pub none_past : (registers : List (List (Option Name))) (p : ℕ) (n : Name) → length registers ≤ p → in_registers registers p n ≡ false
-none_past registers p n past = rw (get_or_past registers p [] past) refl
 
 pub none_leads_past : (test : Option Name → Bool) (registers : List (List (Option Name))) (p : ℕ) → length registers ≤ p → list_any test (get_or registers p []) ≡ false
 none_leads_past test registers p past = rw (get_or_past registers p [] past) refl

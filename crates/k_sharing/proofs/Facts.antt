@@ -1,5 +1,5 @@
 -- What cells and book that have met tell of shared heaps.
-use Rattle.std.proofs.Common.{◌≡◌, ◌<◌, ℕ, sym, ap, subst, ◌∙◌, cond, List, length, slice_index_or, slice_set, Some, None, inl, inr, IsTrue, IsFalse}
+use Rattle.std.proofs.Common.{◌≡◌, ◌<◌, ℕ, sym, ap, subst, ◌∙◌, cond, List, length, slice_index_or, Some, None, IsTrue, IsFalse}
 use Rattle.std.proofs.lemmas.Bool.{false≢true, false_from_ne_true}
 use Rattle.k_types.specs.declared.names.Heap.TheVariants.{Shared}
 use Rattle.k_types.specs.declared.names.Name.{Name}
@@ -12,7 +12,6 @@ use Rattle.k_types.specs.Sound.{IsSound}
 use Rattle.k_types.specs.State.{State, has_share}
 use Rattle.k_types.specs.Steps.{has_sharer, state_after}
 use Rattle.k_types.specs.Trace.{Trace, segment_count}
-use Rattle.k_base.proofs.Lists.{get_or-set_cases}
 use Rattle.k_base.proofs.NameTests.{heap_eq-same}
 use Rattle.k_frame.proofs.OwnerOf.{owner_shared}
 use Rattle.k_laws.proofs.SoundEffects.{is_unmade_so}
@@ -72,12 +71,3 @@ module _ (before : BeforeWithShared) (met : HaveMetWithShared before) (p : ℕ) 
       ap (λ (s : ShownPart). s.made before.shared.seg.0) met.after.shows.part
       ∙ ap (λ t. cond t (Some (slice_index_or here.made before.shared.seg.0 0)) None)
       (heap_eq-same (owner_of before.own.trace here before.shared.seg.0) (Shared before.shared.id) owner_is)
-
--- which heaps are absorbed stays, where the phase that is set is absorbed as the one before it was
-pub absorbed_kept : (phases : List Phase) (s : ℕ) (phase : Phase) → is_absorbed phase ≡ is_absorbed (phase_of phases s) → (q : ℕ) →
-    is_absorbed (phase_of (slice_set phases s phase) q) ≡ is_absorbed (phase_of phases q)
-absorbed_kept phases s phase same q =
-    elim (get_or-set_cases phases s q phase Unmade) [
-      | inl e ↦ ap is_absorbed e
-      | inr e ↦ ap is_absorbed e.1 ∙ same ∙ ap (λ k. is_absorbed (phase_of phases k)) (sym e.0)
-    ]

@@ -32,9 +32,9 @@ use Rattle.k_commit.specs.Met.{Before, BeforeWithShared}
 use Rattle.k_commit.proofs.Placed.{held_is_placed, home_is_owner, homes_count}
 use Rattle.k_sharing.specs.Operating.{HaveMetFor, as_they_are}
 use Rattle.k_sharing.proofs.Changing.{commits, idle, refused, settled, shared_idle, shared_settled, with_same}
-use Rattle.k_sharing.proofs.Facts.{absorbed_kept}
 use Rattle.k_sharing.proofs.Given.{freeze_elsewhere, freeze_null, freeze_unpopulated, frozen}
 use Rattle.k_sharing.proofs.Touching.{freeze_names}
+use Rattle.k_laws.proofs.SoundShare.{absorbed_kept}
 
 module _ (before : BeforeWithShared) (c : HeapRecord) (s : SharedRecord) (b : BookRecord) (id : SharedId) (root : Reg) (met : HaveMetFor before c s b (Freeze id root)) where
   abbrev trace : Trace

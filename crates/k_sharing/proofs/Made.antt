@@ -32,9 +32,10 @@ use Rattle.k_commit.specs.Changed.{HasChangedWithShared}
 use Rattle.k_commit.specs.Met.{BeforeWithShared}
 use Rattle.k_sharing.specs.Operating.{HaveMetFor}
 use Rattle.k_sharing.proofs.Changing.{commits, idle, refused, settled, shared_idle, shared_settled, with_same}
-use Rattle.k_sharing.proofs.Facts.{absorbed_kept, unmade_unshared}
+use Rattle.k_sharing.proofs.Facts.{unmade_unshared}
 use Rattle.k_sharing.proofs.Given.{share_refused, shared}
 use Rattle.k_sharing.proofs.Touching.{share_names}
+use Rattle.k_laws.proofs.SoundShare.{absorbed_kept}
 
 module _ (before : BeforeWithShared) (c : HeapRecord) (s : SharedRecord) (b : BookRecord) (id : SharedId) (met : HaveMetFor before c s b (Share id)) where
   abbrev trace : Trace

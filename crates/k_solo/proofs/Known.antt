@@ -1,30 +1,24 @@
 -- What a view gives names only what the trace declares, and no process is charged more than is used at its limit.
-use Rattle.std.proofs.Common.{◌≡◌, ◌⊎◌, inl, inr, ℕ, zero, suc, ◌+◌, ◌<◌, ◌≤◌, ◌==◌, ◌||◌, cond, Bool, true, false, refl, ap, subst, sym, ◌∙◌, List, [], ◌∷◌, filter, find, length, get_or, Option, Some, None, arith, ◌^◌}
+use Rattle.std.proofs.Common.{◌≡◌, ℕ, ◌<◌, ◌||◌, cond, Bool, true, false, refl, ap, subst, sym, ◌∙◌, List, [], ◌∷◌, find, Option, Some, None, arith, ◌^◌}
 use Rattle.std.specs.Prelude.{IfSome, IsTrue, option_map}
-use Rattle.std.proofs.lemmas.Bool.{cases_eq, false≢true, or_left, or_right}
-use Rattle.std.proofs.lemmas.Bool.Decides.{nat_tests}
+use Rattle.std.proofs.lemmas.Bool.{or_left, or_right}
 use Rattle.k_types.specs.declared.names.Name.{Name}
-use Rattle.k_types.specs.Totals.{total}
-use Rattle.k_types.specs.Numbers.{numbers_from}
 use Rattle.k_types.specs.Names.{name_eq}
 use Rattle.k_types.specs.Trace.{Trace, limit_of, process_count}
-use Rattle.k_types.specs.TraceRules.{AreLimits, KeepsRules}
-use Rattle.k_types.specs.State.{Holds, Object, State, fields_of, has, object_at, refers_in}
-use Rattle.k_types.specs.Limits.{direct_by, limits_in, use_of}
+use Rattle.k_types.specs.TraceRules.{KeepsRules}
+use Rattle.k_types.specs.State.{Object, State, has}
 use Rattle.k_types.specs.Owners.{charge_of}
 use Rattle.k_types.specs.Replies.{field_at, reference}
 use Rattle.k_types.specs.Sound.{IsSound}
 use Rattle.k_types.specs.Known.{IsKnownName}
-use Rattle.k_base.proofs.Maxima.{length_in}
 use Rattle.k_base.proofs.NameTests.{name_eq_refl}
 use Rattle.k_text.specs.Shown.{comes_after, next_name_after}
-use Rattle.k_base.proofs.Objects.{refers_found}
-use Rattle.k_base.proofs.Charges.{direct_within}
+use Rattle.k_base.proofs.Charges.{charge_at_most}
 use Rattle.k_types.specs.declared.event.Event.{Event}
 use Rattle.k_types.specs.Steps.{IsLegalHistory, state_after}
 use Rattle.k_laws.proofs.SoundSteps.{legal_sound}
 use Rattle.k_known.proofs.Maxima.{max_small}
-use Rattle.k_known.proofs.Replied.{leads_from}
+use Rattle.k_known.proofs.Replied.{field_refers}
 
 -- an object lies in a segment of the trace
 pub object_known : (trace : Trace) (st : State) → IsSound trace st → (n : Name) → IsTrue (has st.objects n) → IsKnownName trace n
@@ -32,11 +26,7 @@ object_known trace st sound n there = (sound.shape.placed n there).1
 
 -- so does what a field refers to
 pub field_known : (trace : Trace) (st : State) → IsSound trace st → (x : Name) (i : ℕ) (y : Name) → reference (field_at st x i) ≡ Some y → IsKnownName trace y
-field_known trace st sound x i y e = object_known trace st sound y (sound.no_dangling.fields x y (go (object_at st.objects x) refl e))
-  where
-    go : (o : Option Object) → object_at st.objects x ≡ o → reference (get_or (fields_of o) i (Holds 0)) ≡ Some y → refers_in st.objects x y ≡ true
-    go None found leads = absurd (cc leads)
-    go (Some o) found leads = refers_found st.objects x y o found (leads_from o.fields i y leads)
+field_known trace st sound x i y e = object_known trace st sound y (sound.no_dangling.fields x y (field_refers st x i y e))
 
 find_has : (test : Object → Bool) (xs : List Object) (o : Object) → find test xs ≡ Some o → has xs o.name ≡ true
 find_has test [] o found = grind arith
@@ -53,32 +43,6 @@ next_known trace st sound after next is = subst (λ (r : Option Name). IfSome r 
     go : (o : Option Object) → find (comes_after after) st.objects ≡ o → IfSome (option_map (λ (x : Object). x.name) o) (IsKnownName trace)
     go None e = tt
     go (Some o) e = object_known trace st sound o.name (find_has (comes_after after) st.objects o e)
-
-total_at : (f : ℕ → ℕ) (g : ℕ → Bool) (first n p : ℕ) → first ≤ p → p < first + n → g p ≡ true → f p ≤ total f (filter g (numbers_from first n))
-total_at f g first zero p low high on = absurd (omega arith)
-total_at f g first (suc n) p low high on =
-    first_or (cases_eq first p) (g first) refl
-    (λ other. total_at f g (suc first) n p (omega arith) (omega arith) on)
-  where
-    rest : (b : Bool) → f p ≤ total f (filter g (numbers_from (suc first) n)) → f p ≤ total f (cond b (first ∷ filter g (numbers_from (suc first) n)) (filter g (numbers_from (suc first) n)))
-    rest true le = omega arith
-    rest false le = le
-
-    first_or : (first ≡ p) ⊎ (first ≡ p → ⊥) → (b : Bool) → g first ≡ b → ((first ≡ p → ⊥) → f p ≤ total f (filter g (numbers_from (suc first) n))) →
-        f p ≤ total f (cond b (first ∷ filter g (numbers_from (suc first) n)) (filter g (numbers_from (suc first) n)))
-    first_or (inl same) true e later = let here = ap f same in omega arith
-    first_or (inl same) false e later = absurd (false≢true (sym e ∙ ap g same ∙ on))
-    first_or (inr other) b e later = rest b (later other)
-
--- a process is charged no more than is used at its limit
-pub charge_at_most : (trace : Trace) (st : State) (p : ℕ) → p < process_count trace → AreLimits trace → charge_of trace st p ≤ use_of trace st (limit_of trace p)
-charge_at_most trace st p known rules =
-    let limited = rules.limited p known in
-    let long = length_in trace.limits st.maxima in
-    let direct = direct_within (limits_in trace st) (direct_by trace (charge_of trace st)) (length (limits_in trace st)) (limit_of trace p) (omega arith) in
-    let own : (limit_of trace p == limit_of trace p) ≡ true = grind (arith, nat_tests) in
-    let here = total_at (charge_of trace st) (λ q. limit_of trace q == limit_of trace p) 0 (process_count trace) p (omega arith) (omega arith) own in
-    omega (arith, here, direct)
 
 -- a process is charged less than 2^40
 pub charge_small : (trace : Trace) (history : List Event) (p : ℕ) → KeepsRules trace → IsLegalHistory trace history → p < process_count trace → charge_of trace (state_after trace history) p < 2 ^ 40

@@ -8,7 +8,7 @@ use Rattle.k_types.specs.Limits.{max_of, use_within}
 use Rattle.k_types.specs.Numbers.{numbers_from}
 use Rattle.k_types.specs.Trace.{limit_of, process_count}
 use Rattle.k_types.specs.TraceRules.{AreLimits, IsTree}
-use Rattle.k_base.proofs.Lists.{length_push, numbers_length, numbers_push}
+use Rattle.k_base.proofs.Lists.{length_push, numbers_length, numbers_push, at_number}
 use Rattle.k_base.proofs.Sums.{bit}
 use Rattle.k_limits.proofs.Charges.{use_charged, use_deep}
 use Rattle.k_limits.proofs.Reserves.{reservation, row_before, tree_before, use_before, use_last}
@@ -20,7 +20,6 @@ use Rattle.k_trace.proofs.Steps.{limit_row}
 use Rattle.k_spawn.specs.Families.{IsFamily, children, is_child, parent_of, place_of}
 use Rattle.k_spawn.specs.Scripts.{Script, family, limit_for}
 use Rattle.k_spawn.specs.Translation.{child_row, limit_id, translation}
-use Rattle.k_spawn.proofs.Copied.{given_at}
 use Rattle.k_spawn.proofs.Gathered.{processes_are}
 
 -- ---- a hard limit of maximum 0 fits under any limit
@@ -92,7 +91,7 @@ limit_is_by s p true e lt =
     let at : p ≡ process_count s.header.trace + (p - process_count s.header.trace) = omega (arith, first) in
     ap (limit_of (translation s).trace) at
     ∙ ap (λ (l : LimitId). l.0) (get_or-append-add s.header.trace.procs (map (limit_id s) (children (family s))) (p - process_count s.header.trace) (record { 0 = 0 }))
-    ∙ ap (λ (l : LimitId). l.0) (given_at (limit_id s) (process_count s.header.trace) (length s.parents) (p - process_count s.header.trace) (record { 0 = 0 }) (omega (arith, first, lt)))
+    ∙ ap (λ (l : LimitId). l.0) (at_number (limit_id s) (process_count s.header.trace) (length s.parents) (p - process_count s.header.trace) (record { 0 = 0 }) (omega (arith, first, lt)))
     ∙ ap (limit_for s) (sym at)
     ∙ ap (λ x. cond x (length s.header.trace.limits + place_of (family s) p) (limit_of s.header.trace p)) e
 limit_is_by s p false e lt =

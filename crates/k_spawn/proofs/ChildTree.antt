@@ -8,12 +8,11 @@ use Rattle.k_types.specs.Limits.{ancestors_above, ancestors_within, is_ancestor}
 use Rattle.k_types.specs.Names.{among}
 use Rattle.k_types.specs.Trace.{limit_of, no_row, process_count, row_of}
 use Rattle.k_types.specs.TraceRules.{IsTree}
-use Rattle.k_base.proofs.Lists.{some_one}
+use Rattle.k_base.proofs.Lists.{some_one, at_number}
 use Rattle.k_spawn.specs.Families.{children, parent_of, place_of}
 use Rattle.k_spawn.specs.Scripts.{Script, family, limit_for}
 use Rattle.k_spawn.specs.Translation.{child_row, limit_id, translation}
 use Rattle.k_spawn.proofs.ChildLimits.{AreLimited, limits_are}
-use Rattle.k_spawn.proofs.Copied.{given_at}
 
 module _ (s : Script) where
   -- how many processes and limits the header has, how many processes there are, and the limits of the translation
@@ -57,7 +56,7 @@ module _ (s : Script) where
       let back : first_child + (c - first_child) ≡ c = omega (arith, low) in
       ap (row_of rows) (child_limit c low)
       ∙ get_or-append-add s.header.trace.limits (map (child_row s) (children (family s))) (c - first_child) no_row
-      ∙ given_at (child_row s) first_child (length s.parents) (c - first_child) no_row (omega (arith, low, high))
+      ∙ at_number (child_row s) first_child (length s.parents) (c - first_child) no_row (omega (arith, low, high))
       ∙ ap (child_row s) back
 
   pub parent_is : (c : ℕ) → first_child ≤ c → c < all_processes → (row_of rows (limit_for s c)).parent ≡ Some (limit_id s (parent_of (family s) c))

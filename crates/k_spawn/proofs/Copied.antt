@@ -1,5 +1,5 @@
 -- Lists that are copied or grown element by element.
-use Rattle.std.proofs.Common.{◌≡◌, ◌∙◌, ℕ, zero, suc, ◌+◌, ◌-◌, ◌<◌, List, [], ◌∷◌, ◌++◌, length, map, drop, get_or, sym, ap, arith, append_assoc, append-nil}
+use Rattle.std.proofs.Common.{◌≡◌, ◌∙◌, ℕ, suc, ◌+◌, ◌-◌, ◌<◌, List, [], ◌∷◌, ◌++◌, length, map, drop, sym, ap, arith, append_assoc, append-nil}
 use Rattle.std.proofs.lemmas.List.{map-append, at_drop_more, at_drop_all}
 use Rattle.std.specs.Global.{Vec}
 use Rattle.k_types.specs.Numbers.{numbers_from}
@@ -56,9 +56,3 @@ pub grown_end : {A : Type 0} (g : ℕ → A) (f : Family) (k : ℕ) (list target
 grown_end g f k list target done kept =
     let none : 0 ≡ length f.parents - k = omega (arith, done) in
     sym (append-nil list) ∙ ap (λ n. list ++ map g (numbers_from (f.first + k) n)) none ∙ kept
-
--- what a function gives for a number in a row
-pub given_at : {A : Type 0} (f : ℕ → A) (first n k : ℕ) (d : A) → k < n → get_or (map f (numbers_from first n)) k d ≡ f (first + k)
-given_at f first zero k d inside = absurd (omega (arith, inside))
-given_at f first (suc n) zero d inside = let e : first ≡ first + 0 = omega arith in ap f e
-given_at f first (suc n) (suc k) d inside = let e : suc first + k ≡ first + suc k = omega arith in given_at f (suc first) n k d (omega (arith, inside)) ∙ ap f e

@@ -1,6 +1,6 @@
 -- The operations that lines become, process by process.
-use Rattle.std.proofs.Common.{◌≡◌, ◌∙◌, ℕ, zero, suc, ◌+◌, ◌<◌, ◌≤◌, ◌==◌, true, false, cond, List, [], ◌∷◌, ◌++◌, length, map, refl, sym, ap, ap₂, arith, append_assoc, append-nil, slice_set, get_or, drop, subst}
-use Rattle.std.proofs.lemmas.Bool.{eqb-true, eq-eqb}
+use Rattle.std.proofs.Common.{◌≡◌, ◌∙◌, ℕ, zero, suc, ◌+◌, ◌<◌, ◌≤◌, ◌==◌, true, false, cond, List, [], ◌∷◌, ◌++◌, length, map, refl, sym, ap, ap₂, arith, append_assoc, append-nil, slice_set, get_or, drop, subst, ne_eqb}
+use Rattle.std.proofs.lemmas.Bool.{eq-eqb}
 use Rattle.std.proofs.lemmas.List.{at_drop_more, at_drop_all, length-append, length-map}
 use Rattle.std.specs.List.{AllByRecursion, flat_map}
 use Rattle.k_types.specs.declared.names.Field.{Field}
@@ -12,8 +12,7 @@ use Rattle.k_types.specs.declared.op.Op.TheVariants.{Kill, Resize}
 use Rattle.k_types.specs.declared.op.Op.{Op}
 use Rattle.k_types.specs.Numbers.{numbers_from, numbers_below}
 use Rattle.k_trace.specs.OperationLists.{OperationLists, no_operations, with_no_operations, with_operation}
-use Rattle.k_base.proofs.Lists.{numbers_length}
-use Rattle.k_spawn.proofs.Copied.{given_at}
+use Rattle.k_base.proofs.Lists.{numbers_length, at_number}
 use Rattle.k_spawn.specs.declared.script.ScriptLine.{ScriptLine}
 use Rattle.k_types.specs.Trace.{process_count}
 use Rattle.k_spawn.specs.Families.{children}
@@ -29,15 +28,9 @@ only p ops q = cond (p == q) ops []
 abbrev added : (ℕ → List Op) → ℕ → List Op → ℕ → List Op
 added f p ops q = f q ++ only p ops q
 
-differs : (a b : ℕ) → (a ≡ b → ⊥) → (a == b) ≡ false
-differs a b apart = elim (a == b) as (λ x. (a == b) ≡ x → x ≡ false) [
-  | true ↦ λ e. absurd (apart (eqb-true a b e))
-  | false ↦ λ e. refl
-] refl
-
 -- another process has what it had
 other_kept : (f : ℕ → List Op) (p q : ℕ) (ops : List Op) → (p ≡ q → ⊥) → added f p ops q ≡ f q
-other_kept f p q ops apart = ap (λ b. f q ++ cond b ops []) (differs p q apart) ∙ append-nil (f q)
+other_kept f p q ops apart = ap (λ b. f q ++ cond b ops []) (ne_eqb p q apart) ∙ append-nil (f q)
 
 -- the process itself has these too
 own_added : (f : ℕ → List Op) (p q : ℕ) (ops : List Op) → p ≡ q → added f p ops q ≡ f q ++ ops
@@ -68,7 +61,7 @@ one_added : (f : ℕ → List Op) (n p : ℕ) (order : List ℕ) (op : Op) → p
 one_added f n p order op inside =
     let at : 0 + p ≡ p = omega arith in
     ap (λ (ls : List (List Op)). let o : OperationLists = record { operations = ls; order = order ++ p ∷ [] } in o)
-    (ap (λ (ops : List Op). slice_set (map f (numbers_below n)) p (ops ++ op ∷ [])) (given_at f 0 n p [] inside) ∙ mapped_set f 0 n p (op ∷ []) inside ∙ ap (λ q. map (added f q (op ∷ [])) (numbers_below n)) at)
+    (ap (λ (ops : List Op). slice_set (map f (numbers_below n)) p (ops ++ op ∷ [])) (at_number f 0 n p [] inside) ∙ mapped_set f 0 n p (op ∷ []) inside ∙ ap (λ q. map (added f q (op ∷ [])) (numbers_below n)) at)
 
 map_same : (f g : ℕ → List Op) (ns : List ℕ) → ((q : ℕ) → f q ≡ g q) → map f ns ≡ map g ns
 map_same f g [] same = refl

@@ -16,7 +16,7 @@ use Rattle.k_trace.proofs.Found.{not_true, step_found}
 use Rattle.k_trace.proofs.Keeps.{step_keeps}
 use Rattle.k_trace.proofs.Kept.{Holds, IsSaid}
 use Rattle.k_trace.proofs.Pushed.{AreNames_push, neither_declares}
-use Rattle.k_trace.proofs.Readers.{demands_ok as asks_ok, ok_is as asked_is}
+use Rattle.k_trace.proofs.Readers.{demands_ok as asks_ok, ok_is}
 use Rattle.k_trace.proofs.Sound.{named_in}
 use Rattle.k_trace.proofs.Steps.{at_place, Step, OfVersion, OfKernel, OfType, OfRoot, OfLimit, OfProc, OfShared, OfOperation}
 use Rattle.k_spawn.specs.declared.reasons.ScriptReason.{ScriptReason}
@@ -26,6 +26,7 @@ use Rattle.k_spawn.specs.Reasons.{also, demands}
 use Rattle.k_spawn.specs.Scripts.{Script}
 use Rattle.k_spawn.proofs.Headers.{later_step}
 use Rattle.k_spawn.proofs.KeptSoFar.{AreChildren, IsHeader, IsPeopled, Keeps}
+use Rattle.std.proofs.lemmas.List.{nil_from_length}
 
 -- ---- good lines that something was demanded of
 
@@ -39,9 +40,6 @@ unfolding also
 also_ok reason true judged d e = (refl, e)
 also_ok reason false (Ok c) d e = absurd cc
 also_ok reason false (Err other) d e = absurd cc
-
-pub ok_is : {A : Type 0} (c d : A) → (let r : Result A ScriptReason = Ok c in r) ≡ Ok d → c ≡ d
-ok_is c d e = cc
 
 -- ---- what a good header line is
 
@@ -94,7 +92,7 @@ proc_leads t ws d e =
     let g = asks_ok _ _ _ d b.1 in
     let h = asks_ok _ _ _ d g.1 in
     let i = asks_ok _ _ _ d h.1 in
-    ap (λ (x : TraceSoFar). x.place) (sym (asked_is _ d i.1))
+    ap (λ (x : TraceSoFar). x.place) (sym (ok_is _ d i.1))
 
 shared_leads : (t : NamedTrace) (ws : List Text) (d : TraceSoFar) → shared_line t ws ≡ Ok d → d.place ≡ Shared
 unfolding shared_line
@@ -103,7 +101,7 @@ shared_leads t ws d e =
     let b = asks_ok _ _ _ d a.1 in
     let g = asks_ok _ _ _ d b.1 in
     let h = asks_ok _ _ _ d g.1 in
-    ap (λ (x : TraceSoFar). x.place) (sym (asked_is _ d h.1))
+    ap (λ (x : TraceSoFar). x.place) (sym (ok_is _ d h.1))
 
 abbrev pub begins_with : List Text → Text → Type 0
 begins_with ws keyword = bytes_eq (word_at ws 0) keyword ≡ true
@@ -178,10 +176,6 @@ early_kept place s ws d early kept e =
     let step : Step (at_place place s.header) ws g.after = step_found (at_place place s.header) g.after ws (named_in place s.header kept.spelled kept.header) g.good in
     alone_kept place s ws d kept g (no_operation_early (at_place place s.header) g.after ws early step)
 
-nothing_in : {A : Type 0} (xs : List A) → length xs ≡ 0 → xs ≡ []
-nothing_in [] e = refl
-nothing_in (x ∷ xs) e = absurd cc
-
 -- the line of a process, where there is no child
 pub proc_kept : (s : Script) (ws : List Text) (d : SoFar) → IsPeopled Procs s → has_no_child s ≡ true → begins_with ws (codes "proc") → header_line Procs s ws ≡ Ok d → Keeps d.place d.said
 proc_kept s ws d kept none first e =
@@ -190,8 +184,8 @@ proc_kept s ws d kept none first e =
     let alone : IsHeader Procs s = record {
       spelled = kept.spelled;
       header = kept.header;
-      names = nothing_in s.child_names (kept.children.named ∙ no_parents);
-      parents = nothing_in s.parents no_parents;
+      names = nil_from_length s.child_names (kept.children.named ∙ no_parents);
+      parents = nil_from_length s.parents no_parents;
       lines = kept.lines;
     } in
     alone_kept Procs s ws d alone g (procs_leads s.header ws g.after first g.good)

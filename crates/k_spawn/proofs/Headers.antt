@@ -13,6 +13,7 @@ use Rattle.k_trace.proofs.Found.{step_found}
 use Rattle.k_trace.proofs.Steps.{Step, OfVersion, OfKernel, OfType, OfRoot, OfLimit, OfProc, OfShared, OfOperation}
 use Rattle.k_spawn.specs.Outcome.{ReaderState, IsNamed, IsReader, IsHeaderPlace, IsOfHeader, place_now, so_far}
 use Rattle.k_spawn.specs.Scripts.{Script}
+use Rattle.k_base.proofs.Lists.{length_push}
 
 -- a place that is not the first line's
 abbrev IsLater : Place → Type 0
@@ -32,9 +33,6 @@ later_step c d ws (OfOperation s) = subst (λ (x : SoFar). IsLater x.place) (sym
 one_more : {A B : Type 0} (xs : List A) (ys : List B) (x : A) (y : B) → length xs ≡ length ys → length (xs ++ x ∷ []) ≡ length (ys ++ y ∷ [])
 one_more xs ys x y same = grind (arith, common_steps, same)
 
-length_snoc : {A : Type 0} (xs : List A) (x : A) → length (xs ++ x ∷ []) ≡ length xs + 1
-length_snoc xs x = grind (arith, common_steps)
-
 named_step : (c d : SoFar) (ws : List Text) → IsNamed c.said → Step c ws d → IsNamed d.said
 named_step c d ws n (OfVersion s) = subst (λ (x : SoFar). IsNamed x.said) (sym s.after) (record { types = n.types; limits = n.limits; procs = n.procs; shared = n.shared })
 named_step c d ws n (OfKernel s) = subst (λ (x : SoFar). IsNamed x.said) (sym s.after) (record { types = n.types; limits = n.limits; procs = n.procs; shared = n.shared })
@@ -43,7 +41,7 @@ named_step c d ws n (OfRoot s) = subst (λ (x : SoFar). IsNamed x.said) (sym s.a
 named_step c d ws n (OfLimit s) = subst (λ (x : SoFar). IsNamed x.said) (sym s.after) (record { types = n.types; limits = one_more _ _ _ _ n.limits; procs = n.procs; shared = n.shared })
 named_step c d ws n (OfProc s) = subst (λ (x : SoFar). IsNamed x.said) (sym s.after) (record { types = n.types; limits = n.limits; procs = one_more _ _ _ _ n.procs; shared = n.shared })
 named_step c d ws n (OfShared s) =
-    subst (λ (x : SoFar). IsNamed x.said) (sym s.after) (record { types = n.types; limits = n.limits; procs = n.procs; shared = length_snoc _ _ ∙ ap (λ k. k + 1) n.shared })
+    subst (λ (x : SoFar). IsNamed x.said) (sym s.after) (record { types = n.types; limits = n.limits; procs = n.procs; shared = length_push _ _ ∙ ap (λ k. k + 1) n.shared })
 named_step c d ws n (OfOperation s) = subst (λ (x : SoFar). IsNamed x.said) (sym s.after) (record { types = n.types; limits = n.limits; procs = n.procs; shared = n.shared })
 
 are_named : (t : NamedTrace) → IsNamed t → AreNamed t

@@ -24,10 +24,6 @@ unfolding judged_lines
 none_left n c [] e = refl
 none_left n c (b ∷ bytes) e = absurd cc
 
-pub no_lines : (bytes : Text) → length bytes ≡ 0 → length (lines_of bytes) ≡ 0
-no_lines [] e = refl
-no_lines (b ∷ bytes) e = absurd cc
-
 -- what the lines are refused for, the bytes are refused for
 pub whole_refused : (bytes : Text) (e : ScriptError) → length bytes ≤ 16777216 → Refuses e (judged_lines 1 start (lines_of bytes)) → IsRefused bytes e
 unfolding judgement

@@ -1,7 +1,7 @@
 -- The operations of a translation keep the rules.
 use Rattle.std.proofs.Common.{◌≡◌, ◌∙◌, ℕ, ◌+◌, ◌*◌, ◌^◌, ◌<◌, ◌==◌, ◌&&◌, ◌||◌, Bool, true, false, cond, eqb, ltb, List, [], ◌∷◌, ◌++◌, length, map, refl, sym, ap, ap₂, subst, arith, append_assoc, append-nil}
 use Rattle.std.proofs.Math.Bool.{or-false}
-use Rattle.std.proofs.lemmas.Bool.{eqb-true, false≢true, lt-ltb}
+use Rattle.std.proofs.lemmas.Bool.{eqb-true, false≢true, lt-ltb, or_parts}
 use Rattle.std.proofs.lemmas.Grind.{flat_map-append}
 use Rattle.std.proofs.lemmas.List.{length-append, length-map}
 use Rattle.std.proofs.lemmas.List.Folds.{list_all-append, list_any-append}
@@ -12,10 +12,10 @@ use Rattle.k_types.specs.Numbers.{numbers_below}
 use Rattle.k_types.specs.Steps.{in_range}
 use Rattle.k_types.specs.Trace.{Trace, operations_of, process_count}
 use Rattle.k_types.specs.TraceRules.{AreOperations, EndsWithExit, is_exit, is_of_version, is_spelled}
-use Rattle.k_base.proofs.Lists.{numbers_length}
+use Rattle.k_base.proofs.Lists.{numbers_length, at_number}
 use Rattle.k_base.proofs.Sums.{bit, count_is_total, total_append}
 use Rattle.k_trace.specs.Grown.{has_exit}
-use Rattle.k_trace.proofs.OpLists.{ends_nil, ends_push, times, times_head}
+use Rattle.k_trace.proofs.OpLists.{ends_nil, ends_push, times, times_head, none_ends}
 use Rattle.k_spawn.specs.declared.script.Deed.{Deed}
 use Rattle.k_spawn.specs.declared.script.Deed.TheVariants.{Does, Spawns, Reaps}
 use Rattle.k_spawn.specs.declared.script.ScriptLine.{ScriptLine}
@@ -25,7 +25,6 @@ use Rattle.k_spawn.specs.Scripts.{Script, family, limit_for}
 use Rattle.k_spawn.specs.Timely.{exits, has_left, operations_so_far, weight}
 use Rattle.k_spawn.specs.Translation.{ending, limit_id, operations_in, operations_of_deed, order_of, translation}
 use Rattle.k_spawn.proofs.ChildLimits.{AreLimited, limit_before, limits_are}
-use Rattle.k_spawn.proofs.Copied.{given_at}
 use Rattle.k_spawn.proofs.Gathered.{processes_are}
 use Rattle.k_spawn.proofs.KeptSoFar.{AllInTime, AreLines, IsGoodDeed, IsGoodLine}
 use Rattle.k_spawn.proofs.Reaped.{AreBelow, reaped_below}
@@ -56,22 +55,6 @@ left_is s p (l ∷ ls) = list_any-append is_exit (own s l p) (operations_in s ls
     part true = deed_exits s l.deed
     part false = refl
 
-or_second : (a b : Bool) → b ≡ true → (a || b) ≡ true
-or_second true b e = refl
-or_second false b e = e
-
-exit_found : (first : List Op) (op : Op) (rest : List Op) → is_exit op ≡ true → has_exit (first ++ op ∷ rest) ≡ true
-exit_found [] op rest exit = ap (λ b. b || has_exit rest) exit
-exit_found (f ∷ first) op rest exit = or_second (is_exit f) (has_exit (first ++ op ∷ rest)) (exit_found first op rest exit)
-
--- nothing follows an exit where there is none
-none_ends : (ops : List Op) → has_exit ops ≡ false → EndsWithExit ops
-none_ends ops none first op rest e exit = absurd (false≢true (sym none ∙ ap has_exit e ∙ exit_found first op rest exit))
-
-later : (a b : Bool) → (a || b) ≡ false → b ≡ false
-later true b e = absurd (false≢true (sym e))
-later false b e = e
-
 ends_append_at : (xs ys first rest : List Op) (op : Op) → has_exit xs ≡ false → EndsWithExit ys → xs ++ ys ≡ first ++ op ∷ rest → is_exit op ≡ true → rest ≡ []
 ends_append_at [] ys first rest op none ends e exit = ends first op rest e exit
 ends_append_at (x ∷ xs) ys [] rest op none ends e exit =
@@ -79,7 +62,7 @@ ends_append_at (x ∷ xs) ys [] rest op none ends e exit =
     absurd (false≢true (sym none ∙ ap (λ b. b || has_exit xs) (ap is_exit same ∙ exit)))
 ends_append_at (x ∷ xs) ys (f ∷ first) rest op none ends e exit =
     let same : xs ++ ys ≡ first ++ op ∷ rest = cc in
-    ends_append_at xs ys first rest op (later (is_exit x) (has_exit xs) none) ends same exit
+    ends_append_at xs ys first rest op (or_parts (is_exit x) (has_exit xs) none).1 ends same exit
 
 -- nor behind operations that have none
 ends_append : (xs ys : List Op) → has_exit xs ≡ false → EndsWithExit ys → EndsWithExit (xs ++ ys)
@@ -240,7 +223,7 @@ order_weighs s (l ∷ ls) =
 pub operations_are : (s : Script) (p : ℕ) → p < process_count s.header.trace + length s.parents → operations_of (translation s).trace p ≡ operations_in s s.lines p
 operations_are s p inside =
     let at : 0 + p ≡ p = omega arith in
-    given_at (operations_in s s.lines) 0 (process_count s.header.trace + length s.parents) p [] inside ∙ ap (operations_in s s.lines) at
+    at_number (operations_in s s.lines) 0 (process_count s.header.trace + length s.parents) p [] inside ∙ ap (operations_in s s.lines) at
 
 -- the operations of a translation keep the rules
 pub operations_keep : (s : Script) → AreLimited s → AreLines s.header.trace (family s) s.lines → AreOperations (translation s).trace

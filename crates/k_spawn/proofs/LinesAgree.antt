@@ -1,7 +1,7 @@
 -- Line by line: both machines stay level, each line is answered alike, and the order of the file goes line by line.
 use Rattle.std.proofs.Common.{◌≡◌, ◌⊎◌, ◌∙◌, ℕ, ◌<◌, ◌≤◌, ◌==◌, ◌&&◌, ◌||◌, not, Bool, true, false, cond, List, [], ◌∷◌, ◌++◌, drop, map, get_or, refl, sym, ap, ap₂, subst, inl, inr, eq-eqb, eqb-true, IsTrue, IsFalse}
 use Rattle.std.proofs.lemmas.Bool.{and_left, and_parts, false≢true, false_from_ne_true, not-true, or_cases, or_left, or_right}
-use Rattle.std.proofs.lemmas.List.{append_assoc, append-nil}
+use Rattle.std.proofs.lemmas.List.{append_assoc, append-nil, append_cancel_left}
 use Rattle.k_types.specs.declared.event.Event.{Event}
 use Rattle.k_types.specs.declared.op.Op.{Op}
 use Rattle.k_types.specs.FileOrder.{file_order_from, last_events}
@@ -27,7 +27,6 @@ use Rattle.k_spawn.proofs.ChildTree.{all_processes, first_child}
 use Rattle.k_spawn.proofs.KeptSoFar.{IsGoodDeed}
 use Rattle.k_spawn.proofs.Level.{IsLevel, IsLevelAt, IsPlaced, now}
 use Rattle.k_spawn.proofs.LineStep.{ComeNext, Stepped, does, reaps_child, spawns_child}
-use Rattle.k_spawn.proofs.OneOperation.{same_behind}
 use Rattle.k_spawn.proofs.ReapStep.{ActsIn}
 use Rattle.k_spawn.proofs.TimelyLines.{AreTimely, IsLineage, IsTimely, left_more, lineage_more, parent_here, reaped_more, running_child, spawned_more, unreaped}
 
@@ -114,7 +113,7 @@ module _ (s : Script) (placed : IsPlaced s) (rules : AreOperations (translation 
       level = subst (λ z. IsLevelAt s (tree_after s t p deed) z (history ++ events)) (sym now_is) stepped.level;
       ready = subst (λ z. Ready a z (order_of s rest)) (sym now_is) stepped.ran.ready;
       left = λ q less. subst (λ (z : State). drop (get_or z.done q 0) (operations_of a q) ≡ operations_in s rest q) (sym now_is)
-          (same_behind (cond (p == q) (operations_of_deed s deed) []) _ (operations_in s rest q) (stepped.ran.left q less ∙ behind.left q less));
+          (append_cancel_left (cond (p == q) (operations_of_deed s deed) []) _ (operations_in s rest q) (stepped.ran.left q less ∙ behind.left q less));
       lineage = lineage_more s before l timely behind.lineage;
       ended = λ q u. more _ q (or_cases _ _ (stepped.ended q (ap (λ (z : State). among q z.ended) (sym now_is) ∙ u))) (behind.ended q);
       tree_ended = λ q u. more _ q (or_cases _ _ (stepped.tree_ended q u)) (behind.tree_ended q);

@@ -1,7 +1,6 @@
 -- What is kept by each good line of a script.
 use Rattle.std.proofs.Common.{◌≡◌, ◌∙◌, ℕ, ◌+◌, ◌^◌, ◌<◌, ◌≤◌, ◌&&◌, ◌||◌, Bool, true, false, cond, codes, List, [], ◌∷◌, ◌++◌, length, drop, Result, Ok, Err, refl, sym, ap, subst, arith, append_assoc, append-nil}
 use Rattle.std.proofs.lemmas.Bool.{leb-true}
-use Rattle.std.specs.List.{AllByRecursion}
 use Rattle.std.specs.Str.{bytes_eq}
 use Rattle.k_types.specs.declared.op.Op.{Op}
 use Rattle.k_types.specs.Trace.{Trace, process_count}
@@ -18,7 +17,7 @@ use Rattle.k_trace.specs.declared.reasons.Reason.TheVariants.{NoForm}
 use Rattle.k_trace.proofs.Found.{not_true}
 use Rattle.k_trace.proofs.OpAgain.{has_own_operation}
 use Rattle.k_trace.proofs.OpForms.{AreNamed, number_below, op_found}
-use Rattle.k_trace.proofs.Readers.{demands_ok as asks_ok, ok_is as asked_is}
+use Rattle.k_trace.proofs.Readers.{demands_ok as asks_ok, ok_is}
 use Rattle.k_trace.proofs.Sound.{named_in}
 use Rattle.k_trace.proofs.Steps.{version_words}
 use Rattle.k_spawn.specs.declared.reasons.ScriptReason.TheVariants.{OfTrace}
@@ -31,8 +30,9 @@ use Rattle.k_spawn.specs.Judgement.{SoFar, bare, deed_line, deed_line_of, deed_o
 use Rattle.k_spawn.specs.Scripts.{Script, family, process_names}
 use Rattle.k_spawn.specs.Timely.{is_due, is_running, operations_so_far, weight}
 use Rattle.k_spawn.proofs.ChildKept.{child_kept, names_counted}
-use Rattle.k_spawn.proofs.HeaderKept.{begins_with, demands_ok, early_kept, ok_is, proc_kept, shared_kept_procs, shared_kept_shared}
+use Rattle.k_spawn.proofs.HeaderKept.{begins_with, demands_ok, early_kept, proc_kept, shared_kept_procs, shared_kept_shared}
 use Rattle.k_spawn.proofs.KeptSoFar.{AllInTime, AreLines, IsGoodDeed, IsGoodLine, IsHeader, IsInTime, IsPeopled, IsWhole, Keeps}
+use Rattle.k_base.proofs.Lists.{all_push}
 
 -- ---- deeds
 
@@ -55,7 +55,7 @@ spawn_read s ws deed counted e =
     let g = asks_ok _ _ _ deed b.1 in
     let small = number_word (2 ^ 40) (word_at ws 2) (omega arith) b.0 in
     let read : IsRead s (Spawns (process_named s (word_at ws 1)) (value (word_at ws 2))) = record { known = process_known s (word_at ws 1) counted g.0; good = small.1 } in
-    subst (IsRead s) (asked_is _ deed g.1) read
+    subst (IsRead s) (ok_is _ deed g.1) read
 
 reap_read : (s : Script) (ws : List Text) (deed : Deed) → IsCounted s → reap_form s ws ≡ Ok deed → IsRead s deed
 unfolding reap_form
@@ -63,7 +63,7 @@ reap_read s ws deed counted e =
     let a = asks_ok _ _ _ deed e in
     let b = asks_ok _ _ _ deed a.1 in
     let read : IsRead s (Reaps (process_named s (word_at ws 1))) = record { known = process_known s (word_at ws 1) counted b.0; good = tt } in
-    subst (IsRead s) (asked_is _ deed b.1) read
+    subst (IsRead s) (ok_is _ deed b.1) read
 
 op_read : (s : Script) (ws : List Text) (op : Op) → AreNamed s.header → op_in 1 s.header.names ws ≡ Ok op → IsRead s (Does op)
 unfolding op_in
@@ -74,7 +74,7 @@ op_read s ws op named e =
 
 plain_read : (s : Script) (ws : List Text) (deed : Deed) (r : Result Op Reason) → AreNamed s.header → op_in 1 s.header.names ws ≡ r → plain r ≡ Ok deed → IsRead s deed
 plain_read s ws deed (Err reason) named is e = absurd cc
-plain_read s ws deed (Ok op) named is e = subst (IsRead s) (asked_is (Does op) deed e) (op_read s ws op named is)
+plain_read s ws deed (Ok op) named is e = subst (IsRead s) (ok_is (Does op) deed e) (op_read s ws op named is)
 
 -- one of two was judged good
 either : {A E : Type 0} (P : Type 0) (test : Bool) (a b : Result A E) (d : A) → (test ≡ true → a ≡ Ok d → P) → (b ≡ Ok d → P) → cond test a b ≡ Ok d → P
@@ -92,10 +92,6 @@ deed_read s ws deed named counted e =
     (either (IsRead s deed) (has_verb ws (codes "reap")) _ _ deed (λ verb. reap_read s ws deed counted) (plain_read s ws deed (op_in 1 s.header.names ws) named refl)) e
 
 -- ---- one line more
-
-all_push : {A : Type 0} (P : A → Type 0) (xs : List A) (x : A) → AllByRecursion P xs → P x → AllByRecursion P (xs ++ x ∷ [])
-all_push P [] x all last = (last, tt)
-all_push P (y ∷ xs) x all last = (all.0, all_push P xs x all.1 last)
 
 time_push : (f : Family) (before ls : List ScriptLine) (l : ScriptLine) → AllInTime f before ls → IsInTime f (before ++ ls) l → AllInTime f before (ls ++ l ∷ [])
 time_push f before [] l all last = (subst (λ (xs : List ScriptLine). IsInTime f xs l) (append-nil before) last, tt)

@@ -1,13 +1,12 @@
 -- What is marked beside the lines.
-use Rattle.std.proofs.Common.{◌≡◌, ◌∙◌, ℕ, ◌+◌, ◌*◌, ◌<◌, ◌≤◌, ◌==◌, ◌&&◌, ◌||◌, Bool, true, false, List, [], ◌∷◌, ◌++◌, length, map, refl, sym, ap, arith, replicate, slice_index_or, slice_set, subst}
+use Rattle.std.proofs.Common.{◌≡◌, ◌∙◌, ℕ, ◌+◌, ◌*◌, ◌<◌, ◌≤◌, ◌==◌, ◌&&◌, ◌||◌, Bool, true, false, List, [], ◌∷◌, ◌++◌, length, map, refl, sym, ap, arith, replicate, slice_index_or, slice_set, subst, ne_eqb}
 use Rattle.std.proofs.lemmas.Grind.{common_steps}
-use Rattle.std.proofs.lemmas.Bool.{eqb-true, eq-eqb}
+use Rattle.std.proofs.lemmas.Bool.{eq-eqb}
 use Rattle.std.proofs.lemmas.List.{get_or-replicate, length-map}
 use Rattle.std.specs.List.{list_any}
 use Rattle.k_types.specs.declared.names.Pid.{Pid}
 use Rattle.k_types.specs.declared.op.Op.{Op}
 use Rattle.k_types.specs.Names.{among}
-use Rattle.k_types.specs.Totals.{total}
 use Rattle.k_types.specs.TraceRules.{is_exit}
 use Rattle.k_spawn.specs.declared.script.Deed.{Deed}
 use Rattle.k_spawn.specs.declared.script.Deed.TheVariants.{Does, Spawns, Reaps}
@@ -15,14 +14,11 @@ use Rattle.k_spawn.specs.declared.script.ScriptLine.{ScriptLine}
 use Rattle.k_spawn.specs.Courses.{IsKept, AreMarked, reaped_by, weight_by}
 use Rattle.k_spawn.specs.Families.{Family, reaped_with}
 use Rattle.k_spawn.specs.Timely.{spawns, reaps, exits, weight}
+use Rattle.k_base.proofs.Sums.{total_push}
 
 any_push : {A : Type 0} (test : A → Bool) (xs : List A) (y : A) → list_any test (xs ++ y ∷ []) ≡ (list_any test xs || test y)
 any_push test [] y = grind (arith, common_steps)
 any_push test (x ∷ xs) y = grind (arith, common_steps, any_push test xs y)
-
-total_push : {A : Type 0} (f : A → ℕ) (xs : List A) (y : A) → total f (xs ++ y ∷ []) ≡ total f xs + f y
-total_push f [] y = omega arith
-total_push f (x ∷ xs) y = omega (arith, total_push f xs y)
 
 -- nobody is marked at first
 pub kept_fresh : (f : Family) → f.first + length f.parents ≤ 64 → IsKept f [] (replicate 64 false) (replicate 64 false) (replicate 64 false) 0
@@ -63,12 +59,6 @@ grows_one old at value marks long inside is others = record { each = λ p below.
     by_test p below true e = grind (arith, common_steps, is)
     by_test p below false e = grind (arith, common_steps, others p)
 
-apart_is : (a b : ℕ) → (a ≡ b → ⊥) → (a == b) ≡ false
-apart_is a b apart = elim (a == b) as (λ x. (a == b) ≡ x → x ≡ false) [
-  | true ↦ λ e. absurd (apart (eqb-true a b e))
-  | false ↦ λ e. refl
-] refl
-
 and_false : (b : Bool) → (b && false) ≡ false
 and_false true = refl
 and_false false = refl
@@ -96,7 +86,7 @@ module _ (f : Family) (lines : List ScriptLine) (spawned reaped left : List Bool
       (kept_push f lines spawned reaped left operations (record { pid = pid; deed = Does op }) kept spawned reaped (slice_set left pid.0 now) after
       (grows_not spawned (λ c. spawns c (Does op)) (λ p. refl)) (grows_not reaped (λ c. reaps f c (Does op)) (λ p. refl))
       (grows_one left pid.0 now (λ p. (pid.0 == p) && is_exit op) long inside
-      (left_is ∙ ap (λ b. slice_index_or left pid.0 false || (b && is_exit op)) (sym (eq-eqb pid.0 pid.0 refl))) (λ p apart. ap (λ b. b && is_exit op) (apart_is pid.0 p apart)))
+      (left_is ∙ ap (λ b. slice_index_or left pid.0 false || (b && is_exit op)) (sym (eq-eqb pid.0 pid.0 refl))) (λ p apart. ap (λ b. b && is_exit op) (ne_eqb pid.0 p apart)))
       (known_count (Does op) is) few)
 
   -- after a spawn
@@ -104,7 +94,7 @@ module _ (f : Family) (lines : List ScriptLine) (spawned reaped left : List Bool
   spawns_kept c max is long inside =
       subst (λ ls. IsKept f ls (slice_set spawned c.0 true) reaped left after) (sym (known_line (Spawns c max) is))
       (kept_push f lines spawned reaped left operations (record { pid = pid; deed = Spawns c max }) kept (slice_set spawned c.0 true) reaped left after
-      (grows_one spawned c.0 true (λ p. c.0 == p) long inside (or_true (slice_index_or spawned c.0 false) ∙ ap (λ b. slice_index_or spawned c.0 false || b) (sym (eq-eqb c.0 c.0 refl))) (apart_is c.0))
+      (grows_one spawned c.0 true (λ p. c.0 == p) long inside (or_true (slice_index_or spawned c.0 false) ∙ ap (λ b. slice_index_or spawned c.0 false || b) (sym (eq-eqb c.0 c.0 refl))) (ne_eqb c.0))
       (grows_not reaped (λ p. reaps f p (Spawns c max)) (λ p. refl)) (grows_not left (λ p. (pid.0 == p) && false) (λ p. and_false (pid.0 == p)))
       (known_count (Spawns c max) is) few)
 

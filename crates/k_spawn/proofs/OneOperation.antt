@@ -15,6 +15,7 @@ use Rattle.k_base.proofs.Lists.{some_one}
 use Rattle.k_frame.proofs.Histories.{done_append}
 use Rattle.k_order.proofs.Absorbing.{none_done}
 use Rattle.k_order.proofs.Lines.{LineDone, Ready, line}
+use Rattle.k_order.proofs.FileOrders.{order_next}
 
 -- what is left of a list at one of its elements
 pub taken_at : {A : Type 0} (xs : List A) (n : ℕ) (y : A) (ys : List A) → drop n xs ≡ y ∷ ys → slice_get xs n ≡ Some y
@@ -22,11 +23,6 @@ taken_at [] zero y ys e = absurd (cc)
 taken_at [] (suc n) y ys e = absurd (cc)
 taken_at (x ∷ xs) zero y ys e = ap Some (let same : x ≡ y = cc in same)
 taken_at (x ∷ xs) (suc n) y ys e = taken_at xs n y ys e
-
--- the same front goes on both sides
-pub same_behind : {A : Type 0} (front xs ys : List A) → front ++ xs ≡ front ++ ys → xs ≡ ys
-same_behind [] xs ys e = e
-same_behind (z ∷ front) xs ys e = same_behind front xs ys (let tails : front ++ xs ≡ front ++ ys = cc in tails)
 
 module _ (trace : Trace) (st : State) (p : ℕ) (op : Op) where
   -- the events of an operation are one operation of its process
@@ -49,11 +45,6 @@ pub record IsNext (trace : Trace) (st : State) (p : ℕ) (op : Op) (order : List
   pub ready : Ready trace (run trace st (events_of trace st p (Some op))) order
   pub filed : file_order_from trace st (p ∷ order) ≡ events_of trace st p (Some op) ++ file_order_from trace (run trace st (events_of trace st p (Some op))) order
   pub left : (q : ℕ) → q < process_count trace → cond (p == q) (op ∷ []) [] ++ drop (get_or (run trace st (events_of trace st p (Some op))).done q 0) (operations_of trace q) ≡ drop (get_or st.done q 0) (operations_of trace q)
-
-order_next : (trace : Trace) (st : State) (q : ℕ) (order : List ℕ) (op : Op) → next_operation trace st q ≡ Some op →
-    file_order_from trace st (q ∷ order) ≡ events_of trace st q (Some op) ++ file_order_from trace (run trace st (events_of trace st q (Some op))) order
-unfolding file_order_from
-order_next trace st q order op e = ap (λ next. events_of trace st q next ++ file_order_from trace (run trace st (events_of trace st q next)) order) e
 
 pub next_is : (trace : Trace) → AreOperations trace → (st : State) (p : ℕ) (op : Op) (rest : List Op) (order : List ℕ) → Ready trace st (p ∷ order) → p < process_count trace → IsFalse (among p st.ended) →
     drop (get_or st.done p 0) (operations_of trace p) ≡ op ∷ rest → IsNext trace st p op order

@@ -1,6 +1,6 @@
 -- The list of a child, gathered child by child.
-use Rattle.std.proofs.Common.{◌≡◌, ◌∙◌, ℕ, zero, suc, ◌+◌, ◌-◌, ◌<◌, ◌≤◌, ◌==◌, Bool, true, false, cond, List, [], ◌∷◌, ◌++◌, filter, length, refl, sym, ap, slice_index_or, arith, append_assoc, append-nil, subst}
-use Rattle.std.proofs.lemmas.Bool.{eqb-true, eq-eqb}
+use Rattle.std.proofs.Common.{◌≡◌, ◌∙◌, ℕ, zero, suc, ◌+◌, ◌-◌, ◌<◌, ◌≤◌, ◌==◌, Bool, true, false, cond, List, [], ◌∷◌, ◌++◌, filter, length, refl, sym, ap, slice_index_or, arith, append_assoc, append-nil, subst, ne_eqb}
+use Rattle.std.proofs.lemmas.Bool.{eq-eqb}
 use Rattle.std.specs.List.{flat_map, AllByRecursion}
 use Rattle.k_types.specs.declared.names.Pid.{Pid}
 use Rattle.k_types.specs.Numbers.{numbers_from}
@@ -75,12 +75,6 @@ parent_here f k here inside is =
     let place : f.first + k - f.first ≡ k = omega arith in
     ap (λ i. (slice_index_or f.parents i (record { 0 = 0 })).0) place ∙ ap (λ (it : Pid). it.0) (same_within f.parents k here (record { 0 = 0 }) inside is)
 
-differs : (a b : ℕ) → (a ≡ b → ⊥) → (a == b) ≡ false
-differs a b apart = elim (a == b) as (λ x. (a == b) ≡ x → x ≡ false) [
-  | true ↦ λ e. absurd (apart (eqb-true a b e))
-  | false ↦ λ e. refl
-] refl
-
 module _ (f : Family) (depth p k : ℕ) (here : Pid) (old list new : List ℕ) (inside : k < length f.parents) (is_here : here ≡ slice_index_or f.parents k here) (kept : old ++ lists_from f depth p 0 ≡ list ++ lists_from f depth p k) where
   test_is : ((slice_index_or f.parents k (record { 0 = 0 })).0 == p) ≡ (here.0 == p)
   test_is = ap (λ (it : Pid). it.0 == p) (same_within f.parents k here (record { 0 = 0 }) inside is_here)
@@ -97,7 +91,7 @@ module _ (f : Family) (depth p k : ℕ) (here : Pid) (old list new : List ℕ) (
   pub kept_by_other : (here.0 ≡ p → ⊥) → new ≡ list → old ++ lists_from f depth p 0 ≡ new ++ lists_from f depth p (k + 1)
   kept_by_other is same =
       kept
-      ∙ ap (λ ls. list ++ ls) (lists_step f depth p k inside ∙ ap (λ b. cond b (reaped_within f depth (f.first + k) ++ lists_from f depth p (k + 1)) (lists_from f depth p (k + 1))) (test_is ∙ differs here.0 p is))
+      ∙ ap (λ ls. list ++ ls) (lists_step f depth p k inside ∙ ap (λ b. cond b (reaped_within f depth (f.first + k) ++ lists_from f depth p (k + 1)) (lists_from f depth p (k + 1))) (test_is ∙ ne_eqb here.0 p is))
       ∙ ap (λ ls. ls ++ lists_from f depth p (k + 1)) (sym same)
 
 -- the list once all children were looked at

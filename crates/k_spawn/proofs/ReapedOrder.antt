@@ -6,6 +6,7 @@ use Rattle.std.proofs.lemmas.List.Folds.{list_any-append}
 use Rattle.k_types.specs.Names.{among}
 use Rattle.k_types.specs.Numbers.{numbers_from}
 use Rattle.k_spawn.specs.Families.{Family, IsFamily, children_of, parent_of, reaped_within, reaped_with}
+use Rattle.k_base.proofs.Numbered.{listed_from}
 
 -- a number that is in a list, and one that passes a test among numbers in a row
 pub among_head : (n : ℕ) (ns : List ℕ) → IsTrue (among n (n ∷ ns))
@@ -28,17 +29,6 @@ passes_from test first (suc n) k t = go (test first) refl (λ t. passes_from tes
       | inl here ↦ let same : first ≡ k = eqb-true first k here in (omega (arith, same), omega (arith, same), ap test (sym same) ∙ e)
       | inr there ↦ let is = rest there in (let h = is.0 in omega (arith, h), let h = is.1 in omega (arith, h), is.2)
     ]
-
-pub listed_from : (test : ℕ → Bool) (first n k : ℕ) → first ≤ k → k < first + n → IsTrue (test k) → IsTrue (among k (filter test (numbers_from first n)))
-listed_from test first zero k low high t = absurd (omega (arith, low, high))
-listed_from test first (suc n) k low high t = elim (cases_eq first k) [
-  | inl same ↦ ap (λ b. among k (cond b (first ∷ filter test (numbers_from (suc first) n)) (filter test (numbers_from (suc first) n)))) (ap test same ∙ t) ∙ or_left (first == k) _ (eq-eqb first k same)
-  | inr other ↦ more (test first) (listed_from test (suc first) n k (omega (arith, low, other)) (omega (arith, high)) t)
-]
-  where
-    more : (b : Bool) → IsTrue (among k (filter test (numbers_from (suc first) n))) → IsTrue (among k (cond b (first ∷ filter test (numbers_from (suc first) n)) (filter test (numbers_from (suc first) n))))
-    more true t = or_right (first == k) _ t
-    more false t = t
 
 -- a number in lists that are joined is in one of them
 pub among_joined : (g : ℕ → List ℕ) (xs : List ℕ) (n : ℕ) → IsTrue (among n (flat_map g xs)) → (x : ℕ) × IsTrue (among x xs) × IsTrue (among n (g x))

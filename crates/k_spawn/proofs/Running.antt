@@ -1,6 +1,6 @@
 -- The operations of a line, one after the other in the order of the file.
 use Rattle.std.proofs.Common.{◌≡◌, ◌∙◌, ℕ, ◌<◌, ◌==◌, Bool, true, false, cond, List, [], ◌∷◌, ◌++◌, drop, map, get_or, Some, refl, sym, ap, subst, eq-eqb}
-use Rattle.std.proofs.lemmas.List.{append_assoc}
+use Rattle.std.proofs.lemmas.List.{append_assoc, append_cancel_left}
 use Rattle.k_types.specs.declared.op.Op.{Op}
 use Rattle.k_types.specs.declared.event.Event.{Event}
 use Rattle.k_types.specs.FileOrder.{events_of, file_order_from}
@@ -11,7 +11,7 @@ use Rattle.k_frame.proofs.Histories.{done_append, legal_append, run_append}
 use Rattle.k_order.proofs.Lines.{Ready}
 use Rattle.k_types.specs.declared.event.Event.TheVariants.{Done, Ended, Absorbed, Closing}
 use Rattle.k_spawn.specs.Agreement.{replies_in}
-use Rattle.k_spawn.proofs.OneOperation.{IsNext, one_done, same_behind}
+use Rattle.k_spawn.proofs.OneOperation.{IsNext, one_done}
 
 -- the operations of the process were done: their events are possible, the next ones in the order of the file, and leave the rest to do
 pub record Ran (trace : Trace) (st : State) (p : ℕ) (ops : List Op) (order : List ℕ) (events : List Event) : Type 0 where
@@ -63,7 +63,7 @@ module _ (trace : Trace) (p : ℕ) (order : List ℕ) where
 pub left_own : (trace : Trace) (st : State) (p : ℕ) (op : Op) (rest : List Op) (order : List ℕ) → p < process_count trace → IsNext trace st p op order → drop (get_or st.done p 0) (operations_of trace p) ≡ op ∷ rest →
     drop (get_or (run trace st (events_of trace st p (Some op))).done p 0) (operations_of trace p) ≡ rest
 left_own trace st p op rest order known next todo =
-    same_behind (op ∷ []) _ rest
+    append_cancel_left (op ∷ []) _ rest
     (ap (λ b. cond b (op ∷ []) [] ++ drop (get_or (run trace st (events_of trace st p (Some op))).done p 0) (operations_of trace p)) (sym (eq-eqb p p refl)) ∙ next.left p known ∙ todo)
 
 -- the replies of two lists of events

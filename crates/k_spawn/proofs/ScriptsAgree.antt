@@ -27,7 +27,6 @@ use Rattle.k_spawn.specs.Scripts.{Script, family, limit_for}
 use Rattle.k_spawn.specs.Timely.{was_reaped, was_spawned}
 use Rattle.k_spawn.specs.Translation.{child_row, operations_in, order_of, translation}
 use Rattle.k_spawn.specs.Tree.{Tree, first_tree, row_there, trace_there}
-use Rattle.k_spawn.proofs.Copied.{given_at}
 use Rattle.k_spawn.proofs.Gathered.{processes_are}
 use Rattle.k_spawn.proofs.ChildTree.{all_processes, child_limit_known, first_child, row_is}
 use Rattle.k_spawn.proofs.Level.{IsGone, IsLevel, IsPlaced, known_in, no_charge, now, sound, uses_same}
@@ -36,6 +35,7 @@ use Rattle.k_spawn.proofs.LinesAgree.{IsBehind, behind_all, filed_from, stepped}
 use Rattle.k_spawn.proofs.ScriptsKeep.{judged_keeps, judged_whole}
 use Rattle.k_spawn.proofs.TimelyLines.{AreTimely, IsTimely, all_timely, no_lineage}
 use Rattle.k_spawn.proofs.Unborn.{unborn}
+use Rattle.k_base.proofs.Lists.{at_number}
 
 -- registers that hold nothing are null
 null_registers : (rs : List (Option Name)) → ((m : Name) → list_any (λ r. leads_to r m) rs ≡ false) → rs ≡ replicate (length rs) None
@@ -86,7 +86,7 @@ module _ (s : Script) (placed : IsPlaced s) (rules : AreOperations (translation 
   first_left : (q : ℕ) → q < process_count a → drop (get_or (opening a).done q 0) (operations_of a q) ≡ operations_in s s.lines q
   first_left q known =
       ap (λ n. drop n (operations_of a q)) (get_or-same (process_count a) q 0 0 known)
-      ∙ given_at (operations_in s s.lines) 0 (all_processes s) q [] (subst (λ n. q < n) (processes_are s) known)
+      ∙ at_number (operations_in s s.lines) 0 (all_processes s) q [] (subst (λ n. q < n) (processes_are s) known)
       ∙ ap (operations_in s s.lines) (let same : 0 + q ≡ q = omega arith in same)
 
   first_level : IsLevel s (first_tree s) []

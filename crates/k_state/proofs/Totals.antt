@@ -69,7 +69,7 @@ segment_written n i c (x ∷ xs) seg =
     let before = segment_first x xs seg in
     omega (arith, same, ih, after, before)
 
-fewer : (p : Object → Bool) (xs : List Object) → total object_bytes (filter p xs) ≤ total object_bytes xs
+pub fewer : (p : Object → Bool) (xs : List Object) → total object_bytes (filter p xs) ≤ total object_bytes xs
 fewer p [] = omega arith
 fewer p (x ∷ xs) =
     elim (p x) as (λ b. total object_bytes (cond b (x ∷ filter p xs) (filter p xs)) ≤ object_bytes x + total object_bytes xs) [

@@ -1,5 +1,5 @@
 -- Names in order are told by what is among them.
-use Rattle.std.proofs.Common.{◌≡◌, ◌∙◌, ◌&&◌, ◌||◌, Bool, true, false, List, [], ◌∷◌, map, filter, refl, sym, ap, subst, cond}
+use Rattle.std.proofs.Common.{◌≡◌, ◌∙◌, ◌||◌, Bool, true, false, List, [], ◌∷◌, map, filter, refl, sym, ap, subst, cond}
 use Rattle.k_types.specs.declared.names.Name.{Name}
 use Rattle.k_types.specs.declared.names.Heap.{Heap}
 use Rattle.k_types.specs.Names.{name_eq, name_lt, name_among, heap_eq}
@@ -8,6 +8,7 @@ use Rattle.k_base.proofs.NameTests.{name_lt_trans, name_lt_total, name_eq_refl, 
 use Rattle.k_base.proofs.Tests.{or_swap}
 use Rattle.k_text.proofs.NameOrder.{lt_irrefl}
 use Rattle.k_text.specs.Shown.{with_name, in_order, exits_of, AreRising, AreRisingFrom}
+use Rattle.k_base.proofs.Exits.{targets_among}
 
 -- ---- putting a name in its place
 
@@ -116,14 +117,6 @@ same_rising (n ∷ ns) (m ∷ ms) hn hm e =
     ∙ ap (λ (xs : List Name). m ∷ xs) (same_rising ns ms (rising_tail n ns hn) (rising_tail n ms hm2) (tails n ns ms hn hm2 e2))
 
 -- ---- exit items
-
-targets_among : (exits : List ExitItem) (h : Heap) (n : Name) → name_among n (map (λ e. e.target) (filter (λ e. heap_eq e.heap h) exits)) ≡ has_exit exits h n
-targets_among [] h n = refl
-targets_among (e ∷ exits) h n =
-    elim (heap_eq e.heap h) as (λ b. name_among n (map (λ x. x.target) (cond b (e ∷ filter (λ x. heap_eq x.heap h) exits) (filter (λ x. heap_eq x.heap h) exits))) ≡ ((b && name_eq e.target n) || has_exit exits h n)) [
-      | true ↦ ap (λ (b : Bool). name_eq e.target n || b) (targets_among exits h n)
-      | false ↦ targets_among exits h n
-    ]
 
 -- rising names are the heap's exits where exactly the targets of its exit items are among them
 pub rising_exits : (exits : List ExitItem) (h : Heap) (names : List Name) → AreRising names → ((n : Name) → name_among n names ≡ has_exit exits h n) → names ≡ exits_of exits h

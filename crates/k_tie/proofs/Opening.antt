@@ -9,10 +9,11 @@ use Rattle.k_types.specs.Numbers.{numbers_from}
 use Rattle.k_tie.specs.declared.view.CellView.{CellView}
 use Rattle.k_tie.specs.declared.view.View.{View}
 use Rattle.k_tie.specs.declared.view.View.TheVariants.{Journal, Note}
-use Rattle.k_tie.specs.Rule.{one_if_same, CellsFit, ViewFits, times_among, KeepsRule}
+use Rattle.k_tie.specs.Rule.{CellsFit, ViewFits, times_among, KeepsRule}
 use Rattle.k_tie.specs.Steps.{blank_cell, opening_view, after_give, note_as_held}
 use Rattle.k_tie.specs.Values.{NoteValue, blank_note, note_value}
-use Rattle.k_tie.proofs.Totals.{one_if_same-same, one_if_same-other}
+use Rattle.k_base.proofs.Sums.{one_if_same-same, one_if_same-other}
+use Rattle.k_base.specs.Counts.{one_if_same}
 
 -- so many blank cells, from the first number up
 abbrev pub blank_cells : ℕ → ℕ → List CellView

@@ -10,9 +10,12 @@ use Rattle.k_types.specs.declared.event.Event.{Event}
 use Rattle.k_tie.specs.declared.view.CellView.{CellView}
 use Rattle.k_tie.specs.declared.view.View.{View}
 use Rattle.k_tie.specs.declared.view.View.TheVariants.{Journal, Note, Spent}
-use Rattle.k_tie.specs.Rule.{one_if_same, total_of, CellFits, CellsFit, ViewFits, times_among, times_in, one_if_journal, KeepsRule, Holds}
+use Rattle.k_tie.specs.Rule.{total_of, CellFits, CellsFit, ViewFits, times_among, times_in, one_if_journal, KeepsRule, Holds}
 use Rattle.k_tie.specs.Steps.{cell_view, after_give, note_as_held, note_of_whole, after_touch, note_touched, after_take, after_append, IsToldOf}
-use Rattle.k_tie.proofs.Totals.{total_set, total_snoc, total_one, total_two, one_if_same-same, one_if_same-swap, prefix_longer}
+use Rattle.k_tie.proofs.Totals.{one_if_same-swap, prefix_longer}
+use Rattle.k_base.proofs.Places.{total_set_there, total_one, total_two}
+use Rattle.k_base.proofs.Sums.{total_push, one_if_same-same}
+use Rattle.k_base.specs.Counts.{one_if_same}
 
 -- one view changes
 pub kept_set : (ws : List ℕ) (vs : List View) (k : KeepsRule ws vs) (l : List Event) (t : List ℕ) (id : ℕ) (v w : View)
@@ -23,12 +26,12 @@ kept_set ws vs k l t id v w at ones cells others mine = record {
   list = l;
   touches = t;
   word = refl;
-  one_journal = (let s = total_set one_if_journal vs id v w at in let o = k.one_journal in omega arith);
+  one_journal = (let s = total_set_there one_if_journal vs id v w at in let o = k.one_journal in omega arith);
   fits = λ j u e. ⊎_elim
       (λ (x : (j ≡ id) × (w ≡ u)). subst (ViewFits l t) x.1 mine)
       (λ (x : (j ≢ id) × (get_elem? vs j ≡ some u)). others j u x.0 x.1)
       (at_set vs id j w u e);
-  distinct = λ c. let s = total_set (times_in c) vs id v w at in let a = k.distinct c in let h = cells c in omega arith;
+  distinct = λ c. let s = total_set_there (times_in c) vs id v w at in let a = k.distinct c in let h = cells c in omega arith;
 }
 
 -- a view is cut in two
@@ -40,7 +43,7 @@ kept_split ws vs k t id v w x at ones cells others left right = record {
   list = k.list;
   touches = t;
   word = k.word;
-  one_journal = (let s = total_set one_if_journal vs id v w at in let p = total_snoc one_if_journal (set vs id w) x in let o = k.one_journal in omega arith);
+  one_journal = (let s = total_set_there one_if_journal vs id v w at in let p = total_push one_if_journal (set vs id w) x in let o = k.one_journal in omega arith);
   fits = λ j u e. ⊎_elim
       (λ (was : get_elem? (set vs id w) j ≡ some u). ⊎_elim
       (λ (y : (j ≡ id) × (w ≡ u)). subst (ViewFits k.list t) y.1 left)
@@ -48,7 +51,7 @@ kept_split ws vs k t id v w x at ones cells others left right = record {
       (at_set vs id j w u was))
       (λ (new : x ≡ u). subst (ViewFits k.list t) new right)
       (at_snoc (set vs id w) x u j e);
-  distinct = λ c. let s = total_set (times_in c) vs id v w at in let p = total_snoc (times_in c) (set vs id w) x in let a = k.distinct c in let h = cells c in omega arith;
+  distinct = λ c. let s = total_set_there (times_in c) vs id v w at in let p = total_push (times_in c) (set vs id w) x in let a = k.distinct c in let h = cells c in omega arith;
 }
 
 -- two views are made one
@@ -61,7 +64,7 @@ kept_join ws vs k id other v u w at apart there ones cells both = record {
   list = k.list;
   touches = k.touches;
   word = k.word;
-  one_journal = (let s = total_set one_if_journal vs id v w at in let p = total_set one_if_journal (set vs id w) other u Spent there in let o = k.one_journal in omega arith);
+  one_journal = (let s = total_set_there one_if_journal vs id v w at in let p = total_set_there one_if_journal (set vs id w) other u Spent there in let o = k.one_journal in omega arith);
   fits = λ j y e. ⊎_elim
       (λ (x : (j ≡ other) × (Spent ≡ y)). subst (ViewFits k.list k.touches) x.1 tt)
       (λ (x : (j ≢ other) × (get_elem? (set vs id w) j ≡ some y)). ⊎_elim
@@ -69,7 +72,7 @@ kept_join ws vs k id other v u w at apart there ones cells both = record {
       (λ (z : (j ≢ id) × (get_elem? vs j ≡ some y)). k.fits j y z.1)
       (at_set vs id j w y x.1))
       (at_set (set vs id w) other j Spent y e);
-  distinct = λ c. let s = total_set (times_in c) vs id v w at in let p = total_set (times_in c) (set vs id w) other u Spent there in let a = k.distinct c in let h = cells c in omega arith;
+  distinct = λ c. let s = total_set_there (times_in c) vs id v w at in let p = total_set_there (times_in c) (set vs id w) other u Spent there in let a = k.distinct c in let h = cells c in omega arith;
 }
   where
     theirs : ViewFits k.list k.touches u

@@ -1,40 +1,10 @@
--- Sums over the views.
-use Rattle.std.proofs.Common.{◌≡◌, ◌≢◌, ℕ, zero, suc, ◌+◌, ◌≤◌, Bool, List, [], ◌∷◌, ◌++◌, set, refl, sym, ap, ◌∙◌, arith, cond, eq-eqb, ne_eqb, append_assoc, subst}
+-- Of one number and of two, and of longer lists.
+use Rattle.std.proofs.Common.{◌≡◌, ◌≢◌, ℕ, ◌+◌, List, [], ◌∷◌, ◌++◌, sym, ap, ◌∙◌, arith, append_assoc, subst}
 use Rattle.k_types.specs.Complete.{IsPrefixOf}
 use mathlib.Core.Logic.{dite}
 use native.Mathlib.Decide.{ℕ_discrete}
-use mathlib.Core.Option.{some, some-injective, some-ne-none}
-use lib.ListN.{get_elem?}
-use Rattle.k_types.specs.Totals.{total}
-use Rattle.k_tie.specs.Rule.{one_if_same}
-
-module _ {A : Type 0} (f : A → ℕ) where
-  pub total_set : (xs : List A) (i : ℕ) (v w : A) → get_elem? xs i ≡ some v → total f (set xs i w) + f v ≡ total f xs + f w
-  total_set [] i v w e = absurd (some-ne-none v (sym e))
-  total_set (x ∷ xs) zero v w e = let p : f x ≡ f v = ap f (some-injective x v e) in omega arith
-  total_set (x ∷ xs) (suc i) v w e = let p = total_set xs i v w e in omega arith
-
-  pub total_snoc : (xs : List A) (y : A) → total f (xs ++ y ∷ []) ≡ total f xs + f y
-  total_snoc [] y = omega arith
-  total_snoc (x ∷ xs) y = let p = total_snoc xs y in omega arith
-
-  pub total_one : (xs : List A) (i : ℕ) (v : A) → get_elem? xs i ≡ some v → f v ≤ total f xs
-  total_one [] i v e = absurd (some-ne-none v (sym e))
-  total_one (x ∷ xs) zero v e = let p : f x ≡ f v = ap f (some-injective x v e) in omega arith
-  total_one (x ∷ xs) (suc i) v e = let p = total_one xs i v e in omega arith
-
-  pub total_two : (xs : List A) (i j : ℕ) (v w : A) → get_elem? xs i ≡ some v → get_elem? xs j ≡ some w → j ≢ i → f v + f w ≤ total f xs
-  total_two [] i j v w e d n = absurd (some-ne-none v (sym e))
-  total_two (x ∷ xs) zero zero v w e d n = absurd (n refl)
-  total_two (x ∷ xs) zero (suc j) v w e d n = let p : f x ≡ f v = ap f (some-injective x v e) in let q = total_one xs j w d in omega arith
-  total_two (x ∷ xs) (suc i) zero v w e d n = let p : f x ≡ f w = ap f (some-injective x w d) in let q = total_one xs i v e in omega arith
-  total_two (x ∷ xs) (suc i) (suc j) v w e d n = let p = total_two xs i j v w e d (λ h. n (ap suc h)) in omega arith
-
-pub one_if_same-same : (c : ℕ) → one_if_same c c ≡ 1
-one_if_same-same c = ap (λ (b : Bool). cond b 1 0) (eq-eqb c c refl)
-
-pub one_if_same-other : (x c : ℕ) → x ≢ c → one_if_same x c ≡ 0
-one_if_same-other x c n = ap (λ (b : Bool). cond b 1 0) (ne_eqb x c n)
+use Rattle.k_base.proofs.Sums.{one_if_same-same, one_if_same-other}
+use Rattle.k_base.specs.Counts.{one_if_same}
 
 pub prefix_longer : {A : Type 0} (xs ys : List A) (y : A) → IsPrefixOf xs ys → IsPrefixOf xs (ys ++ y ∷ [])
 prefix_longer xs ys y p = (p.0 ++ y ∷ [], sym (append_assoc xs p.0 (y ∷ [])) ∙ ap (λ w. w ++ y ∷ []) p.1)

@@ -1,7 +1,7 @@
 -- The rule of the journal's table. Its word is the journal's length, and each seat has a view of the journal. A cell is in
 -- hand while the journal's own view has the cell's list and share and no note of that cell exists: so it is when the table
 -- is made, and from the join of a note to the next split that gives one.
-use Rattle.std.specs.Prelude.{◌≡◌, ℕ, ◌≤◌, ◌==◌, if◌then◌else◌, List, [], ◌∷◌, length}
+use Rattle.std.specs.Prelude.{◌≡◌, ℕ, ◌≤◌, List, [], ◌∷◌, length}
 use mathlib.Core.Option.{some}
 use lib.ListN.{get_elem?}
 use Rattle.atomic_table.specs.Table.{State}
@@ -11,10 +11,7 @@ use Rattle.k_types.specs.declared.event.Event.{Event}
 use Rattle.k_tie.specs.declared.view.CellView.{CellView}
 use Rattle.k_tie.specs.declared.view.View.{View}
 use Rattle.k_tie.specs.declared.view.View.TheVariants.{Journal, Note, Spent}
-
--- 1 where the two numbers are one
-abbrev pub one_if_same : ℕ → ℕ → ℕ
-one_if_same a b = if a == b then 1 else 0
+use Rattle.k_base.specs.Counts.{one_if_same}
 
 -- a cell's total: how many of the touches are of the cell
 abbrev pub total_of : List ℕ → ℕ → ℕ

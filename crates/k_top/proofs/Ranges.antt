@@ -1,5 +1,5 @@
 -- The snapshot of the state that a whole trace leaves is found sound: the numbers of such a state are in range.
-use Rattle.std.proofs.Common.{ℕ, zero, suc, ◌+◌, ◌*◌, ◌^◌, ◌<◌, ◌≤◌, Bool, true, false, cond, List, [], ◌∷◌, map, filter, length, get_or, Option, sym, subst, arith}
+use Rattle.std.proofs.Common.{ℕ, zero, suc, ◌+◌, ◌*◌, ◌^◌, ◌<◌, ◌≤◌, List, [], ◌∷◌, map, length, get_or, Option, sym, subst, arith}
 use Rattle.std.specs.List.{AllByRecursion}
 use Rattle.k_types.specs.declared.event.Event.{Event}
 use Rattle.k_types.specs.declared.names.Heap.{Heap}
@@ -35,6 +35,7 @@ use Rattle.k_audit.proofs.FoundSound.{found_sound}
 use Rattle.k_audit.proofs.Sayable.{all_found, at_place, by_place}
 use Rattle.k_audit.proofs.Setups.{setup_alone}
 use Rattle.k_audit.proofs.Written.{max_at}
+use Rattle.k_state.proofs.Totals.{fewer}
 
 -- ---- lists of numbers
 
@@ -50,15 +51,6 @@ sum_mapped f first (suc count) small = (omega (arith, small), sum_mapped f (suc 
 few_given : (xs : List ℕ) → AllByRecursion (λ n. n ≤ 200001) xs → total (λ n. n) xs ≤ 200001 * length xs
 few_given [] few = omega arith
 few_given (x ∷ xs) few = let here = few.0 in let rest = few_given xs few.1 in omega (arith, here, rest)
-
-some_bytes : (test : Object → Bool) (os : List Object) → total object_bytes (filter test os) ≤ total object_bytes os
-some_bytes test [] = omega arith
-some_bytes test (o ∷ os) =
-    let rest = some_bytes test os in
-    elim (test o) as (λ b. total object_bytes (cond b (o ∷ filter test os) (filter test os)) ≤ object_bytes o + total object_bytes os) [
-      | true ↦ omega (arith, rest)
-      | false ↦ omega (arith, rest)
-    ]
 
 holds_number : (c : Content) → number_in c < 2 ^ 64 → HoldsNumber c
 holds_number (Refers r) small = tt
@@ -95,7 +87,7 @@ module _ (t : NamedTrace) (history : List Event) (is : IsTrace t) (legal : IsLeg
 
   heap_small : (h : Heap) → IsNumber (bytes_of (setup_of t.trace) st h)
   unfolding bytes_by
-  heap_small h = let part = some_bytes (λ o. heap_eq (owner_of (setup_of t.trace) st o.name.seg.0) h) st.objects in omega (arith, part, bytes_few)
+  heap_small h = let part = fewer (λ o. heap_eq (owner_of (setup_of t.trace) st o.name.seg.0) h) st.objects in omega (arith, part, bytes_few)
 
   use_small : (m : ℕ) → m < 0 + length t.trace.limits → IsNumber (use_of (setup_of t.trace) st m)
   use_small m inside =

@@ -17,7 +17,3 @@ pub none_left : (n : ℕ) (c : SoFar) (bytes : Text) → length bytes ≡ 0 → 
 unfolding judged_lines
 none_left n c [] e = refl
 none_left n c (b ∷ bytes) e = absurd cc
-
-pub no_lines : (bytes : Text) → length bytes ≡ 0 → length (lines_of bytes) ≡ 0
-no_lines [] e = refl
-no_lines (b ∷ bytes) e = absurd cc

@@ -17,11 +17,11 @@ use Rattle.k_trace.specs.Grown.{fits, with_limit, with_proc, with_shared}
 use Rattle.k_trace.specs.Judgement.{SoFar}
 use Rattle.k_trace.proofs.OpRules.{none_each}
 use Rattle.k_base.proofs.Lists.{length_push}
-use Rattle.k_trace.proofs.Pushed.{declares_append}
 use Rattle.k_trace.proofs.Again.{nor}
 use Rattle.k_trace.proofs.Reserved.{AllFit, fit_room}
 use Rattle.k_trace.proofs.Steps.{at_place, Step, OfProc, OfShared, Run}
 use Rattle.k_trace.proofs.Runs.{run_to, good_at, fresh_at, moved, with_limits, limits_more, row_is, AreLater, limit_step, seam, front_tree, fit_front}
+use Rattle.k_words.proofs.Numbered.{declares_append}
 
 -- the next row fits
 room_at : (xs : List LimitRow) (row : LimitRow) (ys : List LimitRow) (p : LimitId) → row.parent ≡ Some p → AreLater (xs ++ row ∷ ys) → p.0 < length xs → (not row.hard || fits xs p.0 row.max) ≡ true

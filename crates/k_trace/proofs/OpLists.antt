@@ -1,6 +1,6 @@
 -- Operations and the order of the file, with one operation more.
 use Rattle.std.proofs.Common.{◌≡◌, ◌∙◌, ℕ, ◌+◌, ◌<◌, Bool, true, false, cond, ◌||◌, eqb, ltb, List, [], ◌∷◌, ◌++◌, length, drop, refl, sym, ap, arith, append_assoc, eq-eqb}
-use Rattle.std.proofs.lemmas.Bool.{eqb-true}
+use Rattle.std.proofs.lemmas.Bool.{eqb-true, false≢true, or_left, or_right}
 use Rattle.std.proofs.lemmas.Grind.{common_steps}
 use Rattle.std.specs.List.{list_all, count_by}
 use Rattle.k_types.specs.declared.op.Op.{Op}
@@ -11,6 +11,7 @@ use Rattle.k_types.specs.TraceRules.{EndsWithExit, is_exit}
 use Rattle.k_trace.specs.Named.{DeclaredNames}
 use Rattle.k_trace.specs.Spelling.{first_line, after_first, operation_lines, line_words}
 use Rattle.k_trace.specs.Grown.{has_exit}
+use Rattle.std.proofs.lemmas.List.Folds.{list_any-append}
 
 -- how often the process stands in the order
 abbrev pub times : ℕ → List ℕ → ℕ
@@ -138,3 +139,8 @@ ends_push ops o none first x rest e exit = ends_push_at ops first rest o x none 
 pub ends_nil : EndsWithExit []
 ends_nil [] op rest e exit = absurd cc
 ends_nil (f ∷ first) op rest e exit = absurd cc
+
+-- where none is an exit nothing follows one
+pub none_ends : (ops : List Op) → has_exit ops ≡ false → EndsWithExit ops
+none_ends ops none first op rest parted exit =
+    absurd (false≢true (sym none ∙ ap has_exit parted ∙ list_any-append is_exit first (op ∷ rest) ∙ or_right (has_exit first) _ (or_left (is_exit op) (has_exit rest) exit)))

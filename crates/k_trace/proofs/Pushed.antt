@@ -1,15 +1,15 @@
 -- Lists with one element more.
-use Rattle.std.proofs.Common.{◌≡◌, ◌∙◌, ℕ, suc, ◌<◌, Bool, true, false, ◌||◌, List, [], ◌∷◌, ◌++◌, length, get_or, refl, sym, ap, arith, inl, inr}
+use Rattle.std.proofs.Common.{◌≡◌, ◌∙◌, ℕ, suc, ◌<◌, true, false, List, [], ◌∷◌, ◌++◌, length, get_or, refl, sym, ap, arith, inl, inr}
 use Rattle.std.proofs.lemmas.Bool.{cases_lt}
 use Rattle.std.proofs.lemmas.List.{get_or_append_left, length-append}
 use Rattle.std.proofs.Math.Seq.{get_or-append_seam}
-use Rattle.std.specs.Str.{bytes_eq}
 use Rattle.k_words.specs.Words.{Text, word_at}
 use Rattle.k_words.specs.Names.{is_name, declares}
 use Rattle.k_base.proofs.Lists.{length_push}
 use Rattle.k_words.proofs.Again.{declares-at}
 use Rattle.k_trace.specs.Rules.{AreNames}
 use Rattle.k_trace.specs.Spelling.{declarations}
+use Rattle.k_words.proofs.Numbered.{declares_append}
 
 pub word_before : (names : List Text) (n : Text) (i : ℕ) → i < length names → word_at (names ++ n ∷ []) i ≡ word_at names i
 word_before names n i lt = get_or_append_left names (n ∷ []) [] i lt
@@ -53,14 +53,6 @@ AreNames_front xs ys all = record {
   each = front_each xs ys all;
   apart = λ i k below lt e. all.apart i k below (omega (arith, length-append xs ys)) (get_or_append_left xs ys [] i lt ∙ e ∙ sym (get_or_append_left xs ys [] k (omega arith)));
 }
-
-pub declares_append : (xs ys : List Text) (n : Text) → declares (xs ++ ys) n ≡ (declares xs n || declares ys n)
-declares_append [] ys n = refl
-declares_append (x ∷ xs) ys n = or_assoc (bytes_eq n x) (declares xs n) (declares ys n) (declares (xs ++ ys) n) (declares_append xs ys n)
-  where
-    or_assoc : (a b c d : Bool) → d ≡ (b || c) → (a || d) ≡ ((a || b) || c)
-    or_assoc true b c d e = refl
-    or_assoc false b c d e = e
 
 pub neither_declares : (xs ys : List Text) (n : Text) → declares xs n ≡ false → declares ys n ≡ false → declares (xs ++ ys) n ≡ false
 neither_declares xs ys n a b = declares_append xs ys n ∙ rw (a, b) refl

@@ -26,7 +26,7 @@ unfolding demands
 demands_ok reason true next d e = (refl, e)
 demands_ok reason false next d e = absurd cc
 
-pub ok_is : {A : Type 0} (c d : A) → (let r : Result A Reason = Ok c in r) ≡ Ok d → c ≡ d
+pub ok_is : {A E : Type 0} (c d : A) → (let r : Result A E = Ok c in r) ≡ Ok d → c ≡ d
 ok_is c d e = cc
 
 -- a line of one word

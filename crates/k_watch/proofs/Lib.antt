@@ -1,4 +1,3 @@
-pub mod ViewSums
 pub mod SampleLists
 pub mod RuleKept
 pub mod Told

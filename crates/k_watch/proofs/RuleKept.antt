@@ -11,8 +11,9 @@ use Rattle.k_watch.specs.declared.view.View.TheVariants.{Opening, Pen, Watching,
 use Rattle.k_watch.specs.Samples.{sample_in, words_of, newest_of, IsLast, IsRising, IsSmall}
 use Rattle.k_watch.specs.Rule.{TakenFits, AllTakenFit, ViewFits, one_if_pen, KeepsSamples, IsOpening, KeepsRule}
 use Rattle.k_watch.specs.Steps.{taken, newcomer, Opens, Publishes, Takes, Looks, after_take, after_give, watcher_given}
-use Rattle.k_watch.proofs.ViewSums.{total_set, total_snoc, total_two}
 use Rattle.k_watch.proofs.SampleLists.{newest_snoc, newest_last, last_snoc, rising_below, rising_one_more, all_among_longer, among_last, all_among_one_more, all_among_below, below_more}
+use Rattle.k_base.proofs.Places.{total_set_there, total_two, only_one}
+use Rattle.k_base.proofs.Sums.{total_push}
 
 -- one view changes, and what was published
 kept_set : (ws ws' : List ℕ) (vs : List View) (k : KeepsSamples ws vs) (l : List Sample) (id : ℕ) (v w : View)
@@ -25,7 +26,7 @@ kept_set ws ws' vs k l id v w at ones last small rises others mine = record {
   last = last;
   small = small;
   rising = rises;
-  one_pen = (let s = total_set one_if_pen vs id v w at in let o = k.one_pen in omega arith);
+  one_pen = (let s = total_set_there one_if_pen vs id v w at in let o = k.one_pen in omega arith);
   fits = λ j u e. ⊎_elim
       (λ (x : (j ≡ id) × (w ≡ u)). subst (ViewFits l) x.1 mine)
       (λ (x : (j ≢ id) × (get_elem? vs j ≡ some u)). others j u x.0 x.1)
@@ -42,7 +43,7 @@ kept_split ws vs k id v w x at ones left right = record {
   last = k.last;
   small = k.small;
   rising = k.rising;
-  one_pen = (let s = total_set one_if_pen vs id v w at in let p = total_snoc one_if_pen (set vs id w) x in let o = k.one_pen in omega arith);
+  one_pen = (let s = total_set_there one_if_pen vs id v w at in let p = total_push one_if_pen (set vs id w) x in let o = k.one_pen in omega arith);
   fits = λ j u e. ⊎_elim
       (λ (was : get_elem? (set vs id w) j ≡ some u). ⊎_elim
       (λ (y : (j ≡ id) × (w ≡ u)). subst (ViewFits k.published) y.1 left)
@@ -63,7 +64,7 @@ kept_join ws vs k id other v u w at apart there ones both = record {
   last = k.last;
   small = k.small;
   rising = k.rising;
-  one_pen = (let s = total_set one_if_pen vs id v w at in let p = total_set one_if_pen (set vs id w) other u Spent there in let o = k.one_pen in omega arith);
+  one_pen = (let s = total_set_there one_if_pen vs id v w at in let p = total_set_there one_if_pen (set vs id w) other u Spent there in let o = k.one_pen in omega arith);
   fits = λ j y e. ⊎_elim
       (λ (x : (j ≡ other) × (Spent ≡ y)). subst (ViewFits k.published) x.1 tt)
       (λ (x : (j ≢ other) × (get_elem? (set vs id w) j ≡ some y)). ⊎_elim
@@ -78,10 +79,6 @@ kept_join ws vs k id other v u w at apart there ones both = record {
         (λ (x : (other ≡ id) × (w ≡ u)). absurd (apart x.0))
         (λ (x : (other ≢ id) × (get_elem? vs other ≡ some u)). k.fits other u x.1)
         (at_set vs id other w u there)
-
-only_one : (v w : View) (id : ℕ) → get_elem? (v ∷ []) id ≡ some w → (id ≡ 0) × (v ≡ w)
-only_one v w zero e = (refl, some-injective v w e)
-only_one v w (suc id) e = absurd (some-ne-none w (sym e))
 
 abbrev opens_in : View → ℕ
 opens_in Opening = 1

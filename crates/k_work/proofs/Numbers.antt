@@ -1,5 +1,5 @@
 -- Lists over the numbers below a bound.
-use Rattle.std.proofs.Common.{◌≡◌, ℕ, zero, suc, ◌+◌, ◌<◌, ◌≤◌, refl, ap, ◌∙◌, List, [], ◌∷◌, map, get_or, drop, length, replicate, arith}
+use Rattle.std.proofs.Common.{◌≡◌, ℕ, zero, suc, ◌+◌, ◌<◌, ◌≤◌, refl, ap, ◌∙◌, List, ◌∷◌, map, get_or, drop, length, replicate, arith}
 use Rattle.std.proofs.lemmas.List.{drop_more, at_drop_all}
 use Rattle.std.proofs.lemmas.List.{length-map}
 use Rattle.k_types.specs.Numbers.{numbers_from, numbers_below}
@@ -21,11 +21,6 @@ constant_below x n = constant_from x 0 n
 -- how many there are
 pub below_length : {A : Type 0} (f : ℕ → A) (n : ℕ) → length (map f (numbers_below n)) ≡ n
 below_length f n = length-map (numbers_below n) f ∙ numbers_length 0 n
-
--- the sum over what a function gives
-pub total_mapped : {A B : Type 0} (f : A → ℕ) (g : B → A) (xs : List B) → total f (map g xs) ≡ total (λ x. f (g x)) xs
-total_mapped f g [] = refl
-total_mapped f g (x ∷ xs) = ap (λ n. f (g x) + n) (total_mapped f g xs)
 
 -- what is left to add of a list
 pub total_left : {A : Type 0} (f : A → ℕ) (xs : List A) (i : ℕ) (d : A) → i < length xs → total f (drop i xs) ≡ f (get_or xs i d) + total f (drop (i + 1) xs)

@@ -5,12 +5,12 @@ use Rattle.std.proofs.lemmas.List.{append-nil}
 use Rattle.std.specs.List.{AllByRecursion}
 use Rattle.k_types.specs.Numbers.{numbers_below}
 use Rattle.k_types.specs.Totals.{total}
-use Rattle.k_base.proofs.Sums.{ones, one_counts, sum_both, total_at_most, total_push, zeros}
+use Rattle.k_base.proofs.Sums.{ones, one_counts, sum_both, total_at_most, total_push, zeros, total_map}
 use Rattle.k_work.specs.declared.rows.WorkRow.{WorkRow}
 use Rattle.k_work.specs.Crediting.{IsAmong, row_for, with_credit, with_credits, with_work}
 use Rattle.k_work.specs.Credits.{Credit}
 use Rattle.k_work.specs.Tables.{Work, is_same, one_if_to, row_of, table_of, total_row, work_if_to}
-use Rattle.k_work.proofs.Numbers.{at_below, constant_below, total_mapped}
+use Rattle.k_work.proofs.Numbers.{at_below, constant_below}
 use Rattle.k_base.proofs.Lists.{set_below}
 
 abbrev work_row : ℕ → ℕ → WorkRow
@@ -116,8 +116,8 @@ all_given f n (c ∷ cs) among =
 -- the sum of all rows is how many credits there are, and all their work
 pub rows_collections : (n : ℕ) (cs : List Credit) → AllByRecursion (λ (c : Credit). IsAmong n c.to) cs → (total_row (table_of n cs)).collections ≡ total (λ c. 1) cs
 rows_collections n cs among =
-    ap (λ k. k + total (one_if_to None) cs) (total_mapped (λ (r : WorkRow). r.collections) (λ p. row_of cs (Some p)) (numbers_below n)) ∙ all_given (λ c. 1) n cs among
+    ap (λ k. k + total (one_if_to None) cs) (total_map (λ (r : WorkRow). r.collections) (λ p. row_of cs (Some p)) (numbers_below n)) ∙ all_given (λ c. 1) n cs among
 
 pub rows_work : (n : ℕ) (cs : List Credit) → AllByRecursion (λ (c : Credit). IsAmong n c.to) cs → (total_row (table_of n cs)).work ≡ total (λ c. c.work) cs
 rows_work n cs among =
-    ap (λ k. k + total (work_if_to None) cs) (total_mapped (λ (r : WorkRow). r.work) (λ p. row_of cs (Some p)) (numbers_below n)) ∙ all_given (λ c. c.work) n cs among
+    ap (λ k. k + total (work_if_to None) cs) (total_map (λ (r : WorkRow). r.work) (λ p. row_of cs (Some p)) (numbers_below n)) ∙ all_given (λ c. c.work) n cs among

@@ -2,8 +2,9 @@ use Rattle.std.proofs.Common.{◌==◌, ap, ◌∙◌, ◌<◌, ◌^◌, subst, 
 use Rattle.k_types.specs.Limits.{limits_in, max_of}
 use Rattle.k_types.specs.Owners.{charge_of}
 use Rattle.k_types.specs.Trace.{limit_of}
-use Rattle.k_audit.proofs.ClaimsLaw.{charge_at_most, not_cut}
+use Rattle.k_audit.proofs.ClaimsLaw.{not_cut}
 use Rattle.k_audit.proofs.sums.charge_is.Goals as goal
+use Rattle.k_base.proofs.Charges.{charge_at_most}
 
 pub returns : goal.returns
 returns c =

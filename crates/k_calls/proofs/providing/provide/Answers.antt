@@ -1,7 +1,8 @@
 use Rattle.std.proofs.Common.{◌∙◌, sym}
 use Rattle.k_guests.specs.Serving.{basis_of}
-use Rattle.k_calls.proofs.Provided.{lacked, made_or_refused, provided_none, provided_taken}
+use Rattle.k_calls.proofs.Provided.{made_or_refused, provided_none, provided_taken}
 use Rattle.k_calls.proofs.providing.provide.Goals as goal
+use Rattle.std.proofs.lemmas.Bool.{iff_false}
 
 pub returns-in_default-clause-provided : goal.returns-in_default-clause-provided
 returns-in_default-clause-provided c = provided_none (basis_of c.args.terms.now) c.args.op.now c.args.guest.now c.requires.stock (sym c.type_made.ensures ∙ c.in_default.is)
@@ -13,4 +14,4 @@ returns-then-has_body_of-clause-provided c =
 pub returns-clause-provided : goal.returns-clause-provided
 returns-clause-provided c =
     made_or_refused (basis_of c.args.terms.now) c.args.op.now c.args.guest.now c.requires.stock c.in-Some.ty (sym c.type_made.ensures ∙ c.in-Some.is)
-    (lacked c.has_body_of.result _ c.has_body_of.ensures c.if-has_body_of.false) c.make_body.result c.make_body.new.guest c.make_body.ensures.made
+    (iff_false c.has_body_of.ensures c.if-has_body_of.false) c.make_body.result c.make_body.new.guest c.make_body.ensures.made

@@ -1,7 +1,8 @@
 use Rattle.std.proofs.Common.{◌≡◌, arith, ◌∙◌, sym, ap, length}
 use Rattle.std.proofs.lemmas.Bool.{eqb-true}
-use Rattle.k_trace.proofs.Judging.{one_more, bad_line, none_left, no_lines}
+use Rattle.k_trace.proofs.Judging.{one_more, bad_line, none_left}
 use Rattle.k_trace.proofs.reading.read_lines.Goals as goal
+use Rattle.k_words.proofs.Feeds.{no_lines}
 
 pub returns-in-Err-Bad : goal.returns-in-Err-Bad
 returns-in-Err-Bad c =

@@ -1,10 +1,9 @@
 use Rattle.std.proofs.Common.{refl}
-use Rattle.k_guests.specs.Making.{AreFit}
-use Rattle.k_host.proofs.Opened.{decided}
 use Rattle.k_host.proofs.host.Host.make.Goals as goal
+use Rattle.std.proofs.lemmas.Bool.{iff_false}
 
 pub returns-then-not-are_fit-clause-why : goal.returns-then-not-are_fit-clause-why
-returns-then-not-are_fit-clause-why c = decided (AreFit c.args.terms.setup.types c.args.terms.ty c.args.terms.events) c.are_fit.result c.are_fit.ensures c.if-not-are_fit.true
+returns-then-not-are_fit-clause-why c = iff_false c.are_fit.ensures c.if-not-are_fit.true
 
 pub make_parts-requires : goal.make_parts-requires
 make_parts-requires c = record { rules = c.requires; fit = c.are_fit.ensures.0 c.if-not-are_fit.false }

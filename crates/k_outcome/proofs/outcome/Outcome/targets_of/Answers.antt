@@ -8,8 +8,8 @@ use Rattle.k_solo.specs.Runs.{heap_at}
 use Rattle.k_solo.proofs.Arranged.{begins_with, row_at}
 use Rattle.k_outcome.specs.Cells.{cell_at}
 use Rattle.k_outcome.specs.Ends.{EndValue}
-use Rattle.k_outcome.proofs.Places.{segment_known}
 use Rattle.k_outcome.proofs.outcome.Outcome.targets_of.Goals as goal
+use Rattle.k_base.proofs.Owners.{segment_known}
 
 pub returns : goal.returns
 returns c =

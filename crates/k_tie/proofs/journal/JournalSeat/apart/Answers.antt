@@ -1,11 +1,11 @@
 use Rattle.std.proofs.Common.{◌≡◌, ℕ, [], sym, ap, ◌∙◌, subst, arith}
 use Rattle.k_tie.proofs.Seats.{has_word, of_journal, of_note}
 use Rattle.k_tie.specs.Values.{NoteValue}
-use Rattle.k_tie.specs.Rule.{one_if_same}
 use Rattle.k_tie.specs.Steps.{after_take, IsToldOf}
-use Rattle.k_tie.proofs.Totals.{one_if_same-same}
 use Rattle.k_tie.proofs.RuleKept.{takes, load_allows, gives}
 use Rattle.k_tie.proofs.journal.JournalSeat.apart.Goals as goal
+use Rattle.k_base.proofs.Sums.{one_if_same-same}
+use Rattle.k_base.specs.Counts.{one_if_same}
 
 pub join_seat-requires : goal.join_seat-requires
 join_seat-requires c =
