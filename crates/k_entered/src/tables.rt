@@ -1,8 +1,9 @@
 //! The entry items and the pins.
-ghost use Rattle.std.specs.Prelude.{◌≡◌, ◌+◌, ◌-◌, ◌<◌, ◌^◌, [], IfOk, length, option_map, slice_set};
+ghost use Rattle.std.specs.Prelude.{◌≡◌, ◌+◌, ◌-◌, ◌<◌, ◌^◌, [], IfOk, length, option_map, slice_set, vec_capacity};
 ghost use Rattle.k_types.specs.Counted.{counted};
 ghost use Rattle.k_types.specs.Names.{name_of};
-ghost use Rattle.k_entry.specs.Entries.{AreEntries, HasMore, HasLess, first_object, object_after, items_of, home_of};
+ghost use Rattle.k_entry.specs.Copies.{IsCopied};
+ghost use Rattle.k_entry.specs.Entries.{AreEntries, HasMore, HasLess, first_object, object_after, objects, items_of, home_of};
 ghost use Rattle.k_entered.specs.Entered.{HasRehomed, entry_items, pin_items};
 
 use k_entry::EntryTable;
@@ -154,6 +155,26 @@ impl EnteredTables {
         ensures { option_map name_of result ≡ object_after (items_of (pin_items self.now) (home_of self.now.homes target.seg.0)) (name_of target) }
     {
         self.pins.next_at(target)
+    }
+
+    /// Copies the entered objects of the heap to the end of the row, as far as there is room, and tells whether these were all. The
+    /// cost is in proportion to what it copies and to the heap's segments.
+    pub fn copy_entered(&self, heap: Heap, row: &mut Vec<Name>) -> bool
+        ensures copied { IsCopied (vec_capacity row.old) row.old.items row.new.items (objects (items_of (entry_items self.now) heap)) result }
+        ensures capacity { vec_capacity row.new ≡ vec_capacity row.old }
+        ensures items { AreEntries (entry_items self.now) }
+    {
+        self.entries.copy_of(heap, row)
+    }
+
+    /// Copies the pinned objects of the heap in the same way.
+    #[tactic(auto, using(crate::proofs::Pinned::pins_are))]
+    pub fn copy_pinned(&self, heap: Heap, row: &mut Vec<Name>) -> bool
+        ensures copied { IsCopied (vec_capacity row.old) row.old.items row.new.items (objects (items_of (pin_items self.now) heap)) result }
+        ensures capacity { vec_capacity row.new ≡ vec_capacity row.old }
+        ensures items { AreEntries (pin_items self.now) }
+    {
+        self.pins.copy_of(heap, row)
     }
 
     /// The home of a segment is another from now on, and its entered and pinned objects are on the walks of that home.

@@ -1,4 +1,5 @@
 pub mod Changes
+pub mod Copied
 pub mod Counts
 pub mod Entered
 pub mod Given

@@ -23,7 +23,11 @@ blank = record { target = record { seg = record { 0 = 0 }; serial = record { 0 =
 abbrev pub at : List Item → ℕ → Item
 at slots i = slice_index_or slots i blank
 
--- and as contracts see it
+-- the objects in the slots
+abbrev pub objects_in : List Item → List ℕ → List Name
+objects_in slots is = map (λ i. (at slots i).target) is
+
+-- a slot's item as contracts see it
 abbrev pub row_at : List Item → ℕ → Counted
 row_at slots i = row_of (at slots i)
 

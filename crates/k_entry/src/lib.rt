@@ -3,17 +3,18 @@
 //! An [`EntryTable`] is a list of objects with counts above 0, a room, and for each segment its home
 //! heap. The contracts say what each call changes of the counts, and leave the order of the items
 //! free. A walk from [`EntryTable::first_of`] by [`EntryTable::next`] gives each object of a home
-//! once. Only [`EntryTable::make`] takes memory.
+//! once, and [`EntryTable::copy_of`] copies what it gives into a row. Only [`EntryTable::make`] takes memory.
 //!
 //! The items stand in slots, and lists linked by index lead to them: by a fixed hash of the object,
 //! by its segment, and from each heap to the segments of its home that have an item. Where the hash
-//! spreads the objects and no two heaps share a walk number, each call but [`EntryTable::make`] takes
-//! constant time.
+//! spreads the objects and no two heaps share a walk number, each call but [`EntryTable::make`] and
+//! [`EntryTable::copy_of`] takes constant time.
 //!
 //! The crate stands on `k_types` for names and heaps, on `k_io` for want of memory, on `k_hash` and `k_lists` for the lists, and
 //! on the lemmas of `k_base`.
 #![tactic(auto)]
 
+mod copying;
 mod item;
 mod laws;
 mod table;

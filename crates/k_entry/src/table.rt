@@ -4,8 +4,10 @@ ghost use Rattle.std.specs.List.Sorted.{IsPermutation};
 ghost use Rattle.k_types.specs.declared.names.Name.{Name as Named};
 ghost use Rattle.k_types.specs.Names.{name_of};
 ghost use Rattle.k_types.specs.Counted.{counted};
-ghost use Rattle.k_entry.specs.Entries.{AreEntries, HasMore, HasLess, first_object, object_after, items_of, home_of};
+ghost use Rattle.k_entry.specs.Copies.{IsCopied};
+ghost use Rattle.k_entry.specs.Entries.{AreEntries, HasMore, HasLess, first_object, object_after, objects, items_of, home_of};
 
+use crate::copying::copy_walk;
 use crate::item::{Item, chain_count, chain_of, find, link_at, slot_of, take_slot};
 use crate::walks::{change_walk, first_from, put_in, take_out, walk_number};
 use k_io::NoMemory;
@@ -205,6 +207,23 @@ impl EntryTable {
             Some(j) => Some(link_at(&self.slots, j)),
             None => None,
         }
+    }
+
+    /// Copies the objects of that home to the end of the row, in the order of the walk, as far as there is room, and tells whether
+    /// these were all. It takes no memory. The cost is in proportion to what it copies and to the segments on the walk.
+    pub fn copy_of(&self, heap: Heap, row: &mut Vec<Name>) -> bool
+        ensures copied { IsCopied (vec_capacity row.old) row.old.items row.new.items (objects (items_of self.now heap)) result }
+        ensures capacity { vec_capacity row.new ≡ vec_capacity row.old }
+        ensures entries { AreEntries self.now }
+    {
+        copy_walk(
+            &self.slots,
+            &self.segments,
+            &self.walks,
+            &self.homes,
+            heap,
+            row,
+        )
     }
 
     /// Changes the home of a segment, and with it the walks on which its objects are. It takes constant time,

@@ -9,7 +9,7 @@ use k_lists::Lists;
 use k_types::{Heap, Seg};
 
 /// Whether the two heaps are one.
-fn is_same(a: Heap, b: Heap) -> bool
+pub(crate) fn is_same(a: Heap, b: Heap) -> bool
     ensures { result ≡ heap_eq a b }
 {
     match (a, b) {
