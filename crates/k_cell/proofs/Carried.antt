@@ -195,7 +195,7 @@ one_test p (c ∷ xs) zero x y e same = ap (λ b. b || list_any p xs) (sym same 
 one_test p (c ∷ xs) (suc i) x y e same = ap (λ b. p c || b) (one_test p xs i x y e same)
 
 -- a collection begins
-none_gray : (a : AreaValue) (n : Name) → gray_at (unmarked a) n ≡ false
+pub none_gray : (a : AreaValue) (n : Name) → gray_at (unmarked a) n ≡ false
 none_gray a n = ap some_gray (row_unmarked a n) ∙ by_row (row_of_name a.segments n)
   where
     by_row : (o : Option Row) → some_gray (unmarked_row o) ≡ false
@@ -205,50 +205,24 @@ none_gray a n = ap some_gray (row_unmarked a n) ∙ by_row (row_of_name a.segmen
 unmarked_fields_kept : (a : AreaValue) (start : Name → Bool) (below : ℕ) → IsKept (old_at a below) (refers_at a) start below → IsKept (old_at (unmarked a) below) (refers_at (unmarked a)) start below
 unmarked_fields_kept a start below was = same_fields_kept a (unmarked a) start below (λ n low. unmarked_fields a n) was
 
-pub begun_carried : (phase : CellPhase) (a new : AreaValue) (whole noted : Bool) (below next : ℕ) (roots pending after : List Name) → IsCarried phase a whole noted below next roots pending → new ≡ unmarked a → IsCarried Begun new whole true below next roots after
-begun_carried phase a new whole noted below next roots pending after was is = subst (λ (x : AreaValue). IsCarried Begun x whole true below next roots after) (sym is) (record {
+pub begun_carried : (phase : CellPhase) (a new : AreaValue) (whole noted : Bool) (below next : ℕ) (roots pending : List Name) → IsCarried phase a whole noted below next roots pending → new ≡ unmarked a → IsCarried Begun new whole noted below next roots pending
+begun_carried phase a new whole noted below next roots pending was is = subst (λ (x : AreaValue). IsCarried Begun x whole noted below next roots pending) (sym is) (record {
   kept = λ t. unmarked_fields_kept a (λ n. name_among n roots) below (was.kept t);
-  notes = λ t n g. absurd (false≢true (sym (none_gray a n) ∙ g));
+  notes = λ t. tt;
 })
 
--- a root
-gray_others : (a : AreaValue) (n m : Name) → name_eq n m ≡ false → gray_at (grayed a n) m ≡ gray_at a m
-gray_others a n m differs = by_row (row_of_name a.segments n) refl
-  where
-    by_row : (o : Option Row) → row_of_name a.segments n ≡ o → gray_at (grayed_row a n o) m ≡ gray_at a m
-    by_row None e = refl
-    by_row (Some row) e = ap some_gray (after_other a n row (record row { color = gray_or_black row.color }) (found a n row e) m differs)
-
-pub rooted_carried : (phase : CellPhase) (a new : AreaValue) (whole noted still : Bool) (below next : ℕ) (roots pending after : List Name) (n : Name) → IsCarried phase a whole noted below next roots pending → phase ≡ Begun → new ≡ grayed a n →
-    (still ≡ true → (noted ≡ true) × (after ≡ pending ++ n ∷ [])) → IsCarried phase new whole still below next roots after
-rooted_carried Idle a new whole noted still below next roots pending after n was begun is more = absurd (cc)
-rooted_carried Marked a new whole noted still below next roots pending after n was begun is more = absurd (cc)
-rooted_carried Begun a new whole noted still below next roots pending after n was begun is more = record {
-  kept = λ t. marks_kept a new (λ n. name_among n roots) below (ap unmarked is ∙ grayed_same a n) (was.kept t);
-  notes = λ t m g. let e = more t in ap (λ (ns : List Name). name_among m ns) e.1 ∙ among m (was.notes e.0) g;
-}
-  where
-    among : (m : Name) → ((k : Name) → gray_at a k ≡ true → name_among k pending ≡ true) → gray_at new m ≡ true → name_among m (pending ++ n ∷ []) ≡ true
-    among m all g = by_name (name_eq n m) refl
-      where
-        by_name : (b : Bool) → name_eq n m ≡ b → name_among m (pending ++ n ∷ []) ≡ true
-        by_name true e = list_any-append (λ x. name_eq x m) pending (n ∷ []) ∙ or_right (name_among m pending) (name_among m (n ∷ [])) (or_left (name_eq n m) false e)
-        by_name false e =
-            list_any-append (λ x. name_eq x m) pending (n ∷ [])
-            ∙ or_left (name_among m pending) (name_among m (n ∷ [])) (all m (sym (ap (λ (x : AreaValue). gray_at x m) is ∙ gray_others a n m e) ∙ g))
+-- roots
+pub rooted_carried : (phase : CellPhase) (a new : AreaValue) (whole noted : Bool) (below next : ℕ) (roots pending : List Name) → IsCarried phase a whole noted below next roots pending → phase ≡ Begun → unmarked new ≡ unmarked a → IsCarried phase new whole noted below next roots pending
+rooted_carried Idle a new whole noted below next roots pending was begun same = absurd (cc)
+rooted_carried Marked a new whole noted below next roots pending was begun same = absurd (cc)
+rooted_carried Begun a new whole noted below next roots pending was begun same = record { kept = λ t. marks_kept a new (λ n. name_among n roots) below same (was.kept t); notes = λ t. tt }
 
 -- objects marked
-pub marked_carried : (phase : CellPhase) (a new : AreaValue) (whole noted : Bool) (below next : ℕ) (roots pending : List Name) (kept : Option ℕ) → IsCarried phase a whole noted below next roots pending → phase ≡ Begun → unmarked new ≡ unmarked a →
-    IfSome kept (λ k. IsKept (black_at new) (refers_at new) (gray_at a) k) → (still : Bool) (after : ℕ) → (still ≡ true → (noted ≡ true) × (kept ≡ Some after)) → IsCarried Marked new whole still below after roots pending
-marked_carried Idle a new whole noted below next roots pending kept was begun same found still after more = absurd (cc)
-marked_carried Marked a new whole noted below next roots pending kept was begun same found still after more = absurd (cc)
-marked_carried Begun a new whole noted below next roots pending kept was begun same found still after more = record {
-  kept = λ t. marks_kept a new (λ n. name_among n roots) below same (was.kept t);
-  notes = λ t.
-      let e = more t in
-      let k : IsKept (black_at new) (refers_at new) (gray_at a) after = subst (λ (o : Option ℕ). IfSome o (λ k. IsKept (black_at new) (refers_at new) (gray_at a) k)) e.1 found in
-      kept_from (black_at new) (refers_at new) (gray_at a) (λ n. name_among n pending) after (λ n g b. was.notes e.0 n g) k;
-}
+pub marked_carried : (phase : CellPhase) (a new : AreaValue) (whole noted still : Bool) (below next after : ℕ) (roots pending others : List Name) → IsCarried phase a whole noted below next roots pending → phase ≡ Begun → unmarked new ≡ unmarked a →
+    (still ≡ true → IsKept (black_at new) (refers_at new) (λ n. name_among n others) after) → IsCarried Marked new whole still below after roots others
+marked_carried Idle a new whole noted still below next after roots pending others was begun same found = absurd (cc)
+marked_carried Marked a new whole noted still below next after roots pending others was begun same found = absurd (cc)
+marked_carried Begun a new whole noted still below next after roots pending others was begun same found = record { kept = λ t. marks_kept a new (λ n. name_among n roots) below same (was.kept t); notes = found }
 
 -- objects swept
 lives_swept : (a : AreaValue) → ((n : Name) → gray_at a n ≡ false) → (n : Name) → lives_at (swept a) n ≡ black_at a n

@@ -1,4 +1,5 @@
 pub mod Found
+pub mod Grayed
 pub mod Areas
 pub mod Lists
 pub mod Seen

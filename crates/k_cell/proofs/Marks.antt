@@ -45,7 +45,7 @@ use Rattle.k_space.proofs.Segs.{unmarked_twice}
 use Rattle.k_mark.proofs.Rows.{black_unmarked}
 
 -- what the holdings are besides, with another area that differs in marks
-kept_alike : (bound bytes : ℕ) (phase other : CellPhase) (a b : AreaValue) (items others : List ExitRow) → AreAlike bound a b → AreHoldings bound bytes phase a items → AreMarksKept other b others → AreHoldings bound bytes other b others
+pub kept_alike : (bound bytes : ℕ) (phase other : CellPhase) (a b : AreaValue) (items others : List ExitRow) → AreAlike bound a b → AreHoldings bound bytes phase a items → AreMarksKept other b others → AreHoldings bound bytes other b others
 kept_alike bound bytes phase other a b items others like kept marks =
     record { numbered = like.numbered kept.numbered; begun = like.begun kept.begun; weighed = kept.weighed ∙ sym (ap (total object_bytes) like.objects); marks = marks }
 
@@ -105,10 +105,10 @@ rooted_kept bound bytes Idle a new items n kept begun is = absurd (cc)
 rooted_kept bound bytes Begun a new items n kept begun is = rooted_kept_here bound bytes a new items n kept is
 rooted_kept bound bytes Marked a new items n kept begun is = absurd (cc)
 
-pub rooted_rest : (bound : ℕ) (phase : CellPhase) (a new : AreaValue) (e : ExitList) (note : NoteValue) (n : Name) → new ≡ grayed a n →
+pub rooted_rest : (bound : ℕ) (phase : CellPhase) (a new : AreaValue) (e : ExitList) (note : NoteValue) → unmarked new ≡ unmarked a →
     holdings_seen bound phase new e note ≡ record (holdings_seen bound phase a e note) { value = cell_seen bound phase new e.items }
-rooted_rest bound phase a new e note n is =
-    let like = alike a new (ap unmarked is ∙ grayed_same a n) bound in
+rooted_rest bound phase a new e note same =
+    let like = alike a new same bound in
     same_holdings note bound refl like.room like.rooms refl
 
 refers_same : (a : AreaValue) (bound : ℕ) → HasNoneFrom a.segments bound → (x n : Name) → refers_in (area_objects bound a.segments) x n ≡ refers_at a x n

@@ -126,6 +126,26 @@ noted_gray a (m ∷ ns) n clean e live =
       | inr later ↦ noted_gray (grayed a m) ns n (λ k. black_same a m k ∙ clean k) later (lives_alike a (grayed a m) n (grayed_same a m) ∙ live)
     ]
 
+gray_from : (a : AreaValue) (ns : List Name) (n : Name) → ((k : Name) → black_at a k ≡ false) → gray_at (grayed_all a ns) n ≡ true → (gray_at a n ≡ true) ⊎ (name_among n ns ≡ true)
+gray_from a [] n clean e = inl e
+gray_from a (m ∷ ns) n clean e =
+    elim (gray_from (grayed a m) ns n (λ k. black_same a m k ∙ clean k) e) [
+      | inl g ↦
+          elim (gray_parts a m n (clean m) g) [
+            | inl was ↦ inl was
+            | inr here ↦ inr (or_left (name_eq m n) (name_among n ns) here.0)
+          ]
+      | inr later ↦ inr (or_right (name_eq m n) (name_among n ns) later)
+    ]
+
+-- where only noted objects are gray
+pub gray_noted : (a : AreaValue) (ns : List Name) (n : Name) → ((k : Name) → black_at a k ≡ false) → ((k : Name) → gray_at a k ≡ false) → gray_at (grayed_all a ns) n ≡ true → name_among n ns ≡ true
+gray_noted a ns n clean none e =
+    elim (gray_from a ns n clean e) [
+      | inl g ↦ absurd (false≢true (sym (none n) ∙ g))
+      | inr among ↦ among
+    ]
+
 -- one more of the noted
 module _ (a now : AreaValue) (ns roots : List Name) (below : ℕ) (x : Name) (clean : (k : Name) → black_at a k ≡ false) (was : AreGrayBut a ns roots below now) where
   clean_x : black_at (grayed_all a ns) x ≡ false

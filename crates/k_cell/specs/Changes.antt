@@ -1,5 +1,5 @@
 -- What calls change of a cell, as functions of its value.
-use Rattle.std.specs.Prelude.{◌≡◌, ℕ, ◌+◌, ◌==◌, ◌&&◌, ◌||◌, not, [], ◌∷◌, ◌++◌, map, filter, length, slice_index_or, slice_set, Some, None, IsTrue, if◌then◌else◌}
+use Rattle.std.specs.Prelude.{◌≡◌, ℕ, Bool, ◌+◌, ◌==◌, ◌&&◌, ◌||◌, not, [], ◌∷◌, ◌++◌, map, filter, length, slice_index_or, slice_set, Some, None, IsTrue, if◌then◌else◌}
 use Rattle.k_types.specs.declared.names.Name.{Name}
 use Rattle.k_types.specs.Agree.{CellValue}
 use Rattle.k_types.specs.Names.{name_eq, name_among}
@@ -55,6 +55,15 @@ pub record HasDroppedExit (old new : CellValue) (n : Name) : Type 0 where
 pub record HasRoot (old new : CellValue) (n : Name) : Type 0 where
   pub rest : new ≡ begun new.gray old
   pub gray : (m : Name) → name_among m new.gray ≡ (name_among m old.gray || (name_eq n m && has old.objects n))
+
+-- a collection of the cell has begun: some objects may be gray, and nothing is black
+abbrev pub HasBegun : CellValue → Type 0
+HasBegun v = v ≡ begun v.gray v
+
+-- the objects of the cell that the test names are gray too, and nothing else has changed
+pub record HasGrayed (test : Name → Bool) (old new : CellValue) : Type 0 where
+  pub rest : new ≡ begun new.gray old
+  pub gray : (n : Name) → name_among n new.gray ≡ (name_among n old.gray || (test n && has old.objects n))
 
 -- marking found what the gray objects reach
 pub record HasMarked (old new : CellValue) : Type 0 where

@@ -1,5 +1,5 @@
 //! What a cell knows of its last collection, so that the next one need not look again at what is as it was.
-ghost use Rattle.std.specs.Prelude.{◌≡◌, ◌≤◌, ◌<◌, ◌++◌, ◌∷◌, [], IsTrue, Some, vec_capacity};
+ghost use Rattle.std.specs.Prelude.{◌≡◌, ◌≤◌, ◌<◌, [], IsTrue, Some};
 ghost use Rattle.k_types.specs.Names.{name_among};
 ghost use Rattle.k_types.specs.declared.names.Name.{Name as Named};
 ghost use Rattle.k_space.specs.Areas.{HasDistinct, gray_at};
@@ -19,12 +19,10 @@ pub(crate) struct Carried {
     // The kept objects have serials below this one, and newer ones have not.
     pub(crate) below: u64,
     pub(crate) roots: Vec<Name>,
-    // Whether all roots of the collection that is open are noted.
+    // Once marking is done, whether these are all roots of the collection that is open.
     pub(crate) noted: bool,
     pub(crate) next: u64,
     pub(crate) pending: Vec<Name>,
-    // How many roots can be noted.
-    pub(crate) room: u32,
 }
 
 /// Whether what was kept is still as it was, after a change of the object of that serial.
@@ -32,19 +30,6 @@ pub(crate) fn still_whole(whole: bool, below: u64, serial: u32) -> bool
     ensures { IsTrue result → IsTrue whole × (below ≤ serial) }
 {
     whole && u64::from(serial) >= below
-}
-
-/// Notes a root, where all are noted and there is room.
-pub(crate) fn note(pending: &mut Vec<Name>, room: u32, noted: bool, target: Name) -> bool
-    requires { vec_capacity pending.old ≡ room }
-    ensures noted { IsTrue result → IsTrue noted × (pending.new.items ≡ pending.old.items ++ target ∷ []) }
-    ensures capacity { vec_capacity pending.new ≡ vec_capacity pending.old }
-{
-    if !noted || pending.len() >= room as usize {
-        return false;
-    }
-    pending.push_reserved(target);
-    true
 }
 
 /// Whether the root is gray, if it is an object below that serial.

@@ -18,10 +18,10 @@ ghost use Rattle.k_space.specs.Segments.{made, segment_bytes};
 ghost use Rattle.k_agree.specs.Marking.{begun};
 ghost use Rattle.k_agree.specs.Ending.{freed_bytes, freed_objects};
 ghost use Rattle.k_cell.specs.Looks.{field_among, field_count_among, type_among};
-ghost use Rattle.k_cell.specs.Changes.{HasDroppedExit, HasItsExits, HasMarked, HasRoot, next_in, with_black_alone, with_body, with_exit_item, with_field};
+ghost use Rattle.k_cell.specs.Changes.{HasDroppedExit, HasGrayed, HasItsExits, HasMarked, HasRoot, next_in, with_black_alone, with_body, with_exit_item, with_field};
 ghost use Rattle.k_cell.specs.Holdings.{HasGivenSegment, HasSerialLeft, fresh_holdings, with_segment_added};
 
-use crate::carrying::{Carried, marked_below, note, still_whole};
+use crate::carrying::{Carried, still_whole};
 use crate::rooms::HoldingRooms;
 use crate::rooting::RootedArea;
 use k_exit::ExitTable;
@@ -70,14 +70,11 @@ impl Model for Holdings {
 
     ghost view = { λ h. holdings_seen h.bound h.phase h.area h.exits h.note };
 
-    ghost use Rattle.std.specs.Prelude.{◌≡◌, vec_capacity};
     ghost use Rattle.k_cell.specs.Carried.{IsCarried};
 
     ghost invariant = { λ h. record {
       tables : AreHoldings h.bound h.bytes h.phase h.area h.exits.items;
       carried : IsCarried h.phase h.area h.carried.whole h.carried.noted h.carried.below h.carried.next h.carried.roots.items h.carried.pending.items;
-      roots : vec_capacity h.carried.roots ≡ h.carried.room;
-      pending : vec_capacity h.carried.pending ≡ h.carried.room;
     } };
 }
 
@@ -107,7 +104,6 @@ impl Holdings {
             noted: false,
             next: 0,
             pending: Vec::with_capacity(alloc, rooms.objects as usize)?,
-            room: rooms.objects,
         };
         Ok(Holdings {
             bound: rooms.bound,
@@ -253,8 +249,6 @@ impl Holdings {
     {
         self.area.clear(&mut self.exits);
         self.phase = CellPhase::Begun;
-        self.carried.noted = true;
-        self.carried.pending.clear();
     }
 
     /// Makes an object of the heap gray; any other name changes nothing. Constant time.
@@ -264,12 +258,27 @@ impl Holdings {
         ensures root { HasRoot self.old.value self.new.value (name_of target) }
     {
         self.area.root(target);
-        self.carried.noted = note(
-            &mut self.carried.pending,
-            self.carried.room,
-            self.carried.noted,
-            target.name(),
-        );
+    }
+
+    /// Takes the roots that are noted out of the cell, to which others can be added at the end without memory, as far as the
+    /// row has room. Until they are put back they are gray no longer. Constant time.
+    pub fn take_roots(&mut self) -> Vec<Name>
+        requires { self.old.value.collection ≡ Begun }
+        ensures rest { self.new ≡ record self.old { value = self.new.value } }
+        ensures begun { self.new.value ≡ begun self.new.value.gray self.old.value }
+        ensures roots { HasGrayed (λ n. name_among n result.items) self.new.value self.old.value }
+    {
+        self.area.take_roots()
+    }
+
+    /// Makes those of these objects gray that are the heap's; other names change nothing. It is constant time where no root was
+    /// noted since the last ones were taken.
+    pub fn put_roots(&mut self, roots: Vec<Name>)
+        requires { self.old.value.collection ≡ Begun }
+        ensures rest { self.new ≡ record self.old { value = self.new.value } }
+        ensures roots { HasGrayed (λ n. name_among n roots.items) self.old.value self.new.value }
+    {
+        self.area.put_roots(roots);
     }
 
     /// Marks what the gray objects reach inside the heap, and the exit items to which that refers. The cost is in proportion to
@@ -281,13 +290,13 @@ impl Holdings {
         ensures rest { self.new ≡ record self.old { value = self.new.value } }
         ensures marked { HasMarked self.old.value self.new.value }
     {
-        let kept = self.area.mark_kept(
+        (self.carried.noted, self.carried.next) = self.area.mark_kept(
             &mut self.exits,
             self.carried.whole,
             self.carried.below,
             &self.carried.roots,
+            &mut self.carried.pending,
         );
-        (self.carried.noted, self.carried.next) = marked_below(self.carried.noted, kept);
         self.phase = CellPhase::Marked;
     }
 

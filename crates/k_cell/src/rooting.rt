@@ -1,5 +1,5 @@
 //! The segments of a heap, whose roots are noted first and made gray later.
-ghost use Rattle.std.specs.Prelude.{◌≡◌, ◌≢◌, ◌+◌, ◌<◌, ◌^◌, ◌↔◌, ℕ, ◌++◌, ◌∷◌, [], IfNone, IfOk, IfSome, IsFalse, IsTrue, None, Some, is_some, length, option_map, slice_get, slice_index_or, vec_capacity};
+ghost use Rattle.std.specs.Prelude.{◌≡◌, ◌≢◌, ◌+◌, ◌<◌, ◌^◌, ◌↔◌, ℕ, ◌++◌, ◌∷◌, [], IfNone, IfOk, IfSome, IsFalse, IsTrue, None, Some, is_some, length, option_map, slice_get, slice_index_or};
 ghost use Rattle.k_types.specs.Names.{name_among, name_eq, name_of};
 ghost use Rattle.k_types.specs.State.{Holds, Refers};
 ghost use Rattle.k_types.specs.declared.names.Name.{Name as Named};
@@ -13,7 +13,7 @@ ghost use Rattle.k_cell.specs.Looks.{row_fields, row_type};
 ghost use Rattle.k_cell.specs.Placed.{CanPlace, IsIntAt, IsPlacedIn, IsRefAt, IsWrittenIn};
 ghost use Rattle.k_cell.specs.Rooted.{AreGrayBut, grayed_all};
 
-use crate::carrying::kept_below;
+use crate::carrying::{kept_below, marked_below};
 use crate::looking::{count_at, field_at, lives_at, type_at};
 use crate::writing::{place_in, write_int_in, write_ref_in};
 use k_exit::ExitTable;
@@ -23,6 +23,7 @@ use k_space::{Area, Body, Segment, Stored};
 use k_types::{Link, Name, Seg, TypeId};
 use std::alloc::Global;
 use std::marker::Model;
+use std::mem::{replace, swap};
 
 /// The segments of a heap. A root is noted while the book is held, which costs the end of a list, and is made gray when
 /// marking begins, when nobody waits for it. Contracts see it gray from the first.
@@ -30,8 +31,8 @@ pub(crate) struct RootedArea {
     area: Area,
     // The roots that are still to be made gray.
     noted: Vec<Name>,
-    // How many can be noted.
-    room: u32,
+    // Whether no other object is gray.
+    all_noted: bool,
 }
 
 impl Drop for RootedArea {
@@ -39,7 +40,7 @@ impl Drop for RootedArea {
         let RootedArea {
             area: _,
             noted: _,
-            room: _,
+            all_noted: _,
         } = self;
     }
 }
@@ -52,9 +53,11 @@ impl Model for RootedArea {
 
     ghost view = { λ r. grayed_all r.area r.noted.items };
 
-    ghost use Rattle.std.specs.Prelude.{◌≡◌, vec_capacity};
+    ghost use Rattle.std.specs.Prelude.{IsFalse, IsTrue};
+    ghost use Rattle.k_types.specs.declared.names.Name.{Name as Named};
+    ghost use Rattle.k_space.specs.Areas.{gray_at};
 
-    ghost invariant = { λ r. vec_capacity r.noted ≡ r.room };
+    ghost invariant = { λ r. IsTrue r.all_noted → (n : Named) → IsFalse (gray_at r.area n) };
 }
 
 // Makes each of these objects gray.
@@ -69,14 +72,15 @@ fn gray_all(area: &mut Area, targets: &[Name])
 }
 
 // Makes the noted roots gray, after which none is noted.
-fn settle(area: &mut Area, noted: &mut Vec<Name>)
+fn settle(area: &mut Area, noted: &mut Vec<Name>, all_noted: &mut bool)
     requires { HasDistinct area.old.segments }
     ensures area { area.new ≡ grayed_all area.old noted.old.items }
     ensures none { noted.new.items ≡ [] }
-    ensures capacity { vec_capacity noted.new ≡ vec_capacity noted.old }
+    ensures not_all { IsFalse all_noted.new }
 {
     gray_all(area, noted);
     noted.clear();
+    *all_noted = false;
 }
 
 // Whether the two names are one.
@@ -135,11 +139,11 @@ fn is_known(noted: &[Name], exits: &ExitTable, whole: bool, roots: &[Name]) -> b
     false
 }
 
-// Makes gray what is noted and not known to be reached, after which nothing is noted, and tells the serial below which what was
-// kept is known to be reached from the noted ones; 0 where that is not known.
+// Makes gray what is noted and not known to be reached, and tells the serial below which what was kept is known to be reached
+// from the noted ones; 0 where that is not known.
 fn gray_unknown(
     area: &mut Area,
-    noted: &mut Vec<Name>,
+    noted: &[Name],
     exits: &ExitTable,
     whole: bool,
     below: u64,
@@ -148,19 +152,16 @@ fn gray_unknown(
     requires distinct { HasDistinct area.old.segments }
     requires clean { (n : Named) → IsFalse (black_at area.old n) }
     requires carried { IsTrue whole → IsKept (old_at area.old below) (refers_at area.old) (λ n. name_among n roots.now) below }
-    ensures none { noted.new.items ≡ [] }
-    ensures capacity { vec_capacity noted.new ≡ vec_capacity noted.old }
     ensures same { unmarked area.new ≡ unmarked area.old }
     ensures black { (n : Named) → IsFalse (black_at area.new n) }
     ensures alone { 0 < result → exits.now.items ≡ [] }
-    ensures beginning { IsBeginning area.new result (gray_at (grayed_all area.old noted.old.items)) }
+    ensures beginning { IsBeginning area.new result (gray_at (grayed_all area.old noted.now)) }
 {
     if is_known(noted, exits, whole, roots) {
         gray_others(area, noted, roots, below);
-        noted.clear();
         return below;
     }
-    settle(area, noted);
+    gray_all(area, noted);
     kept_below(area, exits, whole, below, roots)
 }
 
@@ -172,7 +173,7 @@ impl RootedArea {
         Ok(RootedArea {
             area: Area::make(alloc, segments)?,
             noted: Vec::with_capacity(alloc, roots as usize)?,
-            room: roots,
+            all_noted: false,
         })
     }
 
@@ -184,7 +185,7 @@ impl RootedArea {
         ensures added { self.new ≡ record self.old { segments = self.old.segments ++ segment ∷ [] } }
         ensures distinct { HasDistinct self.new.segments }
     {
-        settle(&mut self.area, &mut self.noted);
+        settle(&mut self.area, &mut self.noted, &mut self.all_noted);
         self.area.add(segment);
     }
 
@@ -198,7 +199,7 @@ impl RootedArea {
         ensures others { (number : ℕ) → number ≢ seg.0 → segment_at self.new.segments number ≡ segment_at self.old.segments number }
         ensures kept { IfNone result (self.new ≡ self.old) }
     {
-        settle(&mut self.area, &mut self.noted);
+        settle(&mut self.area, &mut self.noted, &mut self.all_noted);
         self.area.take(seg)
     }
 
@@ -240,7 +241,7 @@ impl RootedArea {
         requires room { CanPlace self.old.segments seg.0 }
         ensures { IsPlacedIn self.old self.new seg.0 body result }
     {
-        settle(&mut self.area, &mut self.noted);
+        settle(&mut self.area, &mut self.noted, &mut self.all_noted);
         place_in(&mut self.area, seg, body)
     }
 
@@ -250,7 +251,7 @@ impl RootedArea {
         requires field { IsRefAt self.old.segments at field }
         ensures { IsWrittenIn self.old self.new at field (Refers (option_map name_of value)) }
     {
-        settle(&mut self.area, &mut self.noted);
+        settle(&mut self.area, &mut self.noted, &mut self.all_noted);
         write_ref_in(&mut self.area, at, field, value);
     }
 
@@ -260,7 +261,7 @@ impl RootedArea {
         requires field { IsIntAt self.old.segments at field }
         ensures { IsWrittenIn self.old self.new at field (Holds value) }
     {
-        settle(&mut self.area, &mut self.noted);
+        settle(&mut self.area, &mut self.noted, &mut self.all_noted);
         write_int_in(&mut self.area, at, field, value);
     }
 
@@ -271,6 +272,7 @@ impl RootedArea {
     {
         clear(&mut self.area, exits);
         self.noted.clear();
+        self.all_noted = true;
     }
 
     /// Makes a live object gray, if it was white. It is only noted where there is room.
@@ -278,23 +280,44 @@ impl RootedArea {
         requires { HasDistinct self.old.segments }
         ensures { self.new ≡ grayed self.old (name_of target) }
     {
-        if self.noted.len() < self.room as usize {
+        if self.noted.len() < self.noted.capacity() {
             self.noted.push_reserved(target.name());
         } else {
-            settle(&mut self.area, &mut self.noted);
+            settle(&mut self.area, &mut self.noted, &mut self.all_noted);
             root(&mut self.area, target);
         }
     }
 
+    /// Takes the noted roots out, which are gray no longer.
+    pub(crate) fn take_roots(&mut self) -> Vec<Name>
+        ensures { self.old ≡ grayed_all self.new result.items }
+    {
+        let alloc = *self.noted.allocator();
+        replace(&mut self.noted, Vec::new(alloc))
+    }
+
+    /// Makes each of these gray that is a live object and was white. They are noted in the row in which they come.
+    pub(crate) fn put_roots(&mut self, roots: Vec<Name>)
+        requires { HasDistinct self.old.segments }
+        ensures { self.new ≡ grayed_all self.old roots.items }
+    {
+        if !self.noted.is_empty() {
+            settle(&mut self.area, &mut self.noted, &mut self.all_noted);
+        }
+        self.noted = roots;
+    }
+
     /// Marks as [`k_mark::mark_kept`] does, with what is known of the last collection: where it is whole, what that one kept has
-    /// serials below this one and is reached from these roots.
+    /// serials below this one and is reached from these roots. The roots of this collection come into the last row, and it tells
+    /// whether they are all, and the serial below which what they reach is.
     pub(crate) fn mark_kept(
         &mut self,
         exits: &mut ExitTable,
         whole: bool,
         below: u64,
         roots: &[Name],
-    ) -> Option<u64>
+        pending: &mut Vec<Name>,
+    ) -> (bool, u64)
         requires distinct { HasDistinct self.old.segments }
         requires exits { (a n : Named) → IsTrue (refers_at self.old a n) → IsTrue (is_foreign self.old n) → IsTrue (has_target exits.old.items n) }
         requires clean { (n : Named) → IsFalse (black_at self.old n) }
@@ -306,10 +329,13 @@ impl RootedArea {
         ensures black { (n : Named) → IsFalse (gray_at self.new n) }
         ensures reached { (n : Named) → IsTrue (marked_at self.new n) ↔ IsReachedIn self.old n }
         ensures exits { (n : Named) → IsTrue (target_marked exits.new.items n) ↔ IsExit self.old n }
-        ensures next { IfSome result (λ next. IsKept (black_at self.new) (refers_at self.new) (gray_at self.old) next) }
+        ensures next { IsTrue result.0 → IsKept (black_at self.new) (refers_at self.new) (λ n. name_among n pending.new.items) result.1 }
     {
-        let kept = gray_unknown(&mut self.area, &mut self.noted, exits, whole, below, roots);
-        mark_kept(&mut self.area, exits, kept)
+        swap(&mut self.noted, pending);
+        self.noted.clear();
+        let kept = gray_unknown(&mut self.area, pending, exits, whole, below, roots);
+        let next = mark_kept(&mut self.area, exits, kept);
+        marked_below(self.all_noted, next)
     }
 
     /// Frees the objects that are not marked, and adds their number and bytes.
@@ -321,7 +347,7 @@ impl RootedArea {
         ensures objects { from_dead.new.objects ≡ from_dead.old.objects + dead_objects self.old }
         ensures bytes { from_dead.new.bytes ≡ from_dead.old.bytes + dead_bytes self.old }
     {
-        settle(&mut self.area, &mut self.noted);
+        settle(&mut self.area, &mut self.noted, &mut self.all_noted);
         sweep(&mut self.area, from_dead);
     }
 }

@@ -1,34 +1,30 @@
-use Rattle.std.proofs.Common.{◌≡◌, List, true, sym, ap, subst, ◌∙◌}
-use Rattle.k_types.specs.declared.names.Name.{Name}
-use Rattle.k_types.specs.Names.{name_among}
+use Rattle.std.proofs.Common.{◌≡◌, sym, ap, subst, ◌∙◌}
 use Rattle.k_space.specs.Areas.{AreaValue, HasDistinct, black_at, unmarked}
-use Rattle.k_cell.specs.Rooted.{AreGrayBut, grayed_all}
+use Rattle.k_cell.specs.Rooted.{grayed_all}
 use Rattle.k_cell.proofs.Carried.{marks_kept}
 use Rattle.k_cell.proofs.Rooted.{alike_distinct, all_same, black_all, gray_beginning, known_beginning}
 use Rattle.k_cell.proofs.rooting.gray_unknown.Goals as goal
 
 pub returns-then-is_known-clause-beginning : goal.returns-then-is_known-clause-beginning
 returns-then-is_known-clause-beginning c =
-    known_beginning c.args.area.now c.gray_others.new.area c.args.noted.now.items c.args.roots.now c.args.below c.requires.clean
-    (subst (λ (ns : List Name). AreGrayBut c.args.area.now ns c.args.roots.now c.args.below c.gray_others.new.area) c.deref-then-is_known.ensures.value c.gray_others.ensures)
-    (subst (λ (ns : List Name). (n : Name) → name_among n c.args.roots.now ≡ true → name_among n ns ≡ true) c.deref.ensures.value (c.is_known.ensures.noted c.if-is_known.true))
+    known_beginning c.args.area.now c.gray_others.new.area c.args.noted.now c.args.roots.now c.args.below c.requires.clean c.gray_others.ensures (c.is_known.ensures.noted c.if-is_known.true)
     (c.requires.carried (c.is_known.ensures.whole c.if-is_known.true))
 
 pub kept_below-requires-clause-distinct : goal.kept_below-requires-clause-distinct
 kept_below-requires-clause-distinct c =
-    subst (λ (x : AreaValue). HasDistinct x.segments) (sym c.settle.ensures.area)
-    (alike_distinct c.args.area.now (grayed_all c.args.area.now c.args.noted.now.items) (all_same c.args.area.now c.args.noted.now.items) c.requires.distinct)
+    subst (λ (x : AreaValue). HasDistinct x.segments) (sym c.gray_all.ensures)
+    (alike_distinct c.args.area.now (grayed_all c.args.area.now c.args.noted.now) (all_same c.args.area.now c.args.noted.now) c.requires.distinct)
 
 pub kept_below-requires-clause-kept : goal.kept_below-requires-clause-kept
 kept_below-requires-clause-kept c = λ t.
-    marks_kept c.args.area.now c.settle.new.area _ c.args.below (ap unmarked c.settle.ensures.area ∙ all_same c.args.area.now c.args.noted.now.items) (c.requires.carried t)
+    marks_kept c.args.area.now c.gray_all.new.area _ c.args.below (ap unmarked c.gray_all.ensures ∙ all_same c.args.area.now c.args.noted.now) (c.requires.carried t)
 
 pub returns-clause-same : goal.returns-clause-same
-returns-clause-same c = ap unmarked c.settle.ensures.area ∙ all_same c.args.area.now c.args.noted.now.items
+returns-clause-same c = ap unmarked c.gray_all.ensures ∙ all_same c.args.area.now c.args.noted.now
 
 pub returns-clause-black : goal.returns-clause-black
-returns-clause-black c = λ n. ap (λ (x : AreaValue). black_at x n) c.settle.ensures.area ∙ black_all c.args.area.now c.args.noted.now.items n ∙ c.requires.clean n
+returns-clause-black c = λ n. ap (λ (x : AreaValue). black_at x n) c.gray_all.ensures ∙ black_all c.args.area.now c.args.noted.now n ∙ c.requires.clean n
 
 pub returns-clause-beginning : goal.returns-clause-beginning
 returns-clause-beginning c =
-    gray_beginning c.settle.new.area (grayed_all c.args.area.now c.args.noted.now.items) c.kept_below.result c.settle.ensures.area c.kept_below.ensures.kept
+    gray_beginning c.gray_all.new.area (grayed_all c.args.area.now c.args.noted.now) c.kept_below.result c.gray_all.ensures c.kept_below.ensures.kept

@@ -38,8 +38,6 @@ invariant_of-self c =
           (joined_kept c.self.inside.bound c.self.inside.bytes c.self.inside.phase c.self.inside.area c.add.new.self c.self.inside.exits.items c.args.segment c.self.invariant.tables idle none below c.add.ensures.added c.add.ensures.distinct (omega (arith, c.bytes.ensures.sound.begun)));
       carried =
           idle_carried c.self.inside.phase c.add.new.self c.self.inside.carried.noted c.self.inside.carried.below c.self.inside.carried.next c.self.inside.carried.roots.items c.self.inside.carried.pending.items idle;
-      roots = c.self.invariant.roots;
-      pending = c.self.invariant.pending;
     }
 
 pub returns-clause-added : goal.returns-clause-added

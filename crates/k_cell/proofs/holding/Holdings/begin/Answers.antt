@@ -9,9 +9,7 @@ invariant_of-self c =
       tables =
           begun_kept c.self.inside.bound c.self.inside.phase c.self.inside.area c.clear.new.self c.self.inside.exits c.clear.new.exits c.clear.ensures.area c.clear.ensures.exits c.self.inside.bytes c.self.invariant.tables;
       carried =
-          begun_carried c.self.inside.phase c.self.inside.area c.clear.new.self c.self.inside.carried.whole c.self.inside.carried.noted c.self.inside.carried.below c.self.inside.carried.next c.self.inside.carried.roots.items c.self.inside.carried.pending.items _ c.self.invariant.carried c.clear.ensures.area;
-      roots = c.self.invariant.roots;
-      pending = c.clear-2.ensures.capacity ∙ c.self.invariant.pending;
+          begun_carried c.self.inside.phase c.self.inside.area c.clear.new.self c.self.inside.carried.whole c.self.inside.carried.noted c.self.inside.carried.below c.self.inside.carried.next c.self.inside.carried.roots.items c.self.inside.carried.pending.items c.self.invariant.carried c.clear.ensures.area;
     }
 
 pub returns : goal.returns

@@ -15,8 +15,6 @@ invariant_of-result c =
           fresh_kept c.args.seg.0 c.args.rooms c.in_ok-segment.segment is c.requires.seg c.add.new.self c.in_ok-exits.exits.items area c.add.ensures.distinct;
       carried =
           idle_carried Idle c.add.new.self false 0 0 _ _ refl;
-      roots = c.in_ok-with_capacity.ensures.exact;
-      pending = c.in_ok-with_capacity-2.ensures.exact;
     }
 
 pub returns : goal.returns

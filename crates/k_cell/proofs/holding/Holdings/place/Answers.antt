@@ -19,8 +19,6 @@ invariant_of-self c =
           (placed_kept c.self.inside.bound c.self.inside.area c.place_in-link.new.self c.self.inside.exits.items c.args.seg.0 c.args.body c.place_in-link.result c.self.invariant.tables.numbered c.place_in-link.ensures c.self.inside.bytes c.self.inside.phase c.self.invariant.tables idle);
       carried =
           placed_carried c.self.inside.phase c.self.inside.area c.place_in-link.new.self c.self.inside.carried.whole _ c.self.inside.carried.noted c.args.seg.0 c.self.inside.carried.below c.self.inside.carried.next c.self.inside.carried.roots.items c.self.inside.carried.pending.items c.args.body c.place_in-link.result c.self.invariant.carried idle c.place_in-link.ensures c.still_whole-self-inside.ensures;
-      roots = c.self.invariant.roots;
-      pending = c.self.invariant.pending;
     }
 
 pub returns-clause-name : goal.returns-clause-name

@@ -1,9 +1,9 @@
-use Rattle.std.proofs.Common.{◌≡◌, [], ◌∷◌, ◌++◌, ap, ◌∙◌}
+use Rattle.std.proofs.Common.{◌≡◌, ap, ◌∙◌}
 use Rattle.k_types.specs.declared.names.CellPhase.TheVariants.{Begun}
-use Rattle.k_types.specs.declared.names.Name.{Name}
 use Rattle.k_types.specs.Names.{name_of}
+use Rattle.k_space.specs.Areas.{unmarked}
 use Rattle.k_cell.specs.Holdings.{HoldingsValue}
-use Rattle.k_cell.proofs.Marks.{rooted, rooted_kept, rooted_rest}
+use Rattle.k_cell.proofs.Marks.{grayed_same, rooted, rooted_kept, rooted_rest}
 use Rattle.k_cell.proofs.Carried.{rooted_carried}
 use Rattle.k_cell.proofs.holding.Holdings.root.Goals as goal
 
@@ -14,16 +14,14 @@ invariant_of-self c =
       tables =
           rooted_kept c.self.inside.bound c.self.inside.bytes c.self.inside.phase c.self.inside.area c.root.new.self c.self.inside.exits.items (name_of c.args.target) c.self.invariant.tables begun c.root.ensures;
       carried =
-          rooted_carried c.self.inside.phase c.self.inside.area c.root.new.self c.self.inside.carried.whole c.self.inside.carried.noted c.note-self-inside.result c.self.inside.carried.below c.self.inside.carried.next c.self.inside.carried.roots.items c.self.inside.carried.pending.items _ (name_of c.args.target) c.self.invariant.carried begun c.root.ensures
-          (λ t. let e = c.note-self-inside.ensures.noted t in (e.0, e.1 ∙ ap (λ (n : Name). c.self.inside.carried.pending.items ++ n ∷ []) c.name.ensures));
-      roots = c.self.invariant.roots;
-      pending = c.note-self-inside.ensures.capacity ∙ c.self.invariant.pending;
+          rooted_carried c.self.inside.phase c.self.inside.area c.root.new.self c.self.inside.carried.whole c.self.inside.carried.noted c.self.inside.carried.below c.self.inside.carried.next c.self.inside.carried.roots.items c.self.inside.carried.pending.items c.self.invariant.carried begun
+          (ap unmarked c.root.ensures ∙ grayed_same c.self.inside.area (name_of c.args.target));
     }
 
 pub returns-clause-rest : goal.returns-clause-rest
 returns-clause-rest c =
     rw (← c.self.view_is)
-    (rooted_rest c.self.inside.bound c.self.inside.phase c.self.inside.area c.root.new.self c.self.inside.exits c.self.inside.note (name_of c.args.target) c.root.ensures)
+    (rooted_rest c.self.inside.bound c.self.inside.phase c.self.inside.area c.root.new.self c.self.inside.exits c.self.inside.note (ap unmarked c.root.ensures ∙ grayed_same c.self.inside.area (name_of c.args.target)))
 
 pub returns-clause-root : goal.returns-clause-root
 returns-clause-root c =

@@ -16,8 +16,6 @@ invariant_of-self c =
           subst (λ (x : AreaValue). AreHoldings c.self.inside.bound c.self.inside.bytes c.self.inside.phase x c.self.inside.exits.items) (sym c.in_err-segment.ensures.kept) c.self.invariant.tables;
       carried =
           subst (λ (x : AreaValue). IsCarried c.self.inside.phase x c.self.inside.carried.whole c.self.inside.carried.noted c.self.inside.carried.below c.self.inside.carried.next c.self.inside.carried.roots.items c.self.inside.carried.pending.items) (sym c.in_err-segment.ensures.kept) c.self.invariant.carried;
-      roots = c.self.invariant.roots;
-      pending = c.self.invariant.pending;
     }
 
 pub returns-in_err-segment-clause-none : goal.returns-in_err-segment-clause-none
@@ -45,8 +43,6 @@ invariant_of-self-2 c =
           left_kept c.self.inside.bound c.self.inside.bytes c.self.inside.phase c.self.inside.area c.take.new.self c.self.inside.exits c.args.seg.0 c.in_ok-segment.segment c.self.invariant.tables idle t _ (omega (arith, most, c.bytes.ensures.value));
       carried =
           idle_carried c.self.inside.phase c.take.new.self c.self.inside.carried.noted c.self.inside.carried.below c.self.inside.carried.next c.self.inside.carried.roots.items c.self.inside.carried.pending.items idle;
-      roots = c.self.invariant.roots;
-      pending = c.self.invariant.pending;
     }
 
 pub returns-clause-some : goal.returns-clause-some

@@ -25,8 +25,6 @@ invariant_of-self c =
           number_carried c.self.inside.phase c.self.inside.area c.write_int_in.new.self c.self.inside.carried.whole c.self.inside.carried.noted c.args.field c.self.inside.carried.below c.self.inside.carried.next c.self.inside.carried.roots.items c.self.inside.carried.pending.items c.args.at c.args.value c.self.invariant.carried idle c.write_int_in.ensures
           (int_there c.self.inside.bound c.self.inside.area c.args.at c.args.field c.self.invariant.tables.numbered.none (omega (arith, few, c.requires.there))
           (ap (λ (h : HoldingsValue). is_ref (field_among h.value.objects c.args.at c.args.field)) c.self.view_is ∙ c.requires.kind));
-      roots = c.self.invariant.roots;
-      pending = c.self.invariant.pending;
     }
 
 pub returns : goal.returns

@@ -1,8 +1,12 @@
 use Rattle.std.proofs.Common.{◌≡◌, sym, subst, ◌∙◌}
+use Rattle.std.proofs.lemmas.Bool.{false≢true}
 use Rattle.k_space.specs.Areas.{AreaValue, HasDistinct}
 use Rattle.k_cell.specs.Placed.{CanPlace, IsPlacedIn}
 use Rattle.k_cell.proofs.Rooted.{distinct_inside}
 use Rattle.k_cell.proofs.rooting.RootedArea.place_in.Goals as goal
+
+pub invariant_of-self : goal.invariant_of-self
+invariant_of-self c = λ t. absurd (false≢true (sym c.settle.ensures.not_all ∙ t))
 
 pub settle-requires : goal.settle-requires
 settle-requires c = distinct_inside c.self.inside.area c.args.self.now c.self.inside.noted.items c.self.view_is c.requires.distinct

@@ -1,8 +1,12 @@
 use Rattle.std.proofs.Common.{◌≡◌, ◌+◌, ◌<◌, ◌^◌, sym, ap, subst, ◌∙◌}
+use Rattle.std.proofs.lemmas.Bool.{false≢true}
 use Rattle.k_space.specs.Areas.{AreaValue, HasDistinct}
 use Rattle.k_mark.specs.Sweeping.{dead_bytes, dead_objects, swept}
 use Rattle.k_cell.proofs.Rooted.{distinct_inside}
 use Rattle.k_cell.proofs.rooting.RootedArea.sweep.Goals as goal
+
+pub invariant_of-self : goal.invariant_of-self
+invariant_of-self c = λ t. absurd (false≢true (sym c.settle.ensures.not_all ∙ t))
 
 pub settle-requires : goal.settle-requires
 settle-requires c = distinct_inside c.self.inside.area c.args.self.now c.self.inside.noted.items c.self.view_is c.requires.distinct

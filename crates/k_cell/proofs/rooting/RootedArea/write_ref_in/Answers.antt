@@ -1,10 +1,14 @@
 use Rattle.std.proofs.Common.{◌≡◌, option_map, sym, subst, ◌∙◌}
+use Rattle.std.proofs.lemmas.Bool.{false≢true}
 use Rattle.k_types.specs.Names.{name_of}
 use Rattle.k_types.specs.State.{Refers}
 use Rattle.k_space.specs.Areas.{AreaValue, HasDistinct}
 use Rattle.k_cell.specs.Placed.{IsRefAt, IsWrittenIn}
 use Rattle.k_cell.proofs.Rooted.{distinct_inside}
 use Rattle.k_cell.proofs.rooting.RootedArea.write_ref_in.Goals as goal
+
+pub invariant_of-self : goal.invariant_of-self
+invariant_of-self c = λ t. absurd (false≢true (sym c.settle.ensures.not_all ∙ t))
 
 pub settle-requires : goal.settle-requires
 settle-requires c = distinct_inside c.self.inside.area c.args.self.now c.self.inside.noted.items c.self.view_is c.requires.distinct
