@@ -11,7 +11,7 @@ ghost use Rattle.k_types.specs.declared.names.Name.{Name as Named};
 ghost use Rattle.k_cell.specs.Marking.{begun};
 ghost use Rattle.k_cell.specs.Ending.{freed_bytes, freed_objects};
 ghost use Rattle.k_cell.specs.Looks.{field_among, field_count_among};
-ghost use Rattle.k_cell.specs.Changes.{HasDroppedExit, HasItsExits, HasMarked, HasRoot, next_in, with_black_alone, with_body, with_exit_item, with_field};
+ghost use Rattle.k_cell.specs.Changes.{HasDroppedExit, HasGrayed, HasItsExits, HasMarked, HasRoot, next_in, with_black_alone, with_body, with_exit_item, with_field};
 ghost use Rattle.k_cell.specs.Holdings.{HasGivenSegment, HasSerialLeft};
 ghost use Rattle.k_heap.specs.Heaps.{holdings_of, own_segment};
 
@@ -78,6 +78,27 @@ impl HeapCell {
         ensures root { HasRoot self.old.value self.new.value (name_of target) }
     {
         self.holdings.root(target);
+    }
+
+    /// Takes the roots that are noted out of the cell, to which others can be added at the end without memory, as far as the
+    /// row has room. Until they are put back they are gray no longer. Constant time.
+    pub fn take_roots(&mut self) -> Vec<Name>
+        requires { self.old.value.collection ≡ Begun }
+        ensures rest { self.new ≡ record self.old { value = self.new.value } }
+        ensures begun { self.new.value ≡ begun self.new.value.gray self.old.value }
+        ensures roots { HasGrayed (λ n. name_among n result.items) self.new.value self.old.value }
+    {
+        self.holdings.take_roots()
+    }
+
+    /// Makes those of these objects gray that are the heap's; other names change nothing. It is constant time where no root was
+    /// noted since the last ones were taken.
+    pub fn put_roots(&mut self, roots: Vec<Name>)
+        requires { self.old.value.collection ≡ Begun }
+        ensures rest { self.new ≡ record self.old { value = self.new.value } }
+        ensures roots { HasGrayed (λ n. name_among n roots.items) self.old.value self.new.value }
+    {
+        self.holdings.put_roots(roots);
     }
 
     /// Marks what the gray objects reach inside the heap, and the exit items to which that refers. The cost is in proportion to
