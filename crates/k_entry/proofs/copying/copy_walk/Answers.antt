@@ -50,19 +50,19 @@ loop-next-preserved c =
     let st = step xs p.before c.in-Some.seg c.next-next.result (once_of c.args.walks.now (walk_of (length c.args.homes.now) c.args.heap) c.first-next.ensures.apart) p.on (c.next-next.ensures.value (walk_of (length c.args.homes.now) c.args.heap)) in
     elim c.else-is_same.branch [
       | else-is_same-via-then-is_same+else-not-copy_list w ↦ record {
-          capacity = ap vec_capacity w.row-is ∙ w.copy_list.ensures.capacity ∙ c.loop-next.invariant.capacity;
-          copied =
-              subst (λ (v : Vec Name Global). HasCopiedLists (vec_capacity c.args.row.now) c.args.slots.now c.args.segments.now c.args.homes.now c.args.heap xs c.next-next.result c.args.row.now.items v.items) (sym w.row-is)
-              (list_copied (vec_capacity c.args.row.now) c.args.slots.now c.args.segments.now c.args.homes.now c.args.heap xs c.in-Some.seg c.args.row.now.items c.loop-next.row.items p c.next-next.result w.copy_list.new.row.items w.copy_list.result st
-              (sym c.is_same.ensures ∙ w.if-is_same.true) w.if-not-copy_list.false
-              (subst (λ room. IsCopied room c.loop-next.row.items w.copy_list.new.row.items (objects_in c.args.slots.now (members c.args.segments.now c.in-Some.seg)) w.copy_list.result) c.loop-next.invariant.capacity w.copy_list.ensures.copied));
-        }
+        capacity = ap vec_capacity w.row-is ∙ w.copy_list.ensures.capacity ∙ c.loop-next.invariant.capacity;
+        copied =
+            subst (λ (v : Vec Name Global). HasCopiedLists (vec_capacity c.args.row.now) c.args.slots.now c.args.segments.now c.args.homes.now c.args.heap xs c.next-next.result c.args.row.now.items v.items) (sym w.row-is)
+            (list_copied (vec_capacity c.args.row.now) c.args.slots.now c.args.segments.now c.args.homes.now c.args.heap xs c.in-Some.seg c.args.row.now.items c.loop-next.row.items p c.next-next.result w.copy_list.new.row.items w.copy_list.result st
+            (sym c.is_same.ensures ∙ w.if-is_same.true) w.if-not-copy_list.false
+            (subst (λ room. IsCopied room c.loop-next.row.items w.copy_list.new.row.items (objects_in c.args.slots.now (members c.args.segments.now c.in-Some.seg)) w.copy_list.result) c.loop-next.invariant.capacity w.copy_list.ensures.copied));
+      }
       | else-is_same-via-else-is_same w ↦ record {
-          capacity = ap vec_capacity w.row-is ∙ c.loop-next.invariant.capacity;
-          copied =
-              subst (λ (v : Vec Name Global). HasCopiedLists (vec_capacity c.args.row.now) c.args.slots.now c.args.segments.now c.args.homes.now c.args.heap xs c.next-next.result c.args.row.now.items v.items) (sym w.row-is)
-              (list_passed (vec_capacity c.args.row.now) c.args.slots.now c.args.segments.now c.args.homes.now c.args.heap xs c.in-Some.seg c.args.row.now.items c.loop-next.row.items p c.next-next.result st (sym c.is_same.ensures ∙ w.if-is_same.false));
-        }
+        capacity = ap vec_capacity w.row-is ∙ c.loop-next.invariant.capacity;
+        copied =
+            subst (λ (v : Vec Name Global). HasCopiedLists (vec_capacity c.args.row.now) c.args.slots.now c.args.segments.now c.args.homes.now c.args.heap xs c.next-next.result c.args.row.now.items v.items) (sym w.row-is)
+            (list_passed (vec_capacity c.args.row.now) c.args.slots.now c.args.segments.now c.args.homes.now c.args.heap xs c.in-Some.seg c.args.row.now.items c.loop-next.row.items p c.next-next.result st (sym c.is_same.ensures ∙ w.if-is_same.false));
+      }
     ]
 
 pub returns-then-not-copy_list-clause-copied : goal.returns-then-not-copy_list-clause-copied

@@ -77,9 +77,9 @@ returns-clause-next c = λ t.
     let noted : c.deref.result.now ≡ c.self.inside.noted.items = c.deref.ensures.value ∙ ap (λ (v : Vec Name Global). v.items) c.swap.ensures.y_after in
     let beginning = subst (λ (ns : List Name). IsBeginning c.gray_unknown-kept.new.area c.gray_unknown-kept.result (gray_at (grayed_all c.self.inside.area ns))) noted c.gray_unknown-kept.ensures.beginning in
     let found = subst (λ (o : Option ℕ). IfSome o (λ k. IsKept (black_at c.mark_kept-next.new.area) (refers_at c.mark_kept-next.new.area) (gray_at (grayed_all c.self.inside.area c.self.inside.noted.items)) k)) told.1
-        (c.mark_kept-next.ensures.next (gray_at (grayed_all c.self.inside.area c.self.inside.noted.items)) beginning) in
+    (c.mark_kept-next.ensures.next (gray_at (grayed_all c.self.inside.area c.self.inside.noted.items)) beginning) in
     let clean : (n : Name) → black_at c.self.inside.area n ≡ false = λ n. sym (black_all c.self.inside.area c.self.inside.noted.items n) ∙ ap (λ (x : AreaValue). black_at x n) c.self.view_is ∙ c.requires.clean n in
     let among = kept_from (black_at c.mark_kept-next.new.area) (refers_at c.mark_kept-next.new.area) (gray_at (grayed_all c.self.inside.area c.self.inside.noted.items)) (λ n. name_among n c.self.inside.noted.items) _
-        (λ n g b. gray_noted c.self.inside.area c.self.inside.noted.items n clean (c.self.invariant told.0) g) found in
+    (λ n g b. gray_noted c.self.inside.area c.self.inside.noted.items n clean (c.self.invariant told.0) g) found in
     subst (λ (v : Vec Name Global). IsKept (black_at (grayed_all c.mark_kept-next.new.area c.clear.new.self.items)) (refers_at (grayed_all c.mark_kept-next.new.area c.clear.new.self.items)) (λ n. name_among n v.items) c.marked_below.result.1) (sym c.swap.ensures.y_after)
     (subst (λ (ns : List Name). IsKept (black_at (grayed_all c.mark_kept-next.new.area ns)) (refers_at (grayed_all c.mark_kept-next.new.area ns)) (λ n. name_among n c.self.inside.noted.items) c.marked_below.result.1) (sym c.clear.ensures.items) among)
