@@ -54,7 +54,8 @@ use Rattle.k_commit.proofs.Placed.{sound_now}
 use Rattle.k_commit.proofs.Setting.{process_known, process_lives}
 use Rattle.k_collect.specs.Begun.{HasBegunHeap}
 use Rattle.k_collect.specs.Collecting.{CanBeginHeap}
-use Rattle.k_collect.specs.Graying.{HasGrayed, is_root_by}
+use Rattle.k_cell.specs.Changes.{HasGrayed}
+use Rattle.k_collect.specs.Graying.{is_root_by}
 use Rattle.k_collect.proofs.Roots.{gray_at_roots, registers_all}
 use Rattle.k_frame.proofs.Untouched.{one_counted}
 

@@ -19,7 +19,8 @@ use Rattle.k_heap.specs.Heaps.{HeapRecord}
 use Rattle.k_commit.specs.Met.{CanMeet, FitsTheBook, HeapHasMet, KernelHasMet}
 use Rattle.k_collect.specs.Begun.{HasBegunHeap, HasBegunKernel, HasClosed}
 use Rattle.k_collect.specs.Collecting.{CanBeginHeap, CanBeginKernel, CanClose}
-use Rattle.k_collect.specs.Graying.{HasGrayed, is_root_by}
+use Rattle.k_cell.specs.Changes.{HasGrayed}
+use Rattle.k_collect.specs.Graying.{is_root_by}
 use Rattle.k_collect.proofs.Begins.{begun_heap, done_fits, registers_there}
 use Rattle.k_collect.proofs.KernelBegins.{kernel_begins, kernel_closes, kernel_done_fits}
 use Rattle.k_types.specs.Agree.{CellValue}

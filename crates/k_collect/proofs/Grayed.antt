@@ -1,59 +1,19 @@
 -- What has been made gray so far.
-use Rattle.std.proofs.Common.{◌≡◌, ℕ, ◌-◌, ◌<◌, ◌||◌, ◌&&◌, Bool, true, false, refl, sym, ap, ap₂, ◌∙◌, subst, List, length, take, Option, Some, None}
+use Rattle.std.proofs.Common.{◌≡◌, ℕ, ◌-◌, ◌<◌, ◌||◌, Bool, true, false, sym, ap, ◌∙◌, subst, List, length, take, Option, Some, None}
 use Rattle.std.specs.List.{list_any}
 use Rattle.k_types.specs.declared.names.Heap.{Heap}
 use Rattle.k_types.specs.declared.names.Name.{Name}
 use Rattle.k_types.specs.Agree.{CellValue}
 use Rattle.k_types.specs.Names.{leads_to, name_among, name_eq}
-use Rattle.k_types.specs.State.{Object, has}
-use Rattle.k_base.proofs.Charges.{or_none}
-use Rattle.k_base.proofs.NameTests.{name_eq-true}
-use Rattle.k_agree.specs.Marking.{begun}
-use Rattle.k_cell.specs.Changes.{HasRoot}
+use Rattle.k_cell.specs.Changes.{HasBegun, HasGrayed, HasRoot}
+use Rattle.k_cell.proofs.Grayed.{grays_none, grays_one, grays_same}
 use Rattle.k_changes.specs.BookChanges.{registers_in}
 use Rattle.k_entry.specs.Entries.{AreEntries, EntryValue, first_object, home_of, items_of, object_after, objects}
-use Rattle.k_collect.specs.Graying.{HasBegun, HasGrayed, is_counted_at}
+use Rattle.k_collect.specs.Graying.{is_counted_at}
 use Rattle.k_collect.proofs.Walks.{IsOnWalk, distinct_walk, first_on_walk, next_on_walk, none_before, on_walk_counted, passed_before, passed_more, passed_next, walk_counts}
 use Rattle.k_types.specs.Counted.{Counted, counted}
 use Rattle.k_base.specs.Distinct.{AreDistinctNames}
 use Rattle.k_moves.proofs.Changed.{among_pushed}
-
-pub grays_none : (v : CellValue) → HasBegun v → HasGrayed (λ n. false) v v
-grays_none v begins = record { rest = begins; gray = λ n. sym (or_none (name_among n v.gray)) }
-
-or_and_more : (g f h e : Bool) → ((g || (f && h)) || (e && h)) ≡ (g || ((f || e) && h))
-or_and_more true f h e = refl
-or_and_more false true true e = refl
-or_and_more false true false true = refl
-or_and_more false true false false = refl
-or_and_more false false h e = refl
-
-still_begun : (v w x : CellValue) → w ≡ begun w.gray v → x ≡ begun x.gray w → x ≡ begun x.gray v
-still_begun v w x first second = second ∙ ap (λ (u : CellValue). begun x.gray u) first
-
--- what was made gray first, and then
-pub grays_both : (f g : Name → Bool) (v w x : CellValue) → HasGrayed f v w → HasGrayed g w x → HasGrayed (λ n. f n || g n) v x
-grays_both f g v w x first second = record {
-  rest = still_begun v w x first.rest second.rest;
-  gray = λ n.
-      second.gray n
-      ∙ ap₂ (λ a (os : List Object). a || (g n && has os n)) (first.gray n) (ap (λ (u : CellValue). u.objects) first.rest)
-      ∙ or_and_more (name_among n v.gray) (f n) (has v.objects n) (g n);
-}
-
-pub grays_one : (f : Name → Bool) (t : Name) (v w x : CellValue) → HasGrayed f v w → HasRoot w x t → HasGrayed (λ n. f n || name_eq t n) v x
-grays_one f t v w x first root =
-    grays_both f (name_eq t) v w x first (record { rest = root.rest; gray = λ n. root.gray n ∙ ap (λ b. name_among n w.gray || b) (same_object n (name_eq t n) refl) })
-  where
-    same_object : (n : Name) (b : Bool) → name_eq t n ≡ b → (b && has w.objects t) ≡ (b && has w.objects n)
-    same_object n true same = ap (has w.objects) (name_eq-true t n same)
-    same_object n false other = refl
-
-pub grays_same : (f g : Name → Bool) (v w : CellValue) → ((n : Name) → f n ≡ g n) → HasGrayed f v w → HasGrayed g v w
-grays_same f g v w same grayed = record {
-  rest = grayed.rest;
-  gray = λ n. grayed.gray n ∙ ap (λ t. name_among n v.gray || (t && has v.objects n)) (same n);
-}
 
 -- what the first registers hold
 abbrev pub held_by_first : ℕ → CellValue → Name → Bool

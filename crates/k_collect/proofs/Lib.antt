@@ -1,5 +1,6 @@
 pub mod Walks
 pub mod Grayed
+pub mod Copied
 pub mod Left
 pub mod Unshared
 pub mod Marked

@@ -22,7 +22,8 @@ use Rattle.k_book.specs.Books.{BookRecord}
 use Rattle.k_changes.specs.BookChanges.{registers_in}
 use Rattle.k_changes.specs.Roots.{entered_in, held_by}
 use Rattle.k_entry.specs.Entries.{home_of}
-use Rattle.k_collect.specs.Graying.{HasGrayed, is_root_by}
+use Rattle.k_cell.specs.Changes.{HasGrayed}
+use Rattle.k_collect.specs.Graying.{is_root_by}
 
 listed : (p : Name → Bool) (objects : List Object) (n : Name) → name_among n (map (λ (o : Object). o.name) (filter (λ o. p o.name) objects)) ≡ (has objects n && p n)
 listed p objects n = names_have (filter (λ o. p o.name) objects) n ∙ has-kept p objects n

@@ -1,4 +1,4 @@
-//! The roots of a collection, made gray while they are walked.
+//! The roots of a collection, made gray as they are copied.
 ghost use Rattle.std.specs.Prelude.{◌≡◌, [], length};
 ghost use Rattle.std.specs.List.{list_any};
 ghost use Rattle.k_types.specs.Bounds.{register_count};
@@ -7,8 +7,10 @@ ghost use Rattle.k_types.specs.declared.names.Heap.TheVariants.{Kernel, User};
 ghost use Rattle.k_book.specs.Books.{book_entries, book_pins};
 ghost use Rattle.k_changes.specs.BookChanges.{registers_in};
 ghost use Rattle.k_agree.specs.Marking.{begun};
-ghost use Rattle.k_collect.specs.Graying.{HasBegun, HasGrayed, is_counted_at, is_root_by};
+ghost use Rattle.k_cell.specs.Changes.{HasBegun, HasGrayed};
+ghost use Rattle.k_collect.specs.Graying.{is_counted_at, is_root_by};
 
+use crate::walking::{walk_entered, walk_kernel_entered, walk_kernel_pinned, walk_pinned};
 use k_book::Book;
 use k_heap::HeapCell;
 use k_kernel::KernelCell;
@@ -28,55 +30,64 @@ fn gray_held(cell: &mut HeapCell)
     }
 }
 
-/// Makes gray the objects of the process's heap to which other heaps have exit items. It passes each of them once.
+/// Makes gray the objects of the process's heap to which other heaps have exit items. They are copied into the row of noted roots;
+/// where that has no room for all, they are walked to one by one.
 fn gray_entered(cell: &mut HeapCell, book: &Book)
     requires begun { HasBegun cell.old.value }
     ensures rest { cell.new ≡ record cell.old { value = cell.new.value } }
     ensures gray { HasGrayed (is_counted_at (book_entries book.now) (User cell.old.pid)) cell.old.value cell.new.value }
 {
-    let mut at = book.first_entry(Heap::User(cell.pid()));
-    while let Some(target) = at {
-        cell.root(target);
-        at = book.next_entry(target);
+    let heap = Heap::User(cell.pid());
+    let mut roots = cell.take_roots();
+    let all = book.copy_entered(heap, &mut roots);
+    cell.put_roots(roots);
+    if !all {
+        walk_entered(cell, book);
     }
 }
 
-/// Makes gray the objects of the process's heap that registers of other processes hold. It passes each of them once.
+/// Makes gray the objects of the process's heap that registers of other processes hold, in the same way.
 fn gray_pinned(cell: &mut HeapCell, book: &Book)
     requires begun { HasBegun cell.old.value }
     ensures rest { cell.new ≡ record cell.old { value = cell.new.value } }
     ensures gray { HasGrayed (is_counted_at (book_pins book.now) (User cell.old.pid)) cell.old.value cell.new.value }
 {
-    let mut at = book.first_pin(Heap::User(cell.pid()));
-    while let Some(target) = at {
-        cell.root(target);
-        at = book.next_pin(target);
+    let heap = Heap::User(cell.pid());
+    let mut roots = cell.take_roots();
+    let all = book.copy_pinned(heap, &mut roots);
+    cell.put_roots(roots);
+    if !all {
+        walk_pinned(cell, book);
     }
 }
 
-/// Makes gray the objects of the kernel's heap to which other heaps have exit items. It passes each of them once.
+/// Makes gray the objects of the kernel's heap to which other heaps have exit items, in the same way.
 fn gray_kernel_entered(kernel: &mut KernelCell, book: &Book)
     requires begun { HasBegun kernel.old.value }
     ensures rest { kernel.new ≡ record kernel.old { value = kernel.new.value } }
     ensures gray { HasGrayed (is_counted_at (book_entries book.now) Kernel) kernel.old.value kernel.new.value }
 {
-    let mut at = book.first_entry(Heap::Kernel);
-    while let Some(target) = at {
-        kernel.root(target);
-        at = book.next_entry(target);
+    let heap = Heap::Kernel;
+    let mut roots = kernel.take_roots();
+    let all = book.copy_entered(heap, &mut roots);
+    kernel.put_roots(roots);
+    if !all {
+        walk_kernel_entered(kernel, book);
     }
 }
 
-/// Makes gray the objects of the kernel's heap that registers hold. It passes each of them once.
+/// Makes gray the objects of the kernel's heap that registers hold, in the same way.
 fn gray_kernel_pinned(kernel: &mut KernelCell, book: &Book)
     requires begun { HasBegun kernel.old.value }
     ensures rest { kernel.new ≡ record kernel.old { value = kernel.new.value } }
     ensures gray { HasGrayed (is_counted_at (book_pins book.now) Kernel) kernel.old.value kernel.new.value }
 {
-    let mut at = book.first_pin(Heap::Kernel);
-    while let Some(target) = at {
-        kernel.root(target);
-        at = book.next_pin(target);
+    let heap = Heap::Kernel;
+    let mut roots = kernel.take_roots();
+    let all = book.copy_pinned(heap, &mut roots);
+    kernel.put_roots(roots);
+    if !all {
+        walk_kernel_pinned(kernel, book);
     }
 }
 

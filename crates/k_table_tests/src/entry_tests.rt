@@ -42,7 +42,7 @@ fn an_item_goes_when_its_count_is_zero(rt: HostRuntime) -> Result<(), Fail> {
 }
 
 // A walk goes on to each segment of its home, also to one that came to it later, and passes by a segment of
-// another heap that has the same walk number.
+// another heap that has the same walk number. So does a copy, as far as the row has room.
 #[test]
 fn a_walk_goes_through_each_segment_of_its_home(rt: HostRuntime) -> Result<(), Fail> {
     let user = Heap::User(Pid(0));
@@ -63,6 +63,11 @@ fn a_walk_goes_through_each_segment_of_its_home(rt: HostRuntime) -> Result<(), F
     }
     assert!(rt; next.is_none());
     assert!(rt; serials == [9, 7, 0] || serials == [7, 9, 0]);
+    let mut row: Vec<Name> = Vec::with_capacity(rt.alloc(), 3)?;
+    assert!(rt; table.copy_of(user, &mut row));
+    assert_eq!(rt; row.len(), 2);
+    assert!(rt; !table.copy_of(user, &mut row));
+    assert_eq!(rt; row.len(), 3);
     Ok(())
 }
 

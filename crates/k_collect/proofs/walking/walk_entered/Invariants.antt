@@ -5,7 +5,7 @@ use Rattle.k_book.specs.Books.{book_entries}
 use Rattle.k_entry.specs.Entries.{items_of}
 use Rattle.k_collect.proofs.Grayed.{IsGraying}
 use Rattle.k_collect.proofs.Walks.{passed_before}
-use Rattle.k_collect.proofs.graying.gray_entered.Given as goal
+use Rattle.k_collect.proofs.walking.walk_entered.Given as goal
 
 abbrev pub invariant-loop-at : goal.invariant-loop-at
 invariant-loop-at l = record {

@@ -4,7 +4,7 @@ use Rattle.k_types.specs.Names.{name_of}
 use Rattle.k_book.specs.Books.{book_pins}
 use Rattle.k_cell.specs.Holdings.{HoldingsValue}
 use Rattle.k_collect.proofs.Grayed.{counted_here, graying_begins, graying_ends, graying_goes_on, walk_shorter}
-use Rattle.k_collect.proofs.graying.gray_kernel_pinned.Goals as goal
+use Rattle.k_collect.proofs.walking.walk_kernel_pinned.Goals as goal
 
 pub loop-at-init : goal.loop-at-init
 loop-at-init c = record {
