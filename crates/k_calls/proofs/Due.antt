@@ -19,16 +19,17 @@ use Rattle.k_entry.specs.Entries.{AreEntries}
 use Rattle.k_book.specs.Books.{BookRecord, book_entries}
 use Rattle.k_cell.specs.Holdings.{HoldingsValue}
 use Rattle.k_heap.specs.Heaps.{HeapRecord, holdings_of as heap_holdings, own_segment}
-use Rattle.k_shared.specs.SharedHeaps.{SharedRecord, holdings_of as shared_holdings}
+use Rattle.k_shared.specs.SharedHeaps.{SharedRecord}
 use Rattle.k_space.specs.Objects.{BodyValue}
+use Rattle.k_commit.specs.Beside.{HasSteppedWithKernel, HasSteppedWithShared}
 use Rattle.k_commit.specs.Changed.{bodies_after}
+use Rattle.k_commit.specs.Others.{held_by, of_shared, shared_by}
 use Rattle.k_commit.specs.Published.{CanPublish, HasPublished}
 use Rattle.k_commit.specs.Rooms.{HasRoomFor}
 use Rattle.k_commit.specs.Standing.{HeapStands}
-use Rattle.k_commit.specs.Stepped.{HasStepped, HasSteppedWithKernel, HasSteppedWithShared}
+use Rattle.k_commit.specs.Stepped.{HasStepped}
 use Rattle.k_operate.specs.Own.{CanStepOwn}
-use Rattle.k_operate.specs.PairOperating.{CanStepWithKernel}
-use Rattle.k_operate.specs.Operating.{CanStepWithShared}
+use Rattle.k_operate.specs.Operating.{CanStepWithKernel, CanStepWithShared}
 use Rattle.k_guests.specs.declared.guest.Guest.{Guest}
 use Rattle.k_calls.specs.Doing.{HasDoneAlone, HasDoneWithKernel, HasDoneWithShared, HasPublishedAll, IsDueWith, bodies_for}
 use Rattle.k_guests.specs.Serving.{Basis, BookServes, GuestServes, GuestServesWith, KernelServes, SharedServes}
@@ -152,14 +153,16 @@ module _ (basis : Basis) (g : Guest) (b : BookRecord) (op : Op) (cells : List Ce
 
         pub can_with_kernel : cells ≡ Kernel ∷ [] → CanStepWithKernel basis.trace w k l op
         can_with_kernel both = record {
-          can = record {
-            book_stands = book_now.stands;
-            heap_stands = heap_stands;
-            kernel_stands = record { agrees = kernel.agrees; table = kernel.table ∙ sym s.same_table; idle = idle };
-            in_range = due.ready.in_range;
-            room = λ fits kernel_fits. kernel_room kernel_fits;
+          step = record {
+            can = record {
+              book_stands = book_now.stands;
+              heap_stands = heap_stands;
+              other_stands = record { agrees = kernel.agrees; table = kernel.table ∙ sym s.same_table; segment = refl; idle = idle };
+              in_range = due.ready.in_range;
+              room = λ fits kernel_fits. kernel_room kernel_fits;
+            };
+            touches = λ fits kernel_fits. touches_now ∙ both;
           };
-          touches = λ fits kernel_fits. touches_now ∙ both;
           goes_on = due.ready.goes_on;
         }
 
@@ -170,11 +173,11 @@ module _ (basis : Basis) (g : Guest) (b : BookRecord) (op : Op) (cells : List Ce
         shared_shows : Fits l.journal t.note → Shows basis.trace (state_after basis.trace l.journal.list) (Shared t.id) t.value
         shared_shows fits = (meeting basis.trace l.journal l.value (Shared t.id) t.note t.value shared.agrees book_now.stands.agrees fits).shows shared.agrees.tail
 
-        shared_room : Fits l.journal t.note → HasRoomFor basis.trace w.bodies (shared_holdings t) t.seg.0 l op
+        shared_room : Fits l.journal t.note → HasRoomFor basis.trace w.bodies (of_shared t).held t.seg.0 l op
         shared_room fits = record {
           events = event_left basis l book_now left_now;
-          tables = table_room basis w.bodies g.bodies (shared_holdings t) t.seg.0 l op guest_now.stock
-              (λ given there. serial_left basis l book_now left_now (Shared t.id) t.value (shared_holdings t) t.seg.0 refl (shared_shows fits)
+          tables = table_room basis w.bodies g.bodies (of_shared t).held t.seg.0 l op guest_now.stock
+              (λ given there. serial_left basis l book_now left_now (Shared t.id) t.value (of_shared t).held t.seg.0 refl (shared_shows fits)
               (shared.serials (Rattle.k_calls.proofs.Going.stands_where_made basis.trace (state_after basis.trace l.journal.list) t given (shared_shows fits) there)) given there)
               (record { exits = shared_exits; entries = entry_left basis l book_now left_now items });
         }
@@ -184,7 +187,7 @@ module _ (basis : Basis) (g : Guest) (b : BookRecord) (op : Op) (cells : List Ce
           can = record {
             book_stands = book_now.stands;
             heap_stands = heap_stands;
-            shared_stands = record { agrees = shared.agrees; table = shared.table ∙ sym s.same_table; segment = shared.segment; idle = shared.idle };
+            other_stands = record { agrees = shared.agrees; table = shared.table ∙ sym s.same_table; segment = shared.segment; idle = shared.idle };
             in_range = due.ready.in_range;
             room = λ fits shared_fits. shared_room shared_fits;
           };
@@ -218,18 +221,18 @@ module _ (basis : Basis) (g : Guest) (b : BookRecord) (op : Op) (cells : List Ce
     pub done_with_kernel : (v : HeapRecord) (m : BookRecord) (event : Event) (k x : HoldingsValue) → KernelServes basis b.journal.table k → HasSteppedWithKernel basis.trace op w v k x l m event →
         HasDoneWithKernel basis op g (record g { cell = v }) x b m event
     done_with_kernel v m event k x kernel d = record {
-      own = done_alone v m event d.own;
-      kernel = kernel_goes_on basis b.journal.table m.journal.table k x kernel d.kernel_is d.agrees d.table;
-      idle = d.idle;
+      own = done_alone v m event d.beside.own;
+      kernel = kernel_goes_on basis b.journal.table m.journal.table k x kernel (ap held_by d.other_is) d.beside.others.0.stands.agrees d.beside.others.0.stands.table;
+      idle = d.beside.others.0.stands.idle;
     }
 
     pub done_with_shared : (v : HeapRecord) (m : BookRecord) (event : Event) (t x : SharedRecord) → SharedServes basis b.journal.table t → HasSteppedWithShared basis.trace op w v t x l m event →
         HasDoneWithShared basis op g (record g { cell = v }) t x b m event
     done_with_shared v m event t x shared d = record {
-      own = done_alone v m event d.own;
+      own = done_alone v m event d.beside.own;
       shared =
-          shared_goes_on basis b.journal.table m.journal.table t x (d.fits.prefix.0 ++ event ∷ []) shared d.agrees d.shared_is
-          (sym (append_assoc t.note.list d.fits.prefix.0 (event ∷ [])) ∙ ap (λ events. events ++ event ∷ []) d.fits.prefix.1 ∙ sym d.own.journal ∙ sym d.met.list)
-          d.table d.idle;
-      same = ap (λ (y : SharedRecord). y.id) d.shared_is;
+          shared_goes_on basis b.journal.table m.journal.table t x (d.fits.prefix.0 ++ event ∷ []) shared d.beside.others.0.stands.agrees (ap shared_by d.other_is)
+          (sym (append_assoc t.note.list d.fits.prefix.0 (event ∷ [])) ∙ ap (λ events. events ++ event ∷ []) d.fits.prefix.1 ∙ sym d.beside.own.journal ∙ sym d.beside.others.0.met.list)
+          d.beside.others.0.stands.table d.beside.others.0.stands.idle;
+      same = ap (λ (y : SharedRecord). y.id) (ap shared_by d.other_is);
     }

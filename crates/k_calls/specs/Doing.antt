@@ -23,7 +23,7 @@ use Rattle.k_cell.specs.Holdings.{HoldingsValue}
 use Rattle.k_heap.specs.Heaps.{has_ended_in}
 use Rattle.k_local.specs.Locals.{after_local}
 use Rattle.k_operate.specs.Own.{is_collect}
-use Rattle.k_operate.specs.PairOperating.{collects_or_exits}
+use Rattle.k_operate.specs.Operating.{collects_or_exits}
 use Rattle.k_shared.specs.SharedHeaps.{SharedRecord}
 use Rattle.k_space.specs.Objects.{BodyValue, new_body}
 use Rattle.k_guests.specs.declared.guest.Guest.{Guest}

@@ -15,6 +15,7 @@ use Rattle.k_cell.specs.Changes.{with_black_alone}
 use Rattle.k_cell.specs.Holdings.{HoldingsValue}
 use Rattle.k_heap.specs.Heaps.{HeapRecord}
 use Rattle.k_commit.specs.Met.{HeapHasMet, KernelHasMet}
+use Rattle.k_commit.specs.Others.{held_by}
 use Rattle.k_collect.specs.Collecting.{CanEndHeap, CanEndKernel}
 use Rattle.k_collect.specs.Ended.{HasEndedHeap, HasEndedKernel}
 use Rattle.k_collect.specs.SweptAlone.{CanSweepAlone, HasSweptAlone, KernelHasSweptAlone}
@@ -69,12 +70,12 @@ module _ (trace : Trace) (c d : HoldingsValue) (b k : BookRecord) (can : CanEndK
   kernel_short = let none = ap length kernel_settled in let few = met.told.few in let room = can.room met.told.fits in omega (arith, none, few, room)
 
   pub kernel_can_sweep_met : CanSweepAlone trace Kernel d.note d.value
-  kernel_can_sweep_met = subst (λ (y : HoldingsValue). CanSweepAlone trace Kernel y.note y.value) (sym met.kernel_is)
+  kernel_can_sweep_met = subst (λ (y : HoldingsValue). CanSweepAlone trace Kernel y.note y.value) (sym (ap held_by met.other_is))
       (record { keeps = can.book_stands.keeps; agrees = met.told.shows.agrees; marked = can.collects.in_phase; short = kernel_short })
 
   pub kernel_can_end_met : CanEndKernel trace d k
   kernel_can_end_met = subst (λ (y : BookRecord). CanEndKernel trace d y) (sym met.book_is)
-      (subst (λ (y : HoldingsValue). CanEndKernel trace y b) (sym met.kernel_is)
+      (subst (λ (y : HoldingsValue). CanEndKernel trace y b) (sym (ap held_by met.other_is))
       (record {
         book_stands = can.book_stands;
         collects = record { agrees = met.told.shows.agrees; table = can.collects.table; in_phase = can.collects.in_phase };
@@ -83,7 +84,7 @@ module _ (trace : Trace) (c d : HoldingsValue) (b k : BookRecord) (can : CanEndK
 
   module _ (s w : HoldingsValue) (l : BookRecord) (freed : Swept) (e : Event) (sweeps : KernelHasSweptAlone d s freed) where
     kernel_swept_since : s ≡ record c { note = met_note b.journal c.note; value = with_black_alone c.value }
-    kernel_swept_since = sweeps.kernel_is ∙ ap (λ (y : HoldingsValue). record y { value = with_black_alone y.value }) met.kernel_is
+    kernel_swept_since = sweeps.kernel_is ∙ ap (λ (y : HoldingsValue). record y { value = with_black_alone y.value }) (ap held_by met.other_is)
 
     pub kernel_ended_at_last : HasEndedKernel trace s w k l e → HasEndedKernel trace c w b l e
     kernel_ended_at_last ended =

@@ -17,6 +17,7 @@ use Rattle.k_book.specs.Books.{BookRecord}
 use Rattle.k_cell.specs.Holdings.{HoldingsValue}
 use Rattle.k_heap.specs.Heaps.{HeapRecord}
 use Rattle.k_commit.specs.Met.{CanMeet, FitsTheBook, HeapHasMet, KernelHasMet}
+use Rattle.k_commit.specs.Others.{held_by}
 use Rattle.k_collect.specs.Begun.{HasBegunHeap, HasBegunKernel, HasClosed}
 use Rattle.k_collect.specs.Collecting.{CanBeginHeap, CanBeginKernel, CanClose}
 use Rattle.k_cell.specs.Changes.{HasGrayed}
@@ -91,7 +92,7 @@ module _ (trace : Trace) (c : HeapRecord) (k : HoldingsValue) (b : BookRecord) (
       kernel_is : n ≡ record k { note = met_note b.journal k.note; value = n.value }
       kernel_is =
           kept
-          ∙ ap (λ (x : HoldingsValue). record x { value = n.value }) kernel_met.kernel_is
+          ∙ ap (λ (x : HoldingsValue). record x { value = n.value }) (ap held_by kernel_met.other_is)
           ∙ ap (λ (y : BookRecord). record k { note = met_note y.journal k.note; value = n.value }) met.book_is
 
       pub cell_table : f.note.table ≡ j.journal.table
@@ -112,7 +113,7 @@ module _ (trace : Trace) (c : HeapRecord) (k : HoldingsValue) (b : BookRecord) (
       gray_kernel : HasGrayed (is_root_by Kernel b k.value) (begun [] k.value) n.value
       gray_kernel =
           subst (λ (y : BookRecord). HasGrayed (is_root_by Kernel y k.value) (begun [] k.value) n.value) last_book
-          (subst (λ (x : HoldingsValue). HasGrayed (is_root_by Kernel j x.value) (begun [] x.value) n.value) kernel_met.kernel_is grayed)
+          (subst (λ (x : HoldingsValue). HasGrayed (is_root_by Kernel j x.value) (begun [] x.value) n.value) (ap held_by kernel_met.other_is) grayed)
 
       pub called_both : (pid : Pid) → pid ≡ f.pid → HasBegunKernel trace c (record f { note = note_after (Done pid KCollect DoneReply) f.note }) k (record n { note = note_after (Done pid KCollect DoneReply) n.note })
           b (record j { journal = journal_after (Done pid KCollect DoneReply) (f.note.cell ∷ n.note.cell ∷ []) j.journal }) (Done pid KCollect DoneReply)
@@ -137,7 +138,7 @@ module _ (trace : Trace) (k : HoldingsValue) (b : BookRecord) (can : CanClose tr
     (n : HoldingsValue) (l : BookRecord) (kept : n ≡ record m { value = n.value }) (grayed : HasGrayed (is_root_by Kernel j m.value) (begun [] m.value) n.value)
     (closes : l ≡ record j { value = record j.value { closed = true } }) where
   closing_kernel : n ≡ record k { note = met_note b.journal k.note; value = n.value }
-  closing_kernel = kept ∙ ap (λ (x : HoldingsValue). record x { value = n.value }) met.kernel_is
+  closing_kernel = kept ∙ ap (λ (x : HoldingsValue). record x { value = n.value }) (ap held_by met.other_is)
 
   closing_last : l ≡ record b { value = record b.value { closed = true } }
   closing_last = closes ∙ ap (λ (y : BookRecord). record y { value = record y.value { closed = true } }) met.book_is
@@ -154,7 +155,7 @@ module _ (trace : Trace) (k : HoldingsValue) (b : BookRecord) (can : CanClose tr
   closing_gray : HasGrayed (is_root_by Kernel b k.value) (begun [] k.value) n.value
   closing_gray =
       subst (λ (y : BookRecord). HasGrayed (is_root_by Kernel y k.value) (begun [] k.value) n.value) met.book_is
-      (subst (λ (x : HoldingsValue). HasGrayed (is_root_by Kernel j x.value) (begun [] x.value) n.value) met.kernel_is grayed)
+      (subst (λ (x : HoldingsValue). HasGrayed (is_root_by Kernel j x.value) (begun [] x.value) n.value) (ap held_by met.other_is) grayed)
 
   pub called_closing : HasClosed trace k (record n { note = note_after Closing n.note }) b (record l { journal = journal_after Closing (n.note.cell ∷ []) l.journal }) Closing
   called_closing =

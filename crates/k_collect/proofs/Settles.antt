@@ -15,6 +15,7 @@ use Rattle.k_book.specs.Machine.{IsBookOf}
 use Rattle.k_cell.specs.Holdings.{HoldingsValue}
 use Rattle.k_heap.specs.Heaps.{HeapRecord}
 use Rattle.k_commit.specs.Met.{KernelHasMet}
+use Rattle.k_commit.specs.Others.{held_by}
 use Rattle.k_commit.specs.Published.{CanPublish, HasPublished}
 use Rattle.k_commit.specs.Rooms.{HasEventRoom}
 use Rattle.k_commit.specs.Standing.{BookStands}
@@ -168,13 +169,13 @@ module _ (trace : Trace) (c : HeapRecord) (b : BookRecord) (can : CanSettleHeap 
 
 module _ (trace : Trace) (c : HoldingsValue) (b : BookRecord) (can : CanSettleKernel trace c b) (d : HoldingsValue) (k : BookRecord) (p : KernelHasMet trace c d b k) where
   kernel_phase : d.value.collection ≡ c.value.collection
-  kernel_phase = ap (λ (x : HoldingsValue). x.value.collection) p.kernel_is
+  kernel_phase = ap (λ (x : HoldingsValue). x.value.collection) (ap held_by p.other_is)
 
   kernel_agrees : Agrees trace Kernel d.note d.value
-  kernel_agrees = subst (λ (x : HoldingsValue). Agrees trace Kernel x.note x.value) (sym p.kernel_is) p.told.shows.agrees
+  kernel_agrees = subst (λ (x : HoldingsValue). Agrees trace Kernel x.note x.value) (sym (ap held_by p.other_is)) p.told.shows.agrees
 
   kernel_table_of : d.note.table ≡ k.journal.table
-  kernel_table_of = ap (λ (x : HoldingsValue). x.note.table) p.kernel_is ∙ can.table ∙ sym (ap (λ (x : BookRecord). x.journal.table) p.book_is)
+  kernel_table_of = ap (λ (x : HoldingsValue). x.note.table) (ap held_by p.other_is) ∙ can.table ∙ sym (ap (λ (x : BookRecord). x.journal.table) p.book_is)
 
   kernel_stands_still : BookStands trace k
   kernel_stands_still = subst (BookStands trace) (sym p.book_is) can.book_stands
@@ -191,13 +192,13 @@ module _ (trace : Trace) (c : HoldingsValue) (b : BookRecord) (can : CanSettleKe
         book_is = p.book_is ∙ sym (ap (λ (x : BookRecord). record b { journal = x.journal; value = x.value }) p.book_is);
         book_kept = subst (λ phase. KeepsBook phase b k) (sym idle) (p.book_is ∙ sym (ap (λ (x : BookRecord). record b { journal = x.journal }) p.book_is));
         cell_kept = subst (λ phase. KeepsCell phase c.value d.value) (sym idle)
-            (ap (λ (x : HoldingsValue). x.value) p.kernel_is ∙ ap (λ (tail : List Event). record c.value { tail = tail }) can.agrees.tail);
+            (ap (λ (x : HoldingsValue). x.value) (ap held_by p.other_is) ∙ ap (λ (tail : List Event). record c.value { tail = tail }) can.agrees.tail);
         kernel_goes_on = record {
-          kernel_is = p.kernel_is ∙ sym (ap (λ (x : HoldingsValue). record c { note = x.note; value = x.value }) p.kernel_is);
+          kernel_is = (ap held_by p.other_is) ∙ sym (ap (λ (x : HoldingsValue). record c { note = x.note; value = x.value }) (ap held_by p.other_is));
           table = kernel_table_of;
           in_phase = is;
           met = subst (λ (x : BookRecord). HasMet trace x.journal Kernel d.note) (sym p.book_is)
-              (subst (λ (x : HoldingsValue). HasMet trace b.journal Kernel x.note) (sym p.kernel_is) p.told.shows.met);
+              (subst (λ (x : HoldingsValue). HasMet trace b.journal Kernel x.note) (sym (ap held_by p.other_is)) p.told.shows.met);
           agrees = kernel_agrees;
         };
         agrees = kernel_stands_still.agrees;
@@ -250,7 +251,7 @@ module _ (trace : Trace) (c : HoldingsValue) (b : BookRecord) (can : CanSettleKe
         kernel_is =
             h.kernel_goes_on.kernel_is
             ∙ ap (λ (y : HoldingsValue). record y { note = x.note; value = x.value }) rest
-            ∙ ap (λ (y : HoldingsValue). record y { note = x.note; value = x.value }) p.kernel_is;
+            ∙ ap (λ (y : HoldingsValue). record y { note = x.note; value = x.value }) (ap held_by p.other_is);
         table = h.kernel_goes_on.table;
         in_phase = h.kernel_goes_on.in_phase;
         met = h.kernel_goes_on.met;

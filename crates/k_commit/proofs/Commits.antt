@@ -5,7 +5,7 @@ use Rattle.k_types.specs.declared.event.Event.{Event}
 use Rattle.k_types.specs.declared.event.Event.TheVariants.{Done}
 use Rattle.k_types.specs.declared.event.Reply.{Reply}
 use Rattle.k_types.specs.declared.names.CellPhase.TheVariants.{Idle}
-use Rattle.k_types.specs.declared.names.Heap.TheVariants.{Kernel, User, Shared}
+use Rattle.k_types.specs.declared.names.Heap.TheVariants.{User}
 use Rattle.k_types.specs.declared.op.Op.{Op}
 use Rattle.k_types.specs.Agree.{CellValue}
 use Rattle.k_types.specs.Cells.{Cell, ProcessPart, ShownPart, part}
@@ -26,15 +26,15 @@ use Rattle.k_agree.specs.GivingAway.{with_one_done}
 use Rattle.k_agree.specs.Meeting.{Fits, HasMet}
 use Rattle.k_agree.proofs.Commits.{committed}
 use Rattle.k_book.specs.Books.{BookRecord}
-use Rattle.k_heap.specs.Holdings.{HoldingsValue}
 use Rattle.k_heap.specs.Heaps.{HeapRecord}
 use Rattle.k_lawful.proofs.Laws.{possible_events_are_lawful}
 use Rattle.k_moves.specs.Moves.{CommitsAlone, CommitsBoth, MayAct, noted}
 use Rattle.k_moves.proofs.Committed.{commit_alone, commit_both}
-use Rattle.k_shared.specs.SharedHeaps.{SharedRecord}
-use Rattle.k_commit.specs.Changed.{HasChanged, HasChangedWithKernel, HasChangedWithShared, MayCommit, bodies_after}
-use Rattle.k_commit.specs.Met.{Before, BeforeWithKernel, BeforeWithShared, HaveMet}
-use Rattle.k_commit.specs.Stepped.{HasStepped, HasSteppedWithKernel, HasSteppedWithShared}
+use Rattle.k_commit.specs.Beside.{HasSteppedWith}
+use Rattle.k_commit.specs.Changed.{HasChanged, HasChangedWith, MayCommit, bodies_after}
+use Rattle.k_commit.specs.Met.{Before, BeforeWith, HaveMet}
+use Rattle.k_commit.specs.Others.{OtherValue, with_note, with_value}
+use Rattle.k_commit.specs.Stepped.{HasStepped}
 use Rattle.k_commit.proofs.Setting.{process_known, process_lives}
 
 -- a note that has met the journal fits it
@@ -167,121 +167,89 @@ module _ (before : Before) (c : HeapRecord) (b : BookRecord) (op : Op) (said : R
       (own_steps before h.have_met op said c.value b (before.cell.note.cell ∷ []) h.values.book_is h.values.settled h.values.idle
       can.possible can.ready.0.shows after.cells_met.0 after.cells_agree.0 after.book_agrees))
 
-module _ (before : BeforeWithKernel) (c : HeapRecord) (k : HoldingsValue) (b : BookRecord) (op : Op) (said : Reply) (h : HasChangedWithKernel before c k b op said) where
-  abbrev heap_and_kernel : List NotedCell
-  heap_and_kernel = noted (User before.own.cell.pid) before.own.cell.note (with_one_done c.value) ∷ noted Kernel before.kernel.note k.value ∷ []
+module _ (before : BeforeWith) (c : HeapRecord) (o : OtherValue) (b : BookRecord) (op : Op) (said : Reply) (h : HasChangedWith before c o b op said) where
+  abbrev both : List NotedCell
+  both = noted (User before.own.cell.pid) before.own.cell.note (with_one_done c.value) ∷ noted before.other.cell before.other.held.note o.held.value ∷ []
 
-  kernel_commits : CommitsBoth before.own.trace before.own.book.journal before.own.cell.note before.kernel.note before.own.cell.pid op said Kernel
-      before.own.cell.value (with_one_done c.value) before.kernel.value k.value before.own.book.value b.value
-  kernel_commits = record {
+  both_commit : CommitsBoth before.own.trace before.own.book.journal before.own.cell.note before.other.held.note before.own.cell.pid op said before.other.cell
+      before.own.cell.value (with_one_done c.value) before.other.held.value o.held.value before.own.book.value b.value
+  both_commit = record {
     limits = h.have_met.own.book.keeps.limits;
     legal = h.have_met.own.book.agrees.legal;
     totals = h.have_met.own.book.agrees.totals;
     met = h.have_met.own.after.met;
     other_met = h.have_met.after.met;
     settled = h.values.settled;
-    other_settled = h.kernel_settled;
+    other_settled = h.other_settled;
     moves = record {
       may = may_act before.own h.have_met.own op said h.may;
       own = record { shows = h.have_met.own.after.shows; idle = h.have_met.own.heap.idle };
-      other = record { shows = h.have_met.after.shows; idle = h.have_met.kernel.idle };
+      other = record { shows = h.have_met.after.shows; idle = h.have_met.other.idle };
       book = h.have_met.own.book.agrees.shows;
       gives = h.gives;
       idle = h.values.idle;
-      other_idle = h.kernel_idle;
+      other_idle = h.other_idle;
       owners = h.values.owners;
     };
   }
 
-  kernel_can : CanCommit before.own.trace before.own.book.journal (Done before.own.cell.pid op said) heap_and_kernel b.value
-  kernel_can = commit_both before.own.trace before.own.book.journal before.own.cell.note before.kernel.note before.own.cell.pid op said Kernel
-      before.own.cell.value (with_one_done c.value) before.kernel.value k.value before.own.book.value b.value kernel_commits
+  both_can : CanCommit before.own.trace before.own.book.journal (Done before.own.cell.pid op said) both b.value
+  both_can = commit_both before.own.trace before.own.book.journal before.own.cell.note before.other.held.note before.own.cell.pid op said before.other.cell
+      before.own.cell.value (with_one_done c.value) before.other.held.value o.held.value before.own.book.value b.value both_commit
 
-  kernel_after : IsCommitted before.own.trace before.own.book.journal (Done before.own.cell.pid op said) heap_and_kernel b.value
-  kernel_after = committed before.own.trace before.own.book.journal (Done before.own.cell.pid op said) heap_and_kernel b.value kernel_can
+  both_after : IsCommitted before.own.trace before.own.book.journal (Done before.own.cell.pid op said) both b.value
+  both_after = committed before.own.trace before.own.book.journal (Done before.own.cell.pid op said) both b.value both_can
 
-  pub kernel_done_small : done_in c.value.process < 2 ^ 32 - 1
-  kernel_done_small =
+  pub both_done_small : done_in c.value.process < 2 ^ 32 - 1
+  both_done_small =
       let few = h.have_met.own.few in
       let room = h.may.room in
-      omega (arith, done_few before.own h.have_met.own op said c.value kernel_after.book_agrees.legal kernel_can.ready.0.shows, few, room)
+      omega (arith, done_few before.own h.have_met.own op said c.value both_after.book_agrees.legal both_can.ready.0.shows, few, room)
 
-  pub kernel_steps : HasSteppedWithKernel before.own.trace op before.own.cell (heap_appended op said c) before.kernel (record k { note = note_after (Done c.pid op said) k.note })
-      before.own.book (book_appended (Done c.pid op said) (c.note.cell ∷ k.note.cell ∷ []) b) (Done c.pid op said)
-  kernel_steps =
-      subst (λ (w : HeapRecord). HasSteppedWithKernel before.own.trace op before.own.cell (heap_appended op said w) before.kernel (record k { note = note_after (Done w.pid op said) k.note })
-      before.own.book (book_appended (Done w.pid op said) (w.note.cell ∷ k.note.cell ∷ []) b) (Done w.pid op said)) (sym h.values.cell_is)
-      (subst (λ (x : HoldingsValue). HasSteppedWithKernel before.own.trace op before.own.cell (heap_appended op said (record before.own.cell { value = c.value; bodies = bodies_after op before.own.cell.bodies })) before.kernel
-      (record x { note = note_after (Done before.own.cell.pid op said) x.note }) before.own.book (book_appended (Done before.own.cell.pid op said) (before.own.cell.note.cell ∷ x.note.cell ∷ []) b) (Done before.own.cell.pid op said)) (sym h.kernel_is)
-      (subst (λ (l : BookRecord). HasSteppedWithKernel before.own.trace op before.own.cell (heap_appended op said (record before.own.cell { value = c.value; bodies = bodies_after op before.own.cell.bodies })) before.kernel
-      (record before.kernel { note = note_after (Done before.own.cell.pid op said) before.kernel.note; value = k.value }) before.own.book
-      (book_appended (Done before.own.cell.pid op said) (before.own.cell.note.cell ∷ before.kernel.note.cell ∷ []) l) (Done before.own.cell.pid op said)) (sym h.values.book_is)
+  -- what the append asks
+  pub both_tables : (c.note.table ≡ b.journal.table) × (o.held.note.table ≡ b.journal.table)
+  both_tables =
+      let book = sym (ap (λ (k : BookRecord). k.journal.table) h.values.book_is) in (
+        ap (λ (w : HeapRecord). w.note.table) h.values.cell_is ∙ h.have_met.own.heap.table ∙ book,
+        ap (λ (x : OtherValue). x.held.note.table) h.other_is ∙ h.have_met.other.table ∙ book,
+      )
+
+  pub both_lists : (c.note.list ≡ b.journal.list) × (o.held.note.list ≡ b.journal.list)
+  both_lists =
+      let book = sym (ap (λ (k : BookRecord). k.journal.list) h.values.book_is) in (
+        ap (λ (w : HeapRecord). w.note.list) h.values.cell_is ∙ h.have_met.own.after.met.list ∙ book,
+        ap (λ (x : OtherValue). x.held.note.list) h.other_is ∙ h.have_met.after.met.list ∙ book,
+      )
+
+  pub event_room : length b.journal.list < b.event_room
+  event_room = subst (λ (k : BookRecord). length k.journal.list < k.event_room) (sym h.values.book_is) h.may.room
+
+  -- what the cell beside the own one is after the append
+  abbrev other_appended : Event → OtherValue → OtherValue
+  other_appended event other = with_note (note_after event other.held.note) other
+
+  pub both_step : HasSteppedWith before.own.trace op before.own.cell (heap_appended op said c) before.other (other_appended (Done c.pid op said) o)
+      before.own.book (book_appended (Done c.pid op said) (c.note.cell ∷ o.held.note.cell ∷ []) b) (Done c.pid op said)
+  both_step =
+      subst (λ (w : HeapRecord). HasSteppedWith before.own.trace op before.own.cell (heap_appended op said w) before.other (other_appended (Done w.pid op said) o)
+      before.own.book (book_appended (Done w.pid op said) (w.note.cell ∷ o.held.note.cell ∷ []) b) (Done w.pid op said)) (sym h.values.cell_is)
+      (subst (λ (x : OtherValue). HasSteppedWith before.own.trace op before.own.cell (heap_appended op said (record before.own.cell { value = c.value; bodies = bodies_after op before.own.cell.bodies })) before.other
+      (other_appended (Done before.own.cell.pid op said) x) before.own.book (book_appended (Done before.own.cell.pid op said) (before.own.cell.note.cell ∷ x.held.note.cell ∷ []) b) (Done before.own.cell.pid op said)) (sym h.other_is)
+      (subst (λ (l : BookRecord). HasSteppedWith before.own.trace op before.own.cell (heap_appended op said (record before.own.cell { value = c.value; bodies = bodies_after op before.own.cell.bodies })) before.other
+      (other_appended (Done before.own.cell.pid op said) (with_value o.held.value before.other)) before.own.book
+      (book_appended (Done before.own.cell.pid op said) (before.own.cell.note.cell ∷ before.other.held.note.cell ∷ []) l) (Done before.own.cell.pid op said)) (sym h.values.book_is)
       (record {
-        own = own_steps before.own h.have_met.own op said c.value b (before.own.cell.note.cell ∷ before.kernel.note.cell ∷ []) h.values.book_is h.values.settled h.values.idle
-            kernel_can.possible kernel_can.ready.0.shows kernel_after.cells_met.0 kernel_after.cells_agree.0 kernel_after.book_agrees;
-        kernel_is = refl;
-        table = h.have_met.kernel.table;
-        idle = h.kernel_idle;
-        met = kernel_after.cells_met.1.0;
-        agrees = kernel_after.cells_agree.1.0;
-      })))
-
-module _ (before : BeforeWithShared) (c : HeapRecord) (s : SharedRecord) (b : BookRecord) (op : Op) (said : Reply) (h : HasChangedWithShared before c s b op said) where
-  abbrev heap_and_shared : List NotedCell
-  heap_and_shared = noted (User before.own.cell.pid) before.own.cell.note (with_one_done c.value) ∷ noted (Shared before.shared.id) before.shared.note s.value ∷ []
-
-  shared_commits : CommitsBoth before.own.trace before.own.book.journal before.own.cell.note before.shared.note before.own.cell.pid op said (Shared before.shared.id)
-      before.own.cell.value (with_one_done c.value) before.shared.value s.value before.own.book.value b.value
-  shared_commits = record {
-    limits = h.have_met.own.book.keeps.limits;
-    legal = h.have_met.own.book.agrees.legal;
-    totals = h.have_met.own.book.agrees.totals;
-    met = h.have_met.own.after.met;
-    other_met = h.have_met.after.met;
-    settled = h.values.settled;
-    other_settled = h.shared_settled;
-    moves = record {
-      may = may_act before.own h.have_met.own op said h.may;
-      own = record { shows = h.have_met.own.after.shows; idle = h.have_met.own.heap.idle };
-      other = record { shows = h.have_met.after.shows; idle = h.have_met.shared.idle };
-      book = h.have_met.own.book.agrees.shows;
-      gives = h.gives;
-      idle = h.values.idle;
-      other_idle = h.shared_idle;
-      owners = h.values.owners;
-    };
-  }
-
-  shared_can : CanCommit before.own.trace before.own.book.journal (Done before.own.cell.pid op said) heap_and_shared b.value
-  shared_can = commit_both before.own.trace before.own.book.journal before.own.cell.note before.shared.note before.own.cell.pid op said (Shared before.shared.id)
-      before.own.cell.value (with_one_done c.value) before.shared.value s.value before.own.book.value b.value shared_commits
-
-  shared_after : IsCommitted before.own.trace before.own.book.journal (Done before.own.cell.pid op said) heap_and_shared b.value
-  shared_after = committed before.own.trace before.own.book.journal (Done before.own.cell.pid op said) heap_and_shared b.value shared_can
-
-  pub shared_done_small : done_in c.value.process < 2 ^ 32 - 1
-  shared_done_small =
-      let few = h.have_met.own.few in
-      let room = h.may.room in
-      omega (arith, done_few before.own h.have_met.own op said c.value shared_after.book_agrees.legal shared_can.ready.0.shows, few, room)
-
-  pub shared_steps : HasSteppedWithShared before.own.trace op before.own.cell (heap_appended op said c) before.shared (record s { note = note_after (Done c.pid op said) s.note })
-      before.own.book (book_appended (Done c.pid op said) (c.note.cell ∷ s.note.cell ∷ []) b) (Done c.pid op said)
-  shared_steps =
-      subst (λ (w : HeapRecord). HasSteppedWithShared before.own.trace op before.own.cell (heap_appended op said w) before.shared (record s { note = note_after (Done w.pid op said) s.note })
-      before.own.book (book_appended (Done w.pid op said) (w.note.cell ∷ s.note.cell ∷ []) b) (Done w.pid op said)) (sym h.values.cell_is)
-      (subst (λ (x : SharedRecord). HasSteppedWithShared before.own.trace op before.own.cell (heap_appended op said (record before.own.cell { value = c.value; bodies = bodies_after op before.own.cell.bodies })) before.shared
-      (record x { note = note_after (Done before.own.cell.pid op said) x.note }) before.own.book (book_appended (Done before.own.cell.pid op said) (before.own.cell.note.cell ∷ x.note.cell ∷ []) b) (Done before.own.cell.pid op said)) (sym h.shared_is)
-      (subst (λ (l : BookRecord). HasSteppedWithShared before.own.trace op before.own.cell (heap_appended op said (record before.own.cell { value = c.value; bodies = bodies_after op before.own.cell.bodies })) before.shared
-      (record before.shared { note = note_after (Done before.own.cell.pid op said) before.shared.note; value = s.value }) before.own.book
-      (book_appended (Done before.own.cell.pid op said) (before.own.cell.note.cell ∷ before.shared.note.cell ∷ []) l) (Done before.own.cell.pid op said)) (sym h.values.book_is)
-      (record {
-        own = own_steps before.own h.have_met.own op said c.value b (before.own.cell.note.cell ∷ before.shared.note.cell ∷ []) h.values.book_is h.values.settled h.values.idle
-            shared_can.possible shared_can.ready.0.shows shared_after.cells_met.0 shared_after.cells_agree.0 shared_after.book_agrees;
-        fits = met_fits before.own.trace before.own.book (Shared before.shared.id) before.shared.note h.have_met.own.book.agrees h.have_met.after.met;
-        shared_is = refl;
-        table = h.have_met.shared.table;
-        idle = h.shared_idle;
-        met = shared_after.cells_met.1.0;
-        agrees = shared_after.cells_agree.1.0;
+        beside = record {
+          own = own_steps before.own h.have_met.own op said c.value b (before.own.cell.note.cell ∷ before.other.held.note.cell ∷ []) h.values.book_is h.values.settled h.values.idle
+              both_can.possible both_can.ready.0.shows both_after.cells_met.0 both_after.cells_agree.0 both_after.book_agrees;
+          others = (
+            record {
+              stands = record { agrees = both_after.cells_agree.1.0; table = h.have_met.other.table; settled = h.other_settled; idle = h.other_idle };
+              met = both_after.cells_met.1.0;
+            },
+            tt,
+          );
+        };
+        fits = met_fits before.own.trace before.own.book before.other.cell before.other.held.note h.have_met.own.book.agrees h.have_met.after.met;
+        other_is = refl;
       })))

@@ -1,7 +1,6 @@
 -- Counts and bytes of cells and book that have met fit their numbers.
 use Rattle.std.proofs.Common.{◌≡◌, ◌+◌, ◌-◌, ◌*◌, ◌<◌, ◌≤◌, ◌^◌, ℕ, zero, suc, refl, ap, List, [], ◌∷◌, length, map, arith, get_or}
 use Rattle.k_types.specs.declared.names.Heap.{Heap}
-use Rattle.k_types.specs.declared.names.Heap.TheVariants.{Kernel, Shared}
 use Rattle.k_types.specs.declared.names.Name.{Name}
 use Rattle.k_types.specs.Agree.{CellValue}
 use Rattle.k_types.specs.Cells.{BookPart, Cell, ShownPart, book_part, entries, part, pins}
@@ -24,7 +23,7 @@ use Rattle.k_agree.specs.Agreement.{Shows}
 use Rattle.k_entry.specs.Entries.{AreEntries, objects}
 use Rattle.k_entry.proofs.WholeWalks.{all_distinct, few_items}
 use Rattle.k_book.specs.Books.{book_pins}
-use Rattle.k_commit.specs.Met.{Before, BeforeWithKernel, BeforeWithShared, HaveMet, HaveMetWithKernel, HaveMetWithShared}
+use Rattle.k_commit.specs.Met.{Before, BeforeWith, HaveMet, HaveMetWith}
 use Rattle.k_commit.specs.Rooms.{HasEventRoom}
 
 -- what is read of a list of small numbers is small
@@ -121,8 +120,5 @@ module _ (before : Before) (m : HaveMet before) where
       let low = read_low (λ t. bytes_of before.trace now (shared t)) (numbers_below before.trace.shared_heaps) s (144 * (1 + length before.book.journal.list)) (λ t. heap_bytes (shared t)) in
       omega (arith, same, low, room, few)
 
-pub kernel_bytes_small : (before : BeforeWithKernel) → HaveMetWithKernel before → HasEventRoom before.own.book → total object_bytes before.kernel.value.objects + 144 < 2 ^ 64
-kernel_bytes_small before m room = bytes_small before.own m.own room Kernel before.kernel.value m.after.shows
-
-pub shared_bytes_small : (before : BeforeWithShared) → HaveMetWithShared before → HasEventRoom before.own.book → total object_bytes before.shared.value.objects + 144 < 2 ^ 64
-shared_bytes_small before m room = bytes_small before.own m.own room (Shared before.shared.id) before.shared.value m.after.shows
+pub other_bytes_small : (before : BeforeWith) → HaveMetWith before → HasEventRoom before.own.book → total object_bytes before.other.held.value.objects + 144 < 2 ^ 64
+other_bytes_small before m room = bytes_small before.own m.own room before.other.cell before.other.held.value m.after.shows

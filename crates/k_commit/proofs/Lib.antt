@@ -6,7 +6,6 @@ pub mod Changing
 pub mod Commits
 pub mod Charges
 pub mod Tails
-pub mod Beside
 pub mod Resizing
 pub use Rattle.k_moves.proofs.Idle
 pub use Rattle.k_book.proofs.Telling

@@ -1,5 +1,5 @@
 -- Conditions and answers over a meeting.
-use Rattle.std.proofs.Common.{◌≡◌, ◌<◌, ◌^◌, ℕ, List, sym, subst}
+use Rattle.std.proofs.Common.{◌≡◌, ◌<◌, ◌^◌, ℕ, List, [], sym, subst}
 use Rattle.k_types.specs.declared.event.Event.{Event}
 use Rattle.k_types.specs.declared.names.TypeId.{TypeId}
 use Rattle.k_types.specs.declared.op.Op.{Op}
@@ -14,11 +14,12 @@ use Rattle.k_space.specs.Objects.{BodyValue}
 use Rattle.k_book.specs.Books.{BookRecord}
 use Rattle.k_heap.specs.Holdings.{HoldingsValue}
 use Rattle.k_heap.specs.Heaps.{HeapRecord}
-use Rattle.k_shared.specs.SharedHeaps.{SharedRecord}
-use Rattle.k_commit.specs.Met.{CanMeet, FitsTheBook, HaveMet, HaveMetWithKernel, HaveMetWithShared, HeapHasMet, KernelHasMet, SharedHasMet}
+use Rattle.k_commit.specs.Beside.{HasSteppedWith}
+use Rattle.k_commit.specs.Met.{CanMeet, FitsTheBook, HaveMet, HaveMetWith, HeapHasMet, OtherHasMet}
+use Rattle.k_commit.specs.Others.{OtherValue}
 use Rattle.k_commit.specs.Rooms.{HasRoomFor, HasRoomForNew, HasTableRoom}
-use Rattle.k_commit.specs.Standing.{BookStands, HeapStands, KernelStands, SharedStands}
-use Rattle.k_commit.specs.Stepped.{HasStepped, HasSteppedWithKernel, HasSteppedWithShared}
+use Rattle.k_commit.specs.Standing.{BookStands, HeapStands, OtherStands}
+use Rattle.k_commit.specs.Stepped.{HasStepped}
 
 -- a cell whose note fits the journal of the book
 pub told_by : (trace : Trace) (cell : Cell) (note : NoteValue) (value : CellValue) (b : BookRecord) → CanMeet trace cell note value b → Fits b.journal note → b.event_room < 2 ^ 32 →
@@ -51,26 +52,17 @@ module _ (trace : Trace) (c cell : HeapRecord) (b book : BookRecord) (heap_met :
   of_table : (note : NoteValue) → note.table ≡ b.journal.table → note.table ≡ book.journal.table
   of_table note is = subst (λ (k : BookRecord). note.table ≡ k.journal.table) (sym heap_met.book_is) is
 
-  pub kernel_has_met : (k kernel : HoldingsValue) (last : BookRecord) → BookStands trace b → HeapStands trace c b → KernelStands trace k b →
-      KernelHasMet trace k kernel book last → HaveMetWithKernel (record { own = record { trace = trace; cell = cell; book = last }; kernel = kernel })
-  kernel_has_met k kernel last book_stands heap_stands stands met =
-      subst (λ (l : BookRecord). HaveMetWithKernel (record { own = record { trace = trace; cell = cell; book = l }; kernel = kernel })) (sym met.book_is)
-      (subst (λ (x : HoldingsValue). HaveMetWithKernel (record { own = record { trace = trace; cell = cell; book = book }; kernel = x })) (sym met.kernel_is)
+  -- the other cell has met it too
+  pub other_has_met : (o other : OtherValue) (last : BookRecord) → BookStands trace b → HeapStands trace c b → OtherStands trace o b → o.held.value.tail ≡ [] →
+      OtherHasMet trace o other book last → HaveMetWith (record { own = record { trace = trace; cell = cell; book = last }; other = other })
+  other_has_met o other last book_stands heap_stands stands settled met =
+      subst (λ (l : BookRecord). HaveMetWith (record { own = record { trace = trace; cell = cell; book = l }; other = other })) (sym met.book_is)
+      (subst (λ (x : OtherValue). HaveMetWith (record { own = record { trace = trace; cell = cell; book = book }; other = x })) (sym met.other_is)
       (record {
         own = heap_has_met book_stands heap_stands;
-        kernel = record { agrees = met.told.shows.agrees; table = of_table k.note stands.table; idle = stands.idle };
-        after = record { met = met.told.shows.met; shows = met.told.shows.shows stands.agrees.tail };
-      }))
-
-  pub shared_has_met : (s shared : SharedRecord) (last : BookRecord) → BookStands trace b → HeapStands trace c b → SharedStands trace s b →
-      SharedHasMet trace s shared book last → HaveMetWithShared (record { own = record { trace = trace; cell = cell; book = last }; shared = shared })
-  shared_has_met s shared last book_stands heap_stands stands met =
-      subst (λ (l : BookRecord). HaveMetWithShared (record { own = record { trace = trace; cell = cell; book = l }; shared = shared })) (sym met.book_is)
-      (subst (λ (x : SharedRecord). HaveMetWithShared (record { own = record { trace = trace; cell = cell; book = book }; shared = x })) (sym met.shared_is)
-      (record {
-        own = heap_has_met book_stands heap_stands;
-        shared = record { agrees = met.told.shows.agrees; table = of_table s.note stands.table; segment = stands.segment; idle = stands.idle };
-        after = record { met = met.told.shows.met; shows = met.told.shows.shows stands.agrees.tail };
+        other = record { agrees = met.told.shows.agrees; table = of_table o.held.note stands.table; segment = stands.segment; idle = stands.idle };
+        settled = settled;
+        after = record { met = met.told.shows.met; shows = met.told.shows.shows settled };
       }))
 
 -- room does not depend on the note
@@ -122,25 +114,13 @@ module _ (trace : Trace) (op : Op) (c cell w : HeapRecord) (b book l : BookRecor
       (subst (λ (x : HeapRecord). HasStepped trace op x w b l event) heap_met.cell_is
       (subst (λ (k : BookRecord). HasStepped trace op cell w k l event) heap_met.book_is h))
 
-  pub kernel_stepped : (k kernel x : HoldingsValue) (last : BookRecord) → KernelHasMet trace k kernel book last →
-      HasSteppedWithKernel trace op cell w kernel x last l event → HasSteppedWithKernel trace op c w k x b l event
-  kernel_stepped k kernel x last met h = record {
-    own = heap_stepped (subst (λ (m : BookRecord). HasStepped trace op cell w m l event) met.book_is h.own);
-    kernel_is = subst (λ (y : HoldingsValue). x ≡ record y { note = x.note; value = x.value }) met.kernel_is h.kernel_is;
-    table = h.table;
-    idle = h.idle;
-    met = h.met;
-    agrees = h.agrees;
-  }
-
-  pub shared_stepped : (s shared x : SharedRecord) (last : BookRecord) → SharedHasMet trace s shared book last →
-      HasSteppedWithShared trace op cell w shared x last l event → HasSteppedWithShared trace op c w s x b l event
-  shared_stepped s shared x last met h = record {
-    own = heap_stepped (subst (λ (m : BookRecord). HasStepped trace op cell w m l event) met.book_is h.own);
-    fits = subst (λ (m : BookRecord). Fits m.journal s.note) heap_met.book_is met.told.fits;
-    shared_is = subst (λ (y : SharedRecord). x ≡ record y { note = x.note; value = x.value }) met.shared_is h.shared_is;
-    table = h.table;
-    idle = h.idle;
-    met = h.met;
-    agrees = h.agrees;
+  pub other_stepped : (o other x : OtherValue) (last : BookRecord) → OtherHasMet trace o other book last →
+      HasSteppedWith trace op cell w other x last l event → HasSteppedWith trace op c w o x b l event
+  other_stepped o other x last met h = record {
+    beside = record {
+      own = heap_stepped (subst (λ (m : BookRecord). HasStepped trace op cell w m l event) met.book_is h.beside.own);
+      others = h.beside.others;
+    };
+    fits = subst (λ (m : BookRecord). Fits m.journal o.held.note) heap_met.book_is met.told.fits;
+    other_is = subst (λ (y : OtherValue). x ≡ record y { held = record y.held { note = x.held.note; value = x.held.value } }) met.other_is h.other_is;
   }

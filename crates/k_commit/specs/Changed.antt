@@ -2,7 +2,6 @@
 use Rattle.std.specs.Prelude.{◌≡◌, ◌<◌, ℕ, IsFalse, IsTrue, List, Option, Some, [], drop}
 use Rattle.k_types.specs.declared.event.Reply.{Reply}
 use Rattle.k_types.specs.declared.names.CellPhase.TheVariants.{Idle}
-use Rattle.k_types.specs.declared.names.Heap.TheVariants.{Kernel, Shared}
 use Rattle.k_types.specs.declared.names.Name.{Name}
 use Rattle.k_types.specs.declared.op.Op.{Op}
 use Rattle.k_types.specs.declared.op.Op.TheVariants.{New, KNew, SNew, Store, Load, Move, Clear, Dir, Put, Get, Collect, KCollect, Share, Freeze, Attach, Exit, Kill, Resize}
@@ -11,14 +10,13 @@ use Rattle.k_types.specs.Steps.{in_range, waits_for_orphans}
 use Rattle.k_types.specs.Trace.{segment_count}
 use Rattle.k_space.specs.Objects.{BodyValue}
 use Rattle.k_book.specs.Books.{BookRecord}
-use Rattle.k_heap.specs.Holdings.{HoldingsValue}
 use Rattle.k_changes.specs.BookChanges.{owner_in, with_pin_moved}
 use Rattle.k_frame.specs.PartUpdates.{held_in, with_done}
 use Rattle.k_heap.specs.Heaps.{HeapRecord, with_register_in}
 use Rattle.k_moves.specs.Moves.{GivesAlone, GivesBoth, KeepsOwners}
 use Rattle.k_moves.specs.Shown.{idle_part}
-use Rattle.k_shared.specs.SharedHeaps.{SharedRecord}
-use Rattle.k_commit.specs.Met.{Before, BeforeWithKernel, BeforeWithShared, HaveMet, HaveMetWithKernel, HaveMetWithShared}
+use Rattle.k_commit.specs.Met.{Before, BeforeWith, HaveMet, HaveMetWith}
+use Rattle.k_commit.specs.Others.{OtherValue, with_value}
 use Rattle.k_commit.specs.Rooms.{HasEventRoom}
 
 -- the bodies that are left after the operation: each allocation, refused or not, takes one
@@ -65,27 +63,16 @@ pub record HasChanged (before : Before) (cell : HeapRecord) (book : BookRecord) 
   pub gives : GivesAlone before.trace before.cell.pid op said (idle_part before.cell.value) (with_done (idle_part cell.value))
       (book_shown_by before.book.value) (book_shown_by book.value)
 
--- the same for an operation that touches the kernel's cell too
-pub record HasChangedWithKernel (before : BeforeWithKernel) (cell : HeapRecord) (kernel : HoldingsValue) (book : BookRecord) (op : Op) (said : Reply) : Type 0 where
-  pub have_met : HaveMetWithKernel before
+-- the same for an operation that touches one more cell, of which the value has changed
+pub record HasChangedWith (before : BeforeWith) (cell : HeapRecord) (other : OtherValue) (book : BookRecord) (op : Op) (said : Reply) : Type 0 where
+  pub have_met : HaveMetWith before
   pub may : MayCommit before.own op
   pub values : ChangesValues before.own cell book op
-  pub kernel_is : kernel ≡ record before.kernel { value = kernel.value }
-  pub kernel_settled : kernel.value.tail ≡ []
-  pub kernel_idle : kernel.value.collection ≡ Idle
-  pub gives : GivesBoth before.own.trace before.own.cell.pid op said Kernel (idle_part before.own.cell.value) (with_done (idle_part cell.value))
-      (idle_part before.kernel.value) (idle_part kernel.value) (book_shown_by before.own.book.value) (book_shown_by book.value)
-
--- the same for an operation that touches the cell of a shared heap too
-pub record HasChangedWithShared (before : BeforeWithShared) (cell : HeapRecord) (shared : SharedRecord) (book : BookRecord) (op : Op) (said : Reply) : Type 0 where
-  pub have_met : HaveMetWithShared before
-  pub may : MayCommit before.own op
-  pub values : ChangesValues before.own cell book op
-  pub shared_is : shared ≡ record before.shared { value = shared.value }
-  pub shared_settled : shared.value.tail ≡ []
-  pub shared_idle : shared.value.collection ≡ Idle
-  pub gives : GivesBoth before.own.trace before.own.cell.pid op said (Shared before.shared.id) (idle_part before.own.cell.value) (with_done (idle_part cell.value))
-      (idle_part before.shared.value) (idle_part shared.value) (book_shown_by before.own.book.value) (book_shown_by book.value)
+  pub other_is : other ≡ with_value other.held.value before.other
+  pub other_settled : other.held.value.tail ≡ []
+  pub other_idle : other.held.value.collection ≡ Idle
+  pub gives : GivesBoth before.own.trace before.own.cell.pid op said before.other.cell (idle_part before.own.cell.value) (with_done (idle_part cell.value))
+      (idle_part before.other.held.value) (idle_part other.held.value) (book_shown_by before.own.book.value) (book_shown_by book.value)
 
 -- cell and book had met; the process, its registers, the pins, the room for pins and the owners are as they were then; and the value is null or
 -- lies in a segment of the trace

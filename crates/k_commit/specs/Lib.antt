@@ -1,3 +1,4 @@
+pub mod Others
 pub mod Standing
 pub mod Rooms
 pub mod Met

@@ -1,6 +1,6 @@
 -- What a meeting asks and leaves, and cells and book that have met before a step changes them.
-use Rattle.std.specs.Prelude.{◌≡◌, ◌<◌, ◌^◌}
-use Rattle.k_types.specs.declared.names.Heap.TheVariants.{Kernel, Shared, User}
+use Rattle.std.specs.Prelude.{◌≡◌, ◌<◌, ◌^◌, []}
+use Rattle.k_types.specs.declared.names.Heap.TheVariants.{User}
 use Rattle.k_types.specs.Agree.{CellValue}
 use Rattle.k_types.specs.Cells.{Cell}
 use Rattle.k_types.specs.Steps.{state_after}
@@ -12,7 +12,8 @@ use Rattle.k_book.specs.Books.{BookRecord}
 use Rattle.k_heap.specs.Holdings.{HoldingsValue}
 use Rattle.k_heap.specs.Heaps.{HeapRecord}
 use Rattle.k_shared.specs.SharedHeaps.{SharedRecord}
-use Rattle.k_commit.specs.Standing.{BookStands, HeapStands, KernelStands, SharedStands}
+use Rattle.k_commit.specs.Others.{OtherValue, of_kernel, of_shared, with_note}
+use Rattle.k_commit.specs.Standing.{BookStands, HeapStands, OtherStands}
 
 -- cell and book agree with one trace and are of one table, whatever the phase of a collection and the unpublished events
 pub record CanMeet (trace : Trace) (cell : Cell) (note : NoteValue) (value : CellValue) (book : BookRecord) : Type 0 where
@@ -33,17 +34,19 @@ pub record HeapHasMet (trace : Trace) (old_cell cell : HeapRecord) (old_book boo
   pub book_is : book ≡ old_book
   pub told : FitsTheBook trace (User old_cell.pid) old_cell.note old_cell.value old_book
 
--- the kernel's cell has met it, and nothing else has changed
-pub record KernelHasMet (trace : Trace) (old_kernel kernel : HoldingsValue) (old_book book : BookRecord) : Type 0 where
-  pub kernel_is : kernel ≡ record old_kernel { note = met_note old_book.journal old_kernel.note }
+-- a cell beside the process's own has met it, and nothing else has changed
+pub record OtherHasMet (trace : Trace) (old_other other : OtherValue) (old_book book : BookRecord) : Type 0 where
+  pub other_is : other ≡ with_note (met_note old_book.journal old_other.held.note) old_other
   pub book_is : book ≡ old_book
-  pub told : FitsTheBook trace Kernel old_kernel.note old_kernel.value old_book
+  pub told : FitsTheBook trace old_other.cell old_other.held.note old_other.held.value old_book
 
--- the cell of a shared heap has met it, and nothing else has changed
-pub record SharedHasMet (trace : Trace) (old_shared shared : SharedRecord) (old_book book : BookRecord) : Type 0 where
-  pub shared_is : shared ≡ record old_shared { note = met_note old_book.journal old_shared.note }
-  pub book_is : book ≡ old_book
-  pub told : FitsTheBook trace (Shared old_shared.id) old_shared.note old_shared.value old_book
+-- the kernel's cell has met it
+abbrev pub KernelHasMet : Trace → HoldingsValue → HoldingsValue → BookRecord → BookRecord → Type 0
+KernelHasMet trace old_kernel kernel old_book book = OtherHasMet trace (of_kernel old_kernel) (of_kernel kernel) old_book book
+
+-- the cell of a shared heap has met it
+abbrev pub SharedHasMet : Trace → SharedRecord → SharedRecord → BookRecord → BookRecord → Type 0
+SharedHasMet trace old_shared shared old_book book = OtherHasMet trace (of_shared old_shared) (of_shared shared) old_book book
 
 -- the trace, and the process's cell and the book as they are once they have met and before the step changes them
 pub record Before : Type 0 where
@@ -51,15 +54,10 @@ pub record Before : Type 0 where
   pub cell : HeapRecord
   pub book : BookRecord
 
--- the same with the kernel's cell
-pub record BeforeWithKernel : Type 0 where
+-- the same with one more cell
+pub record BeforeWith : Type 0 where
   pub own : Before
-  pub kernel : HoldingsValue
-
--- the same with the cell of a shared heap
-pub record BeforeWithShared : Type 0 where
-  pub own : Before
-  pub shared : SharedRecord
+  pub other : OtherValue
 
 -- the note of the cell knows the whole journal, and its value shows the state after it
 pub record ShowsAfter (trace : Trace) (cell : Cell) (note : NoteValue) (value : CellValue) (book : BookRecord) : Type 0 where
@@ -74,13 +72,8 @@ pub record HaveMet (before : Before) : Type 0 where
   pub few : before.book.event_room < 2 ^ 32
 
 -- so do both cells and the book
-pub record HaveMetWithKernel (before : BeforeWithKernel) : Type 0 where
+pub record HaveMetWith (before : BeforeWith) : Type 0 where
   pub own : HaveMet before.own
-  pub kernel : KernelStands before.own.trace before.kernel before.own.book
-  pub after : ShowsAfter before.own.trace Kernel before.kernel.note before.kernel.value before.own.book
-
--- the same with the cell of a shared heap
-pub record HaveMetWithShared (before : BeforeWithShared) : Type 0 where
-  pub own : HaveMet before.own
-  pub shared : SharedStands before.own.trace before.shared before.own.book
-  pub after : ShowsAfter before.own.trace (Shared before.shared.id) before.shared.note before.shared.value before.own.book
+  pub other : OtherStands before.own.trace before.other before.own.book
+  pub settled : before.other.held.value.tail ≡ []
+  pub after : ShowsAfter before.own.trace before.other.cell before.other.held.note before.other.held.value before.own.book

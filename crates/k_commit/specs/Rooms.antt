@@ -10,8 +10,9 @@ use Rattle.k_agree.specs.Meeting.{Fits}
 use Rattle.k_book.specs.Books.{BookRecord}
 use Rattle.k_heap.specs.Holdings.{HasSerialLeft, HoldingsValue}
 use Rattle.k_heap.specs.Heaps.{HeapRecord, holdings_of as heap_holdings, own_segment}
-use Rattle.k_shared.specs.SharedHeaps.{SharedRecord, holdings_of as shared_holdings}
-use Rattle.k_commit.specs.Standing.{BookStands, HeapStands, KernelStands, SharedStands}
+use Rattle.k_shared.specs.SharedHeaps.{SharedRecord}
+use Rattle.k_commit.specs.Others.{OtherValue, of_kernel, of_shared}
+use Rattle.k_commit.specs.Standing.{BookStands, HeapStands, OtherStands}
 
 -- the journal has room for one event more
 abbrev pub HasEventRoom : BookRecord → Type 0
@@ -65,19 +66,18 @@ pub record CanOperate (trace : Trace) (cell : HeapRecord) (book : BookRecord) (o
   pub in_range : IsTrue (in_range trace op)
   pub room : Fits book.journal cell.note → HasRoomFor trace cell.bodies (heap_holdings cell) (own_segment cell.pid) book op
 
--- the same with the kernel's cell, in whose heap there is room
-pub record CanOperateWithKernel (trace : Trace) (cell : HeapRecord) (kernel : HoldingsValue) (book : BookRecord) (op : Op) : Type 0 where
+-- the same with one more cell, in whose heap there is room
+pub record CanOperateWith (trace : Trace) (cell : HeapRecord) (other : OtherValue) (book : BookRecord) (op : Op) : Type 0 where
   pub book_stands : BookStands trace book
   pub heap_stands : HeapStands trace cell book
-  pub kernel_stands : KernelStands trace kernel book
+  pub other_stands : OtherStands trace other book
   pub in_range : IsTrue (in_range trace op)
-  pub room : Fits book.journal cell.note → Fits book.journal kernel.note → HasRoomFor trace cell.bodies kernel 0 book op
+  pub room : Fits book.journal cell.note → Fits book.journal other.held.note → HasRoomFor trace cell.bodies other.held other.seg book op
 
--- the same with the cell of a shared heap, in which there is room
-pub record CanOperateWithShared (trace : Trace) (cell : HeapRecord) (shared : SharedRecord) (book : BookRecord) (op : Op) : Type 0 where
-  pub book_stands : BookStands trace book
-  pub heap_stands : HeapStands trace cell book
-  pub shared_stands : SharedStands trace shared book
-  pub in_range : IsTrue (in_range trace op)
-  pub room : Fits book.journal cell.note → Fits book.journal shared.note →
-      HasRoomFor trace cell.bodies (shared_holdings shared) shared.seg.0 book op
+-- the same with the kernel's cell
+abbrev pub CanOperateWithKernel : Trace → HeapRecord → HoldingsValue → BookRecord → Op → Type 0
+CanOperateWithKernel trace cell kernel book op = CanOperateWith trace cell (of_kernel kernel) book op
+
+-- the same with the cell of a shared heap
+abbrev pub CanOperateWithShared : Trace → HeapRecord → SharedRecord → BookRecord → Op → Type 0
+CanOperateWithShared trace cell shared book op = CanOperateWith trace cell (of_shared shared) book op

@@ -4,18 +4,16 @@ use Rattle.k_types.specs.declared.event.Event.{Event}
 use Rattle.k_types.specs.declared.event.Event.TheVariants.{Done}
 use Rattle.k_types.specs.declared.event.Reply.{Reply}
 use Rattle.k_types.specs.declared.names.CellPhase.TheVariants.{Idle}
-use Rattle.k_types.specs.declared.names.Heap.TheVariants.{Kernel, Shared, User}
+use Rattle.k_types.specs.declared.names.Heap.TheVariants.{User}
 use Rattle.k_types.specs.declared.op.Op.{Op}
 use Rattle.k_types.specs.Steps.{IsPossible, state_after}
 use Rattle.k_types.specs.Trace.{Trace}
 use Rattle.k_agree.specs.Agreement.{Agrees, BookAgrees}
-use Rattle.k_agree.specs.Meeting.{Fits, HasMet}
+use Rattle.k_agree.specs.Meeting.{HasMet}
 use Rattle.k_book.specs.Books.{BookRecord}
-use Rattle.k_heap.specs.Holdings.{HoldingsValue}
 use Rattle.k_frame.specs.PartUpdates.{done_in}
 use Rattle.k_heap.specs.Heaps.{HeapRecord}
 use Rattle.k_lawful.specs.Lawful.{IsLawful}
-use Rattle.k_shared.specs.SharedHeaps.{SharedRecord}
 use Rattle.k_commit.specs.Changed.{bodies_after}
 
 -- the event is the operation's, possible after the journal, lawful, and its newest; the cell is the same one with its rooms, has
@@ -37,22 +35,3 @@ pub record HasStepped (trace : Trace) (op : Op) (old_cell cell : HeapRecord) (ol
   pub met : HasMet trace book.journal (User cell.pid) cell.note
   pub agrees : Agrees trace (User cell.pid) cell.note cell.value
   pub book_agrees : BookAgrees trace book.journal book.value
-
--- the same of an operation that touches the kernel's cell too, which is idle, has met the journal and agrees
-pub record HasSteppedWithKernel (trace : Trace) (op : Op) (old_cell cell : HeapRecord) (old_kernel kernel : HoldingsValue) (old_book book : BookRecord) (event : Event) : Type 0 where
-  pub own : HasStepped trace op old_cell cell old_book book event
-  pub kernel_is : kernel ≡ record old_kernel { note = kernel.note; value = kernel.value }
-  pub table : kernel.note.table ≡ book.journal.table
-  pub idle : kernel.value.collection ≡ Idle
-  pub met : HasMet trace book.journal Kernel kernel.note
-  pub agrees : Agrees trace Kernel kernel.note kernel.value
-
--- the same of an operation that touches the cell of a shared heap too; its note fitted the journal before
-pub record HasSteppedWithShared (trace : Trace) (op : Op) (old_cell cell : HeapRecord) (old_shared shared : SharedRecord) (old_book book : BookRecord) (event : Event) : Type 0 where
-  pub own : HasStepped trace op old_cell cell old_book book event
-  pub fits : Fits old_book.journal old_shared.note
-  pub shared_is : shared ≡ record old_shared { note = shared.note; value = shared.value }
-  pub table : shared.note.table ≡ book.journal.table
-  pub idle : shared.value.collection ≡ Idle
-  pub met : HasMet trace book.journal (Shared shared.id) shared.note
-  pub agrees : Agrees trace (Shared shared.id) shared.note shared.value

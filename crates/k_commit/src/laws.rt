@@ -1,25 +1,24 @@
 //! What cells and book that have met tell beyond what a step asks.
-ghost use Rattle.std.specs.Prelude.{◌+◌, ◌-◌, ◌<◌, ◌^◌, ℕ, [], ◌∷◌, length, slice_index_or};
+ghost use Rattle.std.specs.Prelude.{◌+◌, ◌-◌, ◌<◌, ◌^◌, ℕ, length, slice_index_or};
 ghost use Rattle.k_book.specs.Books.{BookRecord, book_pins};
-ghost use Rattle.k_heap.specs.Holdings.{HoldingsValue};
 ghost use Rattle.k_entry.specs.Entries.{AreEntries};
 ghost use Rattle.k_frame.specs.PartUpdates.{done_in};
 ghost use Rattle.k_heap.specs.Heaps.{HeapRecord};
+ghost use Rattle.k_heap.specs.Holdings.{HoldingsValue};
 ghost use Rattle.k_shared.specs.SharedHeaps.{SharedRecord};
 ghost use Rattle.k_types.specs.Counted.{counted};
 ghost use Rattle.k_types.specs.Owners.{object_bytes};
 ghost use Rattle.k_types.specs.Totals.{total};
 ghost use Rattle.k_types.specs.Trace.{Trace};
 ghost use Rattle.k_types.specs.declared.event.Event.{Event};
-ghost use Rattle.k_types.specs.declared.names.Heap.TheVariants.{Kernel, Shared};
 ghost use Rattle.k_types.specs.declared.names.Name.{Name};
 ghost use Rattle.k_types.specs.declared.op.Op.{Op};
-ghost use Rattle.k_moves.specs.Moves.{noted};
-ghost use Rattle.k_commit.specs.Beside.{HasSteppedBeside};
-ghost use Rattle.k_commit.specs.Met.{Before, BeforeWithKernel, BeforeWithShared, HaveMet, HaveMetWithKernel, HaveMetWithShared, HeapHasMet, KernelHasMet, SharedHasMet};
+ghost use Rattle.k_commit.specs.Beside.{HasSteppedWith};
+ghost use Rattle.k_commit.specs.Met.{Before, BeforeWith, HaveMet, HaveMetWith, HeapHasMet, KernelHasMet, OtherHasMet, SharedHasMet};
+ghost use Rattle.k_commit.specs.Others.{OtherValue, of_kernel, of_shared};
 ghost use Rattle.k_commit.specs.Rooms.{HasEventRoom};
 ghost use Rattle.k_commit.specs.Standing.{BookStands, HeapStands, KernelStands, SharedStands};
-ghost use Rattle.k_commit.specs.Stepped.{HasStepped, HasSteppedWithKernel, HasSteppedWithShared};
+ghost use Rattle.k_commit.specs.Stepped.{HasStepped};
 
 /// Cells and book that stand still do once each cell has met the journal, whichever of two cells meets it first.
 pub fn cells_that_met_have_met()
@@ -27,30 +26,19 @@ pub fn cells_that_met_have_met()
         HeapHasMet trace c cell b book → HaveMet (record { trace = trace; cell = cell; book = book }) }
     ensures kernel { (trace : Trace) (c cell : HeapRecord) (k kernel : HoldingsValue) (b book last : BookRecord) → BookStands trace b →
         HeapStands trace c b → KernelStands trace k b → HeapHasMet trace c cell b book → KernelHasMet trace k kernel book last →
-        HaveMetWithKernel (record { own = record { trace = trace; cell = cell; book = last }; kernel = kernel }) }
+        HaveMetWith (record { own = record { trace = trace; cell = cell; book = last }; other = of_kernel kernel }) }
     ensures shared { (trace : Trace) (c cell : HeapRecord) (s shared : SharedRecord) (b book last : BookRecord) → BookStands trace b →
         HeapStands trace c b → SharedStands trace s b → HeapHasMet trace c cell b book → SharedHasMet trace s shared book last →
-        HaveMetWithShared (record { own = record { trace = trace; cell = cell; book = last }; shared = shared }) }
+        HaveMetWith (record { own = record { trace = trace; cell = cell; book = last }; other = of_shared shared }) }
 {}
 
 /// What has stepped since the meeting has stepped since before it.
 pub fn steps_began_before_the_meeting()
     ensures alone { (trace : Trace) (op : Op) (c cell w : HeapRecord) (b book l : BookRecord) (event : Event) →
         HeapHasMet trace c cell b book → HasStepped trace op cell w book l event → HasStepped trace op c w b l event }
-    ensures kernel { (trace : Trace) (op : Op) (c cell w : HeapRecord) (k kernel x : HoldingsValue) (b book last l : BookRecord) (event : Event) →
-        HeapHasMet trace c cell b book → KernelHasMet trace k kernel book last →
-        HasSteppedWithKernel trace op cell w kernel x last l event → HasSteppedWithKernel trace op c w k x b l event }
-    ensures shared { (trace : Trace) (op : Op) (c cell w : HeapRecord) (s shared x : SharedRecord) (b book last l : BookRecord) (event : Event) →
-        HeapHasMet trace c cell b book → SharedHasMet trace s shared book last →
-        HasSteppedWithShared trace op cell w shared x last l event → HasSteppedWithShared trace op c w s x b l event }
-{}
-
-/// A step with one more cell, of whatever heap, is a step beside that cell.
-pub fn steps_stand_beside()
-    ensures kernel { (trace : Trace) (op : Op) (c w : HeapRecord) (k x : HoldingsValue) (b l : BookRecord) (event : Event) →
-        HasSteppedWithKernel trace op c w k x b l event → HasSteppedBeside trace op c w (noted Kernel x.note x.value ∷ []) b l event }
-    ensures shared { (trace : Trace) (op : Op) (c w : HeapRecord) (s x : SharedRecord) (b l : BookRecord) (event : Event) →
-        HasSteppedWithShared trace op c w s x b l event → HasSteppedBeside trace op c w (noted (Shared x.id) x.note x.value ∷ []) b l event }
+    ensures beside { (trace : Trace) (op : Op) (c cell w : HeapRecord) (o other x : OtherValue) (b book last l : BookRecord) (event : Event) →
+        HeapHasMet trace c cell b book → OtherHasMet trace o other book last →
+        HasSteppedWith trace op cell w other x last l event → HasSteppedWith trace op c w o x b l event }
 {}
 
 /// What is counted fits 32 bits, and the pins have room for one more: the operations that the process has done, the entries and the
@@ -65,7 +53,6 @@ pub fn counts_fit()
 /// The bytes of a heap fit 64 bits, with one object more of whatever size.
 pub fn bytes_fit()
     ensures heap { (before : Before) → HaveMet before → HasEventRoom before.book → total object_bytes before.cell.value.objects + 144 < 2 ^ 64 }
-    ensures kernel { (before : BeforeWithKernel) → HaveMetWithKernel before → HasEventRoom before.own.book → total object_bytes before.kernel.value.objects + 144 < 2 ^ 64 }
-    ensures shared { (before : BeforeWithShared) → HaveMetWithShared before → HasEventRoom before.own.book → total object_bytes before.shared.value.objects + 144 < 2 ^ 64 }
+    ensures beside { (before : BeforeWith) → HaveMetWith before → HasEventRoom before.own.book → total object_bytes before.other.held.value.objects + 144 < 2 ^ 64 }
     ensures charged { (before : Before) → HaveMet before → HasEventRoom before.book → (s : ℕ) → slice_index_or before.book.value.shared_bytes s 0 + 144 < 2 ^ 64 }
 {}

@@ -1,5 +1,5 @@
 -- The last collection of the kernel keeps what is asked at the end.
-use Rattle.std.proofs.Common.{◌≡◌, ◌≤◌, ◌++◌, ℕ, true, false, sym, ap, ap₂, ◌∙◌, subst, List, [], ◌∷◌, length, append-nil, append_assoc, filter, find, Some, None, is_some, IsTrue, if◌then◌else◌, arith}
+use Rattle.std.proofs.Common.{◌≡◌, ◌≤◌, ◌++◌, ℕ, true, false, refl, sym, ap, ap₂, ◌∙◌, subst, List, [], ◌∷◌, length, append-nil, append_assoc, filter, find, Some, None, is_some, IsTrue, if◌then◌else◌, arith}
 use Rattle.std.specs.List.{list_all}
 use Rattle.std.proofs.Math.Path.{fun_ext}
 use Rattle.std.proofs.lemmas.Bool.{false≢true}
@@ -83,7 +83,7 @@ module _ (world : WorldValue) (k : HoldingsValue) (b : BookRecord) (can : CanCol
   pub can_close : CanClose world.trace k b
   can_close = record {
     book_stands = can.book.stands;
-    kernel_stands = record { agrees = can.kernel.agrees; table = can.kernel.table ∙ sym can.book.table; idle = can.kernel.idle };
+    kernel_stands = record { agrees = can.kernel.agrees; table = can.kernel.table ∙ sym can.book.table; segment = refl; idle = can.kernel.idle };
     ended = can.ended;
     orphans = can.orphans;
     first = closed_told;

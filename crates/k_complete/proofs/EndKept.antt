@@ -10,6 +10,7 @@ use Rattle.k_cell.specs.Holdings.{HoldingsValue}
 use Rattle.k_heap.specs.Heaps.{HeapRecord}
 use Rattle.k_shared.specs.SharedHeaps.{SharedRecord}
 use Rattle.k_commit.specs.Met.{HeapHasMet, KernelHasMet, SharedHasMet}
+use Rattle.k_commit.specs.Others.{held_by, shared_by}
 use Rattle.k_commit.specs.Standing.{BookStands}
 use Rattle.k_process.specs.Keeping.{operations_left}
 use Rattle.k_process.specs.declared.process.Process.{Process}
@@ -65,12 +66,12 @@ module _ (world : WorldValue) (ps : List Process) (b l : BookRecord) (t : Proces
 module _ (world : WorldValue) (ss : List SharedRecord) (b l : BookRecord) (t : HeapsAndBook world ss b) (n : ℕ) (h : SharedRecord) (at : slice_get ss n ≡ Some h) (w : SharedRecord) (s : SharedHasMet world.trace h w b l) where
   pub one_heap_met : HeapsAndBook world (set ss n w) l
   one_heap_met = record {
-    heaps = shared_set world ss n h w t.heaps at (met_shared world.trace world.table b l t.book.stands t.book.table h w (t.heaps.each n h at) s) (ap (λ (c : SharedRecord). c.id) s.shared_is);
+    heaps = shared_set world ss n h w t.heaps at (met_shared world.trace world.table b l t.book.stands t.book.table h w (t.heaps.each n h at) s) (ap (λ (c : SharedRecord). c.id) (ap shared_by s.other_is));
     book = subst (BookEnds world) (sym s.book_is) t.book;
   }
 
   pub heap_met_list : w.note.list ≡ l.journal.list
-  heap_met_list = ap (λ (c : SharedRecord). c.note.list) s.shared_is ∙ ap (λ (x : BookRecord). x.journal.list) (sym s.book_is)
+  heap_met_list = ap (λ (c : SharedRecord). c.note.list) (ap shared_by s.other_is) ∙ ap (λ (x : BookRecord). x.journal.list) (sym s.book_is)
 
 -- processes that are through, and what comes last is done
 pub all_closed : (world : WorldValue) (ps : List Process) (k x : HoldingsValue) (ss ts : List SharedRecord) (b l : BookRecord) → AllThrough world ps k ss b → HasClosedAll world x ts b l → AllEnded world ps x ts l
@@ -96,7 +97,7 @@ cells_met world ps qs k x ss ts b c d e all p kernel heaps =
       };
       same = p.same;
       processes_met = λ j q found. p.met j q found ∙ ap (λ (y : BookRecord). y.journal.list) (sym same);
-      kernel_met = ap (λ (y : HoldingsValue). y.note.list) kernel.kernel_is ∙ ap (λ (y : BookRecord). y.journal.list) (sym same);
+      kernel_met = ap (λ (y : HoldingsValue). y.note.list) (ap held_by kernel.other_is) ∙ ap (λ (y : BookRecord). y.journal.list) (sym same);
       shared_met = heaps.met;
       book_is = same ∙ p.book_is;
     }

@@ -30,8 +30,9 @@ use Rattle.k_agree.proofs.Touched.{as_listed}
 use Rattle.k_book.specs.Books.{BookRecord}
 use Rattle.k_cell.specs.Holdings.{HoldingsValue}
 use Rattle.k_commit.specs.Met.{FitsTheBook, HeapHasMet, KernelHasMet, SharedHasMet}
+use Rattle.k_commit.specs.Others.{held_by, of_kernel, shared_by}
 use Rattle.k_commit.proofs.Fitting.{done_small}
-use Rattle.k_commit.proofs.Meetings.{kernel_has_met}
+use Rattle.k_commit.proofs.Meetings.{other_has_met}
 use Rattle.k_heap.specs.Heaps.{HeapRecord, has_ended_in, own_segment}
 use Rattle.k_moves.specs.Moves.{noted}
 use Rattle.k_shared.specs.SharedHeaps.{SharedRecord}
@@ -56,10 +57,10 @@ module _ (trace : Trace) (s0 s : SharedRecord) (k0 k : HoldingsValue) (b0 b1 b :
   told = subst (λ (l : BookRecord). FitsTheBook trace Kernel k0.note k0.value l) one.book_is two.told
 
   pub shared_met : s ≡ record s0 { note = met_note b0.journal s0.note }
-  shared_met = one.shared_is
+  shared_met = (ap shared_by one.other_is)
 
   pub kernel_met : k ≡ record k0 { note = met_note b0.journal k0.note }
-  kernel_met = two.kernel_is ∙ ap (λ (l : BookRecord). record k0 { note = met_note l.journal k0.note }) one.book_is
+  kernel_met = (ap held_by two.other_is) ∙ ap (λ (l : BookRecord). record k0 { note = met_note l.journal k0.note }) one.book_is
 
   pub book_met : b ≡ b0
   book_met = two.book_is ∙ one.book_is
@@ -71,7 +72,7 @@ module _ (trace : Trace) (s0 s : SharedRecord) (k0 k : HoldingsValue) (b0 b1 b :
   met_here = record {
     book_stands = can.book_stands;
     shared_stands = record { agrees = one.told.shows.agrees; table = can.shared_stands.table; segment = can.shared_stands.segment; idle = can.shared_stands.idle };
-    kernel_stands = record { agrees = told.shows.agrees; table = can.kernel_stands.table; idle = can.kernel_stands.idle };
+    kernel_stands = record { agrees = told.shows.agrees; table = can.kernel_stands.table; segment = refl; idle = can.kernel_stands.idle };
     orphan = can.orphan;
     numbers = can.numbers;
     after = record { met = one.told.shows.met; shows = one.told.shows.shows can.shared_stands.agrees.tail };
@@ -204,7 +205,7 @@ module _ (trace : Trace) (c0 c : HeapRecord) (k0 k : HoldingsValue) (b0 b1 b : B
   heap_met = one.cell_is
 
   pub kernel_met_too : k ≡ record k0 { note = met_note b0.journal k0.note }
-  kernel_met_too = two.kernel_is ∙ ap (λ (l : BookRecord). record k0 { note = met_note l.journal k0.note }) one.book_is
+  kernel_met_too = (ap held_by two.other_is) ∙ ap (λ (l : BookRecord). record k0 { note = met_note l.journal k0.note }) one.book_is
 
   pub book_same : b ≡ b0
   book_same = two.book_is ∙ one.book_is
@@ -214,7 +215,7 @@ module _ (trace : Trace) (c0 c : HeapRecord) (k0 k : HoldingsValue) (b0 b1 b : B
 
   pub met_to_exit : HaveMetToExit trace c k b
   met_to_exit = record {
-    have_met = kernel_has_met trace c0 c b0 b1 one k0 k b can.book_stands can.heap_stands can.kernel_stands two;
+    have_met = other_has_met trace c0 c b0 b1 one (of_kernel k0) (of_kernel k) b can.book_stands can.heap_stands can.kernel_stands can.kernel_stands.agrees.tail two;
     numbers = subst (λ (x : HoldingsValue). segment_count trace ≤ x.bound) (sym kernel_met_too) can.numbers;
     room =
         subst (λ (l : BookRecord). HasRoomToExit c k l) (sym book_same)
@@ -315,7 +316,7 @@ module _ (trace : Trace) (c0 c1 : HeapRecord) (k0 k1 : HoldingsValue) (b0 l : Bo
       fits = fits;
       kernel_fits = kernel_fits;
       table = met.have_met.own.heap.table;
-      kernel_table = met.have_met.kernel.table;
+      kernel_table = met.have_met.other.table;
       cell_is = refl;
       kernel_is = refl;
       settled = given.settled;
@@ -354,7 +355,7 @@ module _ (trace : Trace) (c0 c : HeapRecord) (k0 k : HoldingsValue) (b0 b1 b : B
   pub exit_tables : (c1.note.table ≡ l.journal.table) × (k1.note.table ≡ l.journal.table)
   exit_tables = (
     ap (λ (x : HeapRecord). x.note.table) given.cell_is ∙ exiting.have_met.own.heap.table ∙ sym (ap (λ (x : BookRecord). x.journal.table) given.book_is),
-    ap (λ (x : HoldingsValue). x.note.table) given.kernel_is ∙ exiting.have_met.kernel.table ∙ sym (ap (λ (x : BookRecord). x.journal.table) given.book_is),
+    ap (λ (x : HoldingsValue). x.note.table) given.kernel_is ∙ exiting.have_met.other.table ∙ sym (ap (λ (x : BookRecord). x.journal.table) given.book_is),
   )
 
   pub exit_lists : (c1.note.list ≡ l.journal.list) × (k1.note.list ≡ l.journal.list)

@@ -175,8 +175,8 @@ module _ (trace : Trace) (c : HeapRecord) (k : HoldingsValue) (b : BookRecord) (
       pub kernel_shows_then : Shows trace (ended_state trace b c.pid) Kernel (record taken { black_exits = black })
       kernel_shows_then =
           shows_as trace (ended_state trace b c.pid) Kernel taken (record taken { black_exits = black })
-          (exit_kernel trace (now trace c k b met) c.pid.0 c.value k.value taken (sound trace c k b met) (may trace c k b met) (shows trace c k b met) (kernel_shows trace c k b met) met.have_met.kernel.idle takes_in)
-          met.have_met.kernel.idle met.have_met.kernel.idle refl
+          (exit_kernel trace (now trace c k b met) c.pid.0 c.value k.value taken (sound trace c k b met) (may trace c k b met) (shows trace c k b met) (kernel_shows trace c k b met) met.have_met.other.idle takes_in)
+          met.have_met.other.idle met.have_met.other.idle refl
 
     -- what the kernel is passed anew
     new_bit : (n : Name) → one_if (name_among n exits) ≡ one_if (name_among n kept) + one_if (name_among n (new_to_kernel own c.value k.value))
@@ -212,7 +212,7 @@ module _ (trace : Trace) (c : HeapRecord) (k : HoldingsValue) (b : BookRecord) (
   can_be_ended =
       end_there trace (now trace c k b met) c.pid.0 heap_once kernel_once b.value met.have_met.own.book.keeps.limits (sound trace c k b met) (may trace c k b met) (booked trace c k b met)
       (shows_as trace (now trace c k b met) (User c.pid) c.value heap_once (shows trace c k b met) met.have_met.own.heap.idle met.have_met.own.heap.idle (once_shown c.value))
-      (shows_as trace (now trace c k b met) Kernel k.value kernel_once (kernel_shows trace c k b met) met.have_met.kernel.idle met.have_met.kernel.idle (once_shown k.value))
+      (shows_as trace (now trace c k b met) Kernel k.value kernel_once (kernel_shows trace c k b met) met.have_met.other.idle met.have_met.other.idle (once_shown k.value))
       (once_distinct c.value.exits) (once_distinct k.value.exits)
 
   -- the book
@@ -335,9 +335,9 @@ module _ (trace : Trace) (c : HeapRecord) (k : HoldingsValue) (b : BookRecord) (
         kernel_is = kernel_is ∙ ap (λ (v : CellValue). record k { value = v; serial_rooms = set k.serial_rooms seg (get_or c.serial_rooms seg None) }) (sym (ap (λ (x : HoldingsValue). x.value) kernel_is));
         book_is = book_is ∙ ap (λ (v : BookValue). record b { value = v }) (sym (ap (λ (x : BookRecord). x.value) book_is));
         settled = ap (λ (x : HeapRecord). x.value.tail) heap_is ∙ met.have_met.own.heap.settled;
-        kernel_settled = ap (λ (x : HoldingsValue). x.value.tail) kernel_is ∙ met.have_met.kernel.agrees.tail;
+        kernel_settled = ap (λ (x : HoldingsValue). x.value.tail) kernel_is ∙ met.have_met.other.agrees.tail;
         idle = ap (λ (x : HeapRecord). x.value.collection) heap_is ∙ met.have_met.own.heap.idle;
-        kernel_idle = ap (λ (x : HoldingsValue). x.value.collection) kernel_is ∙ met.have_met.kernel.idle;
+        kernel_idle = ap (λ (x : HoldingsValue). x.value.collection) kernel_is ∙ met.have_met.other.idle;
         ended = ap (λ (x : HeapRecord). has_ended_in x.value.process) heap_is ∙ ended_once c.value.process process.0 process.1;
         done = ap (λ (x : HeapRecord). done_in x.value.process) heap_is ∙ done_once c.value.process;
         shows = subst (λ (x : HeapRecord). Shows trace (ended_state trace b c.pid) (User c.pid) x.value) (sym heap_is) (heap_shows_then c2.value.made c1.value.black_exits given.none);

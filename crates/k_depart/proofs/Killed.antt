@@ -41,6 +41,7 @@ use Rattle.k_squares.specs.Touches.{ends_other_in, other_cells_in}
 use Rattle.k_commit.specs.Beside.{HasSteppedBeside}
 use Rattle.k_squares.proofs.CellSquares.{ends_told}
 use Rattle.k_commit.specs.Met.{FitsTheBook, HaveMet, HeapHasMet, KernelHasMet}
+use Rattle.k_commit.specs.Others.{held_by}
 use Rattle.k_commit.proofs.Fitting.{done_small}
 use Rattle.k_commit.proofs.Meetings.{heap_has_met}
 use Rattle.k_commit.proofs.Setting.{process_known, process_lives}
@@ -76,7 +77,7 @@ module _ (trace : Trace) (c0 c t0 t : HeapRecord) (k0 k : HoldingsValue) (b0 b1 
   target_met = two.cell_is ∙ ap (λ (l : BookRecord). record t0 { note = met_note l.journal t0.note }) one.book_is
 
   pub kernel_met : k ≡ record k0 { note = met_note b0.journal k0.note }
-  kernel_met = three.kernel_is ∙ ap (λ (l : BookRecord). record k0 { note = met_note l.journal k0.note }) second_book
+  kernel_met = (ap held_by three.other_is) ∙ ap (λ (l : BookRecord). record k0 { note = met_note l.journal k0.note }) second_book
 
   target_told : FitsTheBook trace (User t0.pid) t0.note t0.value b0
   target_told = subst (λ (l : BookRecord). FitsTheBook trace (User t0.pid) t0.note t0.value l) one.book_is two.told
@@ -140,7 +141,8 @@ module _ (trace : Trace) (c0 c t0 t : HeapRecord) (k0 k : HoldingsValue) (b0 b1 
         after = record { met = target_told.shows.met; shows = target_shows };
         few = target_told.few;
       };
-      kernel = record { agrees = kernel_told.shows.agrees; table = can.kernel_stands.table; idle = can.kernel_stands.idle };
+      other = record { agrees = kernel_told.shows.agrees; table = can.kernel_stands.table; segment = refl; idle = can.kernel_stands.idle };
+      settled = can.kernel_stands.agrees.tail;
       after = record { met = kernel_told.shows.met; shows = kernel_told.shows.shows can.kernel_stands.agrees.tail };
     };
     numbers = can.numbers;

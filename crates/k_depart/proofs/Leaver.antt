@@ -85,7 +85,7 @@ module _ (trace : Trace) (c : HeapRecord) (k : HoldingsValue) (b : BookRecord) (
     in_range = refl;
     idle = and_from (not (is_scanned now.scans (User c.pid))) (not (is_scanned now.scans Kernel) && true)
         (unscanned trace now (User c.pid) c.value (record { shows = shows; idle = met.have_met.own.heap.idle }))
-        (and_from (not (is_scanned now.scans Kernel)) true (unscanned trace now Kernel k.value (record { shows = kernel_shows; idle = met.have_met.kernel.idle })) refl);
+        (and_from (not (is_scanned now.scans Kernel)) true (unscanned trace now Kernel k.value (record { shows = kernel_shows; idle = met.have_met.other.idle })) refl);
     orphans = refl;
     replied = refl;
   }
@@ -95,7 +95,7 @@ module _ (trace : Trace) (c : HeapRecord) (k : HoldingsValue) (b : BookRecord) (
     known = known;
     lives = lives;
     idle = none_is _ (not-true _ (unscanned trace now (User c.pid) c.value (record { shows = shows; idle = met.have_met.own.heap.idle })));
-    kernel_idle = none_is _ (not-true _ (unscanned trace now Kernel k.value (record { shows = kernel_shows; idle = met.have_met.kernel.idle })));
+    kernel_idle = none_is _ (not-true _ (unscanned trace now Kernel k.value (record { shows = kernel_shows; idle = met.have_met.other.idle })));
   }
 
   pub numbered : (j : ℕ) → heap_eq (owner_of trace now j) (User c.pid) ≡ (j == own_segment c.pid)
@@ -237,7 +237,7 @@ module _ (trace : Trace) (c : HeapRecord) (k : HoldingsValue) (b : BookRecord) (
     new = other_made trace now Kernel k.value kernel_shows (own_segment c.pid) not_kernels;
     number = let numbers = met.numbers in omega (arith, numbers, inside);
     idle = met.have_met.own.heap.idle;
-    kernel_idle = met.have_met.kernel.idle;
+    kernel_idle = met.have_met.other.idle;
     bytes = bytes;
   }
 

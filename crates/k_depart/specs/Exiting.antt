@@ -19,7 +19,8 @@ use Rattle.k_agree.specs.Agreement.{Agrees, BookAgrees, BookShows, Shows}
 use Rattle.k_agree.specs.Meeting.{Fits, HasMet}
 use Rattle.k_book.specs.Books.{BookRecord}
 use Rattle.k_cell.specs.Holdings.{HoldingsValue}
-use Rattle.k_commit.specs.Met.{HaveMetWithKernel}
+use Rattle.k_commit.specs.Met.{HaveMetWith}
+use Rattle.k_commit.specs.Others.{of_kernel}
 use Rattle.k_commit.specs.Rooms.{HasEventRoom}
 use Rattle.k_commit.specs.Standing.{BookStands, HeapStands, KernelStands}
 use Rattle.k_frame.specs.PartUpdates.{done_in}
@@ -42,7 +43,7 @@ pub record CanExit (trace : Trace) (cell : HeapRecord) (kernel : HoldingsValue) 
 
 -- the same once both cells have met the journal
 pub record HaveMetToExit (trace : Trace) (cell : HeapRecord) (kernel : HoldingsValue) (book : BookRecord) : Type 0 where
-  pub have_met : HaveMetWithKernel (record { own = record { trace = trace; cell = cell; book = book }; kernel = kernel })
+  pub have_met : HaveMetWith (record { own = record { trace = trace; cell = cell; book = book }; other = of_kernel kernel })
   pub numbers : segment_count trace ≤ kernel.bound
   pub room : HasRoomToExit cell kernel book
 

@@ -118,7 +118,7 @@ module _ (basis : Basis) (g : Guest) (b : BookRecord) (can : CanGoOn basis g b) 
     can_begin_kernel k both = record {
       book_stands = book_now.stands;
       heap_stands = heap_stands both.own.idle;
-      kernel_stands = record { agrees = both.kernel.agrees; table = both.kernel.table ∙ sym s.same_table; idle = both.idle };
+      kernel_stands = record { agrees = both.kernel.agrees; table = both.kernel.table ∙ sym s.same_table; segment = refl; idle = both.idle };
       orphans = subst (λ (x : BookRecord). Rattle.k_shares.specs.Sharers.lowest_orphan x.value.phases x.value.shares ≡ None) (sym s.book_is) both.orphans;
       room = λ fits kernel_fits. event_left basis l book_now left_now;
     }
@@ -127,7 +127,7 @@ module _ (basis : Basis) (g : Guest) (b : BookRecord) (can : CanGoOn basis g b) 
     can_exit k both distinct kernel_distinct = record {
       book_stands = book_now.stands;
       heap_stands = heap_stands both.own.idle;
-      kernel_stands = record { agrees = both.kernel.agrees; table = both.kernel.table ∙ sym s.same_table; idle = both.idle };
+      kernel_stands = record { agrees = both.kernel.agrees; table = both.kernel.table ∙ sym s.same_table; segment = refl; idle = both.idle };
       numbers = both.kernel.numbers;
       room = λ fits kernel_fits. record {
         events = event_left basis l book_now left_now;
@@ -310,7 +310,7 @@ module _ (basis : Basis) (s : SharedRecord) (k : HoldingsValue) (b : BookRecord)
   can_absorb = record {
     book_stands = can.own.book.stands;
     shared_stands = record { agrees = can.shared.agrees; table = can.shared.table; segment = can.shared.segment; idle = can.shared.idle };
-    kernel_stands = record { agrees = can.own.kernel.agrees; table = can.own.kernel.table; idle = can.own.in_phase };
+    kernel_stands = record { agrees = can.own.kernel.agrees; table = can.own.kernel.table; segment = refl; idle = can.own.in_phase };
     orphan = can.orphan;
     numbers = can.own.kernel.numbers;
     room = λ fits kernel_fits. event_left basis b can.own.book can.own.room;

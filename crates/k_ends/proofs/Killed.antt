@@ -100,7 +100,7 @@ module _ (basis : Basis) (g t : Guest) (k : HoldingsValue) (b : BookRecord) (op 
           settled = ap (λ (c : HeapRecord). c.value.tail) r.cell_is;
           idle = ap (λ (c : HeapRecord). c.value.collection) r.cell_is ∙ n.can.idle;
         };
-        kernel_stands = record { agrees = n.kernel.agrees; table = n.kernel.table ∙ sym s.same_table ∙ sym r.same_table; idle = n.can.kernel_idle };
+        kernel_stands = record { agrees = n.kernel.agrees; table = n.kernel.table ∙ sym s.same_table ∙ sym r.same_table; segment = refl; idle = n.can.kernel_idle };
         numbers = n.kernel.numbers;
         asks = n.asks ∙ ap Kill (sym same_target);
         reaches = reaches_now;

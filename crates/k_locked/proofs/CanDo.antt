@@ -41,7 +41,8 @@ use Rattle.k_bodies.specs.Bodies.{bodies_of}
 use Rattle.k_commit.specs.Books.{BookRecord, book_entries}
 use Rattle.k_commit.specs.Holdings.{HasSerialLeft, HoldingsValue}
 use Rattle.k_commit.specs.Heaps.{HeapRecord, has_ended_in, holdings_of as heap_holdings, own_segment}
-use Rattle.k_commit.specs.SharedHeaps.{SharedRecord, holdings_of as shared_holdings}
+use Rattle.k_commit.specs.SharedHeaps.{SharedRecord}
+use Rattle.k_commit.specs.Others.{of_shared}
 use Rattle.k_commit.specs.Rooms.{CanOperate, CanOperateWithKernel, CanOperateWithShared, HasExitRoom, HasRoomFor, HasTableRoom}
 use Rattle.k_commit.specs.Standing.{HeapStands}
 use Rattle.k_locked.specs.Keeping.{BookKeeps, CanGive, HeapKeeps, KernelKeeps, SharedKeeps, is_absorbed_in, operations_left}
@@ -214,7 +215,7 @@ module _ (trace : Trace) (table : TableId) (c : HeapRecord) (h : HeapKeeps trace
 
         shared_room_for : (s : SharedRecord) → SharedKeeps trace table s → AreDistinctNames s.value.exits → AreEntries (book_entries b) →
             (IsTrue (is_allocation op) → IsTrue (allocates_in trace s.seg.0 c.pid.0 op)) → Fits b.journal s.note → s.value.tail ≡ [] →
-            HasRoomFor trace c.bodies (shared_holdings s) s.seg.0 b op
+            HasRoomFor trace c.bodies (of_shared s).held s.seg.0 b op
         unfolding part
         shared_room_for s sk distinct items inside shared_fits none =
             let m = meeting trace b.journal b.value (Shared s.id) s.note s.value sk.agrees k.stands.agrees shared_fits in
@@ -222,8 +223,8 @@ module _ (trace : Trace) (table : TableId) (c : HeapRecord) (h : HeapKeeps trace
             let owns = λ (given : ℕ) (there : get_or s.value.made s.seg.0 None ≡ Some given). owner_shown trace now (Shared s.id) s.value s.seg.0 given shows there in
             record {
               events = event_left;
-              tables = table_room trace c.bodies (shared_holdings s) s.seg.0 b op rest bodies_now
-                  (λ allocates given there. serial_left trace now (Shared s.id) s.value (shared_holdings s) s.seg.0 refl (owns given there) shows
+              tables = table_room trace c.bodies (of_shared s).held s.seg.0 b op rest bodies_now
+                  (λ allocates given there. serial_left trace now (Shared s.id) s.value (of_shared s).held s.seg.0 refl (owns given there) shows
                   (sk.serials (ap (λ (v : ShownPart). is_absorbed_in v.phase) shows.part ∙ owner_stands (process_count trace) now.ended now.phases s.seg.0 s.id.0 (owns given there))) (leaves_room.serials s.seg.0 (inside allocates)))
                   (λ store. record {
                     exits =
@@ -252,7 +253,7 @@ module _ (trace : Trace) (table : TableId) (c : HeapRecord) (h : HeapKeeps trace
         can_operate_with_kernel kernel kk distinct inside = record {
           book_stands = k.stands;
           heap_stands = heap_stands;
-          kernel_stands = record { agrees = kk.agrees; table = kk.table ∙ sym k.table; idle = kk.idle };
+          other_stands = record { agrees = kk.agrees; table = kk.table ∙ sym k.table; segment = refl; idle = kk.idle };
           in_range = next_in_range;
           room = λ fits kernel_fits. kernel_room fits kernel kk distinct items inside kernel_fits kk.agrees.tail;
         }
@@ -262,7 +263,7 @@ module _ (trace : Trace) (table : TableId) (c : HeapRecord) (h : HeapKeeps trace
         can_operate_with_shared s sk distinct inside = record {
           book_stands = k.stands;
           heap_stands = heap_stands;
-          shared_stands = record { agrees = sk.agrees; table = sk.table ∙ sym k.table; segment = sk.segment; idle = sk.idle };
+          other_stands = record { agrees = sk.agrees; table = sk.table ∙ sym k.table; segment = sk.segment; idle = sk.idle };
           in_range = next_in_range;
           room = λ fits shared_fits. shared_room_for fits s sk distinct items inside shared_fits sk.agrees.tail;
         }

@@ -28,7 +28,9 @@ use Rattle.k_commit.specs.Holdings.{HoldingsValue}
 use Rattle.k_commit.specs.Heaps.{HeapRecord, has_ended_in}
 use Rattle.k_commit.specs.SharedHeaps.{SharedRecord}
 use Rattle.k_commit.specs.Changed.{bodies_after}
-use Rattle.k_commit.specs.Stepped.{HasStepped, HasSteppedWithKernel, HasSteppedWithShared}
+use Rattle.k_commit.specs.Beside.{HasSteppedWithKernel, HasSteppedWithShared, StandsMet}
+use Rattle.k_commit.specs.Others.{held_by, noted_of, of_kernel, of_shared, shared_by}
+use Rattle.k_commit.specs.Stepped.{HasStepped}
 use Rattle.k_locked.specs.Rooms.{shared_exit_room}
 use Rattle.k_locked.specs.Keeping.{BookKeeps, CanGive, HasHeapRooms, HeapKeeps, KernelKeeps, SharedKeeps, is_absorbed_in, operations_left}
 use Rattle.k_locked.proofs.CanDo.{done_of}
@@ -133,15 +135,21 @@ module _ (trace : Trace) (table : TableId) (c w : HeapRecord) (b l : BookRecord)
 
 module _ (trace : Trace) (table : TableId) (c w : HeapRecord) (k x : HoldingsValue) (b l : BookRecord) (op : Op) (event : Event) (kk : KernelKeeps trace table k) (bk : BookKeeps trace table b)
     (s : HasSteppedWithKernel trace op c w k x b l event) where
+  kernel_is : x ≡ record k { note = x.note; value = x.value }
+  kernel_is = ap held_by s.other_is
+
+  kernel_stands : StandsMet trace l (noted_of (of_kernel x))
+  kernel_stands = s.beside.others.0
+
   pub kernel_keeps : KernelKeeps trace table x
   kernel_keeps = record {
     rules = kk.rules;
-    agrees = s.agrees;
-    table = s.table ∙ s.own.same_table ∙ bk.table;
-    idle = s.idle;
-    exits = subst (λ (y : HoldingsValue). exit_room trace ≤ y.exit_room) (sym s.kernel_is) kk.exits;
-    serials = subst (λ (y : HoldingsValue). CanGive trace y.serial_rooms 0) (sym s.kernel_is) kk.serials;
-    numbers = subst (λ (y : HoldingsValue). segment_count trace ≤ y.bound) (sym s.kernel_is) kk.numbers;
+    agrees = kernel_stands.stands.agrees;
+    table = kernel_stands.stands.table ∙ s.beside.own.same_table ∙ bk.table;
+    idle = kernel_stands.stands.idle;
+    exits = subst (λ (y : HoldingsValue). exit_room trace ≤ y.exit_room) (sym kernel_is) kk.exits;
+    serials = subst (λ (y : HoldingsValue). CanGive trace y.serial_rooms 0) (sym kernel_is) kk.serials;
+    numbers = subst (λ (y : HoldingsValue). segment_count trace ≤ y.bound) (sym kernel_is) kk.numbers;
   }
 
 -- an absorbed heap is absorbed after whatever follows
@@ -157,14 +165,20 @@ absorbed_stays trace known rest t gone =
 
 module _ (trace : Trace) (table : TableId) (c w : HeapRecord) (s x : SharedRecord) (b l : BookRecord) (op : Op) (event : Event) (sk : SharedKeeps trace table s) (bk : BookKeeps trace table b)
     (st : HasSteppedWithShared trace op c w s x b l event) where
+  shared_is : x ≡ record s { note = x.note; value = x.value }
+  shared_is = ap shared_by st.other_is
+
+  shared_stands : StandsMet trace l (noted_of (of_shared x))
+  shared_stands = st.beside.others.0
+
   same_id : x.id ≡ s.id
-  same_id = ap (λ (y : SharedRecord). y.id) st.shared_is
+  same_id = ap (λ (y : SharedRecord). y.id) shared_is
 
   phase_now : x.value.phase ≡ Some (phase_of (state_after trace l.journal.list).phases x.id.0)
   unfolding part
   phase_now =
-      ap (λ (y : ShownPart). y.phase) st.agrees.shows.part
-      ∙ ap (λ list. Some (phase_of (state_after trace list).phases x.id.0)) (ap₂ (λ xs ys. xs ++ ys) st.met.list st.agrees.tail ∙ append-nil l.journal.list)
+      ap (λ (y : ShownPart). y.phase) shared_stands.stands.agrees.shows.part
+      ∙ ap (λ list. Some (phase_of (state_after trace list).phases x.id.0)) (ap₂ (λ xs ys. xs ++ ys) shared_stands.met.list shared_stands.stands.agrees.tail ∙ append-nil l.journal.list)
 
   phase_before : s.value.phase ≡ Some (phase_of (state_after trace s.note.list).phases s.id.0)
   unfolding part
@@ -173,7 +187,7 @@ module _ (trace : Trace) (table : TableId) (c w : HeapRecord) (s x : SharedRecor
       ∙ ap (λ list. Some (phase_of (state_after trace list).phases s.id.0)) (ap (λ ys. s.note.list ++ ys) sk.agrees.tail ∙ append-nil s.note.list)
 
   longer : s.note.list ++ (st.fits.prefix.0 ++ event ∷ []) ≡ l.journal.list
-  longer = sym (append_assoc s.note.list st.fits.prefix.0 (event ∷ [])) ∙ ap (λ ys. ys ++ event ∷ []) st.fits.prefix.1 ∙ sym st.own.journal
+  longer = sym (append_assoc s.note.list st.fits.prefix.0 (event ∷ [])) ∙ ap (λ ys. ys ++ event ∷ []) st.fits.prefix.1 ∙ sym st.beside.own.journal
 
   stood : is_absorbed_in x.value.phase ≡ false → is_absorbed_in s.value.phase ≡ false
   stood now =
@@ -187,10 +201,10 @@ module _ (trace : Trace) (table : TableId) (c w : HeapRecord) (s x : SharedRecor
   pub shared_keeps : SharedKeeps trace table x
   shared_keeps = record {
     rules = sk.rules;
-    agrees = st.agrees;
-    table = st.table ∙ st.own.same_table ∙ bk.table;
-    segment = ap (λ (y : SharedRecord). y.seg.0) st.shared_is ∙ sk.segment ∙ ap (λ (i : Rattle.k_types.specs.declared.names.SharedId.SharedId). segment_of trace (Shared i)) (sym same_id);
-    idle = st.idle;
-    exits = subst (λ (y : SharedRecord). shared_exit_room trace y.id.0 ≤ y.exit_room) (sym st.shared_is) sk.exits;
-    serials = λ now. subst (λ (y : SharedRecord). CanGive trace y.serial_rooms y.seg.0) (sym st.shared_is) (sk.serials (stood now));
+    agrees = shared_stands.stands.agrees;
+    table = shared_stands.stands.table ∙ st.beside.own.same_table ∙ bk.table;
+    segment = ap (λ (y : SharedRecord). y.seg.0) shared_is ∙ sk.segment ∙ ap (λ (i : Rattle.k_types.specs.declared.names.SharedId.SharedId). segment_of trace (Shared i)) (sym same_id);
+    idle = shared_stands.stands.idle;
+    exits = subst (λ (y : SharedRecord). shared_exit_room trace y.id.0 ≤ y.exit_room) (sym shared_is) sk.exits;
+    serials = λ now. subst (λ (y : SharedRecord). CanGive trace y.serial_rooms y.seg.0) (sym shared_is) (sk.serials (stood now));
   }

@@ -4,4 +4,6 @@ pub use Rattle.k_commit.specs.Standing
 pub use Rattle.k_commit.specs.Met
 pub use Rattle.k_commit.specs.SharedHeaps
 pub use Rattle.k_commit.specs.Stepped
+pub use Rattle.k_commit.specs.Beside
+pub use Rattle.k_commit.specs.Others
 pub use Rattle.k_commit.specs.Published

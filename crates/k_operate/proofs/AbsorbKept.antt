@@ -71,7 +71,7 @@ module _ (world : WorldValue) (s : SharedRecord) (k : HoldingsValue) (b : BookRe
   can_absorb = record {
     book_stands = can.book.stands;
     shared_stands = record { agrees = can.shared.agrees; table = can.shared.table ∙ sym can.book.table; segment = can.shared.segment; idle = can.shared.idle };
-    kernel_stands = record { agrees = can.kernel.agrees; table = can.kernel.table ∙ sym can.book.table; idle = can.kernel.idle };
+    kernel_stands = record { agrees = can.kernel.agrees; table = can.kernel.table ∙ sym can.book.table; segment = refl; idle = can.kernel.idle };
     orphan = found_passes (is_orphan_by b.value.phases b.value.shares) (numbers_below (length b.value.phases)) s.id.0 can.orphan;
     numbers = can.kernel.numbers;
     room = λ fits kernel_fits. room_for world.trace b (Absorbed s.id) can.book.stands can.book.follows.operations can.book.events (possible kernel_fits) tt;

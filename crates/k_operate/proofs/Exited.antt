@@ -54,7 +54,7 @@ module _ (world : WorldValue) (p : Process) (k : HoldingsValue) (b : BookRecord)
   can_exit distinct kernel_distinct = record {
     book_stands = n.own.pair.book.stands;
     heap_stands = heap_stands world.trace world.table p.cell n.own.pair.process.cell Exit n.own.next.rest n.own.next.left b n.own.pair.book n.own.settled n.own.next.lives;
-    kernel_stands = record { agrees = n.kernel.agrees; table = n.kernel.table ∙ sym n.own.pair.book.table; idle = n.kernel.idle };
+    kernel_stands = record { agrees = n.kernel.agrees; table = n.kernel.table ∙ sym n.own.pair.book.table; segment = refl; idle = n.kernel.idle };
     numbers = n.kernel.numbers;
     room = λ fits kernel_fits. record { events = room_for_next world p b Exit n.own fits; exits = exits_fit world p.cell k b n.own.pair.process.cell n.own.settled n.kernel n.own.pair.book distinct kernel_distinct fits kernel_fits };
   }

@@ -36,7 +36,7 @@ module _ (world : WorldValue) (p : Process) (k : HoldingsValue) (b : BookRecord)
   can_begin_kernel = record {
     book_stands = n.own.pair.book.stands;
     heap_stands = heap_stands world.trace world.table p.cell n.own.pair.process.cell KCollect n.own.next.rest n.own.next.left b n.own.pair.book n.own.settled n.own.next.lives;
-    kernel_stands = record { agrees = n.kernel.agrees; table = n.kernel.table ∙ sym n.own.pair.book.table; idle = n.kernel.idle };
+    kernel_stands = record { agrees = n.kernel.agrees; table = n.kernel.table ∙ sym n.own.pair.book.table; segment = refl; idle = n.kernel.idle };
     orphans = n.orphans;
     room = λ fits kernel_fits. room_for_next world p b KCollect n.own fits;
   }

@@ -1,5 +1,5 @@
 -- The end of a process by another's operation keeps what the locks ask.
-use Rattle.std.proofs.Common.{◌≡◌, ◌≢◌, ◌<◌, ◌≤◌, ◌++◌, ap₂, drop, length, not, false, sym, ap, ◌∙◌, subst, List, [], ◌∷◌, append-nil, arith}
+use Rattle.std.proofs.Common.{◌≡◌, ◌≢◌, ◌<◌, ◌≤◌, ◌++◌, ap₂, drop, length, not, false, refl, sym, ap, ◌∙◌, subst, List, [], ◌∷◌, append-nil, arith}
 use Rattle.std.proofs.lemmas.Bool.{and_parts, false≢true}
 use Rattle.k_types.specs.declared.event.Event.{Event}
 use Rattle.k_types.specs.declared.names.Heap.TheVariants.{Kernel, User}
@@ -60,7 +60,7 @@ module _ (world : WorldValue) (p t : Process) (k : HoldingsValue) (b : BookRecor
     book_stands = stands.stands;
     heap_stands = heap_stands world.trace world.table p.cell n.due.pair.process.cell op n.due.next.rest n.due.next.left b stands n.due.settled n.due.next.lives;
     target_stands = record { agrees = n.target.cell.agrees; table = n.target.cell.table ∙ sym stands.table; settled = n.published; idle = n.target.cell.idle };
-    kernel_stands = record { agrees = n.kernel.agrees; table = n.kernel.table ∙ sym stands.table; idle = n.kernel.idle };
+    kernel_stands = record { agrees = n.kernel.agrees; table = n.kernel.table ∙ sym stands.table; segment = refl; idle = n.kernel.idle };
     numbers = n.kernel.numbers;
     asks = n.asks;
     reaches = n.due.touches;

@@ -16,10 +16,11 @@ use Rattle.k_cell.specs.Holdings.{HoldingsValue}
 use Rattle.k_heap.specs.Heaps.{HeapRecord}
 use Rattle.k_shared.specs.SharedHeaps.{SharedRecord}
 use Rattle.k_local.specs.Locals.{after_local, local_answer}
-use Rattle.k_process.specs.Stepped.{HasStepped, HasSteppedWithKernel, HasSteppedWithShared}
+use Rattle.k_process.specs.Beside.{HasSteppedWithKernel, HasSteppedWithShared}
+use Rattle.k_process.specs.Others.{shared_by}
+use Rattle.k_process.specs.Stepped.{HasStepped}
 use Rattle.k_steps.specs.Own.{CanStepOwn, is_collect}
-use Rattle.k_steps.specs.PairOperating.{CanStepWithKernel, collects_or_exits}
-use Rattle.k_steps.specs.Operating.{CanStepWithShared}
+use Rattle.k_steps.specs.Operating.{CanStepWithKernel, CanStepWithShared, collects_or_exits}
 use Rattle.k_bounds.specs.Counts.{allocates_in}
 use Rattle.k_process.proofs.CanDo.{can_operate, can_operate_with_kernel, can_operate_with_shared}
 use Rattle.k_process.proofs.LockedKept.{book_keeps, heap_keeps, kernel_keeps, left_now, shared_keeps}
@@ -93,25 +94,27 @@ module _ (world : WorldValue) (p : Process) (b : BookRecord) (op : Op) (items : 
 
   pub can_with_kernel : (kernel : HoldingsValue) → CanDoWithKernel world p kernel b op → AreDistinctNames kernel.value.exits → CanStepWithKernel world.trace p.cell kernel b op
   can_with_kernel kernel can distinct = record {
-    can = can_operate_with_kernel world.trace world.table p.cell can.due.pair.process.cell op can.due.next.rest can.due.next.left b can.due.pair.book can.due.settled can.due.next.lives items kernel can.kernel distinct
-        (beside_allocates world.trace _ _ p.cell.pid.0 Kernel op can.due.touches);
-    touches = λ fits kernel_fits. can.due.touches;
+    step = record {
+      can = can_operate_with_kernel world.trace world.table p.cell can.due.pair.process.cell op can.due.next.rest can.due.next.left b can.due.pair.book can.due.settled can.due.next.lives items kernel can.kernel distinct
+          (beside_allocates world.trace _ _ p.cell.pid.0 Kernel op can.due.touches);
+      touches = λ fits kernel_fits. can.due.touches;
+    };
     goes_on = steps_pair op can.due.steps;
   }
 
 module _ (world : WorldValue) (p : Process) (b l : BookRecord) (op : Op) (w : HeapRecord) (event : Event) where
   pub done_with_kernel : (k x : HoldingsValue) → CanDoWithKernel world p k b op → HasSteppedWithKernel world.trace op p.cell w k x b l event → HasDoneWithKernel world op p (record p { cell = w }) x l
   done_with_kernel k x can s = record {
-    own = done_alone world p b l op w event can.due.pair can.due.next s.own;
+    own = done_alone world p b l op w event can.due.pair can.due.next s.beside.own;
     kernel = kernel_keeps world.trace world.table p.cell w k x b l op event can.kernel can.due.pair.book s;
   }
 
   pub done_with_shared : (k x : SharedRecord) → CanDoWithShared world p k b op → HasSteppedWithShared world.trace op p.cell w k x b l event →
       HasDoneWithShared world op p (record p { cell = w }) k x l
   done_with_shared k x can s = record {
-    own = done_alone world p b l op w event can.due.pair can.due.next s.own;
+    own = done_alone world p b l op w event can.due.pair can.due.next s.beside.own;
     shared = shared_keeps world.trace world.table p.cell w k x b l op event can.shared can.due.pair.book s;
-    same = ap (λ (y : SharedRecord). y.id) s.shared_is;
+    same = ap (λ (y : SharedRecord). y.id) (ap shared_by s.other_is);
   }
 
 module _ (world : WorldValue) (p : Process) (b : BookRecord) (op : Op) (items : AreEntries (book_entries b)) where

@@ -7,7 +7,6 @@ pub mod Killing
 pub use Rattle.k_steps.specs.declared.reached.Reach
 pub use Rattle.k_steps.specs.Reaching
 pub use Rattle.k_steps.specs.Operating
-pub use Rattle.k_steps.specs.PairOperating
 pub use Rattle.k_steps.specs.Own
 pub use Rattle.k_steps.specs.Killing as DepartKilling
 pub use Rattle.k_steps.specs.Absorbing as DepartAbsorbing

@@ -6,4 +6,10 @@ pub mod Stored
 pub mod Loaded
 pub mod Put
 pub mod Made
+pub mod Facts
+pub mod Given
+pub mod Populated
+pub mod Frozen
+pub mod Joined
+pub mod Placed
 pub mod Meeting

@@ -37,10 +37,11 @@ use Rattle.k_book.specs.Books.{BookRecord}
 use Rattle.k_cell.specs.Changes.{next_in, with_body}
 use Rattle.k_cell.specs.Holdings.{HasSerialLeft, HoldingsValue}
 use Rattle.k_heap.specs.Heaps.{HeapRecord, with_register_in}
-use Rattle.k_commit.specs.Changed.{CanSetRegister, HasChangedWithKernel, HasSetRegister}
-use Rattle.k_commit.specs.Met.{BeforeWithKernel}
+use Rattle.k_commit.specs.Changed.{CanSetRegister, HasChangedWith, HasSetRegister}
+use Rattle.k_commit.specs.Met.{BeforeWith}
+use Rattle.k_commit.specs.Others.{of_kernel, with_value}
 use Rattle.k_pair.specs.Operating.{HaveMetFor, as_they_are}
-use Rattle.k_pair.proofs.Changing.{commits, idle, kernel_idle, kernel_settled, refused, settled}
+use Rattle.k_pair.proofs.Changing.{commits, idle, other_idle, other_settled, refused_given, settled}
 use Rattle.k_pair.proofs.Touching.{knew_below}
 
 -- what `knew` gives of the parts of both cells and of the book
@@ -69,7 +70,7 @@ module _ (trace : Trace) (b : BookPart) (v k : CellPart) (pid : Pid) (r : Reg) (
   knew_full full =
       refused_beside trace b v k pid Kernel refl (KNew r ty) KernelFull refl (ap (λ t. first_fault (fault_where t KernelFull ∷ [])) full)
 
-module _ (before : BeforeWithKernel) (c : HeapRecord) (k : HoldingsValue) (b : BookRecord) (r : Reg) (ty : TypeId) (met : HaveMetFor before c k b (KNew r ty)) where
+module _ (before : BeforeWith) (c : HeapRecord) (k : HoldingsValue) (b : BookRecord) (r : Reg) (ty : TypeId) (met : HaveMetFor before c (of_kernel k) b (KNew r ty)) where
   abbrev trace : Trace
   trace = before.own.trace
 
@@ -110,12 +111,12 @@ module _ (before : BeforeWithKernel) (c : HeapRecord) (k : HoldingsValue) (b : B
         ap₂ (λ (ceiling size : ℕ). nat_lt ceiling (total object_bytes k.value.objects + size)) (sym met.have_met.own.book.of_trace.ceiling) (sym body_size) ∙ sym is
 
     pub knew_refused : IsTrue (nat_lt trace.ceiling (total object_bytes k.value.objects + size_of_type trace ty)) →
-        HasChangedWithKernel before (record c { bodies = rest }) k b op (Refused KernelFull)
+        HasChangedWith before (record c { bodies = rest }) (of_kernel k) b op (Refused KernelFull)
     knew_refused full =
-        refused before c k b op met KernelFull rest refl left_is (knew_full trace (book_shown_by b.value) (idle_part c.value) (idle_part k.value) c.pid r ty full)
+        refused_given before c (of_kernel k) b op met KernelFull rest refl left_is (knew_full trace (book_shown_by b.value) (idle_part c.value) (idle_part k.value) c.pid r ty full)
 
     pub knew_sets : CanSetRegister before.own (record c { bodies = rest }) b r.0 (Some (next_in 0 k.value))
-    knew_sets = subst (λ (bf : BeforeWithKernel). CanSetRegister bf.own (record c { bodies = rest }) b r.0 (Some (next_in 0 k.value))) met.same (record {
+    knew_sets = subst (λ (bf : BeforeWith). CanSetRegister bf.own (record c { bodies = rest }) b r.0 (Some (next_in 0 k.value))) met.same (record {
       have_met = met.have_met.own;
       pid = refl;
       process = refl;
@@ -132,8 +133,8 @@ module _ (before : BeforeWithKernel) (c : HeapRecord) (k : HoldingsValue) (b : B
 
     module _ (fits : IsFalse (nat_lt trace.ceiling (total object_bytes k.value.objects + size_of_type trace ty))) (w : HeapRecord) (b1 : BookRecord)
         (was_set : HasSetRegister before.own (record c { bodies = rest }) w b b1 r.0 (Some (next_in 0 k.value))) where
-      set : HasSetRegister (as_they_are trace c k b).own (record c { bodies = rest }) w b b1 r.0 (Some (next_in 0 k.value))
-      set = subst (λ (bf : BeforeWithKernel). HasSetRegister bf.own (record c { bodies = rest }) w b b1 r.0 (Some (next_in 0 k.value))) (sym met.same) was_set
+      set : HasSetRegister (as_they_are trace c (of_kernel k) b).own (record c { bodies = rest }) w b b1 r.0 (Some (next_in 0 k.value))
+      set = subst (λ (bf : BeforeWith). HasSetRegister bf.own (record c { bodies = rest }) w b b1 r.0 (Some (next_in 0 k.value))) (sym met.same) was_set
 
       abbrev book_value : BookValue
       book_value = record b.value { pins = b1.value.pins }
@@ -158,10 +159,10 @@ module _ (before : BeforeWithKernel) (c : HeapRecord) (k : HoldingsValue) (b : B
           (idle_part k.value) (with_created 0 ty (kinds_of trace ty) (idle_part k.value)) (book_shown_by b.value) e) (sym book_shown)
           (knew_given trace (book_shown_by b.value) (idle_part c.value) (idle_part k.value) c.pid r ty fits))
 
-      pub made : HasChangedWithKernel before w (record k { value = with_body 0 body k.value }) b1 op (Made (next_in 0 k.value))
+      pub made : HasChangedWith before w (with_value (with_body 0 body k.value) (of_kernel k)) b1 op (Made (next_in 0 k.value))
       made =
-          subst (λ (d : HeapRecord). HasChangedWithKernel before d (record k { value = kernel_value }) b1 op (Made (next_in 0 k.value))) (sym set.cell_is)
-          (subst (λ (e : BookRecord). HasChangedWithKernel before (record c { bodies = rest; value = with_register_in r.0 (Some (next_in 0 k.value)) c.value }) (record k { value = kernel_value }) e op (Made (next_in 0 k.value))) (sym set.book_is)
-          (commits before c k b op met (Made (next_in 0 k.value)) (with_register_in r.0 (Some (next_in 0 k.value)) c.value) rest kernel_value book_value refl left_is
-          (settled before c k b op met) (idle before c k b op met) (kernel_settled before c k b op met) (kernel_idle before c k b op met)
+          subst (λ (d : HeapRecord). HasChangedWith before d (with_value kernel_value (of_kernel k)) b1 op (Made (next_in 0 k.value))) (sym set.cell_is)
+          (subst (λ (e : BookRecord). HasChangedWith before (record c { bodies = rest; value = with_register_in r.0 (Some (next_in 0 k.value)) c.value }) (with_value kernel_value (of_kernel k)) e op (Made (next_in 0 k.value))) (sym set.book_is)
+          (commits before c (of_kernel k) b op met (Made (next_in 0 k.value)) (with_register_in r.0 (Some (next_in 0 k.value)) c.value) rest kernel_value book_value refl left_is
+          (settled before c (of_kernel k) b op met) (idle before c (of_kernel k) b op met) (other_settled before c (of_kernel k) b op met) (other_idle before c (of_kernel k) b op met)
           (record { homes = refl; owners = refl }) gives))

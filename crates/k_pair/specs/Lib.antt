@@ -1,3 +1,5 @@
-pub mod Faults
 pub mod Operating
 pub mod Remembered
+pub mod Faults
+pub mod Attached
+pub mod NoStep

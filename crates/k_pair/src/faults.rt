@@ -11,7 +11,7 @@ use k_types::{Fault, Name};
 /// The reference that the field holds, of an object with `count` fields. `NoField` comes where the object has no field of that
 /// number, and `WrongKind` where the field holds a number. Constant time.
 #[tactic(auto, unfolding(k_types::specs::Replies::first_fault, k_types::specs::Replies::fault_where))]
-pub fn read_reference(count: u32, field: u32, stored: Stored) -> Result<Option<Name>, Fault>
+pub(crate) fn read_reference(count: u32, field: u32, stored: Stored) -> Result<Option<Name>, Fault>
     ensures fine { IfOk result (λ value. first_fault (field_faults count field (not (is_ref (content_of stored)))) ≡ None) }
     ensures there { IfOk result (λ value. field < count) }
     ensures value { IfOk result (λ value. content_of stored ≡ Refers value) }
@@ -30,7 +30,7 @@ pub fn read_reference(count: u32, field: u32, stored: Stored) -> Result<Option<N
 /// The number that the field holds, of an object with `count` fields. `NoField` comes where the object has no field of that
 /// number, and `WrongKind` where the field holds a reference. Constant time.
 #[tactic(auto, unfolding(k_types::specs::Replies::first_fault, k_types::specs::Replies::fault_where))]
-pub fn read_number(count: u32, field: u32, stored: Stored) -> Result<u64, Fault>
+pub(crate) fn read_number(count: u32, field: u32, stored: Stored) -> Result<u64, Fault>
     ensures fine { IfOk result (λ number. first_fault (field_faults count field (is_ref (content_of stored))) ≡ None) }
     ensures there { IfOk result (λ number. field < count) }
     ensures value { IfOk result (λ number. content_of stored ≡ Holds number) }

@@ -1,18 +1,31 @@
-//! Loads from objects of the kernel.
-ghost use Rattle.std.specs.Prelude.{◌≡◌, option_map};
-ghost use Rattle.k_commit.specs.Met.{BeforeWithKernel};
-ghost use Rattle.k_commit.specs.Stepped.{HasSteppedWithKernel};
+//! Loads from objects of another heap.
+ghost use Rattle.std.specs.Prelude.{◌≡◌, ◌<◌, IsTrue, Some, is_some, option_map};
+ghost use Rattle.k_commit.specs.Beside.{HasSteppedWith};
+ghost use Rattle.k_frame.specs.PartUpdates.{held_in};
 ghost use Rattle.k_pair.specs.Operating.{HaveMetFor};
 ghost use Rattle.k_types.specs.Names.{name_of};
 ghost use Rattle.k_types.specs.declared.op.Op.TheVariants.{Load};
 
+use crate::committing::commit;
 use crate::faults::read_reference;
-use crate::storing::object_in;
+use crate::names::StepName;
+use crate::other::OtherCell;
 use k_book::Book;
-use k_commit::{commit_with_kernel, set_register};
+use k_commit::set_register;
 use k_heap::HeapCell;
-use k_kernel::KernelCell;
 use k_types::{Event, Link, Name, Op, Reg, Reply};
+
+/// The object that the register holds.
+pub(crate) fn object_in(cell: &HeapCell, base: Reg) -> Name
+    requires register { base.0 < 16 }
+    requires there { IsTrue (is_some (held_in cell.now.value.process base.0)) }
+    ensures { held_in cell.now.value.process base.0 ≡ Some result }
+{
+    let Some(link) = cell.reg(base) else {
+        unreachable!()
+    };
+    link.name()
+}
 
 /// A reference to the object.
 fn linked(value: Option<Name>) -> Option<Link>
@@ -25,25 +38,24 @@ fn linked(value: Option<Name>) -> Option<Link>
 }
 
 /// The operation `load`.
-pub(crate) fn load(
+pub(crate) fn load<O: OtherCell, S: StepName>(
     cell: &mut HeapCell,
-    kernel: &mut KernelCell,
+    other: &mut O,
     book: &mut Book,
     reg: Reg,
     base: Reg,
     field: u32,
 ) -> Event
-    ghost before: { BeforeWithKernel }
-    requires { HaveMetFor before cell.old kernel.old book.old (Load reg base field) }
-    ensures { HasSteppedWithKernel before.own.trace (Load reg base field) before.own.cell cell.new before.kernel kernel.new before.own.book book.new result }
+    requires { HaveMetFor S.before cell.old (O.seen other.old) book.old (Load reg base field) }
+    ensures { HasSteppedWith S.before.own.trace (Load reg base field) S.before.own.cell cell.new S.before.other (O.seen other.new) S.before.own.book book.new result }
 {
     let op = Op::Load { reg, base, field };
     let at = object_in(cell, base);
-    match read_reference(kernel.field_count(at), field, kernel.field(at, field)) {
+    match read_reference(other.field_count(at), field, other.field(at, field)) {
         Ok(value) => {
             set_register(cell, book, reg, linked(value));
-            commit_with_kernel(cell, kernel, book, op, Reply::Loaded(value))
+            commit::<O, S>(cell, other, book, op, Reply::Loaded(value))
         }
-        Err(fault) => commit_with_kernel(cell, kernel, book, op, Reply::Refused(fault)),
+        Err(fault) => commit::<O, S>(cell, other, book, op, Reply::Refused(fault)),
     }
 }

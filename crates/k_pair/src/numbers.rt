@@ -1,29 +1,28 @@
-//! Numbers in fields of objects of the kernel.
-ghost use Rattle.k_commit.specs.Met.{BeforeWithKernel};
-ghost use Rattle.k_commit.specs.Stepped.{HasSteppedWithKernel};
+//! Numbers in fields of objects of another heap. They are written in any phase of a shared heap.
+ghost use Rattle.k_commit.specs.Beside.{HasSteppedWith};
 ghost use Rattle.k_pair.specs.Operating.{HaveMetFor};
 ghost use Rattle.k_types.specs.declared.op.Op.TheVariants.{Get, Put};
 
+use crate::committing::commit;
 use crate::faults::read_number;
-use crate::storing::object_in;
+use crate::loading::object_in;
+use crate::names::StepName;
+use crate::other::OtherCell;
 use k_book::Book;
-use k_commit::commit_with_kernel;
 use k_heap::HeapCell;
-use k_kernel::KernelCell;
 use k_types::{Event, Op, Reg, Reply};
 
 /// The operation `put`.
-pub(crate) fn put(
+pub(crate) fn put<O: OtherCell, S: StepName>(
     cell: &mut HeapCell,
-    kernel: &mut KernelCell,
+    other: &mut O,
     book: &mut Book,
     base: Reg,
     field: u32,
     number: u64,
 ) -> Event
-    ghost before: { BeforeWithKernel }
-    requires { HaveMetFor before cell.old kernel.old book.old (Put base field number) }
-    ensures { HasSteppedWithKernel before.own.trace (Put base field number) before.own.cell cell.new before.kernel kernel.new before.own.book book.new result }
+    requires { HaveMetFor S.before cell.old (O.seen other.old) book.old (Put base field number) }
+    ensures { HasSteppedWith S.before.own.trace (Put base field number) S.before.own.cell cell.new S.before.other (O.seen other.new) S.before.own.book book.new result }
 {
     let op = Op::Put {
         base,
@@ -31,31 +30,30 @@ pub(crate) fn put(
         number,
     };
     let at = object_in(cell, base);
-    match read_number(kernel.field_count(at), field, kernel.field(at, field)) {
+    match read_number(other.field_count(at), field, other.field(at, field)) {
         Ok(_) => {
-            kernel.write_int(at, field, number);
-            commit_with_kernel(cell, kernel, book, op, Reply::Done)
+            other.write_int(at, field, number);
+            commit::<O, S>(cell, other, book, op, Reply::Done)
         }
-        Err(fault) => commit_with_kernel(cell, kernel, book, op, Reply::Refused(fault)),
+        Err(fault) => commit::<O, S>(cell, other, book, op, Reply::Refused(fault)),
     }
 }
 
 /// The operation `get`.
-pub(crate) fn get(
+pub(crate) fn get<O: OtherCell, S: StepName>(
     cell: &mut HeapCell,
-    kernel: &mut KernelCell,
+    other: &mut O,
     book: &mut Book,
     base: Reg,
     field: u32,
 ) -> Event
-    ghost before: { BeforeWithKernel }
-    requires { HaveMetFor before cell.old kernel.old book.old (Get base field) }
-    ensures { HasSteppedWithKernel before.own.trace (Get base field) before.own.cell cell.new before.kernel kernel.new before.own.book book.new result }
+    requires { HaveMetFor S.before cell.old (O.seen other.old) book.old (Get base field) }
+    ensures { HasSteppedWith S.before.own.trace (Get base field) S.before.own.cell cell.new S.before.other (O.seen other.new) S.before.own.book book.new result }
 {
     let op = Op::Get { base, field };
     let at = object_in(cell, base);
-    match read_number(kernel.field_count(at), field, kernel.field(at, field)) {
-        Ok(number) => commit_with_kernel(cell, kernel, book, op, Reply::Value(number)),
-        Err(fault) => commit_with_kernel(cell, kernel, book, op, Reply::Refused(fault)),
+    match read_number(other.field_count(at), field, other.field(at, field)) {
+        Ok(number) => commit::<O, S>(cell, other, book, op, Reply::Value(number)),
+        Err(fault) => commit::<O, S>(cell, other, book, op, Reply::Refused(fault)),
     }
 }

@@ -10,6 +10,7 @@ use Rattle.k_heap.specs.Holdings.{HoldingsValue}
 use Rattle.k_heap.specs.Heaps.{HeapRecord}
 use Rattle.k_locked.specs.SharedHeaps.{SharedRecord}
 use Rattle.k_locked.specs.Met.{CanMeet, HeapHasMet, KernelHasMet, SharedHasMet}
+use Rattle.k_locked.specs.Others.{held_by, shared_by}
 use Rattle.k_locked.specs.Standing.{BookStands}
 use Rattle.k_locked.specs.Keeping.{HeapKeeps, KernelKeeps, SharedKeeps}
 use Rattle.k_agree.proofs.WithinRooms.{met_follows}
@@ -36,7 +37,7 @@ module _ (trace : Trace) (tie : TableId) (b l : BookRecord) (k : BookStands trac
       (other_keeps trace tie c (record c { note = met_note b.journal c.note }) h refl s.told.shows.agrees h.table refl (met_follows trace b.journal b.value c.pid.0 c.note c.value h.agrees k.agrees h.follows s.told.fits) refl (λ lives. lives))
 
   pub met_kernel : (c w : HoldingsValue) → KernelKeeps trace tie c → KernelHasMet trace c w b l → KernelKeeps trace tie w
-  met_kernel c w h s = subst (KernelKeeps trace tie) (sym s.kernel_is) (record {
+  met_kernel c w h s = subst (KernelKeeps trace tie) (sym (ap held_by s.other_is)) (record {
     rules = h.rules;
     agrees = s.told.shows.agrees;
     table = h.table;
@@ -47,7 +48,7 @@ module _ (trace : Trace) (tie : TableId) (b l : BookRecord) (k : BookStands trac
   })
 
   pub met_shared : (c w : SharedRecord) → SharedKeeps trace tie c → SharedHasMet trace c w b l → SharedKeeps trace tie w
-  met_shared c w h s = subst (SharedKeeps trace tie) (sym s.shared_is) (record {
+  met_shared c w h s = subst (SharedKeeps trace tie) (sym (ap shared_by s.other_is)) (record {
     rules = h.rules;
     agrees = s.told.shows.agrees;
     table = h.table;

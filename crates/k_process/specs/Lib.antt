@@ -5,4 +5,6 @@ pub use Rattle.k_locked.specs.Keeping
 pub use Rattle.k_locked.specs.Rooms
 pub use Rattle.k_locked.specs.Standing as CommitStanding
 pub use Rattle.k_locked.specs.Stepped
+pub use Rattle.k_locked.specs.Beside
+pub use Rattle.k_locked.specs.Others
 pub use Rattle.k_locked.specs.Published

@@ -1,6 +1,5 @@
 pub mod Reaching
-pub use Rattle.k_sharing.specs.Operating
-pub use Rattle.k_sharing.specs.PairOperating
+pub use Rattle.k_pair.specs.Operating
 pub use Rattle.k_own.specs.Own
 pub use Rattle.k_depart.specs.Absorbing
 pub use Rattle.k_depart.specs.Exiting

@@ -22,7 +22,7 @@ pub use k_collect::{
 pub use k_commit::publish;
 pub use k_depart::{absorb, exit, kill};
 pub use k_own::step_own;
-pub use k_sharing::{step_kernel, step_shared};
+pub use k_pair::{step_kernel, step_shared};
 pub use laws::{ends_are_told_once, reached_cells_are_touched};
 pub use reached::Reach;
 pub use reaching::reach;

@@ -1,7 +1,7 @@
 use Rattle.std.proofs.Common.{◌∙◌, sym, inl, inr}
 use Rattle.k_types.specs.Steps.{in_range}
 use Rattle.k_operate.specs.Own.{is_collect}
-use Rattle.k_operate.specs.PairOperating.{collects_or_exits}
+use Rattle.k_operate.specs.Operating.{collects_or_exits}
 use Rattle.k_limits.proofs.Making.{handed_on}
 use Rattle.k_calls.specs.declared.errors.HostError.TheVariants.{Full, OwnCall, Unknown}
 use Rattle.k_calls.specs.Doing.{HasItemRoom}

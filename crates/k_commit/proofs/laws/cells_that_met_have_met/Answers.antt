@@ -1,4 +1,5 @@
-use Rattle.k_commit.proofs.Meetings.{heap_has_met, kernel_has_met, shared_has_met}
+use Rattle.k_commit.specs.Others.{of_kernel, of_shared}
+use Rattle.k_commit.proofs.Meetings.{heap_has_met, other_has_met}
 use Rattle.k_commit.proofs.laws.cells_that_met_have_met.Goals as goal
 
 pub returns-clause-alone : goal.returns-clause-alone
@@ -6,8 +7,8 @@ returns-clause-alone c = λ trace w cell b book book_stands heap_stands met. hea
 
 pub returns-clause-kernel : goal.returns-clause-kernel
 returns-clause-kernel c = λ trace w cell k kernel b book last book_stands heap_stands stands met second.
-    kernel_has_met trace w cell b book met k kernel last book_stands heap_stands stands second
+    other_has_met trace w cell b book met (of_kernel k) (of_kernel kernel) last book_stands heap_stands stands stands.agrees.tail second
 
 pub returns-clause-shared : goal.returns-clause-shared
 returns-clause-shared c = λ trace w cell s shared b book last book_stands heap_stands stands met second.
-    shared_has_met trace w cell b book met s shared last book_stands heap_stands stands second
+    other_has_met trace w cell b book met (of_shared s) (of_shared shared) last book_stands heap_stands stands stands.agrees.tail second

@@ -2,6 +2,7 @@ use Rattle.std.proofs.Common.{ap, subst, ◌∙◌}
 use Rattle.k_types.specs.declared.names.Heap.TheVariants.{Shared}
 use Rattle.k_tie.specs.Values.{NoteValue}
 use Rattle.k_agree.specs.Meeting.{Fits, met_note}
+use Rattle.k_commit.specs.Others.{of_shared, with_note}
 use Rattle.k_commit.proofs.Meetings.{told_by}
 use Rattle.k_commit.proofs.meeting.meet_shared.Goals as goal
 
@@ -10,7 +11,7 @@ returns g c =
     let b = c.args.book.now in
     let before = c.args.shared.now in
     record {
-      shared_is = ap (λ (note : NoteValue). record before { note = note }) (c.meet.ensures.note ∙ ap (met_note b.journal) c.note_mut.ensures.value);
+      other_is = ap (λ (note : NoteValue). with_note note (of_shared before)) (c.meet.ensures.note ∙ ap (met_note b.journal) c.note_mut.ensures.value);
       book_is = c.meet.ensures.same;
       told =
           told_by g.trace (Shared c.args.shared.now.id) before.note before.value b c.requires

@@ -66,7 +66,7 @@ cut_exits-requires g c =
 
 pub pass_exits-requires-clause-idle : goal.pass_exits-requires-clause-idle
 pass_exits-requires-clause-idle g c =
-    ap (λ (x : HoldingsValue). x.value.collection) c.cut_exits.ensures.cell ∙ ap (λ (v : CellValue). v.collection) c.cut_exits.ensures.cut.rest ∙ c.requires.have_met.kernel.idle
+    ap (λ (x : HoldingsValue). x.value.collection) c.cut_exits.ensures.cell ∙ ap (λ (v : CellValue). v.collection) c.cut_exits.ensures.cut.rest ∙ c.requires.have_met.other.idle
 
 pub pass_exits-requires-clause-entered : goal.pass_exits-requires-clause-entered
 pass_exits-requires-clause-entered g c =

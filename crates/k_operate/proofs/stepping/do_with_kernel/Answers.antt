@@ -10,5 +10,5 @@ returns g c = record {
   done =
       done_with_kernel g.world' c.args.process.now c.args.book.now c.step_kernel.new.book c.args.op.now c.step_kernel.new.cell c.step_kernel.result c.args.kernel.now c.step_kernel.new.kernel c.requires c.step_kernel.ensures;
   events =
-      stepped_adds g.world'.trace c.args.op.now c.args.process.now (record c.args.process.now { cell = c.step_kernel.new.cell }) c.args.book.now c.step_kernel.new.book c.step_kernel.result c.requires.due.steps c.requires.due.settled c.step_kernel.ensures.own;
+      stepped_adds g.world'.trace c.args.op.now c.args.process.now (record c.args.process.now { cell = c.step_kernel.new.cell }) c.args.book.now c.step_kernel.new.book c.step_kernel.result c.requires.due.steps c.requires.due.settled c.step_kernel.ensures.beside.own;
 }

@@ -10,5 +10,5 @@ returns g c = record {
   done =
       done_with_shared g.world' c.args.process.now c.args.book.now c.step_shared.new.book c.args.op.now c.step_shared.new.cell c.step_shared.result c.args.shared.now c.step_shared.new.shared c.requires c.step_shared.ensures;
   events =
-      stepped_adds g.world'.trace c.args.op.now c.args.process.now (record c.args.process.now { cell = c.step_shared.new.cell }) c.args.book.now c.step_shared.new.book c.step_shared.result c.requires.due.steps c.requires.due.settled c.step_shared.ensures.own;
+      stepped_adds g.world'.trace c.args.op.now c.args.process.now (record c.args.process.now { cell = c.step_shared.new.cell }) c.args.book.now c.step_shared.new.book c.step_shared.result c.requires.due.steps c.requires.due.settled c.step_shared.ensures.beside.own;
 }

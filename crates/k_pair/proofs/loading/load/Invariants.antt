@@ -1,7 +1,4 @@
 use Rattle.k_pair.proofs.loading.load.Given as goal
 
 abbrev pub ghost-set_register : goal.ghost-set_register
-ghost-set_register g a = g.before.own
-
-abbrev pub ghost-commit_with_kernel : goal.ghost-commit_with_kernel
-ghost-commit_with_kernel g a = g.before
+ghost-set_register g a = g.S.StepName.before.own

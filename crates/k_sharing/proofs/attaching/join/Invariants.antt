@@ -1,4 +1,0 @@
-use Rattle.k_sharing.proofs.attaching.join.Given as goal
-
-abbrev pub ghost-charge_process : goal.ghost-charge_process
-ghost-charge_process g a = g.trace

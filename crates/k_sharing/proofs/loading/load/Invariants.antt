@@ -1,7 +1,0 @@
-use Rattle.k_sharing.proofs.loading.load.Given as goal
-
-abbrev pub ghost-set_register : goal.ghost-set_register
-ghost-set_register g a = g.before.own
-
-abbrev pub ghost-commit_with_shared : goal.ghost-commit_with_shared
-ghost-commit_with_shared g a = g.before
