@@ -3,7 +3,7 @@ use Rattle.std.specs.Prelude.{◌≡◌, ℕ, ◌+◌, ◌==◌, ◌<◌, ◌&&�
 use Rattle.k_types.specs.declared.event.Event.TheVariants.{Done as DoneEvent}
 use Rattle.k_types.specs.declared.event.Fault.TheVariants.{Null, NoField, WrongKind}
 use Rattle.k_types.specs.declared.event.Reply.{Reply}
-use Rattle.k_types.specs.declared.event.Reply.TheVariants.{Done, Loaded, Value, Refused}
+use Rattle.k_types.specs.declared.event.Reply.TheVariants.{Done, Made, Loaded, Value, Refused}
 use Rattle.k_types.specs.declared.names.Name.{Name}
 use Rattle.k_types.specs.declared.names.Pid.{Pid}
 use Rattle.k_types.specs.declared.op.Op.{Op}
@@ -25,7 +25,7 @@ use Rattle.k_squares.specs.Answers.{reply_in}
 use Rattle.k_squares.specs.CellAfter.{cell_after, unless_refused}
 use Rattle.k_heap.specs.Changes.{with_field}
 use Rattle.k_heap.specs.Looks.{field_among, field_count_among}
-use Rattle.k_heap.specs.Heaps.{with_register_in}
+use Rattle.k_heap.specs.Heaps.{HeapRecord, with_register_in}
 
 -- the answer to an access to the field of the object, by whether it is of the wanted kind and what is answered if it is; none
 -- where the object is not the process's own
@@ -85,6 +85,14 @@ abbrev pub loaded_through : CellValue → Option Name → ℕ → Option Name
 loaded_through v None i = None
 loaded_through v (Some x) i = reference (field_among v.objects x i)
 
+-- the reference that a load is answered; null where the reply is another one
+abbrev pub answered_by : Reply → Option Name
+answered_by Done = None
+answered_by (Made n) = None
+answered_by (Loaded value) = value
+answered_by (Value n) = None
+answered_by (Refused fault) = None
+
 -- what a local operation changes in the cell where it is not refused
 unfoldable pub local_change : CellValue → Op → CellValue
 local_change v (New r ty) = v
@@ -115,6 +123,10 @@ after_local pid op said v = record (with_one_done (unless_refused said (local_ch
 abbrev pub is_refusal : Reply → Bool
 is_refusal (Refused fault) = true
 is_refusal _ = false
+
+-- the cell has that value in place of its own, unless the reply is a fault
+abbrev pub IsChanged : HeapRecord → HeapRecord → Reply → CellValue → Type 0
+IsChanged old new said changed = new ≡ record old { value = unless_refused said changed old.value }
 
 -- the registers that a local operation names are there
 abbrev pub HasRegisters : Op → Type 0

@@ -1,5 +1,5 @@
 //! An operation done inside the process's own heap.
-ghost use Rattle.std.specs.Prelude.{◌≡◌, ◌<◌, ◌-◌, ◌^◌, ◌==◌, ◌+◌, IfNone, IfSome, IsFalse, IsTrue, Some, None, is_some, length, option_map, if◌then◌else◌};
+ghost use Rattle.std.specs.Prelude.{◌≡◌, ◌<◌, ◌-◌, ◌^◌, ◌==◌, ◌+◌, ◌&&◌, not, nat_le, IfNone, IfSome, IsFalse, IsTrue, Some, None, is_some, length, option_map, if◌then◌else◌};
 ghost use Rattle.k_types.specs.declared.names.CellPhase.TheVariants.{Idle};
 ghost use Rattle.k_types.specs.Cells.{BookPart, Cell, CellPart};
 ghost use Rattle.k_types.specs.Local.{is_own};
@@ -14,8 +14,9 @@ ghost use Rattle.k_agree.specs.Marking.{idle_part};
 ghost use Rattle.k_squares.specs.CellAfter.{unless_refused};
 ghost use Rattle.k_squares.specs.Locals.{is_local_in};
 ghost use Rattle.k_space.specs.Objects.{content_of};
+ghost use Rattle.k_heap.specs.Heaps.{with_register_in};
 ghost use Rattle.k_heap.specs.Looks.{field_among, field_count_among};
-ghost use Rattle.k_local.specs.Locals.{HasRegisters, IsMachines, LeavesTheBook, ShowOwn, after_local, field_answer, get_answer, is_refusal, load_answer, loaded_through, local_answer, local_change, put_answer, store_answer, written_through};
+ghost use Rattle.k_local.specs.Locals.{HasRegisters, IsChanged, IsMachines, LeavesTheBook, ShowOwn, after_local, answered_by, field_answer, get_answer, is_refusal, load_answer, loaded_through, local_answer, local_change, put_answer, store_answer, written_through};
 
 use k_heap::HeapCell;
 use k_space::Stored;
@@ -37,8 +38,7 @@ pub fn local(cell: &mut HeapCell, op: &Op) -> Option<Reply>
     ensures book { IfSome result (λ said. LeavesTheBook cell.old.pid cell.old.value op.now said) }
     ensures some { IfSome result (λ said. cell.new ≡ record cell.old { value = after_local cell.old.pid op.now said cell.old.value }) }
 {
-    let reply = answer(cell, op)?;
-    change(cell, op, reply);
+    let reply = apply(cell, op)?;
     cell.count_done();
     let pid = cell.pid();
     cell.push_tail(Event::Done {
@@ -117,20 +117,35 @@ fn number_in(stored: Stored) -> u64
     }
 }
 
-/// The answer to an access to the field of the object.
+/// Whether the object has the field, where its look-up finds that. Every reference stands in a field that is there, and every number
+/// but 0: so a 0 alone asks for the number of fields.
+fn is_there(cell: &HeapCell, at: Name, field: u32, found: Stored) -> bool
+    requires { content_of found ≡ field_among cell.now.value.objects at field }
+    ensures { result ≡ not (nat_le (field_count_among cell.now.value.objects at) field) }
+{
+    match found {
+        Stored::Null => true,
+        Stored::Refers(_) => true,
+        Stored::Holds(number) => number != 0 || field < cell.field_count(at),
+    }
+}
+
+/// The answer to an access to the field of the object, whose look-up finds that.
 fn field_answer(
     cell: &HeapCell,
     at: Name,
     field: u32,
+    found: Stored,
     of_kind: bool,
     answer: Option<Reply>,
 ) -> Option<Reply>
+    requires { content_of found ≡ field_among cell.now.value.objects at field }
     ensures { result ≡ field_answer cell.now.value cell.now.pid.0 at field of_kind answer }
 {
     if !lies_in(cell.pid(), at) {
         return None;
     }
-    if cell.field_count(at) <= field {
+    if !is_there(cell, at, field, found) {
         return Some(Reply::Refused(Fault::NoField));
     }
     if of_kind {
@@ -169,8 +184,9 @@ fn store_answer(
     let Some(at) = base else {
         return Some(Reply::Refused(Fault::Null));
     };
+    let stored = cell.field(at, field);
     let answer = done_if(is_own(cell.pid(), value));
-    field_answer(cell, at, field, is_ref(cell.field(at, field)), answer)
+    field_answer(cell, at, field, stored, is_ref(stored), answer)
 }
 
 fn load_answer(cell: &HeapCell, base: Option<Name>, field: u32, old: Option<Name>) -> Option<Reply>
@@ -182,7 +198,8 @@ fn load_answer(cell: &HeapCell, base: Option<Name>, field: u32, old: Option<Name
     let stored = cell.field(at, field);
     let value = reference(stored);
     let both = is_own(cell.pid(), value) && is_own(cell.pid(), old);
-    field_answer(cell, at, field, is_ref(stored), loaded_if(both, value))
+    let answer = loaded_if(both, value);
+    field_answer(cell, at, field, stored, is_ref(stored), answer)
 }
 
 fn put_answer(cell: &HeapCell, base: Option<Name>, field: u32) -> Option<Reply>
@@ -191,8 +208,8 @@ fn put_answer(cell: &HeapCell, base: Option<Name>, field: u32) -> Option<Reply>
     let Some(at) = base else {
         return Some(Reply::Refused(Fault::Null));
     };
-    let of_kind = !is_ref(cell.field(at, field));
-    field_answer(cell, at, field, of_kind, Some(Reply::Done))
+    let stored = cell.field(at, field);
+    field_answer(cell, at, field, stored, !is_ref(stored), Some(Reply::Done))
 }
 
 fn get_answer(cell: &HeapCell, base: Option<Name>, field: u32) -> Option<Reply>
@@ -203,32 +220,142 @@ fn get_answer(cell: &HeapCell, base: Option<Name>, field: u32) -> Option<Reply>
     };
     let stored = cell.field(at, field);
     let answer = Some(Reply::Value(number_in(stored)));
-    field_answer(cell, at, field, !is_ref(stored), answer)
+    field_answer(cell, at, field, stored, !is_ref(stored), answer)
 }
 
-/// What the operation is answered; `None` where it is not local.
-#[tactic(auto, unfolding(crate::specs::Locals::local_answer))]
-fn answer(cell: &HeapCell, op: &Op) -> Option<Reply>
-    requires { HasRegisters op.now }
-    ensures { result ≡ local_answer cell.now.value cell.now.pid.0 op.now }
+/// Whether the reply is a fault.
+fn is_refusal(reply: Reply) -> bool
+    ensures { result ≡ is_refusal reply }
+{
+    match reply {
+        Reply::Done => false,
+        Reply::Made(_) => false,
+        Reply::Loaded(_) => false,
+        Reply::Value(_) => false,
+        Reply::Refused(_) => true,
+    }
+}
+
+/// The reference that a load is answered; null where the reply is another one.
+fn answered(reply: Reply) -> Option<Name>
+    ensures { result ≡ answered_by reply }
+{
+    match reply {
+        Reply::Loaded(value) => value,
+        Reply::Done => None,
+        Reply::Made(_) => None,
+        Reply::Value(_) => None,
+        Reply::Refused(_) => None,
+    }
+}
+
+/// Writes a reference through the base, if it is not null.
+fn write_ref(cell: &mut HeapCell, base: Option<Name>, field: u32, value: Option<Name>)
+    requires idle { cell.old.value.collection ≡ Idle }
+    requires kind { (x : Named) → base ≡ Some x → IsTrue (is_ref (field_among cell.old.value.objects x field)) }
+    ensures { cell.new ≡ record cell.old { value = written_through base field (Refers value) cell.old.value } }
+{
+    if let Some(at) = base {
+        cell.write_ref(at, field, linked(value));
+    }
+}
+
+/// Writes a number through the base, if it is not null.
+fn write_int(cell: &mut HeapCell, base: Option<Name>, field: u32, number: u64)
+    requires idle { cell.old.value.collection ≡ Idle }
+    requires there { (x : Named) → base ≡ Some x → field < field_count_among cell.old.value.objects x }
+    requires kind { (x : Named) → base ≡ Some x → IsFalse (is_ref (field_among cell.old.value.objects x field)) }
+    ensures { cell.new ≡ record cell.old { value = written_through base field (Holds number) cell.old.value } }
+{
+    if let Some(at) = base {
+        cell.write_int(at, field, number);
+    }
+}
+
+/// Stores what the register holds, and answers; `None` where that is not local.
+fn store(cell: &mut HeapCell, base: Reg, field: u32, value: Reg) -> Option<Reply>
+    requires registers { (base.0 < 16) × (value.0 < 16) }
+    requires idle { cell.old.value.collection ≡ Idle }
+    ensures answer { result ≡ store_answer cell.old.value cell.old.pid.0 (held_in cell.old.value.process base.0) field (held_in cell.old.value.process value.0) }
+    ensures none { IfNone result (cell.new ≡ cell.old) }
+    ensures some { IfSome result (λ said. IsChanged cell.old cell.new said (written_through (held_in cell.old.value.process base.0) field (Refers (held_in cell.old.value.process value.0)) cell.old.value)) }
+{
+    let into = held(cell, base);
+    let stored = held(cell, value);
+    let reply = store_answer(cell, into, field, stored)?;
+    if !is_refusal(reply) {
+        write_ref(cell, into, field, stored);
+    }
+    Some(reply)
+}
+
+/// Loads into the register, and answers; `None` where that is not local.
+fn load(cell: &mut HeapCell, reg: Reg, base: Reg, field: u32) -> Option<Reply>
+    requires registers { (reg.0 < 16) × (base.0 < 16) }
+    ensures answer { result ≡ load_answer cell.old.value cell.old.pid.0 (held_in cell.old.value.process base.0) field (held_in cell.old.value.process reg.0) }
+    ensures none { IfNone result (cell.new ≡ cell.old) }
+    ensures some { IfSome result (λ said. IsChanged cell.old cell.new said (with_register_in reg.0 (loaded_through cell.old.value (held_in cell.old.value.process base.0) field) cell.old.value)) }
+{
+    let reply = load_answer(cell, held(cell, base), field, held(cell, reg))?;
+    if !is_refusal(reply) {
+        cell.set_reg(reg, linked(answered(reply)));
+    }
+    Some(reply)
+}
+
+/// Puts the number, and answers; `None` where that is not local.
+fn put(cell: &mut HeapCell, base: Reg, field: u32, number: u64) -> Option<Reply>
+    requires register { base.0 < 16 }
+    requires idle { cell.old.value.collection ≡ Idle }
+    ensures answer { result ≡ put_answer cell.old.value cell.old.pid.0 (held_in cell.old.value.process base.0) field }
+    ensures none { IfNone result (cell.new ≡ cell.old) }
+    ensures some { IfSome result (λ said. IsChanged cell.old cell.new said (written_through (held_in cell.old.value.process base.0) field (Holds number) cell.old.value)) }
+{
+    let into = held(cell, base);
+    let reply = put_answer(cell, into, field)?;
+    if !is_refusal(reply) {
+        write_int(cell, into, field, number);
+    }
+    Some(reply)
+}
+
+/// Has the register hold the reference, and answers; `None` where that is not local, since it held or is to hold a foreign one.
+fn set(cell: &mut HeapCell, reg: Reg, value: Option<Name>) -> Option<Reply>
+    requires register { reg.0 < 16 }
+    ensures answer { result ≡ (if is_own cell.old.pid.0 (held_in cell.old.value.process reg.0) && is_own cell.old.pid.0 value then Some Done else None) }
+    ensures none { IfNone result (cell.new ≡ cell.old) }
+    ensures some { IfSome result (λ said. IsChanged cell.old cell.new said (with_register_in reg.0 value cell.old.value)) }
+{
+    let pid = cell.pid();
+    if !is_own(pid, held(cell, reg)) || !is_own(pid, value) {
+        return None;
+    }
+    cell.set_reg(reg, linked(value));
+    Some(Reply::Done)
+}
+
+/// Answers the operation, and changes what it changes where it is not refused. `None` changes nothing, and comes where it is not local.
+#[tactic(auto, unfolding(crate::specs::Locals::local_answer, crate::specs::Locals::local_change))]
+fn apply(cell: &mut HeapCell, op: &Op) -> Option<Reply>
+    requires registers { HasRegisters op.now }
+    requires idle { cell.old.value.collection ≡ Idle }
+    ensures answer { result ≡ local_answer cell.old.value cell.old.pid.0 op.now }
+    ensures none { IfNone result (cell.new ≡ cell.old) }
+    ensures some { IfSome result (λ said. IsChanged cell.old cell.new said (local_change cell.old.value op.now)) }
 {
     match *op {
-        Op::Store { base, field, value } => {
-            store_answer(cell, held(cell, base), field, held(cell, value))
-        }
-        Op::Load { reg, base, field } => {
-            load_answer(cell, held(cell, base), field, held(cell, reg))
-        }
+        Op::Store { base, field, value } => store(cell, base, field, value),
+        Op::Load { reg, base, field } => load(cell, reg, base, field),
         Op::Move { reg, from } => {
-            let both = is_own(cell.pid(), held(cell, reg)) && is_own(cell.pid(), held(cell, from));
-            done_if(both)
+            let value = held(cell, from);
+            set(cell, reg, value)
         }
-        Op::Clear { reg } => done_if(is_own(cell.pid(), held(cell, reg))),
+        Op::Clear { reg } => set(cell, reg, None),
         Op::Put {
             base,
             field,
-            number: _,
-        } => put_answer(cell, held(cell, base), field),
+            number,
+        } => put(cell, base, field, number),
         Op::Get { base, field } => get_answer(cell, held(cell, base), field),
         Op::New { reg: _, ty: _ } => None,
         Op::KNew { reg: _, ty: _ } => None,
@@ -246,106 +373,5 @@ fn answer(cell: &HeapCell, op: &Op) -> Option<Reply>
         Op::Exit => None,
         Op::Kill { target: _ } => None,
         Op::Resize { limit: _, max: _ } => None,
-    }
-}
-
-/// What a load through the base reads.
-fn loaded(cell: &HeapCell, base: Option<Name>, field: u32) -> Option<Name>
-    ensures { result ≡ loaded_through cell.now.value base field }
-{
-    match base {
-        Some(at) => reference(cell.field(at, field)),
-        None => None,
-    }
-}
-
-/// Writes a reference through the base, if it is not null.
-fn store(cell: &mut HeapCell, base: Option<Name>, field: u32, value: Option<Name>)
-    requires idle { cell.old.value.collection ≡ Idle }
-    requires kind { (x : Named) → base ≡ Some x → IsTrue (is_ref (field_among cell.old.value.objects x field)) }
-    ensures { cell.new ≡ record cell.old { value = written_through base field (Refers value) cell.old.value } }
-{
-    if let Some(at) = base {
-        cell.write_ref(at, field, linked(value));
-    }
-}
-
-/// Writes a number through the base, if it is not null.
-fn put(cell: &mut HeapCell, base: Option<Name>, field: u32, number: u64)
-    requires idle { cell.old.value.collection ≡ Idle }
-    requires there { (x : Named) → base ≡ Some x → field < field_count_among cell.old.value.objects x }
-    requires kind { (x : Named) → base ≡ Some x → IsFalse (is_ref (field_among cell.old.value.objects x field)) }
-    ensures { cell.new ≡ record cell.old { value = written_through base field (Holds number) cell.old.value } }
-{
-    if let Some(at) = base {
-        cell.write_int(at, field, number);
-    }
-}
-
-/// Changes what the operation changes where it is not refused.
-#[tactic(auto, unfolding(crate::specs::Locals::local_change))]
-fn apply(cell: &mut HeapCell, op: &Op, reply: Reply)
-    requires registers { HasRegisters op.now }
-    requires idle { cell.old.value.collection ≡ Idle }
-    requires answer { local_answer cell.old.value cell.old.pid.0 op.now ≡ Some reply }
-    requires goes_on { IsFalse (is_refusal reply) }
-    ensures { cell.new ≡ record cell.old { value = local_change cell.old.value op.now } }
-{
-    match *op {
-        Op::Store { base, field, value } => {
-            let value = held(cell, value);
-            let base = held(cell, base);
-            store(cell, base, field, value);
-        }
-        Op::Load { reg, base, field } => {
-            let value = loaded(cell, held(cell, base), field);
-            cell.set_reg(reg, linked(value));
-        }
-        Op::Move { reg, from } => {
-            let value = held(cell, from);
-            cell.set_reg(reg, linked(value));
-        }
-        Op::Clear { reg } => cell.set_reg(reg, None),
-        Op::Put {
-            base,
-            field,
-            number,
-        } => {
-            let base = held(cell, base);
-            put(cell, base, field, number);
-        }
-        Op::Get { base: _, field: _ } => {}
-        Op::New { reg: _, ty: _ } => {}
-        Op::KNew { reg: _, ty: _ } => {}
-        Op::SNew {
-            reg: _,
-            shared: _,
-            ty: _,
-        } => {}
-        Op::Dir { reg: _ } => {}
-        Op::Collect => {}
-        Op::KCollect => {}
-        Op::Share { shared: _ } => {}
-        Op::Freeze { shared: _, root: _ } => {}
-        Op::Attach { reg: _, shared: _ } => {}
-        Op::Exit => {}
-        Op::Kill { target: _ } => {}
-        Op::Resize { limit: _, max: _ } => {}
-    }
-}
-
-/// Changes what the operation with that reply changes.
-fn change(cell: &mut HeapCell, op: &Op, reply: Reply)
-    requires registers { HasRegisters op.now }
-    requires idle { cell.old.value.collection ≡ Idle }
-    requires answer { local_answer cell.old.value cell.old.pid.0 op.now ≡ Some reply }
-    ensures { cell.new ≡ record cell.old { value = unless_refused reply (local_change cell.old.value op.now) cell.old.value } }
-{
-    match reply {
-        Reply::Done => apply(cell, op, reply),
-        Reply::Made(_) => apply(cell, op, reply),
-        Reply::Loaded(_) => apply(cell, op, reply),
-        Reply::Value(_) => apply(cell, op, reply),
-        Reply::Refused(_) => {}
     }
 }
