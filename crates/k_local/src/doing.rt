@@ -117,6 +117,17 @@ fn number_in(stored: Stored) -> u64
     }
 }
 
+/// What the look-up of the field finds, where the object is of the process's own segment.
+fn own_field(cell: &HeapCell, at: Name, field: u32) -> Option<Stored>
+    ensures own { is_some result ≡ (at.seg.0 == cell.now.pid.0 + 1) }
+    ensures found { IfSome result (λ found. content_of found ≡ field_among cell.now.value.objects at field) }
+{
+    if !lies_in(cell.pid(), at) {
+        return None;
+    }
+    Some(cell.field(at, field))
+}
+
 /// Whether the object has the field, where its look-up finds that. Every reference stands in a field that is there, and every number
 /// but 0: so a 0 alone asks for the number of fields.
 fn is_there(cell: &HeapCell, at: Name, field: u32, found: Stored) -> bool
@@ -130,7 +141,7 @@ fn is_there(cell: &HeapCell, at: Name, field: u32, found: Stored) -> bool
     }
 }
 
-/// The answer to an access to the field of the object, whose look-up finds that.
+/// The answer to an access to the field of the object, which is the process's own, and whose look-up finds that.
 fn field_answer(
     cell: &HeapCell,
     at: Name,
@@ -139,12 +150,10 @@ fn field_answer(
     of_kind: bool,
     answer: Option<Reply>,
 ) -> Option<Reply>
-    requires { content_of found ≡ field_among cell.now.value.objects at field }
+    requires own { IsTrue (at.seg.0 == cell.now.pid.0 + 1) }
+    requires found { content_of found ≡ field_among cell.now.value.objects at field }
     ensures { result ≡ field_answer cell.now.value cell.now.pid.0 at field of_kind answer }
 {
-    if !lies_in(cell.pid(), at) {
-        return None;
-    }
     if !is_there(cell, at, field, found) {
         return Some(Reply::Refused(Fault::NoField));
     }
@@ -184,7 +193,7 @@ fn store_answer(
     let Some(at) = base else {
         return Some(Reply::Refused(Fault::Null));
     };
-    let stored = cell.field(at, field);
+    let stored = own_field(cell, at, field)?;
     let answer = done_if(is_own(cell.pid(), value));
     field_answer(cell, at, field, stored, is_ref(stored), answer)
 }
@@ -195,7 +204,7 @@ fn load_answer(cell: &HeapCell, base: Option<Name>, field: u32, old: Option<Name
     let Some(at) = base else {
         return Some(Reply::Refused(Fault::Null));
     };
-    let stored = cell.field(at, field);
+    let stored = own_field(cell, at, field)?;
     let value = reference(stored);
     let both = is_own(cell.pid(), value) && is_own(cell.pid(), old);
     let answer = loaded_if(both, value);
@@ -208,7 +217,7 @@ fn put_answer(cell: &HeapCell, base: Option<Name>, field: u32) -> Option<Reply>
     let Some(at) = base else {
         return Some(Reply::Refused(Fault::Null));
     };
-    let stored = cell.field(at, field);
+    let stored = own_field(cell, at, field)?;
     field_answer(cell, at, field, stored, !is_ref(stored), Some(Reply::Done))
 }
 
@@ -218,7 +227,7 @@ fn get_answer(cell: &HeapCell, base: Option<Name>, field: u32) -> Option<Reply>
     let Some(at) = base else {
         return Some(Reply::Refused(Fault::Null));
     };
-    let stored = cell.field(at, field);
+    let stored = own_field(cell, at, field)?;
     let answer = Some(Reply::Value(number_in(stored)));
     field_answer(cell, at, field, stored, !is_ref(stored), answer)
 }
