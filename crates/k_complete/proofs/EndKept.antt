@@ -16,6 +16,7 @@ use Rattle.k_process.specs.Keeping.{operations_left}
 use Rattle.k_process.specs.declared.process.Process.{Process}
 use Rattle.k_complete.specs.Closing.{HasClosedAll}
 use Rattle.k_complete.specs.Ended.{AllThrough}
+use Rattle.k_process.specs.Heaps.{HeapsValue}
 use Rattle.k_process.specs.Over.{AllEnded, AllMet, BookEnds}
 use Rattle.k_complete.specs.Meetings.{AreSameButNotes, CellsAndBook, CellsMet, HeapsAndBook, HeapsMet, ProcessesAndBook, ProcessesMet}
 use Rattle.k_process.specs.Standing.{HasDone, IsThroughWith, ProcessStands}
@@ -74,8 +75,9 @@ module _ (world : WorldValue) (ss : List SharedRecord) (b l : BookRecord) (t : H
   heap_met_list = ap (λ (c : SharedRecord). c.note.list) (ap shared_by s.other_is) ∙ ap (λ (x : BookRecord). x.journal.list) (sym s.book_is)
 
 -- processes that are through, and what comes last is done
-pub all_closed : (world : WorldValue) (ps : List Process) (k x : HoldingsValue) (ss ts : List SharedRecord) (b l : BookRecord) → AllThrough world ps k ss b → HasClosedAll world x ts b l → AllEnded world ps x ts l
-all_closed world ps k x ss ts b l a c = record {
+pub all_closed : (world : WorldValue) (heaps : HeapsValue) (x : HoldingsValue) (ts : List SharedRecord) (l : BookRecord) → AllThrough world heaps → HasClosedAll world x ts heaps.book l →
+    AllEnded world (record { processes = heaps.processes; kernel = x; shared = ts; book = l })
+all_closed world heaps x ts l a c = record {
   processes = record { processes = a.stand.processes; through = a.through; book = c.book };
   kernel = c.kernel;
   shared = c.shared;
@@ -84,27 +86,27 @@ all_closed world ps k x ss ts b l a c = record {
 }
 
 -- all cells have met the journal
-pub cells_met : (world : WorldValue) (ps qs : List Process) (k x : HoldingsValue) (ss ts : List SharedRecord) (b c d e : BookRecord) → CellsAndBook world ps k ss b → ProcessesMet world ps qs b c → KernelHasMet world.trace k x c d →
-    HeapsMet world ts d e → CellsMet world ps qs x ts b e
-cells_met world ps qs k x ss ts b c d e all p kernel heaps =
-    let same : e ≡ c = heaps.book_is ∙ kernel.book_is in
+pub cells_met : (world : WorldValue) (heaps : HeapsValue) (qs : List Process) (x : HoldingsValue) (ts : List SharedRecord) (c d e : BookRecord) → CellsAndBook world heaps → ProcessesMet world heaps.processes qs heaps.book c →
+    KernelHasMet world.trace heaps.kernel x c d → HeapsMet world ts d e → CellsMet world heaps (record { processes = qs; kernel = x; shared = ts; book = e })
+cells_met world heaps qs x ts c d e all p kernel shared =
+    let same : e ≡ c = shared.book_is ∙ kernel.book_is in
     record {
       stand = record {
         processes = p.stand.processes;
-        kernel = met_kernel world.trace world.table c d p.stand.book.stands p.stand.book.table k x all.kernel kernel;
-        shared = heaps.stand.heaps;
-        book = heaps.stand.book;
+        kernel = met_kernel world.trace world.table c d p.stand.book.stands p.stand.book.table heaps.kernel x all.kernel kernel;
+        shared = shared.stand.heaps;
+        book = shared.stand.book;
       };
       same = p.same;
       processes_met = λ j q found. p.met j q found ∙ ap (λ (y : BookRecord). y.journal.list) (sym same);
       kernel_met = ap (λ (y : HoldingsValue). y.note.list) (ap held_by kernel.other_is) ∙ ap (λ (y : BookRecord). y.journal.list) (sym same);
-      shared_met = heaps.met;
+      shared_met = shared.met;
       book_is = same ∙ p.book_is;
     }
 
 -- what holds of runs that are ended holds once all cells have met the journal
-pub all_met : (world : WorldValue) (ps qs : List Process) (k x : HoldingsValue) (ss ts : List SharedRecord) (b e : BookRecord) → AllEnded world ps k ss b → CellsMet world ps qs x ts b e → AllMet world qs x ts e
-all_met world ps qs k x ss ts b e all m = record {
+pub all_met : (world : WorldValue) (old new : HeapsValue) → AllEnded world old → CellsMet world old new → AllMet world new
+all_met world old new all m = record {
   ended = record {
     processes = record {
       processes = m.stand.processes;

@@ -1,5 +1,5 @@
 -- All operations in the order of the file.
-use Rattle.std.proofs.Common.{◌≡◌, ℕ, ◌+◌, ◌<◌, nat_lt, true, refl, sym, ap, ap₂, ◌∙◌, subst, List, [], ◌∷◌, ◌++◌, append-nil, append_assoc, map, get_or, length, arith, IsTrue}
+use Rattle.std.proofs.Common.{◌≡◌, ℕ, ◌<◌, nat_lt, true, refl, sym, ap, ap₂, ◌∙◌, subst, List, [], ◌∷◌, ◌++◌, append-nil, append_assoc, map, get_or, length, arith, IsTrue}
 use Rattle.std.specs.List.{list_all}
 use Rattle.k_types.specs.declared.event.Event.{Event}
 use Rattle.k_types.specs.declared.names.Heap.TheVariants.{User}
@@ -18,12 +18,10 @@ use Rattle.k_order.proofs.FileOrders.{file_order_complete, order_end}
 use Rattle.k_agree.specs.Agreement.{Shows}
 use Rattle.k_agree.specs.Settled.{all_ended_in, no_orphan_in}
 use Rattle.k_book.specs.Books.{BookRecord}
-use Rattle.k_cell.specs.Holdings.{HoldingsValue}
 use Rattle.k_heap.specs.Heaps.{HeapRecord, has_ended_in}
-use Rattle.k_shared.specs.SharedHeaps.{SharedRecord}
 use Rattle.k_process.specs.Keeping.{HeapKeeps}
-use Rattle.k_process.specs.declared.process.Process.{Process}
-use Rattle.k_process.specs.Standing.{ArePublished, IsThroughWith, ProcessesStand, RestStands}
+use Rattle.k_process.specs.Heaps.{HeapsValue}
+use Rattle.k_process.specs.Standing.{AllStand, ArePublished, IsThroughWith}
 use Rattle.k_process.specs.Worlds.{WorldValue}
 use Rattle.k_complete.specs.Closing.{HasClosedAll}
 use Rattle.k_complete.specs.Meetings.{CellsMet}
@@ -63,9 +61,8 @@ next_known trace order i d rules is inside =
     process_known (process_count trace) order i d (subst (λ (ps : List ℕ). list_all (λ p. nat_lt p (process_count trace)) ps ≡ true) (sym is) rules.operations.ordered) inside
 
 -- one line more
-pub can_do_line : (world : WorldValue) (ps : List Process) (k : HoldingsValue) (ss : List SharedRecord) (b : BookRecord) → ProcessesStand world ps → RestStands world k ss b → ArePublished ps → (n : ℕ) → n < process_count world.trace →
-    CanDoLine world ps n k ss b
-can_do_line world ps k ss b processes rest published n known = record { processes = processes; rest = rest; inside = subst (λ m. n < m) (sym processes.count) known; published = published }
+pub can_do_line : (world : WorldValue) (heaps : HeapsValue) → AllStand world heaps → ArePublished heaps.processes → (n : ℕ) → n < process_count world.trace → CanDoLine world heaps n
+can_do_line world heaps stand published n known = record { stand = stand; inside = subst (λ m. n < m) (sym stand.processes.count) known; published = published }
 
 -- a process whose cell has met a complete history is through
 through_all : (world : WorldValue) (c : HeapRecord) (history : List Event) → HeapKeeps world.trace world.table c → c.note.list ≡ history → c.value.tail ≡ [] → IsComplete world.trace history → IsThroughWith world.trace c
@@ -82,15 +79,15 @@ through_all world c history h list none complete =
           drop_all (operations_of world.trace c.pid.0) (done_in c.value.process) (omega (arith, done, count, shown));
     }
 
-module _ (world : WorldValue) (ps qs : List Process) (x y : HoldingsValue) (ts us : List SharedRecord) (b l e : BookRecord) (rules : KeepsRules world.trace) (published : ArePublished ps) (files : Files world.trace b.journal.list [])
-    (closed : HasClosedAll world x ts b l) (m : CellsMet world ps qs y us l e) where
-  journal_filed : e.journal.list ≡ file_order world.trace
-  journal_filed = ap (λ (z : BookRecord). z.journal.list) m.book_is ∙ files_last world.trace b.journal.list l.journal.list files closed.journal
+module _ (world : WorldValue) (old new : HeapsValue) (b : BookRecord) (rules : KeepsRules world.trace) (published : ArePublished old.processes) (files : Files world.trace b.journal.list [])
+    (closed : HasClosedAll world old.kernel old.shared b old.book) (m : CellsMet world old new) where
+  journal_filed : new.book.journal.list ≡ file_order world.trace
+  journal_filed = ap (λ (z : BookRecord). z.journal.list) m.book_is ∙ files_last world.trace b.journal.list old.book.journal.list files closed.journal
 
-  complete : IsComplete world.trace e.journal.list
+  complete : IsComplete world.trace new.book.journal.list
   complete = subst (IsComplete world.trace) (sym journal_filed) (file_order_complete world.trace rules.operations)
 
-  pub replayed : HasReplayed world qs y us e
+  pub replayed : HasReplayed world new
   replayed = record {
     met = record {
       ended = record {
@@ -98,7 +95,7 @@ module _ (world : WorldValue) (ps qs : List Process) (x y : HoldingsValue) (ts u
           processes = m.stand.processes;
           through = λ j q found.
               let p = m.same j q found in
-              through_all world q.cell e.journal.list (m.stand.processes.each j q found).cell (m.processes_met j q found)
+              through_all world q.cell new.book.journal.list (m.stand.processes.each j q found).cell (m.processes_met j q found)
               (ap (λ (c : HeapRecord). c.value.tail) p.2 ∙ published j p.0 p.1) complete;
           book = m.stand.book;
         };

@@ -1,10 +1,10 @@
 -- Cells that all meet the journal at the end.
 use Rattle.std.specs.Prelude.{◌≡◌, ℕ, List, Some, slice_get}
 use Rattle.k_book.specs.Books.{BookRecord}
-use Rattle.k_cell.specs.Holdings.{HoldingsValue}
 use Rattle.k_shared.specs.SharedHeaps.{SharedRecord}
 use Rattle.k_process.specs.Keeping.{KernelKeeps}
 use Rattle.k_process.specs.declared.process.Process.{Process}
+use Rattle.k_process.specs.Heaps.{HeapsValue}
 use Rattle.k_process.specs.Over.{BookEnds}
 use Rattle.k_process.specs.Standing.{HeapsStand, ProcessesStand}
 use Rattle.k_process.specs.Worlds.{WorldValue}
@@ -38,17 +38,17 @@ pub record HeapsMet (world : WorldValue) (ss : List SharedRecord) (old_b b : Boo
   pub book_is : b ≡ old_b
 
 -- all processes, the kernel, all shared heaps and the book stand
-pub record CellsAndBook (world : WorldValue) (ps : List Process) (k : HoldingsValue) (ss : List SharedRecord) (b : BookRecord) : Type 0 where
-  pub processes : ProcessesStand world ps
-  pub kernel : KernelKeeps world.trace world.table k
-  pub shared : HeapsStand world ss
-  pub book : BookEnds world b
+pub record CellsAndBook (world : WorldValue) (heaps : HeapsValue) : Type 0 where
+  pub processes : ProcessesStand world heaps.processes
+  pub kernel : KernelKeeps world.trace world.table heaps.kernel
+  pub shared : HeapsStand world heaps.shared
+  pub book : BookEnds world heaps.book
 
 -- they still do, the processes and the book are as they were but for the notes, and each cell knows the whole journal
-pub record CellsMet (world : WorldValue) (old_ps ps : List Process) (k : HoldingsValue) (ss : List SharedRecord) (old_b b : BookRecord) : Type 0 where
-  pub stand : CellsAndBook world ps k ss b
-  pub same : AreSameButNotes old_ps ps
-  pub processes_met : (j : ℕ) (p : Process) → slice_get ps j ≡ Some p → p.cell.note.list ≡ b.journal.list
-  pub kernel_met : k.note.list ≡ b.journal.list
-  pub shared_met : (j : ℕ) (s : SharedRecord) → slice_get ss j ≡ Some s → s.note.list ≡ b.journal.list
-  pub book_is : b ≡ old_b
+pub record CellsMet (world : WorldValue) (old new : HeapsValue) : Type 0 where
+  pub stand : CellsAndBook world new
+  pub same : AreSameButNotes old.processes new.processes
+  pub processes_met : (j : ℕ) (p : Process) → slice_get new.processes j ≡ Some p → p.cell.note.list ≡ new.book.journal.list
+  pub kernel_met : new.kernel.note.list ≡ new.book.journal.list
+  pub shared_met : (j : ℕ) (s : SharedRecord) → slice_get new.shared j ≡ Some s → s.note.list ≡ new.book.journal.list
+  pub book_is : new.book ≡ old.book

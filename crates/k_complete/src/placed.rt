@@ -2,13 +2,13 @@
 ghost use Rattle.std.specs.Prelude.{◌≡◌, Some, slice_get};
 ghost use Rattle.k_complete.specs.Placed.{CanDoAt, CanKillAt, HasDoneAt, HasKilledAt};
 ghost use Rattle.k_process.specs.declared.process.Process.{Process as ProcessValue};
+ghost use Rattle.k_process.specs.Heaps.{value_of};
 ghost use Rattle.k_process.specs.Worlds.{WorldValue};
 
 use k_book::Book;
 use k_kernel::KernelCell;
 use k_operate::{do_kill, do_next};
-use k_process::Process;
-use k_shared::SharedCell;
+use k_process::{Heaps, Process};
 use k_types::Op;
 
 /// Does the `kill` of the process of the second number by that of the first. The cost is that of `do_kill`.
@@ -35,23 +35,29 @@ fn kill_at(
 
 /// Does the next operation of the process of that number, with whatever it touches, from its beginning to its end. The cost is that of
 /// `do_next`, or of `do_kill` where it is the kill of another process.
-pub(crate) fn do_at(
-    processes: &mut Vec<Process>,
-    at: usize,
-    kernel: &mut KernelCell,
-    shared: &mut Vec<SharedCell>,
-    book: &mut Book,
-    op: &Op,
-)
+pub(crate) fn do_at(heaps: &mut Heaps, at: usize, op: &Op)
     ghost world: { WorldValue }
-    requires { (p : ProcessValue) × CanDoAt world processes.old.items at p kernel.old shared.old.items book.old op.now }
-    ensures { (p : ProcessValue) → slice_get processes.old.items at ≡ Some p → HasDoneAt world op.now at p processes.old.items processes.new.items kernel.new shared.new.items book.old book.new }
+    requires { (p : ProcessValue) × CanDoAt world (value_of heaps.old) at p op.now }
+    ensures { (p : ProcessValue) → slice_get heaps.old.processes.items at ≡ Some p → HasDoneAt world op.now at p (value_of heaps.old) (value_of heaps.new) }
 {
     if let Op::Kill { target } = *op {
         if target.0 as usize != at {
-            kill_at(processes, at, target.0 as usize, kernel, book, op);
+            kill_at(
+                &mut heaps.processes,
+                at,
+                target.0 as usize,
+                &mut heaps.kernel,
+                &mut heaps.book,
+                op,
+            );
             return;
         }
     }
-    do_next(&mut processes[at], kernel, shared, book, op);
+    do_next(
+        &mut heaps.processes[at],
+        &mut heaps.kernel,
+        &mut heaps.shared,
+        &mut heaps.book,
+        op,
+    );
 }

@@ -1,35 +1,27 @@
 //! The operations of a trace, one after the other in the order of the file.
 ghost use Rattle.k_complete.specs.Replaying.{CanDoLine, CanReplay, HasDoneLine, HasReplayed};
+ghost use Rattle.k_process.specs.Heaps.{value_of};
 ghost use Rattle.k_process.specs.Worlds.{WorldValue};
 
 use crate::closing::close_all;
 use crate::ending::meet_all;
 use crate::placed::do_at;
-use k_book::Book;
 use k_commit::meet_heap;
-use k_kernel::KernelCell;
 use k_operate::publish_all;
-use k_process::{Process, next};
-use k_shared::SharedCell;
+use k_process::{Heaps, next};
 use k_types::Pid;
 
 /// Does the next operation of the process of that number, if it has one, and publishes its events.
-fn do_line(
-    processes: &mut Vec<Process>,
-    at: usize,
-    kernel: &mut KernelCell,
-    shared: &mut Vec<SharedCell>,
-    book: &mut Book,
-)
+fn do_line(heaps: &mut Heaps, at: usize)
     ghost world: { WorldValue }
-    requires { CanDoLine world processes.old.items at kernel.old shared.old.items book.old }
-    ensures { HasDoneLine world at processes.new.items kernel.new shared.new.items book.old book.new }
+    requires { CanDoLine world (value_of heaps.old) at }
+    ensures { HasDoneLine world at (value_of heaps.old) (value_of heaps.new) }
 {
-    meet_heap(&mut processes[at].cell, book);
-    match next(&processes[at]) {
+    meet_heap(&mut heaps.processes[at].cell, &mut heaps.book);
+    match next(&heaps.processes[at]) {
         Some(op) => {
-            do_at(processes, at, kernel, shared, book, &op);
-            publish_all(&mut processes[at], book);
+            do_at(heaps, at, &op);
+            publish_all(&mut heaps.processes[at], &mut heaps.book);
         }
         None => {}
     }
@@ -38,20 +30,14 @@ fn do_line(
 /// Does all operations in that order, each with all its events, then what comes last where every process has ended, and has each
 /// cell meet the journal. A place in the order whose process has ended by then gives no event. The cost is that of the operations
 /// and of what comes last, beside one meeting for each. It takes no memory.
-pub fn replay(
-    processes: &mut Vec<Process>,
-    kernel: &mut KernelCell,
-    shared: &mut Vec<SharedCell>,
-    book: &mut Book,
-    order: &[Pid],
-)
+pub fn replay(heaps: &mut Heaps, order: &[Pid])
     ghost world: { WorldValue }
-    requires { CanReplay world processes.old.items kernel.old shared.old.items book.old order.now }
-    ensures { HasReplayed world processes.new.items kernel.new shared.new.items book.new }
+    requires { CanReplay world (value_of heaps.old) order.now }
+    ensures { HasReplayed world (value_of heaps.new) }
 {
     for pid in order {
-        do_line(processes, pid.0 as usize, kernel, shared, book);
+        do_line(heaps, pid.0 as usize);
     }
-    close_all(kernel, shared, book);
-    meet_all(processes, kernel, shared, book);
+    close_all(&mut heaps.kernel, &mut heaps.shared, &mut heaps.book);
+    meet_all(heaps);
 }

@@ -1,4 +1,4 @@
-//! The cells and the book of a run that is over, found by heap.
+//! The heaps of a run that is over, found by their names, and the book.
 ghost use Rattle.std.specs.Prelude.{◌≡◌, ◌<◌, Some, length, slice_get};
 ghost use Rattle.k_types.specs.Owners.{object_bytes};
 ghost use Rattle.k_types.specs.State.{has};
@@ -12,30 +12,16 @@ ghost use Rattle.k_outcome.specs.Cells.{IsThere, cell_at};
 
 use k_book::Book;
 use k_heap::HeapCell;
-use k_kernel::KernelCell;
-use k_process::Process;
+use k_process::Heaps;
 use k_shared::SharedCell;
 use k_space::Stored;
 use k_types::{Heap, Name, Pid, Reg, SharedId, TypeId};
 use std::marker::Model;
 
-/// The cell of each process and of each shared heap in the place of its number, the kernel's, and the book.
-pub struct Cells {
-    pub processes: Vec<Process>,
-    pub kernel: KernelCell,
-    pub shared: Vec<SharedCell>,
-    pub book: Book,
-}
-
-impl Drop for Cells {
-    fn drop(self) {
-        let Cells {
-            processes: _,
-            kernel: _,
-            shared: _,
-            book: _,
-        } = self;
-    }
+/// All heaps of a run that is over. Contracts see the cells and the book.
+#[derive(Drop)]
+pub(crate) struct Cells {
+    pub(crate) heaps: Heaps,
 }
 
 impl Model for Cells {
@@ -43,10 +29,10 @@ impl Model for Cells {
 
     ghost Value = { OutcomeValue };
 
-    ghost use Rattle.std.specs.Prelude.{map};
-    ghost use Rattle.k_process.specs.declared.process.Process.{Process};
+    ghost use Rattle.k_process.specs.Heaps.{value_of};
+    ghost use Rattle.k_process.specs.Over.{cells_of};
 
-    ghost view = { λ c. record { processes = map (λ (p : Process). p.cell) c.processes.items; kernel = c.kernel; shared = c.shared.items; book = c.book } };
+    ghost view = { λ c. cells_of (value_of c.heaps) };
 }
 
 impl Cells {
@@ -54,7 +40,7 @@ impl Cells {
     pub(crate) fn book(&self) -> &Book
         ensures { result.now ≡ self.now.book }
     {
-        &self.book
+        &self.heaps.book
     }
 
     // The cell of the process.
@@ -62,7 +48,7 @@ impl Cells {
         requires { pid.0 < length self.now.processes }
         ensures { slice_get self.now.processes pid.0 ≡ Some result.now }
     {
-        let process = &self.processes[pid.0 as usize];
+        let process = &self.heaps.processes[pid.0 as usize];
         &process.cell
     }
 
@@ -71,7 +57,7 @@ impl Cells {
         requires { id.0 < length self.now.shared }
         ensures { slice_get self.now.shared id.0 ≡ Some result.now }
     {
-        &self.shared[id.0 as usize]
+        &self.heaps.shared[id.0 as usize]
     }
 
     /// The bytes of the heap's objects.
@@ -80,7 +66,7 @@ impl Cells {
         ensures { result ≡ total object_bytes (cell_at self.now heap).objects }
     {
         match heap {
-            Heap::Kernel => self.kernel.bytes(),
+            Heap::Kernel => self.heaps.kernel.bytes(),
             Heap::User(pid) => self.process(pid).bytes(),
             Heap::Shared(id) => self.shared_heap(id).bytes(),
         }
@@ -92,7 +78,7 @@ impl Cells {
         ensures { result ≡ has (cell_at self.now heap).objects at }
     {
         match heap {
-            Heap::Kernel => self.kernel.has(at),
+            Heap::Kernel => self.heaps.kernel.has(at),
             Heap::User(pid) => self.process(pid).has(at),
             Heap::Shared(id) => self.shared_heap(id).has(at),
         }
@@ -104,7 +90,7 @@ impl Cells {
         ensures { result ≡ type_among (cell_at self.now heap).objects at }
     {
         match heap {
-            Heap::Kernel => self.kernel.type_of(at),
+            Heap::Kernel => self.heaps.kernel.type_of(at),
             Heap::User(pid) => self.process(pid).type_of(at),
             Heap::Shared(id) => self.shared_heap(id).type_of(at),
         }
@@ -116,7 +102,7 @@ impl Cells {
         ensures { result ≡ field_count_among (cell_at self.now heap).objects at }
     {
         match heap {
-            Heap::Kernel => self.kernel.field_count(at),
+            Heap::Kernel => self.heaps.kernel.field_count(at),
             Heap::User(pid) => self.process(pid).field_count(at),
             Heap::Shared(id) => self.shared_heap(id).field_count(at),
         }
@@ -128,7 +114,7 @@ impl Cells {
         ensures { content_of result ≡ field_among (cell_at self.now heap).objects at field }
     {
         match heap {
-            Heap::Kernel => self.kernel.field(at, field),
+            Heap::Kernel => self.heaps.kernel.field(at, field),
             Heap::User(pid) => self.process(pid).field(at, field),
             Heap::Shared(id) => self.shared_heap(id).field(at, field),
         }
@@ -141,7 +127,7 @@ impl Cells {
         ensures distinct { AreDistinctNames (cell_at self.now heap).exits }
     {
         match heap {
-            Heap::Kernel => self.kernel.exit_count(),
+            Heap::Kernel => self.heaps.kernel.exit_count(),
             Heap::User(pid) => self.process(pid).exit_count(),
             Heap::Shared(id) => self.shared_heap(id).exit_count(),
         }
@@ -154,7 +140,7 @@ impl Cells {
         ensures { slice_get (cell_at self.now heap).exits i ≡ Some result }
     {
         match heap {
-            Heap::Kernel => self.kernel.exit_at(i),
+            Heap::Kernel => self.heaps.kernel.exit_at(i),
             Heap::User(pid) => self.process(pid).exit_at(i),
             Heap::Shared(id) => self.shared_heap(id).exit_at(i),
         }

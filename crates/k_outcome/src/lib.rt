@@ -15,7 +15,6 @@ mod rooms;
 mod viewing;
 mod walking;
 
-pub use cells::Cells;
 pub use laws::the_report_is_that_of_the_trace;
 pub use outcome::{Outcome, outcome_of};
 pub use rooms::ReportRooms;

@@ -2,6 +2,8 @@
 ghost use Rattle.std.specs.Prelude.{◌≡◌, ◌<◌, [], slice_index_or};
 ghost use Rattle.k_types.specs.Trace.{IsHeap, Trace, segment_count, trace_of};
 ghost use Rattle.k_text.specs.Shown.{in_order};
+ghost use Rattle.k_process.specs.Heaps.{value_of};
+ghost use Rattle.k_process.specs.Over.{cells_of};
 ghost use Rattle.k_outcome.specs.Cells.{cell_at};
 ghost use Rattle.k_outcome.specs.Ends.{IsEnd, last_state};
 ghost use Rattle.k_outcome.specs.Listed.{CanEnd};
@@ -9,6 +11,7 @@ ghost use Rattle.k_outcome.specs.Listed.{CanEnd};
 use crate::cells::Cells;
 use crate::listing::{count_made, list_all_targets, segment_of};
 use crate::rooms::ReportRooms;
+use k_process::Heaps;
 use k_trace::Names;
 use k_types::{Heap, Name, Seg, Setup};
 use std::marker::Model;
@@ -53,11 +56,12 @@ impl Model for Outcome {
 
 /// Puts the end of a run together from what the run leaves, and from the rooms that were made before it. It passes the journal
 /// once, and sorts the exit items of each heap. It takes no memory.
-pub fn outcome_of(names: Names, setup: Setup, cells: Cells, rooms: ReportRooms) -> Outcome
+pub fn outcome_of(names: Names, setup: Setup, heaps: Heaps, rooms: ReportRooms) -> Outcome
     ghost trace: { Trace }
-    requires { CanEnd trace (trace_of setup [] []) cells rooms }
-    ensures { result ≡ record { names = names; setup = trace_of setup [] []; cells = cells } }
+    requires { CanEnd trace (trace_of setup [] []) (cells_of (value_of heaps)) rooms }
+    ensures { result ≡ record { names = names; setup = trace_of setup [] []; cells = cells_of (value_of heaps) } }
 {
+    let cells = Cells { heaps };
     let ReportRooms {
         mut made,
         mut targets,

@@ -13,13 +13,12 @@ use Rattle.k_tie.specs.Values.{NoteValue}
 use Rattle.k_agree.specs.Agreement.{Agrees, Shows}
 use Rattle.k_agree.specs.Settled.{IsOver, IsSettled, IsThrough}
 use Rattle.k_agree.proofs.AtTheEnd.{book_sound, is_complete}
-use Rattle.k_book.specs.Books.{BookRecord}
-use Rattle.k_heap.specs.Holdings.{HoldingsValue}
 use Rattle.k_heap.specs.Heaps.{has_ended_in}
 use Rattle.k_locked.specs.SharedHeaps.{SharedRecord}
 use Rattle.k_locked.proofs.CanDo.{done_at_most}
 use Rattle.k_process.specs.declared.process.Process.{Process}
-use Rattle.k_process.specs.Over.{AllMet, IsOutcome}
+use Rattle.k_process.specs.Heaps.{HeapsValue}
+use Rattle.k_process.specs.Over.{AllMet, IsOutcome, cells_of}
 use Rattle.k_process.specs.Worlds.{WorldValue}
 use Rattle.k_base.proofs.Lists.{get_there}
 
@@ -39,20 +38,20 @@ through_by : (trace : Trace) (pid : Pid) (process : Option ProcessPart) → (IsF
 through_by trace pid None all most = tt
 through_by trace pid (Some q) all most = λ lives. let least = none_left q.done (operations_of trace pid.0) (all lives) in omega (arith, least, most)
 
-module _ (world : WorldValue) (processes : List Process) (kernel : HoldingsValue) (shared : List SharedRecord) (book : BookRecord) (m : AllMet world processes kernel shared book) where
+module _ (world : WorldValue) (heaps : HeapsValue) (m : AllMet world heaps) where
   abbrev trace : Trace
   trace = world.trace
 
   abbrev last : State
-  last = state_after trace book.journal.list
+  last = state_after trace heaps.book.journal.list
 
-  process_at : (p : ℕ) → p < process_count trace → (q : Process) × (slice_get processes p ≡ Some q)
-  process_at p known = get_there processes p (subst (λ n. p < n) (sym m.ended.processes.processes.count) known)
+  process_at : (p : ℕ) → p < process_count trace → (q : Process) × (slice_get heaps.processes p ≡ Some q)
+  process_at p known = get_there heaps.processes p (subst (λ n. p < n) (sym m.ended.processes.processes.count) known)
 
-  shared_at : (s : ℕ) → s < trace.shared_heaps → (x : SharedRecord) × (slice_get shared s ≡ Some x)
-  shared_at s known = get_there shared s (subst (λ n. s < n) (sym m.ended.shared.count) known)
+  shared_at : (s : ℕ) → s < trace.shared_heaps → (x : SharedRecord) × (slice_get heaps.shared s ≡ Some x)
+  shared_at s known = get_there heaps.shared s (subst (λ n. s < n) (sym m.ended.shared.count) known)
 
-  settled_process : (p : Process) (pid : Pid) → slice_get processes pid.0 ≡ Some p → IsSettled trace book.journal (User pid)
+  settled_process : (p : Process) (pid : Pid) → slice_get heaps.processes pid.0 ≡ Some p → IsSettled trace heaps.book.journal (User pid)
   settled_process p pid at =
       let stands = m.ended.processes.processes.each pid.0 p at in
       let through = m.ended.processes.through pid.0 p at in
@@ -67,7 +66,7 @@ module _ (world : WorldValue) (processes : List Process) (kernel : HoldingsValue
         through = subst (λ (q : Pid). IsThrough trace (User q) p.cell.value.process) same (through_by trace p.cell.pid p.cell.value.process through.all (done_at_most trace world.table p.cell stands.cell));
       }
 
-  settled_shared : (x : SharedRecord) (id : SharedId) → slice_get shared id.0 ≡ Some x → IsSettled trace book.journal (Shared id)
+  settled_shared : (x : SharedRecord) (id : SharedId) → slice_get heaps.shared id.0 ≡ Some x → IsSettled trace heaps.book.journal (Shared id)
   settled_shared x id at =
       let stands = m.ended.shared.each id.0 x at in
       let same : x.id ≡ id = ap (λ n. record { 0 = n }) (m.ended.shared.placed id.0 x at) in
@@ -81,10 +80,10 @@ module _ (world : WorldValue) (processes : List Process) (kernel : HoldingsValue
         through = tt;
       }
 
-  settled : (c : Cell) → IsHeap trace c → IsSettled trace book.journal c
+  settled : (c : Cell) → IsHeap trace c → IsSettled trace heaps.book.journal c
   settled Kernel there = record {
-    note = kernel.note;
-    value = kernel.value;
+    note = heaps.kernel.note;
+    value = heaps.kernel.value;
     agrees = m.ended.kernel.agrees;
     list = m.kernel_met;
     tail = m.ended.kernel.agrees.tail;
@@ -94,7 +93,7 @@ module _ (world : WorldValue) (processes : List Process) (kernel : HoldingsValue
   settled (User pid) there = let p = process_at pid.0 there in settled_process p.0 pid p.1
   settled (Shared id) there = let x = shared_at id.0 there in settled_shared x.0 id x.1
 
-  over : IsOver trace book.journal book.value
+  over : IsOver trace heaps.book.journal heaps.book.value
   over = record {
     cells = settled;
     book_agrees = m.ended.processes.book.stands.agrees;
@@ -103,23 +102,23 @@ module _ (world : WorldValue) (processes : List Process) (kernel : HoldingsValue
     closed = m.ended.closed;
   }
 
-  shows_at_the_end : (c : Cell) (note : NoteValue) (value : CellValue) → Agrees trace c note value → note.list ≡ book.journal.list → value.tail ≡ [] → Shows trace last c value
-  shows_at_the_end c note value a list none = subst (λ l. Shows trace (state_after trace l) c value) (ap₂ (λ xs ys. xs ++ ys) list none ∙ append-nil book.journal.list) a.shows
+  shows_at_the_end : (c : Cell) (note : NoteValue) (value : CellValue) → Agrees trace c note value → note.list ≡ heaps.book.journal.list → value.tail ≡ [] → Shows trace last c value
+  shows_at_the_end c note value a list none = subst (λ l. Shows trace (state_after trace l) c value) (ap₂ (λ xs ys. xs ++ ys) list none ∙ append-nil heaps.book.journal.list) a.shows
 
-  pub outcome : IsOutcome trace (record { processes = map (λ (p : Process). p.cell) processes; kernel = kernel; shared = shared; book = book })
+  pub outcome : IsOutcome trace (cells_of heaps)
   outcome = record {
     legal = m.ended.processes.book.stands.agrees.legal;
-    complete = is_complete trace book.journal book.value m.ended.processes.book.stands.keeps.limits over;
-    sound = book_sound trace book.journal book.value m.ended.processes.book.stands.keeps.limits m.ended.processes.book.stands.agrees;
+    complete = is_complete trace heaps.book.journal heaps.book.value m.ended.processes.book.stands.keeps.limits over;
+    sound = book_sound trace heaps.book.journal heaps.book.value m.ended.processes.book.stands.keeps.limits m.ended.processes.book.stands.agrees;
     processes = λ p known.
         let at = process_at p known in
         let stands = m.ended.processes.processes.each p at.0 at.1 in (
           at.0.cell,
-          get_mapped (λ (q : Process). q.cell) processes p at.0 at.1,
+          get_mapped (λ (q : Process). q.cell) heaps.processes p at.0 at.1,
           m.ended.processes.processes.placed p at.0 at.1,
           shows_at_the_end (User at.0.cell.pid) at.0.cell.note at.0.cell.value stands.cell.agrees (m.processes_met p at.0 at.1) (m.ended.processes.through p at.0 at.1).published,
         );
-    kernel = shows_at_the_end Kernel kernel.note kernel.value m.ended.kernel.agrees m.kernel_met m.ended.kernel.agrees.tail;
+    kernel = shows_at_the_end Kernel heaps.kernel.note heaps.kernel.value m.ended.kernel.agrees m.kernel_met m.ended.kernel.agrees.tail;
     shared = λ s known.
         let at = shared_at s known in
         let stands = m.ended.shared.each s at.0 at.1 in

@@ -1,4 +1,5 @@
 pub mod Worlds
+pub mod Heaps
 pub mod Standing
 pub mod Over
 pub use Rattle.k_locked.specs.Keeping

@@ -1,5 +1,5 @@
 -- Runs that are over, and what they leave.
-use Rattle.std.specs.Prelude.{◌≡◌, ℕ, ◌<◌, IsTrue, List, Some, slice_get}
+use Rattle.std.specs.Prelude.{◌≡◌, ℕ, ◌<◌, IsTrue, List, Some, map, slice_get}
 use Rattle.k_types.specs.declared.names.Heap.TheVariants.{Kernel, Shared, User}
 use Rattle.k_types.specs.Complete.{EndsWithClosing, IsComplete}
 use Rattle.k_types.specs.Sound.{IsSound}
@@ -15,6 +15,7 @@ use Rattle.k_heap.specs.Heaps.{HeapRecord}
 use Rattle.k_locked.specs.SharedHeaps.{SharedRecord}
 use Rattle.k_locked.specs.Keeping.{KernelKeeps}
 use Rattle.k_process.specs.declared.process.Process.{Process}
+use Rattle.k_process.specs.Heaps.{HeapsValue}
 use Rattle.k_process.specs.Standing.{HeapsStand, IsThroughWith, ProcessesStand}
 use Rattle.k_process.specs.Worlds.{WorldValue}
 
@@ -32,19 +33,19 @@ pub record ProcessesThrough (world : WorldValue) (ps : List Process) (b : BookRe
 
 -- all processes are through and all cells stand; and where every process has ended, no shared heap is an orphan and the journal ends with
 -- the closing
-pub record AllEnded (world : WorldValue) (ps : List Process) (k : HoldingsValue) (ss : List SharedRecord) (b : BookRecord) : Type 0 where
-  pub processes : ProcessesThrough world ps b
-  pub kernel : KernelKeeps world.trace world.table k
-  pub shared : HeapsStand world ss
-  pub orphans : IsTrue (all_ended_in world.trace b.value) → IsTrue (no_orphan_in world.trace b.value)
-  pub closed : IsTrue (all_ended_in world.trace b.value) → EndsWithClosing b.journal.list
+pub record AllEnded (world : WorldValue) (heaps : HeapsValue) : Type 0 where
+  pub processes : ProcessesThrough world heaps.processes heaps.book
+  pub kernel : KernelKeeps world.trace world.table heaps.kernel
+  pub shared : HeapsStand world heaps.shared
+  pub orphans : IsTrue (all_ended_in world.trace heaps.book.value) → IsTrue (no_orphan_in world.trace heaps.book.value)
+  pub closed : IsTrue (all_ended_in world.trace heaps.book.value) → EndsWithClosing heaps.book.journal.list
 
 -- and each cell knows the whole journal
-pub record AllMet (world : WorldValue) (processes : List Process) (kernel : HoldingsValue) (shared : List SharedRecord) (book : BookRecord) : Type 0 where
-  pub ended : AllEnded world processes kernel shared book
-  pub processes_met : (k : ℕ) (p : Process) → slice_get processes k ≡ Some p → p.cell.note.list ≡ book.journal.list
-  pub kernel_met : kernel.note.list ≡ book.journal.list
-  pub shared_met : (k : ℕ) (s : SharedRecord) → slice_get shared k ≡ Some s → s.note.list ≡ book.journal.list
+pub record AllMet (world : WorldValue) (heaps : HeapsValue) : Type 0 where
+  pub ended : AllEnded world heaps
+  pub processes_met : (k : ℕ) (p : Process) → slice_get heaps.processes k ≡ Some p → p.cell.note.list ≡ heaps.book.journal.list
+  pub kernel_met : heaps.kernel.note.list ≡ heaps.book.journal.list
+  pub shared_met : (k : ℕ) (s : SharedRecord) → slice_get heaps.shared k ≡ Some s → s.note.list ≡ heaps.book.journal.list
 
 -- the cells of a run that is over
 pub record OutcomeValue : Type 0 where
@@ -52,6 +53,10 @@ pub record OutcomeValue : Type 0 where
   pub kernel : HoldingsValue
   pub shared : List SharedRecord
   pub book : BookRecord
+
+-- what all heaps leave: of each process its cell
+abbrev pub cells_of : HeapsValue → OutcomeValue
+cells_of heaps = record { processes = map (λ (p : Process). p.cell) heaps.processes; kernel = heaps.kernel; shared = heaps.shared; book = heaps.book }
 
 -- the journal is a legal and complete history of the trace, the state after it is sound, and each cell and the book show that state
 pub record IsOutcome (trace : Trace) (o : OutcomeValue) : Type 0 where

@@ -8,6 +8,7 @@ use Rattle.k_heap.specs.Heaps.{HeapRecord, has_ended_in}
 use Rattle.k_locked.specs.SharedHeaps.{SharedRecord}
 use Rattle.k_locked.specs.Keeping.{BookKeeps, HeapKeeps, KernelKeeps, SharedKeeps, operations_left}
 use Rattle.k_process.specs.declared.process.Process.{Process}
+use Rattle.k_process.specs.Heaps.{HeapsValue}
 use Rattle.k_process.specs.Worlds.{WorldValue}
 
 -- the cell keeps what the locks ask, and the operations are the trace's
@@ -36,6 +37,11 @@ pub record RestStands (world : WorldValue) (k : HoldingsValue) (heaps : List Sha
   pub kernel : KernelKeeps world.trace world.table k
   pub shared : HeapsStand world heaps
   pub book : BookKeeps world.trace world.table b
+
+-- all heaps and the book stand
+pub record AllStand (world : WorldValue) (heaps : HeapsValue) : Type 0 where
+  pub processes : ProcessesStand world heaps.processes
+  pub rest : RestStands world heaps.kernel heaps.shared heaps.book
 
 -- the process lives, and the operation comes next in the trace
 pub record ComesNext (trace : Trace) (c : HeapRecord) (op : Op) : Type 0 where

@@ -1,6 +1,6 @@
 -- Places that fill up.
-use Rattle.std.proofs.Common.{◌≡◌, ℕ, zero, suc, ◌+◌, ◌<◌, ◌≤◌, List, [], ◌∷◌, ◌++◌, length, map, set, Some, None, Option, slice_get, replicate, reverse, append_assoc, refl, sym, ap, ◌∙◌, subst, arith}
-use Rattle.std.proofs.lemmas.List.{reverse-append}
+use Rattle.std.proofs.Common.{◌≡◌, ℕ, zero, suc, ◌+◌, ◌<◌, ◌≤◌, List, [], ◌∷◌, ◌++◌, length, map, set, get_or, Some, None, Option, slice_get, replicate, refl, sym, ap, ◌∙◌, subst, arith}
+use Rattle.std.proofs.lemmas.Option.{slice_get_read}
 use Rattle.k_run.specs.Places.{filled, one_if_some}
 
 -- a place that was free is taken
@@ -40,13 +40,18 @@ get_mapped_some xs places k x is at = subst (λ ps. slice_get ps k ≡ Some (Som
     go (y ∷ xs) zero at = ap Some at
     go (y ∷ xs) (suc k) at = go xs k at
 
--- what stands last, where all places are taken
-pub last_filled : {A : Type 0} (xs : List (Option A)) (x : Option A) (ys : List (Option A)) → filled ((xs ++ x ∷ []) ++ ys) ≡ length ((xs ++ x ∷ []) ++ ys) → x ≡ None → ⊥
-last_filled [] (Some v) ys e none = cc
-last_filled [] None ys e none = omega (arith, e, filled_low ys)
-last_filled (Some v ∷ xs) x ys e none = last_filled xs x ys (omega (arith, e)) none
-last_filled (None ∷ xs) x ys e none = omega (arith, e, filled_low ((xs ++ x ∷ []) ++ ys))
+-- where all places are taken none that is read is free
+pub none_free : {A : Type 0} (xs : List (Option A)) (k : ℕ) (x : Option A) → filled xs ≡ length xs → k < length xs → x ≡ get_or xs k x → x ≡ None → ⊥
+none_free xs k x all inside read none =
+    let there = filled_all xs k all inside in
+    let same : Some x ≡ Some (Some there.0) = sym (slice_get_read xs (length xs) k x refl inside read) ∙ there.1 in
+    cc
 
--- one more item stands before those that were taken already
-pub one_more : {A : Type 0} (all xs : List (Option A)) (v : A) (ys : List A) → all ≡ (xs ++ Some v ∷ []) ++ map Some (reverse ys) → all ≡ xs ++ map Some (reverse (ys ++ v ∷ []))
-one_more all xs v ys is = is ∙ append_assoc xs (Some v ∷ []) (map Some (reverse ys)) ∙ ap (λ zs. xs ++ map Some zs) (sym (reverse-append ys (v ∷ [])))
+-- what is made of a list with one element more
+pub mapped_push : {A B : Type 0} (f : A → B) (xs : List A) (x : A) → map f (xs ++ x ∷ []) ≡ map f xs ++ f x ∷ []
+mapped_push f [] x = refl
+mapped_push f (y ∷ xs) x = ap (λ ys. f y ∷ ys) (mapped_push f xs x)
+
+pub mapped_all : {A : Type 0} (xs : List A) → map (λ x. x) xs ≡ xs
+mapped_all [] = refl
+mapped_all (y ∷ xs) = ap (λ ys. y ∷ ys) (mapped_all xs)

@@ -19,19 +19,19 @@ told_lists (ops ∷ lists) (p ∷ ps) same each =
     (λ i. sym (each 0 p refl) i ∷ rest i)
 
 module _ (named : NamedTrace) (first : FirstCells) (o : IsOpened named first) where
-  operations_told : named.trace.operations ≡ map (λ (p : Process). p.ops.items) first.processes.items
+  operations_told : named.trace.operations ≡ map (λ (p : Process). p.ops.items) first.heaps.processes.items
   operations_told =
-      told_lists named.trace.operations first.processes.items (o.stands.processes.count ∙ sym o.stands.rest.kernel.rules.operations.each)
+      told_lists named.trace.operations first.heaps.processes.items (o.stands.processes.count ∙ sym o.stands.rest.kernel.rules.operations.each)
       (λ k p at. (o.stands.processes.each k p at).operations ∙ ap (λ n. operations_of named.trace n) (o.stands.processes.placed k p at))
 
   pub trace_told : named.trace ≡ trace_in first
   trace_told =
       o.setup.is
       ∙ ap (λ operations. trace_of first.setup operations named.trace.order) operations_told
-      ∙ ap (λ order. trace_of first.setup (map (λ (p : Process). p.ops.items) first.processes.items) order) (sym o.order)
+      ∙ ap (λ order. trace_of first.setup (map (λ (p : Process). p.ops.items) first.heaps.processes.items) order) (sym o.order)
 
   pub world_told : world_of named first ≡ world_in first
-  world_told = ap (λ trace. record { trace = trace; table = first.book.journal.table }) trace_told
+  world_told = ap (λ trace. record { trace = trace; table = first.heaps.book.journal.table }) trace_told
 
   pub named_told : named ≡ named_in first
   named_told = ap₂ (λ (names : DeclaredNames) (trace : Trace). record { names = names; trace = trace }) (sym o.names) trace_told

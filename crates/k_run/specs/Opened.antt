@@ -9,7 +9,7 @@ use Rattle.k_still.specs.declared.first.FirstCells.{FirstCells}
 
 -- the trace of the cells' setup, of the operations of their processes and of their order
 abbrev pub trace_in : FirstCells → Trace
-trace_in first = trace_of first.setup (map (λ (p : Process). p.ops.items) first.processes.items) (map (λ (pid : Pid). pid.0) first.order.items)
+trace_in first = trace_of first.setup (map (λ (p : Process). p.ops.items) first.heaps.processes.items) (map (λ (pid : Pid). pid.0) first.order.items)
 
 -- the trace with the names that it declares
 abbrev pub named_in : FirstCells → NamedTrace
@@ -17,4 +17,4 @@ named_in first = record { names = first.names; trace = trace_in first }
 
 -- the run of this trace, with the table of its journal
 abbrev pub world_in : FirstCells → WorldValue
-world_in first = record { trace = trace_in first; table = first.book.journal.table }
+world_in first = record { trace = trace_in first; table = first.heaps.book.journal.table }

@@ -8,13 +8,13 @@ ghost use Rattle.k_types.specs.declared.names.CellPhase.TheVariants.{Begun};
 ghost use Rattle.k_types.specs.declared.op.Op.TheVariants.{Collect, Exit, KCollect, Kill};
 
 use crate::locked::{LockedBook, LockedKernel, LockedProcess, LockedShared};
+use crate::locks::Locks;
 use crate::ordering::{
     HoldsKernel, HoldsProcess, lock_book, lock_kernel, lock_shared, mark_collection,
     mark_kernel_collection, sweep_collection, sweep_kernel_collection,
 };
 use crate::stepping::tell;
 use crate::stretching::follow;
-use crate::world::Locks;
 use crate::worlds::WorldName;
 use k_complete::{
     absorb_orphan, begin_collection, begin_kernel_collection, do_exit, do_kill, end_collection,

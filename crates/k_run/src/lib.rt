@@ -8,6 +8,7 @@
 
 mod collecting;
 mod locked;
+mod locks;
 mod opening;
 mod ordering;
 mod placing;

@@ -1,64 +1,29 @@
 //! A run that is put behind its locks.
 ghost use Rattle.std.specs.Prelude.{◌≡◌, ◌<◌, ◌^◌, [], ◌∷◌, IfOk, None, Some, length, vec_capacity};
-ghost use Rattle.k_process.specs.Standing.{HeapsStand, ProcessesStand, RestStands};
-ghost use Rattle.k_still.specs.Opening.{FirstCellsStand, IsSetupOf};
+ghost use Rattle.k_process.specs.Heaps.{value_of};
+ghost use Rattle.k_process.specs.Standing.{AllStand};
+ghost use Rattle.k_still.specs.Opening.{IsSetupOf};
 ghost use Rattle.k_outcome.specs.Listed.{AreRoomsFor};
 ghost use Rattle.k_run.specs.Rooms.{AreEndRooms, HasRoom};
 ghost use Rattle.k_run.specs.Worlds.{AreFree, HoldsRun};
 ghost use Rattle.k_watch.specs.Numbers.{numbers_of};
 ghost use Rattle.k_watch.specs.Shown.{IsShown};
 
-use crate::locked::{LockedBook, LockedKernel, LockedProcess, LockedShared};
-use crate::rooms::{EndRooms, empty_list, end_rooms};
+use crate::locks::{LockRooms, Locks, lock_all, lock_rooms};
+use crate::rooms::{EndRooms, end_rooms};
 use crate::running::MOST_WORKERS;
 use crate::still::Still;
-use crate::world::{Locks, World};
+use crate::world::World;
 use crate::worlds::WorldName;
-use k_book::Book;
 use k_io::NoMemory;
-use k_kernel::KernelCell;
 use k_outcome::ReportRooms;
-use k_process::Process;
-use k_shared::SharedCell;
 use k_still::FirstCells;
 use k_trace::Names;
 use k_turns::{TurnPass, Turns};
 use k_types::Setup;
 use k_watch::WatchPen;
 use std::alloc::Global;
-use std::sync::{Mutex, Wait};
-
-/// Each process behind a lock of its own, in a list with room for all.
-fn lock_processes<W: WorldName>(
-    mut processes: Vec<Process>,
-    mut locks: Vec<Mutex<LockedProcess<W>>>,
-) -> Vec<Mutex<LockedProcess<W>>>
-    requires stand { ProcessesStand W.world processes.items }
-    requires room { HasRoom (length processes.items) locks.items (vec_capacity locks) }
-    ensures { length result.items ≡ length processes.items }
-{
-    while let Some(process) = processes.pop() {
-        locks.push_reserved(Mutex::new(LockedProcess::of(process)));
-    }
-    locks.reverse();
-    locks
-}
-
-/// Each cell of a shared heap behind a lock of its own, in a list with room for all.
-fn lock_shared<W: WorldName>(
-    mut shared: Vec<SharedCell>,
-    mut locks: Vec<Mutex<LockedShared<W>>>,
-) -> Vec<Mutex<LockedShared<W>>>
-    requires stand { HeapsStand W.world shared.items }
-    requires room { HasRoom (length shared.items) locks.items (vec_capacity locks) }
-    ensures { length result.items ≡ length shared.items }
-{
-    while let Some(cell) = shared.pop() {
-        locks.push_reserved(Mutex::new(LockedShared::of(cell)));
-    }
-    locks.reverse();
-    locks
-}
+use std::sync::Wait;
 
 /// The queue of so many processes, with a pass for each worker: as many as there are processes, at most four.
 fn queue<R: Wait>(
@@ -72,58 +37,6 @@ fn queue<R: Wait>(
 {
     let count = processes as u32;
     Turns::make(rt, alloc, count, count.min(MOST_WORKERS))
-}
-
-/// Room for the locks of the processes and of the shared heaps.
-#[derive(Drop)]
-struct LockRooms<W: WorldName> {
-    processes: Vec<Mutex<LockedProcess<W>>>,
-    shared: Vec<Mutex<LockedShared<W>>>,
-}
-
-/// Room for the locks of so many processes and shared heaps.
-fn lock_rooms<W: WorldName>(
-    alloc: Global,
-    processes: usize,
-    shared: usize,
-) -> Result<LockRooms<W>, NoMemory>
-    ensures processes { IfOk result (λ rooms. HasRoom processes rooms.processes.items (vec_capacity rooms.processes)) }
-    ensures shared { IfOk result (λ rooms. HasRoom shared rooms.shared.items (vec_capacity rooms.shared)) }
-{
-    Ok(LockRooms {
-        processes: empty_list(alloc, processes)?,
-        shared: empty_list(alloc, shared)?,
-    })
-}
-
-/// Each process, the kernel, each shared heap and the book behind a lock of its own. It takes no memory.
-fn lock_all<W: WorldName>(
-    processes: Vec<Process>,
-    kernel: KernelCell,
-    shared: Vec<SharedCell>,
-    book: Book,
-    pen: Option<WatchPen>,
-    rooms: LockRooms<W>,
-) -> Locks<W>
-    requires processes { ProcessesStand W.world processes.items }
-    requires rest { RestStands W.world kernel shared.items book }
-    requires shown { IsShown W.watched W.world.trace book.journal.list pen }
-    requires process_room { HasRoom (length processes.items) rooms.processes.items (vec_capacity rooms.processes) }
-    requires shared_room { HasRoom (length shared.items) rooms.shared.items (vec_capacity rooms.shared) }
-    ensures { (length result.processes.items ≡ length processes.items) × (length result.shared.items ≡ length shared.items) }
-{
-    let LockRooms {
-        processes: processes_into,
-        shared: shared_into,
-    } = rooms;
-    let processes = lock_processes(processes, processes_into);
-    let shared = lock_shared(shared, shared_into);
-    Locks {
-        processes,
-        kernel: Mutex::new(LockedKernel::of(kernel)),
-        shared,
-        book: Mutex::new(LockedBook::of(book, pen)),
-    }
 }
 
 /// What a run has beside its heaps: the queue of its processes with a pass for each worker, and the places for the end.
@@ -209,26 +122,23 @@ fn lock_cells<W: WorldName>(
     ready: Readiness,
     report: ReportRooms,
 ) -> World<W>
-    requires stands { FirstCellsStand W.world cells }
-    requires shown { IsShown W.watched W.world.trace cells.book.journal.list pen }
+    requires stands { AllStand W.world (value_of cells.heaps) }
+    requires shown { IsShown W.watched W.world.trace cells.heaps.book.journal.list pen }
     requires setup { IsSetupOf cells.setup W.world }
     requires free { AreFree ready.turns ready.passes.items }
-    requires rooms { AreEndRooms (length cells.processes.items) (length cells.shared.items) ready.rooms }
+    requires rooms { AreEndRooms (length cells.heaps.processes.items) (length cells.heaps.shared.items) ready.rooms }
     requires report { AreRoomsFor W.world.trace report }
-    requires process_room { HasRoom (length cells.processes.items) rooms.processes.items (vec_capacity rooms.processes) }
-    requires shared_room { HasRoom (length cells.shared.items) rooms.shared.items (vec_capacity rooms.shared) }
+    requires process_room { HasRoom (length cells.heaps.processes.items) rooms.processes.items (vec_capacity rooms.processes) }
+    requires shared_room { HasRoom (length cells.heaps.shared.items) rooms.shared.items (vec_capacity rooms.shared) }
     ensures { (result.names ≡ cells.names) × (result.setup ≡ cells.setup) }
 {
     let FirstCells {
         setup,
         names,
         order: _,
-        processes,
-        kernel,
-        shared,
-        book,
+        heaps,
     } = cells;
-    let locks = lock_all(processes, kernel, shared, book, pen, rooms);
+    let locks = lock_all(heaps, pen, rooms);
     put_together(locks, ready, report, names, setup)
 }
 
@@ -244,7 +154,7 @@ pub fn open<W: WorldName, R: Wait>(
     alloc: Global,
     still: Still,
 ) -> Result<World<W>, NoMemory>
-    requires stands { FirstCellsStand W.world still.cells }
+    requires stands { AllStand W.world (value_of still.cells.heaps) }
     requires setup { IsSetupOf still.cells.setup W.world }
     requires rooms { AreRoomsFor W.world.trace still.rooms }
     requires alone { W.watched ≡ None }
@@ -264,11 +174,11 @@ pub fn open_watched<W: WorldName, R: Wait>(
     still: Still,
     pen: WatchPen,
 ) -> Result<World<W>, NoMemory>
-    requires stands { FirstCellsStand W.world still.cells }
+    requires stands { AllStand W.world (value_of still.cells.heaps) }
     requires setup { IsSetupOf still.cells.setup W.world }
     requires rooms { AreRoomsFor W.world.trace still.rooms }
     requires watched { W.watched ≡ Some pen.cell }
-    requires made { pen.samples ≡ numbers_of still.cells.book ∷ [] }
+    requires made { pen.samples ≡ numbers_of still.cells.heaps.book ∷ [] }
     ensures { IfOk result (λ world. (world.names ≡ still.cells.names) × (world.setup ≡ still.cells.setup)) }
 {
     open_with(rt, alloc, still, Some(pen))
@@ -280,14 +190,14 @@ fn open_with<W: WorldName, R: Wait>(
     still: Still,
     pen: Option<WatchPen>,
 ) -> Result<World<W>, NoMemory>
-    requires stands { FirstCellsStand W.world still.cells }
+    requires stands { AllStand W.world (value_of still.cells.heaps) }
     requires setup { IsSetupOf still.cells.setup W.world }
     requires rooms { AreRoomsFor W.world.trace still.rooms }
-    requires shown { IsShown W.watched W.world.trace still.cells.book.journal.list pen }
+    requires shown { IsShown W.watched W.world.trace still.cells.heaps.book.journal.list pen }
     ensures { IfOk result (λ world. (world.names ≡ still.cells.names) × (world.setup ≡ still.cells.setup)) }
 {
-    let process_count = still.cells.processes.len();
-    let shared_count = still.cells.shared.len();
+    let process_count = still.cells.heaps.processes.len();
+    let shared_count = still.cells.heaps.shared.len();
     let (locks, ready) = make_all_ready(rt, alloc, process_count, shared_count)?;
     let Still { cells, rooms } = still;
     Ok(lock_cells(cells, pen, locks, ready, rooms))

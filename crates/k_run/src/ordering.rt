@@ -10,7 +10,7 @@ ghost use Rattle.k_process.specs.Worlds.{WorldValue};
 ghost use Rattle.k_types.specs.declared.names.CellPhase.TheVariants.{Begun, Marked};
 
 use crate::locked::{LockedBook, LockedKernel, LockedProcess, LockedShared};
-use crate::world::Locks;
+use crate::locks::Locks;
 use crate::worlds::WorldName;
 use k_kernel::KernelCell;
 use k_mark::Swept;

@@ -48,16 +48,15 @@ pub(crate) fn place_shared(
 }
 
 /// What stands in the places, each of which is taken, in order. It takes no memory: `into` has room.
-pub(crate) fn in_order<T: Drop>(mut places: Vec<Option<T>>, mut into: Vec<T>) -> Vec<T>
+pub(crate) fn in_order<T: Drop>(places: Vec<Option<T>>, mut into: Vec<T>) -> Vec<T>
     requires filled { AreFilled places.items }
     requires empty { into.items ≡ [] }
     requires room { length places.items ≤ vec_capacity into }
     ensures { map Some result.items ≡ places.items }
 {
-    while let Some(place) = places.pop() {
+    for place in places {
         let Some(item) = place else { unreachable!() };
         into.push_reserved(item);
     }
-    into.reverse();
     into
 }

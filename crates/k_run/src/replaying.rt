@@ -7,7 +7,7 @@ ghost use Rattle.k_trace.specs.Named.{NamedTrace};
 ghost use Rattle.k_types.specs.FileOrder.{file_order};
 
 use crate::still::Still;
-use k_outcome::{Cells, Outcome, outcome_of};
+use k_outcome::{Outcome, outcome_of};
 use k_still::FirstCells;
 
 /// Does the operations of the trace in the order of the file, each with all its events, then what comes last where every process has
@@ -23,17 +23,8 @@ pub fn replay(still: Still) -> Outcome
         setup,
         names,
         order,
-        mut processes,
-        mut kernel,
-        mut shared,
-        mut book,
+        mut heaps,
     } = cells;
-    k_complete::replay(&mut processes, &mut kernel, &mut shared, &mut book, &order);
-    let cells = Cells {
-        processes,
-        kernel,
-        shared,
-        book,
-    };
-    outcome_of(names, setup, cells, rooms)
+    k_complete::replay(&mut heaps, &order);
+    outcome_of(names, setup, heaps, rooms)
 }

@@ -2,9 +2,10 @@
 ghost use Rattle.k_run.specs.Worlds.{AreFree, IsFree};
 ghost use Rattle.std.specs.Prelude.{◌≡◌};
 
+use crate::locks::Locks;
 use crate::ordering::HoldsNone;
 use crate::turning::{done_behind, turn_behind};
-use crate::world::{Locks, World};
+use crate::world::World;
 use crate::worlds::WorldName;
 use k_io::{Gate, GatePlace};
 use k_turns::{TurnPass, Turns};

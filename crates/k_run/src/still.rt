@@ -22,9 +22,9 @@ pub struct Still {
 impl Still {
     /// The book. Its journal is empty before the first event.
     pub fn book(&self) -> &Book
-        ensures { result.now ≡ self.now.cells.book }
+        ensures { result.now ≡ self.now.cells.heaps.book }
     {
-        &self.cells.book
+        &self.cells.heaps.book
     }
 }
 

@@ -4,8 +4,8 @@ ghost use Rattle.k_complete.specs.Readiness.{begins_or_ends};
 ghost use Rattle.k_process.specs.Standing.{ComesNext};
 
 use crate::locked::{LockedBook, LockedProcess};
+use crate::locks::Locks;
 use crate::ordering::try_kernel;
-use crate::world::Locks;
 use crate::worlds::WorldName;
 use k_complete::Reach;
 use k_io::Gate;

@@ -7,12 +7,12 @@ ghost use Rattle.k_run.specs.Running.{HasKilledUnless, HasTakenTurn};
 
 use crate::collecting::collect_kernel;
 use crate::locked::LockedProcess;
+use crate::locks::Locks;
 use crate::ordering::{
     HoldsNone, HoldsProcess, lock_book, lock_kernel, lock_process, lock_shared, lock_two,
 };
 use crate::stretching::go_inside;
 use crate::turns::Turn;
-use crate::world::Locks;
 use crate::worlds::WorldName;
 use k_complete::Reach;
 use k_io::Gate;

@@ -3,7 +3,9 @@ ghost use Rattle.std.specs.Prelude.{◌≡◌, ◌+◌, ◌<◌, ◌^◌, [], �
 ghost use Rattle.k_outcome.specs.Listed.{AreRoomsFor};
 ghost use Rattle.k_run.specs.Rooms.{HasRoom};
 ghost use Rattle.k_run.specs.Watched.{HasTaken, IsWatchedRunOf};
-ghost use Rattle.k_still.specs.Opening.{FirstCellsStand, IsSetupOf};
+ghost use Rattle.k_process.specs.Heaps.{value_of};
+ghost use Rattle.k_process.specs.Standing.{AllStand};
+ghost use Rattle.k_still.specs.Opening.{IsSetupOf};
 ghost use Rattle.k_trace.specs.Meaning.{meaning_of};
 ghost use Rattle.k_trace.specs.Rules.{IsTrace};
 ghost use Rattle.k_watch.specs.Numbers.{numbers_of};
@@ -125,11 +127,11 @@ fn watch_still<W: WorldName + Send + Sync, G: Gate, R: Threads + Wait + Sync>(
     count: u32,
     gate: &G,
 ) -> Result<(Outcome, Vec<Sample>), NoMemory>
-    requires stands { FirstCellsStand W.world still.cells }
+    requires stands { AllStand W.world (value_of still.cells.heaps) }
     requires setup { IsSetupOf still.cells.setup W.world }
     requires rooms { AreRoomsFor W.world.trace still.rooms }
     requires watched { W.watched ≡ Some watch.pen.cell }
-    requires made { watch.pen.samples ≡ numbers_of still.cells.book ∷ [] }
+    requires made { watch.pen.samples ≡ numbers_of still.cells.heaps.book ∷ [] }
     requires same_cell { watch.watcher.cell ≡ watch.pen.cell }
     requires none { watch.watcher.samples ≡ [] }
     requires room { HasRoom (count + 1) watch.samples.items (vec_capacity watch.samples) }

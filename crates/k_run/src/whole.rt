@@ -3,7 +3,9 @@ ghost use Rattle.std.specs.Prelude.{IfOk, None, ◌≡◌};
 ghost use Rattle.k_outcome.specs.Ends.{journal_of};
 ghost use Rattle.k_outcome.specs.Listed.{AreRoomsFor};
 ghost use Rattle.k_run.specs.Runs.{IsRunOf};
-ghost use Rattle.k_still.specs.Opening.{FirstCellsStand, IsSetupOf};
+ghost use Rattle.k_process.specs.Heaps.{value_of};
+ghost use Rattle.k_process.specs.Standing.{AllStand};
+ghost use Rattle.k_still.specs.Opening.{IsSetupOf};
 ghost use Rattle.k_trace.specs.Meaning.{meaning_of};
 ghost use Rattle.k_trace.specs.Rules.{IsTrace};
 ghost use Rattle.k_types.specs.FileOrder.{file_order};
@@ -29,7 +31,7 @@ fn run_still<W: WorldName + Send + Sync, G: Gate, R: Threads + Wait + Sync>(
     still: Still,
     gate: &G,
 ) -> Result<Outcome, NoMemory>
-    requires stands { FirstCellsStand W.world still.cells }
+    requires stands { AllStand W.world (value_of still.cells.heaps) }
     requires setup { IsSetupOf still.cells.setup W.world }
     requires rooms { AreRoomsFor W.world.trace still.rooms }
     requires alone { W.watched ≡ None }

@@ -1,40 +1,26 @@
 //! A run whose heaps and book stand behind locks, and its end.
-ghost use Rattle.std.specs.Prelude.{Some, length, vec_capacity, ◌≡◌};
-ghost use Rattle.k_process.specs.Over.{IsOutcome};
+ghost use Rattle.std.specs.Prelude.{Some, length, ◌≡◌};
+ghost use Rattle.k_process.specs.Heaps.{value_of};
+ghost use Rattle.k_process.specs.Over.{IsOutcome, cells_of};
 ghost use Rattle.k_outcome.specs.Ends.{EndsRun, journal_of};
-ghost use Rattle.k_run.specs.Gathering.{CanGather, CanGatherShared};
 ghost use Rattle.k_run.specs.Rooms.{AreEndRooms};
 ghost use Rattle.k_run.specs.Runs.{IsRunOf};
-ghost use Rattle.k_process.specs.Standing.{HeapsStand, ProcessesStand};
 ghost use Rattle.k_state.specs.Machines.{setup_of};
 ghost use Rattle.k_types.specs.Trace.{process_count};
 ghost use Rattle.k_watch.specs.Shown.{HasWatched, WasShown};
 
-use crate::locked::{LockedBook, LockedKernel, LockedProcess, LockedShared};
-use crate::placing::{in_order, place_process, place_shared};
+use crate::locks::{Locks, unlock_all};
 use crate::rooms::EndRooms;
 use crate::worlds::WorldName;
-use k_book::Book;
 use k_complete::end_all;
-use k_outcome::{Cells, Outcome, ReportRooms, outcome_of};
-use k_process::Process;
-use k_shared::SharedCell;
+use k_outcome::{Outcome, ReportRooms, outcome_of};
+use k_process::Heaps;
 use k_trace::Names;
 use k_turns::{TurnPass, Turns};
 use k_types::Setup;
 use k_watch::{Sample, WatchPen, Watcher, show_end};
 use std::marker::Model;
-use std::sync::{Mutex, Wait};
-
-/// One lock for each process's heap, for the kernel's, for each shared heap and for the book. They are taken in this order, those of two
-/// processes by rising number.
-#[derive(Drop)]
-pub(crate) struct Locks<W: WorldName> {
-    pub(crate) processes: Vec<Mutex<LockedProcess<W>>>,
-    pub(crate) kernel: Mutex<LockedKernel<W>>,
-    pub(crate) shared: Vec<Mutex<LockedShared<W>>>,
-    pub(crate) book: Mutex<LockedBook<W>>,
-}
+use std::sync::Wait;
 
 /// A run named `W`: its locks, the queue of its processes with a pass for each worker, and the memory with which it is ended and what a
 /// report lists of the end. Contracts see the names that its trace declares, and its setup.
@@ -62,74 +48,19 @@ impl<W: WorldName> Model for World<W> {
     ghost invariant = { λ w. HoldsRun W.world (length w.locks.processes.items) (length w.locks.shared.items) w.rooms w.report w.turns w.passes.items w.setup };
 }
 
-/// Takes the processes from behind their locks, each to the place of its number.
-fn gather<W: WorldName>(
-    mut locks: Vec<Mutex<LockedProcess<W>>>,
-    mut places: Vec<Option<Process>>,
-    into: Vec<Process>,
-    book: &mut Book,
-) -> Vec<Process>
-    requires { CanGather W.world (length locks.items) places.items into.items (vec_capacity into) book.old }
-    ensures processes { ProcessesStand W.world result.items }
-    ensures book { book.new ≡ book.old }
-{
-    while let Some(lock) = locks.pop() {
-        place_process(&mut places, book, lock.into_inner().into_process());
-    }
-    in_order(places, into)
-}
-
-/// Takes the cells of shared heaps from behind their locks, each to the place of its number.
-fn gather_shared<W: WorldName>(
-    mut locks: Vec<Mutex<LockedShared<W>>>,
-    mut places: Vec<Option<SharedCell>>,
-    into: Vec<SharedCell>,
-    book: &mut Book,
-) -> Vec<SharedCell>
-    requires { CanGatherShared W.world (length locks.items) places.items into.items (vec_capacity into) book.old }
-    ensures shared { HeapsStand W.world result.items }
-    ensures book { book.new ≡ book.old }
-{
-    while let Some(lock) = locks.pop() {
-        place_shared(&mut places, book, lock.into_inner().into_shared());
-    }
-    in_order(places, into)
-}
-
-/// Ends the run of the heaps behind the locks: each cell is put in the place of its own number, what is left of each process is done,
-/// one process after the other, and each cell meets the journal. The pen that stood beside the book is given back.
-fn end_cells<W: WorldName>(locks: Locks<W>, rooms: EndRooms) -> (Cells, Option<WatchPen>)
+/// Ends the run of the heaps behind the locks: what is left of each process is done, one process after the other, and each cell meets the
+/// journal. The pen that stood beside the book is given back.
+fn end_locked<W: WorldName>(locks: Locks<W>, rooms: EndRooms) -> (Heaps, Option<WatchPen>)
     requires processes { length locks.processes.items ≡ process_count W.world.trace }
     requires shared { length locks.shared.items ≡ W.world.trace.shared_heaps }
     requires rooms { AreEndRooms (process_count W.world.trace) W.world.trace.shared_heaps rooms }
-    ensures ends { EndsRun W.world.trace (setup_of W.world.trace) result.0 }
+    ensures ends { EndsRun W.world.trace (setup_of W.world.trace) (cells_of (value_of result.0)) }
     ensures table { result.0.book.journal.table ≡ W.world.table }
     ensures shown { WasShown W.watched W.world.trace result.0.book.journal.list result.1 }
 {
-    let Locks {
-        processes,
-        kernel,
-        shared,
-        book,
-    } = locks;
-    let EndRooms {
-        process_places,
-        shared_places,
-        processes: processes_into,
-        shared: shared_into,
-    } = rooms;
-    let (mut book, pen) = book.into_inner().into_parts();
-    let mut kernel = kernel.into_inner().into_kernel();
-    let mut processes = gather(processes, process_places, processes_into, &mut book);
-    let mut shared = gather_shared(shared, shared_places, shared_into, &mut book);
-    end_all(&mut processes, &mut kernel, &mut shared, &mut book);
-    let cells = Cells {
-        processes,
-        kernel,
-        shared,
-        book,
-    };
-    (cells, pen)
+    let (mut heaps, pen) = unlock_all(locks, rooms);
+    end_all(&mut heaps);
+    (heaps, pen)
 }
 
 /// Ends the run, whatever threads have done of it: what is left of each process is done, one process after the other, and each cell then
@@ -150,8 +81,8 @@ pub fn finish<W: WorldName>(world: World<W>) -> Outcome
         names,
         setup,
     } = world;
-    let (cells, _) = end_cells(locks, rooms);
-    outcome_of(names, setup, cells, report)
+    let (heaps, _) = end_locked(locks, rooms);
+    outcome_of(names, setup, heaps, report)
 }
 
 /// Ends a run that is watched, as `finish` does, and publishes its whole journal. The watcher takes one sample more, which is the
@@ -177,8 +108,8 @@ pub fn finish_watched<W: WorldName, R: Wait>(
         names,
         setup,
     } = world;
-    let (cells, pen) = end_cells(locks, rooms);
+    let (heaps, pen) = end_locked(locks, rooms);
     let Some(pen) = pen else { unreachable!() };
-    let (watcher, sample) = show_end(rt, pen, &cells.book, watcher);
-    (outcome_of(names, setup, cells, report), watcher, sample)
+    let (watcher, sample) = show_end(rt, pen, &heaps.book, watcher);
+    (outcome_of(names, setup, heaps, report), watcher, sample)
 }

@@ -3,7 +3,9 @@ use Rattle.std.proofs.Common.{Result, sym, subst}
 use Rattle.std.specs.Prelude.{IfOk}
 use Rattle.k_types.specs.Trace.{Trace}
 use Rattle.k_process.specs.Worlds.{WorldValue}
-use Rattle.k_still.specs.Opening.{FirstCellsStand, IsSetupOf}
+use Rattle.k_process.specs.Heaps.{value_of}
+use Rattle.k_process.specs.Standing.{AllStand}
+use Rattle.k_still.specs.Opening.{IsSetupOf}
 use Rattle.k_outcome.specs.Ends.{EndValue}
 use Rattle.k_outcome.specs.Listed.{AreRoomsFor}
 use Rattle.k_trace.specs.Named.{NamedTrace}
@@ -14,8 +16,8 @@ use Rattle.k_run.specs.Stills.{IsOpenedStill}
 use Rattle.k_run.proofs.Told.{named_told, trace_told, world_told}
 
 module _ (named : NamedTrace) (still : Still) (o : IsOpenedStill named still) where
-  pub stands_told : FirstCellsStand (world_in still.cells) still.cells
-  stands_told = subst (λ (w : WorldValue). FirstCellsStand w still.cells) (world_told named still.cells o.cells) o.cells.stands
+  pub stands_told : AllStand (world_in still.cells) (value_of still.cells.heaps)
+  stands_told = subst (λ (w : WorldValue). AllStand w (value_of still.cells.heaps)) (world_told named still.cells o.cells) o.cells.stands
 
   pub setup_told : IsSetupOf still.cells.setup (world_in still.cells)
   setup_told = subst (λ (w : WorldValue). IsSetupOf still.cells.setup w) (world_told named still.cells o.cells) o.cells.setup

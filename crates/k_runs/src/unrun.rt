@@ -2,7 +2,9 @@
 ghost use Rattle.std.specs.Prelude.{IfOk, None, ◌≡◌};
 ghost use Rattle.k_outcome.specs.Listed.{AreRoomsFor};
 ghost use Rattle.k_run.specs.Runs.{IsRunOf};
-ghost use Rattle.k_still.specs.Opening.{FirstCellsStand, IsSetupOf};
+ghost use Rattle.k_process.specs.Heaps.{value_of};
+ghost use Rattle.k_process.specs.Standing.{AllStand};
+ghost use Rattle.k_still.specs.Opening.{IsSetupOf};
 ghost use Rattle.k_text.specs.Named.{AreNamed};
 ghost use Rattle.k_trace.specs.Meaning.{meaning_of};
 ghost use Rattle.k_trace.specs.Rules.{IsTrace};
@@ -150,7 +152,7 @@ fn end_opened<W: WorldName, R: Wait>(
     alloc: Global,
     still: Still,
 ) -> Result<Outcome, NoMemory>
-    requires stands { FirstCellsStand W.world still.cells }
+    requires stands { AllStand W.world (value_of still.cells.heaps) }
     requires setup { IsSetupOf still.cells.setup W.world }
     requires rooms { AreRoomsFor W.world.trace still.rooms }
     requires alone { W.watched ≡ None }

@@ -1,4 +1,4 @@
-pub mod FromTheEnd
+pub mod InOrder
 pub mod Tables
 pub mod Serials
 pub mod Raised

@@ -19,7 +19,7 @@ use Rattle.k_base.proofs.Sums.{total_at_most}
 use Rattle.k_bounds.specs.Counts.{is_share_of, is_store, stores_in}
 use Rattle.k_bounds.proofs.Counting.{count_low}
 use Rattle.k_agree.specs.Rooms.{exit_room}
-use Rattle.k_still.proofs.FromTheEnd.{drop_read}
+use Rattle.k_still.proofs.InOrder.{drop_read}
 use Rattle.k_still.proofs.Tables.{exit_room_low, front_low, front_next, over_lists, own_few}
 use Rattle.k_still.specs.Opening.{AreSharedRooms, CanRaise, heap_made, raised, with_more}
 

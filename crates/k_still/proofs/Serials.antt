@@ -19,7 +19,7 @@ use Rattle.k_base.proofs.Numbered.{drop_all}
 use Rattle.k_base.proofs.Sums.{total_at_most}
 use Rattle.k_bounds.specs.Counts.{allocates_in, one_if}
 use Rattle.k_bounds.proofs.Counting.{count_low, one_if_low}
-use Rattle.k_still.proofs.FromTheEnd.{drop_read}
+use Rattle.k_still.proofs.InOrder.{drop_read}
 use Rattle.k_still.proofs.Tables.{all_few}
 use Rattle.k_still.specs.Opening.{AreSerialRooms, CanCount, counted, segment_given, with_one_more}
 use Rattle.k_base.proofs.Totals.{total_more, total_within}

@@ -18,6 +18,7 @@ use Rattle.k_space.specs.Objects.{BodyValue}
 use Rattle.k_bodies.specs.Bodies.{bodies_of}
 use Rattle.k_tie.specs.Values.{JournalValue, NoteValue, blank_note, empty_journal}
 use Rattle.k_book.specs.Books.{BookRecord}
+use Rattle.k_cell.specs.Holdings.{HoldingsValue}
 use Rattle.k_locked.specs.Keeping.{BookKeeps, KernelKeeps, SharedKeeps}
 use Rattle.k_locked.specs.Rooms.{shared_exit_room}
 use Rattle.k_trace.specs.declared.trace.Trace.{Trace as TraceRead}
@@ -26,11 +27,11 @@ use Rattle.k_trace.specs.Named.{NamedTrace}
 use Rattle.k_trace.specs.Rules.{IsTrace}
 use Rattle.k_shared.specs.SharedHeaps.{SharedRecord}
 use Rattle.k_still.specs.declared.beginning.Beginnings.{Beginnings}
-use Rattle.k_still.specs.declared.beginning.Cells.{Cells}
 use Rattle.k_process.specs.declared.process.Process.{Process}
 use Rattle.k_still.specs.declared.prepared.Prepared.{Prepared}
 use Rattle.k_still.specs.declared.first.FirstCells.{FirstCells}
-use Rattle.k_process.specs.Standing.{ArePublished, HeapsStand, ProcessStands, ProcessesStand, RestStands}
+use Rattle.k_process.specs.Heaps.{HeapsValue, value_of}
+use Rattle.k_process.specs.Standing.{AllStand, ArePublished, ProcessStands, ProcessesStand}
 use Rattle.k_process.specs.Worlds.{WorldValue}
 
 -- it holds of each element at its place
@@ -97,23 +98,22 @@ pub record IsSetupOf (setup : Setup) (world : WorldValue) : Type 0 where
   pub is : world.trace ≡ trace_of setup world.trace.operations world.trace.order
   pub rules : KeepsRules world.trace
 
--- for each segment that is left its blank note, and enough room for its serials
-pub record AreBeginnings (world : WorldValue) (b : Beginnings) : Type 0 where
+-- for each segment from the first one that is left its blank note, and enough room for its serials
+pub record AreBeginnings (world : WorldValue) (first : ℕ) (b : Beginnings) : Type 0 where
   pub same : length b.serials.items ≡ length b.notes.items
-  pub notes : Each (λ seg note. note ≡ blank_note world.table seg) b.notes.items
-  pub serials : Each (λ seg room. serial_room world.trace seg ≤ room) b.serials.items
+  pub all : first + length b.notes.items ≡ segment_count world.trace
+  pub notes : Each (λ k note. note ≡ blank_note world.table (first + k)) b.notes.items
+  pub serials : Each (λ k room. serial_room world.trace (first + k) ≤ room) b.serials.items
 
 -- there is one to be taken
-pub record CanBegin (world : WorldValue) (b : Beginnings) : Type 0 where
-  pub are : AreBeginnings world b
+pub record CanBegin (b : Beginnings) : Type 0 where
+  pub same : length b.serials.items ≡ length b.notes.items
   pub some : 0 < length b.notes.items
 
--- the last one was taken
-pub record HasBegun (world : WorldValue) (old new : Beginnings) (note : NoteValue) (objects : ℕ) : Type 0 where
-  pub are : AreBeginnings world new
-  pub fewer : length old.notes.items ≡ length new.notes.items + 1
-  pub is_note : note ≡ blank_note world.table (length new.notes.items)
-  pub enough : serial_room world.trace (length new.notes.items) ≤ objects
+-- the first one was taken
+pub record HasBegun (old new : Beginnings) (note : NoteValue) (objects : ℕ) : Type 0 where
+  pub notes : old.notes.items ≡ note ∷ new.notes.items
+  pub serials : old.serials.items ≡ objects ∷ new.serials.items
 
 -- a process of the world can be made of these operations, bodies, room for serials and note
 pub record CanOpenProcess (world : WorldValue) (setup : Setup) (pid : Pid) (ops : List Op) (bodies : List BodyValue) (objects : ℕ) (note : NoteValue) : Type 0 where
@@ -129,73 +129,52 @@ pub record ProcessBegins (world : WorldValue) (p : Process) : Type 0 where
   pub stands : ProcessStands world p
   pub published : p.cell.value.tail ≡ []
 
--- the last processes are made, from the last down; the operations, bodies and beginnings of the others are left
+-- the first processes are made; the operations, bodies and beginnings of the others are left
 pub record ArePending (world : WorldValue) (setup : Setup) (ops : List (Vec Op Global)) (bodies : List (VecDeque BodyValue Global)) (b : Beginnings) (made : List Process) : Type 0 where
   pub of : IsSetupOf setup world
-  pub own_operations : Each (λ p own. own.items ≡ operations_of world.trace p) ops
+  pub own_operations : Each (λ k own. own.items ≡ operations_of world.trace (length made + k)) ops
   pub same : length bodies ≡ length ops
-  pub own_bodies : Each (λ p own. own.items ≡ bodies_of world.trace.types (operations_of world.trace p)) bodies
-  pub beginnings : AreBeginnings world b
-  pub left : length b.notes.items ≡ length ops + 1
-  pub count : length ops + length made ≡ process_count world.trace
-  pub processes : Each (λ k p. ProcessBegins world p × (p.cell.pid.0 + k + 1 ≡ process_count world.trace)) made
+  pub own_bodies : Each (λ k own. own.items ≡ bodies_of world.trace.types (operations_of world.trace (length made + k))) bodies
+  pub beginnings : AreBeginnings world (1 + length made) b
+  pub count : length made + length ops ≡ process_count world.trace
+  pub processes : Each (λ k p. ProcessBegins world p × (p.cell.pid.0 ≡ k)) made
 
--- all processes stand, nothing of them is unpublished, and one beginning is left
+-- all processes stand, nothing of them is unpublished, and the beginnings of the shared heaps are left
 pub record HaveOpened (world : WorldValue) (b : Beginnings) (made : List Process) : Type 0 where
   pub processes : ProcessesStand world made
   pub published : ArePublished made
-  pub beginnings : AreBeginnings world b
-  pub left : length b.notes.items ≡ 1
+  pub beginnings : AreBeginnings world (1 + process_count world.trace) b
 
--- a shared heap of the world can be made with the last beginning that is left
+-- a shared heap of the world can be made with the first beginning that is left
 pub record CanOpenHeap (world : WorldValue) (setup : Setup) (id : SharedId) (exits : ℕ) (b : Beginnings) : Type 0 where
   pub of : IsSetupOf setup world
   pub known : id.0 < world.trace.shared_heaps
   pub enough : shared_exit_room world.trace id.0 ≤ exits
-  pub beginnings : AreBeginnings world b
-  pub left : length b.notes.items ≡ segment_of world.trace (Shared id) + 1
+  pub beginnings : AreBeginnings world (segment_of world.trace (Shared id)) b
 
--- the cell stands, and one beginning less is left
-pub record HasOpenedHeap (world : WorldValue) (id : SharedId) (made : SharedRecord) (old new : Beginnings) : Type 0 where
+-- the cell stands, and the beginnings of the later ones are left
+pub record HasOpenedHeap (world : WorldValue) (id : SharedId) (made : SharedRecord) (b : Beginnings) : Type 0 where
   pub keeps : SharedKeeps world.trace world.table made
   pub same : made.id ≡ id
-  pub beginnings : AreBeginnings world new
-  pub fewer : length old.notes.items ≡ length new.notes.items + 1
+  pub beginnings : AreBeginnings world (segment_of world.trace (Shared id) + 1) b
 
--- the last shared heaps are made, from the last down; the rooms and beginnings of the others are left
+-- there is a room for each shared heap, the first ones are made, and the beginnings of the others are left
 pub record ArePendingShared (world : WorldValue) (setup : Setup) (exits : List ℕ) (b : Beginnings) (made : List SharedRecord) : Type 0 where
   pub of : IsSetupOf setup world
-  pub rooms : Each (λ s room. shared_exit_room world.trace s ≤ room) exits
-  pub beginnings : AreBeginnings world b
-  pub left : length b.notes.items ≡ 1 + process_count world.trace + length exits
-  pub count : length exits + length made ≡ world.trace.shared_heaps
-  pub heaps : Each (λ k s. SharedKeeps world.trace world.table s × (s.id.0 + k + 1 ≡ world.trace.shared_heaps)) made
+  pub rooms : AreSharedRooms world.trace exits
+  pub beginnings : AreBeginnings world (1 + process_count world.trace + length made) b
+  pub heaps : Each (λ k s. SharedKeeps world.trace world.table s × (s.id.0 ≡ k)) made
 
--- all shared heaps stand, and the beginnings of the kernel and the processes are left
-pub record HaveOpenedShared (world : WorldValue) (b : Beginnings) (made : List SharedRecord) : Type 0 where
-  pub shared : HeapsStand world made
-  pub beginnings : AreBeginnings world b
-  pub left : length b.notes.items ≡ 1 + process_count world.trace
-
--- the kernel can be made with the one beginning that is left
+-- the kernel can be made with the beginning of the first segment
 pub record CanOpenKernel (world : WorldValue) (setup : Setup) (exits : ℕ) (b : Beginnings) : Type 0 where
   pub of : IsSetupOf setup world
   pub enough : exit_room world.trace ≤ exits
-  pub beginnings : AreBeginnings world b
-  pub left : length b.notes.items ≡ 1
+  pub beginnings : AreBeginnings world 0 b
 
--- all cells can be made, the shared heaps first, then the processes with the beginnings that those leave, and then the kernel
-pub record CanOpenCells (world : WorldValue) (setup : Setup) (ops : List (Vec Op Global)) (bodies : List (VecDeque BodyValue Global)) (exits : List ℕ) (stores : ℕ) (b : Beginnings) : Type 0 where
-  pub shared : ArePendingShared world setup exits b []
-  pub processes : (left : Beginnings) → AreBeginnings world left → length left.notes.items ≡ 1 + process_count world.trace → ArePending world setup ops bodies left []
-  pub enough : exit_room world.trace ≤ stores
-
--- all cells stand, and nothing of the processes is unpublished
-pub record CellsStand (world : WorldValue) (cells : Cells) : Type 0 where
-  pub processes : ProcessesStand world cells.processes.items
-  pub published : ArePublished cells.processes.items
-  pub kernel : KernelKeeps world.trace world.table cells.kernel
-  pub shared : HeapsStand world cells.shared.items
+-- the kernel stands, and the other beginnings are left
+pub record HasOpenedKernel (world : WorldValue) (made : HoldingsValue) (b : Beginnings) : Type 0 where
+  pub keeps : KernelKeeps world.trace world.table made
+  pub beginnings : AreBeginnings world 1 b
 
 -- the book of the setup can be made with these rooms, and with the seat of an empty journal of the table
 pub record CanOpenBook (world : WorldValue) (setup : Setup) (exits events : ℕ) (tie : TableId) (seat : JournalValue) : Type 0 where
@@ -213,22 +192,21 @@ pub record IsPrepared (trace : Trace) (p : Prepared) : Type 0 where
   pub stores : p.stores ≡ exit_room trace
   pub events : p.events ≡ event_room trace
 
--- all cells and the book can be made: setup and operations are the world's, what is prepared is for its trace, and the journal is
--- empty, with a blank note for each segment
-pub record CanOpenParts (world : WorldValue) (setup : Setup) (ops : List (Vec Op Global)) (p : Prepared) (tie : TableId) (seat : JournalValue) (notes : List NoteValue) : Type 0 where
+-- all heaps can be made beside the book: setup and operations are the world's, what is prepared is for its trace, and there is a blank
+-- note for each segment
+pub record CanOpenHeaps (world : WorldValue) (setup : Setup) (ops : List (Vec Op Global)) (p : Prepared) (notes : List NoteValue) (b : BookRecord) : Type 0 where
   pub of : IsSetupOf setup world
   pub own_operations : Each (λ k own. own.items ≡ operations_of world.trace k) ops
   pub count : length ops ≡ process_count world.trace
   pub prepared : IsPrepared world.trace p
-  pub table : tie ≡ world.table
-  pub empty : seat ≡ empty_journal world.table
   pub blank : notes ≡ map (blank_note world.table) (numbers_below (segment_count world.trace))
-
--- all cells and the book stand, and the journal is empty
-pub record PartsStand (world : WorldValue) (made : Cells) (b : BookRecord) : Type 0 where
-  pub cells : CellsStand world made
   pub book : BookKeeps world.trace world.table b
-  pub empty : b.journal ≡ empty_journal world.table
+
+-- all heaps stand beside that book, and nothing of the processes is unpublished
+pub record HaveOpenedHeaps (world : WorldValue) (b : BookRecord) (heaps : HeapsValue) : Type 0 where
+  pub stand : AllStand world heaps
+  pub published : ArePublished heaps.processes
+  pub book_is : heaps.book ≡ b
 
 -- the world is a run of the trace that was read, what is prepared is for it, and the journal is empty, with a blank note for each segment
 pub record CanOpenWith (world : WorldValue) (read : TraceRead) (p : Prepared) (tie : TableId) (seat : JournalValue) (notes : List NoteValue) : Type 0 where
@@ -239,21 +217,16 @@ pub record CanOpenWith (world : WorldValue) (read : TraceRead) (p : Prepared) (t
   pub empty : seat ≡ empty_journal world.table
   pub blank : notes ≡ map (blank_note world.table) (numbers_below (segment_count world.trace))
 
--- all processes, the kernel, the shared heaps and the book stand
-pub record FirstCellsStand (world : WorldValue) (first : FirstCells) : Type 0 where
-  pub processes : ProcessesStand world first.processes.items
-  pub rest : RestStands world first.kernel first.shared.items first.book
-
 -- the trace that is run, and the table of the journal
 abbrev pub world_of : NamedTrace → FirstCells → WorldValue
-world_of named first = record { trace = named.trace; table = first.book.journal.table }
+world_of named first = record { trace = named.trace; table = first.heaps.book.journal.table }
 
 -- all stands before the first event; the setup, the names and the order are those of the trace, the journal is empty, and nothing of
 -- any process is unpublished
 pub record IsOpened (named : NamedTrace) (first : FirstCells) : Type 0 where
-  pub stands : FirstCellsStand (world_of named first) first
+  pub stands : AllStand (world_of named first) (value_of first.heaps)
   pub setup : IsSetupOf first.setup (world_of named first)
   pub names : first.names ≡ named.names
   pub order : map (λ pid. pid.0) first.order.items ≡ named.trace.order
-  pub empty : first.book.journal.list ≡ []
-  pub published : ArePublished first.processes.items
+  pub empty : first.heaps.book.journal.list ≡ []
+  pub published : ArePublished first.heaps.processes.items

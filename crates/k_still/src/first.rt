@@ -1,25 +1,23 @@
-//! All cells of a run and its book, before the first event and on one thread.
+//! All heaps of a run and its book, before the first event and on one thread.
 ghost use Rattle.std.specs.Prelude.{◌≡◌, IfOk};
 ghost use Rattle.k_locked.specs.Keeping.{BookKeeps};
 ghost use Rattle.k_trace.specs.Meaning.{meaning_of};
 ghost use Rattle.k_trace.specs.Rules.{IsTrace};
-ghost use Rattle.k_still.specs.Opening.{CanOpenBook, CanOpenParts, CanOpenWith, IsOpened, PartsStand};
+ghost use Rattle.k_still.specs.Opening.{CanOpenBook, CanOpenWith, IsOpened};
 ghost use Rattle.k_process.specs.Worlds.{WorldValue};
 
-use crate::beginning::{Beginnings, Cells, open_cells};
+use crate::beginning::open_heaps;
 use crate::prepared::{Prepared, prepare};
 use k_book::Book;
 use k_io::NoMemory;
-use k_kernel::KernelCell;
 use k_limits::MakeError;
-use k_process::Process;
-use k_shared::SharedCell;
+use k_process::Heaps;
 use k_tie::{JournalSeat, Note, Tie};
 use k_trace::{Names, Trace};
-use k_types::{Op, Pid, Setup};
+use k_types::{Pid, Setup};
 use std::alloc::Global;
 
-/// All cells of a run and its book before the first event, not yet behind locks, with all memory that its steps will need.
+/// All heaps of a run before the first event, not yet behind locks, with all memory that its steps will need.
 #[derive(Drop)]
 pub struct FirstCells {
     /// What the trace declares, without names.
@@ -28,14 +26,8 @@ pub struct FirstCells {
     pub names: Names,
     /// The process of each operation, in the order of the trace.
     pub order: Vec<Pid>,
-    /// Each process with its cell, in the place of its number.
-    pub processes: Vec<Process>,
-    /// The kernel's cell.
-    pub kernel: KernelCell,
-    /// The cell of each shared heap, in the place of its number.
-    pub shared: Vec<SharedCell>,
-    /// What stands between the heaps, with the journal, which is empty.
-    pub book: Book,
+    /// All heaps and the book. The journal is empty.
+    pub heaps: Heaps,
 }
 
 /// The book before the first event. What the trace reserves fits, so memory alone can fail it.
@@ -58,33 +50,6 @@ fn open_book(
     }
 }
 
-/// All cells and the book, of what was prepared for a trace, over a journal with a note for each cell.
-fn open_parts(
-    alloc: Global,
-    setup: &Setup,
-    ops: Vec<Vec<Op>>,
-    prepared: Prepared,
-    tie: Tie,
-    seat: JournalSeat,
-    notes: Vec<Note>,
-) -> Result<(Cells, Book), NoMemory>
-    ghost world: { WorldValue }
-    requires { CanOpenParts world setup.now ops.items prepared tie seat notes.items }
-    ensures { IfOk result (λ made. PartsStand world made.0 made.1) }
-{
-    let Prepared {
-        bodies,
-        serials,
-        shared_exits,
-        stores,
-        events,
-    } = prepared;
-    let book = open_book(alloc, setup, stores, events, tie, seat)?;
-    let beginnings = Beginnings { notes, serials };
-    let cells = open_cells(alloc, setup, ops, bodies, shared_exits, stores, beginnings)?;
-    Ok((cells, book))
-}
-
 /// The run of a trace, with what was prepared for it, over a journal with a note for each cell.
 fn open_with(
     alloc: Global,
@@ -104,16 +69,13 @@ fn open_with(
         ops,
         order,
     } = trace;
-    let parts = open_parts(alloc, &setup, ops, prepared, tie, seat, notes)?;
-    let (cells, book) = parts;
+    let book = open_book(alloc, &setup, prepared.stores, prepared.events, tie, seat)?;
+    let heaps = open_heaps(alloc, &setup, ops, prepared, notes, book)?;
     Ok(FirstCells {
         setup,
         names,
         order,
-        processes: cells.processes,
-        kernel: cells.kernel,
-        shared: cells.shared,
-        book,
+        heaps,
     })
 }
 

@@ -1,4 +1,4 @@
-//! A run before its first event: all cells and the book that a trace needs, made with all memory that its steps will take.
+//! A run before its first event: all heaps and the book that a trace needs, made with all memory that its steps will take.
 //!
 //! [`first_cells`] makes them of a trace that was read; its contract promises that each agrees with the trace, that the journal is
 //! empty, and that nothing of a process is unpublished. [`stores_in`], [`all_stores`] and [`shared_rooms`] tell how many exit items

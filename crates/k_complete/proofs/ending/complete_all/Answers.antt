@@ -1,5 +1,6 @@
 use Rattle.std.proofs.Common.{◌<◌, sym, ◌∙◌, subst, arith, rules}
 use Rattle.std.proofs.lemmas.Option.{slice_get_within}
+use Rattle.k_process.specs.Heaps.{value_of}
 use Rattle.k_complete.proofs.Grown.{prefix_trans}
 use Rattle.k_complete.proofs.PlacedKept.{through_next}
 use Rattle.k_complete.proofs.ending.complete_all.Goals as goal
@@ -10,7 +11,7 @@ loop-at-init g c = record {
   stand = c.requires;
   through = λ k p inside at. absurd (omega (arith, inside));
   whole = search rules;
-  grows = prefix_all c.args.book.now.journal.list;
+  grows = prefix_all c.args.heaps.now.book.journal.list;
 }
 
 pub complete-requires : goal.complete-requires
@@ -21,16 +22,16 @@ loop-at-preserved g c =
     let same = c.complete.ensures.done.stand.processes.count ∙ sym c.loop-at.invariant.stand.processes.count in
     record {
       stand = c.complete.ensures.done.stand;
-      through = through_next g.world' c.loop-at.processes.items c.complete.new.processes.items c.loop-at.at c.complete.new.kernel c.complete.new.shared.items c.complete.new.book c.loop-at.invariant.through same c.complete.ensures.done;
+      through = through_next g.world' (value_of c.loop-at.heaps) (value_of c.complete.new.heaps) c.loop-at.at c.loop-at.invariant.through same c.complete.ensures.done;
       whole = same ∙ c.loop-at.invariant.whole;
-      grows = prefix_trans c.args.book.now.journal.list c.loop-at.book.journal.list c.complete.new.book.journal.list c.loop-at.invariant.grows c.complete.ensures.grows;
+      grows = prefix_trans c.args.heaps.now.book.journal.list c.loop-at.heaps.book.journal.list c.complete.new.heaps.book.journal.list c.loop-at.invariant.grows c.complete.ensures.grows;
     }
 
 pub returns-clause-through : goal.returns-clause-through
 returns-clause-through g c = record {
   stand = c.loop-at.invariant.stand;
   through = λ k p at.
-      let within = slice_get_within c.loop-at.processes.items k p at in
+      let within = slice_get_within c.loop-at.heaps.processes.items k p at in
       let whole = c.loop-at.invariant.whole in
       let over = c.loop-at-test.false in
       c.loop-at.invariant.through k p (omega (arith, within, whole, over)) at;

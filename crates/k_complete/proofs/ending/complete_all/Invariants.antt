@@ -1,8 +1,8 @@
 use Rattle.std.proofs.Common.{◌≡◌, ◌<◌, ℕ, Some, length, slice_get}
 use Rattle.k_process.specs.declared.process.Process.{Process}
 use Rattle.k_types.specs.Complete.{IsPrefixOf}
-use Rattle.k_complete.specs.Ended.{AllStand}
-use Rattle.k_process.specs.Standing.{IsThroughWith}
+use Rattle.k_process.specs.Heaps.{value_of}
+use Rattle.k_process.specs.Standing.{AllStand, IsThroughWith}
 use Rattle.k_complete.proofs.ending.complete_all.Given as goal
 
 abbrev pub ghost-complete : goal.ghost-complete
@@ -10,8 +10,8 @@ ghost-complete g a = g.world'
 
 abbrev pub invariant-loop-at : goal.invariant-loop-at
 invariant-loop-at g l = record {
-  stand : AllStand g.world' l.processes.items l.kernel l.shared.items l.book;
-  through : (k : ℕ) (p : Process) → k < l.at → slice_get l.processes.items k ≡ Some p → IsThroughWith g.world'.trace p.cell;
-  whole : length l.processes.items ≡ l.at-end;
-  grows : IsPrefixOf l.fn.book.journal.list l.book.journal.list;
+  stand : AllStand g.world' (value_of l.heaps);
+  through : (k : ℕ) (p : Process) → k < l.at → slice_get l.heaps.processes.items k ≡ Some p → IsThroughWith g.world'.trace p.cell;
+  whole : length l.heaps.processes.items ≡ l.at-end;
+  grows : IsPrefixOf l.fn.heaps.book.journal.list l.heaps.book.journal.list;
 }

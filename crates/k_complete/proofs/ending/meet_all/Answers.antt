@@ -1,4 +1,5 @@
 use Rattle.std.proofs.Common.{sym, subst}
+use Rattle.k_process.specs.Heaps.{value_of}
 use Rattle.k_process.specs.Over.{BookEnds}
 use Rattle.k_complete.proofs.EndKept.{cells_met}
 use Rattle.k_process.proofs.Kept.{kernel_can_meet}
@@ -9,12 +10,11 @@ meet_processes-requires g c = record { processes = c.requires.processes; book = 
 
 pub meet_kernel-requires : goal.meet_kernel-requires
 meet_kernel-requires g c =
-    kernel_can_meet g.world'.trace g.world'.table c.meet_processes.new.book c.meet_processes.new.book c.meet_processes.ensures.stand.book.stands c.meet_processes.ensures.stand.book.table c.args.kernel.now c.requires.kernel
+    kernel_can_meet g.world'.trace g.world'.table c.meet_processes.new.book c.meet_processes.new.book c.meet_processes.ensures.stand.book.stands c.meet_processes.ensures.stand.book.table c.args.heaps.now.kernel c.requires.kernel
 
 pub meet_heaps-requires : goal.meet_heaps-requires
 meet_heaps-requires g c = record { heaps = c.requires.shared; book = subst (BookEnds g.world') (sym c.meet_kernel.ensures.book_is) c.meet_processes.ensures.stand.book }
 
 pub returns : goal.returns
 returns g c =
-    cells_met g.world' c.args.processes.now.items c.meet_processes.new.processes.items c.args.kernel.now c.meet_kernel.new.kernel c.args.shared.now.items c.meet_heaps.new.shared.items c.args.book.now c.meet_processes.new.book
-    c.meet_kernel.new.book c.meet_heaps.new.book c.requires c.meet_processes.ensures c.meet_kernel.ensures c.meet_heaps.ensures
+    cells_met g.world' (value_of c.args.heaps.now) c.meet_processes.new.processes.items c.meet_kernel.new.kernel c.meet_heaps.new.shared.items c.meet_processes.new.book c.meet_kernel.new.book c.meet_heaps.new.book c.requires c.meet_processes.ensures c.meet_kernel.ensures c.meet_heaps.ensures

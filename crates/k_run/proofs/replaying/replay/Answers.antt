@@ -1,5 +1,6 @@
 use Rattle.std.proofs.Common.{[], sym, ap, ◌∙◌, subst}
 use Rattle.k_types.specs.Trace.{trace_of}
+use Rattle.k_process.specs.Heaps.{value_of}
 use Rattle.k_outcome.specs.Ends.{journal_of}
 use Rattle.k_run.specs.Runs.{IsRunOf}
 use Rattle.k_run.proofs.Ended.{can_end, ended_run, setup_same}
@@ -12,13 +13,13 @@ replay-requires g c = can_replay g.named c.args.still.cells c.requires.cells c.d
 pub outcome_of-requires : goal.outcome_of-requires
 outcome_of-requires g c =
     let first = c.args.still.cells in
-    let ends = replayed_ends g.named first c.replay.new.processes.items c.replay.new.kernel c.replay.new.shared.items c.replay.new.book c.replay.ensures in
+    let ends = replayed_ends g.named first (value_of c.replay.new.heaps) c.replay.ensures in
     can_end g.named.trace first.setup _ c.args.still.rooms c.requires.cells.setup.is ends c.requires.rooms
 
 pub returns-clause-run : goal.returns-clause-run
 returns-clause-run g c =
     let first = c.args.still.cells in
-    let ends = replayed_ends g.named first c.replay.new.processes.items c.replay.new.kernel c.replay.new.shared.items c.replay.new.book c.replay.ensures in
+    let ends = replayed_ends g.named first (value_of c.replay.new.heaps) c.replay.ensures in
     subst (IsRunOf g.named) (sym c.outcome_of.ensures)
     (ended_run g.named first.names (trace_of first.setup [] []) _ ends c.requires.cells.names (setup_same first.setup g.named.trace c.requires.cells.setup.is))
 

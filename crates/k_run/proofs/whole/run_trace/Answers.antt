@@ -2,7 +2,9 @@ use Rattle.std.proofs.Common.{sym, subst}
 use Rattle.std.specs.Prelude.{IfOk}
 use Rattle.k_types.specs.Trace.{Trace}
 use Rattle.k_process.specs.Worlds.{WorldValue}
-use Rattle.k_still.specs.Opening.{FirstCellsStand, IsSetupOf}
+use Rattle.k_process.specs.Heaps.{value_of}
+use Rattle.k_process.specs.Standing.{AllStand}
+use Rattle.k_still.specs.Opening.{IsSetupOf}
 use Rattle.k_outcome.specs.Listed.{AreRoomsFor}
 use Rattle.k_trace.specs.Meaning.{meaning_of}
 use Rattle.k_trace.specs.Named.{NamedTrace}
@@ -14,7 +16,7 @@ pub run_still-requires-clause-stands : goal.run_still-requires-clause-stands
 run_still-requires-clause-stands g c = λ κs lives.
     let first = c.in_ok-still.still.cells in
     let opened = c.in_ok-still.ensures.cells in
-    subst (λ (w : WorldValue). FirstCellsStand w first) (world_told (meaning_of c.args.trace) first opened) opened.stands
+    subst (λ (w : WorldValue). AllStand w (value_of first.heaps)) (world_told (meaning_of c.args.trace) first opened) opened.stands
 
 pub run_still-requires-clause-setup : goal.run_still-requires-clause-setup
 run_still-requires-clause-setup g c = λ κs lives.

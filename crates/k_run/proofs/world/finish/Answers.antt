@@ -1,7 +1,8 @@
 use Rattle.std.proofs.Common.{◌≡◌, [], ap, sym, subst}
 use Rattle.k_types.specs.Trace.{trace_of}
 use Rattle.k_trace.specs.Named.{NamedTrace}
-use Rattle.k_process.specs.Over.{IsOutcome}
+use Rattle.k_process.specs.Heaps.{value_of}
+use Rattle.k_process.specs.Over.{IsOutcome, cells_of}
 use Rattle.k_outcome.specs.Ends.{EndValue}
 use Rattle.k_run.specs.Runs.{IsRunOf}
 use Rattle.k_run.specs.Worlds.{RunValue}
@@ -10,17 +11,17 @@ use Rattle.k_run.proofs.world.finish.Goals as goal
 
 pub outcome_of-requires : goal.outcome_of-requires
 outcome_of-requires g c =
-    can_end g.W.WorldName.world.trace c.world.inside.setup c.end_cells-cells.result.0 c.world.inside.report c.world.invariant.setup_is c.end_cells-cells.ensures.ends c.world.invariant.report
+    can_end g.W.WorldName.world.trace c.world.inside.setup (cells_of (value_of c.end_locked-heaps.result.0)) c.world.inside.report c.world.invariant.setup_is c.end_locked-heaps.ensures.ends c.world.invariant.report
 
 pub returns-clause-outcome : goal.returns-clause-outcome
-returns-clause-outcome g c = subst (λ (e : EndValue). IsOutcome g.W.WorldName.world.trace e.cells) (sym c.outcome_of.ensures) c.end_cells-cells.ensures.ends.outcome
+returns-clause-outcome g c = subst (λ (e : EndValue). IsOutcome g.W.WorldName.world.trace e.cells) (sym c.outcome_of.ensures) c.end_locked-heaps.ensures.ends.outcome
 
 pub returns-clause-table : goal.returns-clause-table
-returns-clause-table g c = subst (λ (e : EndValue). e.cells.book.journal.table ≡ g.W.WorldName.world.table) (sym c.outcome_of.ensures) c.end_cells-cells.ensures.table
+returns-clause-table g c = subst (λ (e : EndValue). e.cells.book.journal.table ≡ g.W.WorldName.world.table) (sym c.outcome_of.ensures) c.end_locked-heaps.ensures.table
 
 pub returns-clause-run : goal.returns-clause-run
 returns-clause-run g c =
     let named : NamedTrace = record { names = c.args.world.names; trace = g.W.WorldName.world.trace } in
     subst (IsRunOf named) (sym c.outcome_of.ensures)
-    (ended_run named c.world.inside.names (trace_of c.world.inside.setup [] []) c.end_cells-cells.result.0 c.end_cells-cells.ensures.ends (ap (λ (v : RunValue). v.names) c.world.view_is)
+    (ended_run named c.world.inside.names (trace_of c.world.inside.setup [] []) (cells_of (value_of c.end_locked-heaps.result.0)) c.end_locked-heaps.ensures.ends (ap (λ (v : RunValue). v.names) c.world.view_is)
     (setup_same c.world.inside.setup g.W.WorldName.world.trace c.world.invariant.setup_is))

@@ -2,9 +2,6 @@ use Rattle.std.proofs.Common.{length}
 use Rattle.k_still.specs.Opening.{ArePending}
 use Rattle.k_still.proofs.beginning.open_processes.Given as goal
 
-abbrev pub ghost-take_last : goal.ghost-take_last
-ghost-take_last g a = g.world'
-
 abbrev pub ghost-open_process : goal.ghost-open_process
 ghost-open_process g a = g.world'
 

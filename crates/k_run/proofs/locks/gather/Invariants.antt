@@ -1,7 +1,7 @@
 use Rattle.std.proofs.Common.{◌≡◌, ◌+◌, length}
 use Rattle.k_types.specs.Trace.{process_count}
 use Rattle.k_run.specs.Places.{ArePlaces, filled}
-use Rattle.k_run.proofs.world.gather.Given as goal
+use Rattle.k_run.proofs.locks.gather.Given as goal
 
 abbrev pub ghost-place_process : goal.ghost-place_process
 ghost-place_process g a = g.W.WorldName.world

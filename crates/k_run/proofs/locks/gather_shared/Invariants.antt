@@ -1,6 +1,6 @@
 use Rattle.std.proofs.Common.{◌≡◌, ◌+◌, length}
 use Rattle.k_run.specs.Places.{ArePlacesShared, filled}
-use Rattle.k_run.proofs.world.gather_shared.Given as goal
+use Rattle.k_run.proofs.locks.gather_shared.Given as goal
 
 abbrev pub ghost-place_shared : goal.ghost-place_shared
 ghost-place_shared g a = g.W.WorldName.world

@@ -1,7 +1,7 @@
 use Rattle.std.proofs.Common.{refl, sym, subst}
 use Rattle.k_run.specs.Places.{ArePlacesShared}
 use Rattle.k_run.proofs.Gathered.{all_free, free_shared_places, gathered_shared}
-use Rattle.k_run.proofs.world.gather_shared.Goals as goal
+use Rattle.k_run.proofs.locks.gather_shared.Goals as goal
 
 pub loop-lock-init : goal.loop-lock-init
 loop-lock-init g c = record {
