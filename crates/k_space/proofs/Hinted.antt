@@ -1,9 +1,8 @@
 -- Hints of where segments stand.
-use Rattle.std.proofs.Common.{◌≡◌, ◌≢◌, ◌==◌, not, ℕ, ◌+◌, ◌<◌, ◌≤◌, true, false, refl, sym, ap, subst, ◌∙◌, inl, inr, List, [], ◌∷◌, length, map, get_or, set, slice_get, Option, Some, None, option_map, ltb, eq-eqb, arith}
+use Rattle.std.proofs.Common.{◌≡◌, ◌≢◌, ◌==◌, not, ℕ, ◌+◌, ◌<◌, ◌≤◌, true, false, refl, sym, ap, subst, ◌∙◌, inl, inr, List, [], ◌∷◌, length, map, get_or, set, slice_get, Option, Some, None, option_map, eq-eqb, arith}
 use Rattle.std.proofs.Math.Seq.{map-set_same}
 use Rattle.std.proofs.lemmas.Bool.{cases_eq, cases_lt, false≢true}
-use Rattle.std.proofs.lemmas.Bool.Decides.{nat_tests}
-use Rattle.std.proofs.lemmas.List.{length-map, length-set, get_or-set_same, get_or-set_other, get_or_default}
+use Rattle.std.proofs.lemmas.List.{length-map, length-set, get_or-set_same, get_or-set_other}
 use Rattle.std.proofs.lemmas.List.Sums.{prefix_len-le-length}
 use Rattle.std.proofs.lemmas.Option.{slice_get-map, slice_get-get_or, slice_get_within, get_or_from_slice_get}
 use Rattle.k_space.specs.Segments.{SegmentValue, unmarked_segment}
@@ -99,12 +98,3 @@ number_inside segments i number there = omega (arith, slice_get_within (numbers 
 -- what was read at a place
 pub got : (segments : List SegmentValue) (i : ℕ) (s d : SegmentValue) → i < length segments → s ≡ get_or segments i d → slice_get segments i ≡ Some s
 got segments i s d low read = slice_get-get_or segments i d low ∙ ap Some (sym read)
-
-below_test : (a b : ℕ) → true ≡ ltb a b → a < b
-below_test a b e = grind (arith, nat_tests)
-
-pub none_told : (segments : List SegmentValue) (hints : List ℕ) (number hint d : ℕ) → AreExact (numbers segments) hints → true ≡ ltb number (length hints) → hint ≡ get_or hints number d →
-    has_number (slice_get segments hint) number ≡ false → length segments ≡ place_of segments number
-none_told segments hints number hint d exact test read fails =
-    let within = below_test number (length hints) test in
-    none_exact segments hints number hint exact within (read ∙ get_or_default hints number d 0 within) fails

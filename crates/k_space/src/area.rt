@@ -23,7 +23,7 @@ struct Hints {
     segments: Vec<usize>,
     // Whether no segment stands elsewhere, so that a number whose hint fails has none.
     exact: bool,
-    // Where an object was made gray last, or a gray one found.
+    // Where an object was made gray last, or a gray one found; in an area of one segment, where that one stands.
     gray: usize,
 }
 
@@ -77,19 +77,28 @@ fn first(segments: &[Segment], seg: Seg) -> Option<usize>
     segments.iter().position(|s| s.number().0 == seg.0)
 }
 
+/// Where the segment of that number may stand: where its hint says, or nearby where it has none.
+fn guess(hints: &[usize], near: usize, seg: Seg) -> usize
+    ensures { seg.0 < length hints.now → result ≡ slice_index_or hints.now seg.0 0 }
+{
+    match hints.get(seg.0 as usize) {
+        Some(hint) => *hint,
+        None => near,
+    }
+}
+
 /// Where the segment of that number stands; the number of segments where there is none.
-fn place(segments: &[Segment], hints: &[usize], exact: bool, seg: Seg) -> usize
+fn place(segments: &[Segment], hints: &[usize], near: usize, exact: bool, seg: Seg) -> usize
     requires distinct { HasDistinct segments.now }
     requires exact { IsTrue exact → AreExact (numbers segments.now) hints.now }
     ensures { result ≡ position_or_len (λ s. s.number == seg.0) segments.now }
 {
-    if let Some(hint) = hints.get(seg.0 as usize) {
-        if stands_at(segments, *hint, seg) {
-            return *hint;
-        }
-        if exact {
-            return segments.len();
-        }
+    let at = guess(hints, near, seg);
+    if stands_at(segments, at, seg) {
+        return at;
+    }
+    if exact && (seg.0 as usize) < hints.len() {
+        return segments.len();
     }
     match first(segments, seg) {
         Some(at) => at,
@@ -178,8 +187,9 @@ impl Area {
     }
 
     /// The segment of that number. A number below the room is found at once where it is there, and told not to
-    /// be there at once from when marks were taken away until a segment is added, taken or lent for writing; any
-    /// other costs a look through the numbers.
+    /// be there at once from when marks were taken away until a segment is added, taken or lent for writing. Any
+    /// other is found at once where it is that of the only segment, or of the one in which an object was made gray or
+    /// found gray last; else it costs a look through the numbers.
     pub fn get(&self, seg: Seg) -> Option<&Segment>
         requires { HasDistinct self.now.segments }
         ensures { option_copied result ≡ segment_at self.now.segments seg.0 }
@@ -369,7 +379,13 @@ impl Area {
         requires { HasDistinct self.now.segments }
         ensures { result ≡ place_of self.now.segments seg.0 }
     {
-        place(&self.segments, &self.hints.segments, self.hints.exact, seg)
+        place(
+            &self.segments,
+            &self.hints.segments,
+            self.hints.gray,
+            self.hints.exact,
+            seg,
+        )
     }
 
     /// Notes where the segment of that number stands.

@@ -1,10 +1,10 @@
-use Rattle.std.proofs.Common.{◌≡◌, ◌==◌, ℕ, true, refl, sym, ap, ◌∙◌, List, length, Option, Some, None, slice_get, eqb-true}
+use Rattle.std.proofs.Common.{◌≡◌, ◌==◌, ◌<◌, ℕ, true, refl, sym, ap, ◌∙◌, List, length, Option, Some, None, slice_get, eqb-true, arith}
 use Rattle.std.specs.List.{position_or_len}
 use Rattle.std.proofs.lemmas.List.Sums.{prefix_len-le-length}
 use Rattle.k_space.specs.Segments.{SegmentValue}
 use Rattle.k_space.specs.Areas.{HasDistinct, has_number, place_of}
 use Rattle.k_space.proofs.Segs.{none_below}
-use Rattle.k_space.proofs.Hinted.{none_told}
+use Rattle.k_space.proofs.Hinted.{none_exact}
 use Rattle.k_space.proofs.area.place.Goals as goal
 
 -- with distinct numbers a segment stands nowhere else than its number says
@@ -16,11 +16,12 @@ stands_first segments at number distinct e = by_segment (slice_get segments at) 
     by_segment (Some s) there e = sym (distinct at s there) ∙ ap (place_of segments) (eqb-true s.number number e)
 
 pub returns-then-stands_at : goal.returns-then-stands_at
-returns-then-stands_at c = stands_first c.args.segments.now c.in-Some.hint.now c.args.seg.0 c.requires.distinct (sym c.stands_at.ensures ∙ c.if-stands_at.true)
+returns-then-stands_at c = stands_first c.args.segments.now c.guess-at.result c.args.seg.0 c.requires.distinct (sym c.stands_at.ensures ∙ c.if-stands_at.true)
 
 pub returns-in-None : goal.returns-in-None
 returns-in-None c = none_below (position_or_len (λ s. s.number == c.args.seg.0) c.args.segments.now) (length c.args.segments.now) (prefix_len-le-length _ _) (sym c.in-None.ensures)
 
-pub returns-then-exact : goal.returns-then-exact
-returns-then-exact c =
-    none_told c.args.segments.now c.args.hints.now c.args.seg.0 c.in-Some.hint.now _ (c.requires.exact c.if-exact.true) c.in-Some.ensures.lookup.0 c.in-Some.ensures.lookup.1 (sym c.stands_at.ensures ∙ c.if-stands_at.false)
+pub returns-then-seg-hints : goal.returns-then-seg-hints
+returns-then-seg-hints c =
+    let within : c.args.seg.0 < length c.args.hints.now = omega (arith, c.if-seg-hints.true) in
+    none_exact c.args.segments.now c.args.hints.now c.args.seg.0 c.guess-at.result (c.requires.exact c.if-exact.true) within (c.guess-at.ensures within) (sym c.stands_at.ensures ∙ c.if-stands_at.false)
