@@ -92,7 +92,7 @@ fn is_ref(stored: Stored) -> bool
 {
     match stored {
         Stored::Null => true,
-        Stored::Refers(_) => true,
+        Stored::Refers(_, _) => true,
         Stored::Holds(_) => false,
     }
 }
@@ -102,7 +102,7 @@ fn reference(stored: Stored) -> Option<Name>
 {
     match stored {
         Stored::Null => None,
-        Stored::Refers(name) => Some(name),
+        Stored::Refers(name, _) => Some(name),
         Stored::Holds(_) => None,
     }
 }
@@ -112,7 +112,7 @@ fn number_in(stored: Stored) -> u64
 {
     match stored {
         Stored::Null => 0,
-        Stored::Refers(_) => 0,
+        Stored::Refers(_, _) => 0,
         Stored::Holds(number) => number,
     }
 }
@@ -136,7 +136,7 @@ fn is_there(cell: &HeapCell, at: Name, field: u32, found: Stored) -> bool
 {
     match found {
         Stored::Null => true,
-        Stored::Refers(_) => true,
+        Stored::Refers(_, _) => true,
         Stored::Holds(number) => number != 0 || field < cell.field_count(at),
     }
 }

@@ -22,7 +22,7 @@ fn is_lower(stored: Stored, next: u64) -> bool
 {
     match stored {
         Stored::Null => true,
-        Stored::Refers(target) => u64::from(target.serial.0) < next,
+        Stored::Refers(target, _) => u64::from(target.serial.0) < next,
         Stored::Holds(_) => true,
     }
 }

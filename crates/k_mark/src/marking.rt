@@ -46,9 +46,9 @@ fn look<L: Ledger>(area: &mut Area, exits: &mut ExitTable, steps: &mut Steps<L>,
 {
     match stored {
         Stored::Null => steps.tick(),
-        Stored::Refers(target) => {
+        Stored::Refers(target, hint) => {
             steps.tick();
-            if !area.gray_own(target) {
+            if !area.gray_linked(hint.link(target)) {
                 exits.mark(target);
             }
         }

@@ -62,7 +62,7 @@ impl View for Outcome {
     /// Constant time.
     fn kind(&self, name: Name, field: u32) -> Field {
         match self.field(name, field) {
-            Stored::Null | Stored::Refers(_) => Field::Ref,
+            Stored::Null | Stored::Refers(_, _) => Field::Ref,
             Stored::Holds(_) => Field::Int,
         }
     }
@@ -71,7 +71,7 @@ impl View for Outcome {
     fn ref_at(&self, name: Name, field: u32) -> Option<Name> {
         let _cells = self.cells();
         match self.field(name, field) {
-            Stored::Refers(target) => Some(target),
+            Stored::Refers(target, _) => Some(target),
             Stored::Null | Stored::Holds(_) => None,
         }
     }
@@ -80,7 +80,7 @@ impl View for Outcome {
     fn int_at(&self, name: Name, field: u32) -> u64 {
         match self.field(name, field) {
             Stored::Holds(number) => number,
-            Stored::Null | Stored::Refers(_) => 0,
+            Stored::Null | Stored::Refers(_, _) => 0,
         }
     }
 

@@ -61,7 +61,7 @@ fn reference_in(stored: Stored) -> Option<Name>
 {
     match stored {
         Stored::Null => None,
-        Stored::Refers(name) => Some(name),
+        Stored::Refers(name, _) => Some(name),
         Stored::Holds(_) => None,
     }
 }

@@ -22,7 +22,7 @@ pub(crate) fn read_reference(count: u32, field: u32, stored: Stored) -> Result<O
     }
     match stored {
         Stored::Null => Ok(None),
-        Stored::Refers(name) => Ok(Some(name)),
+        Stored::Refers(name, _) => Ok(Some(name)),
         Stored::Holds(_) => Err(Fault::WrongKind),
     }
 }
@@ -41,7 +41,7 @@ pub(crate) fn read_number(count: u32, field: u32, stored: Stored) -> Result<u64,
     }
     match stored {
         Stored::Null => Err(Fault::WrongKind),
-        Stored::Refers(_) => Err(Fault::WrongKind),
+        Stored::Refers(_, _) => Err(Fault::WrongKind),
         Stored::Holds(number) => Ok(number),
     }
 }

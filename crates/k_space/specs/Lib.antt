@@ -1,9 +1,9 @@
 pub mod Objects
 pub mod Segments
 pub mod Sweeping
-pub mod Places
-pub mod Stamps
-pub mod Listed
+pub mod Cells
+pub mod Catalogs
+pub mod Queued
 pub mod Areas
 pub mod Hints
 pub mod AreaLends

@@ -36,9 +36,3 @@ pub record IsFirstUnmarked (s : SegmentValue) (from slot : ℕ) : Type 0 where
   pub found : IsUnmarkedAt s slot
   pub after : from ≤ slot
   pub first : (serial : ℕ) (other : Row) → row_at s serial ≡ Some other → from ≤ other.slot → other.color ≡ White → slot ≤ other.slot
-
--- the object of that serial is gone, and no other
-pub record IsFree (old new : SegmentValue) (serial : ℕ) (row : Row) (gone : Gone) : Type 0 where
-  pub serial_is : gone.serial.0 ≡ serial
-  pub bytes : gone.bytes ≡ object_size (length row.fields)
-  pub freed : new ≡ with_row old serial None

@@ -7,12 +7,13 @@ ghost use Rattle.k_space.specs.Segments.{Row, SegmentValue, row_at, some_gray, u
 ghost use Rattle.k_space.specs.Hints.{AreExact, numbers};
 ghost use Rattle.k_space.specs.Visiting.{IsVisited, IsVisitedFrom};
 ghost use Rattle.k_types.specs.declared.names.Name.{Name as Named};
+ghost use Rattle.k_types.specs.Names.{name_of};
 ghost use Rattle.k_space.specs.Areas.{place_of, row_of_name, segment_at, HasDistinct, is_foreign, gray_at, grayed, has_number, unmarked, blackened};
 
 use crate::body::Stored;
 use crate::segment::{Segment, Visited};
 use k_io::NoMemory;
-use k_types::{Name, Seg};
+use k_types::{Link, Name, Seg};
 use std::alloc::Global;
 use std::marker::Model;
 
@@ -244,18 +245,28 @@ impl Area {
     }
 
     /// The same, and tells whether the area has the segment of that name.
-    #[tactic(auto, using(crate::proofs::Segs::grayed_none))]
     pub fn gray_own(&mut self, target: Name) -> bool
         requires { HasDistinct self.old.segments }
         ensures grayed { self.new ≡ grayed self.old target }
         ensures own { result ≡ not (is_foreign self.old target) }
         ensures foreign { IsFalse result → self.new ≡ self.old }
     {
+        self.gray_linked(target.link())
+    }
+
+    /// The same for a reference, whose slot is tried first. Constant time where that is the one, but for the look for the segment.
+    #[tactic(auto, using(crate::proofs::Segs::grayed_none))]
+    pub fn gray_linked(&mut self, target: Link) -> bool
+        requires { HasDistinct self.old.segments }
+        ensures grayed { self.new ≡ grayed self.old (name_of target) }
+        ensures own { result ≡ not (is_foreign self.old (name_of target)) }
+        ensures foreign { IsFalse result → self.new ≡ self.old }
+    {
         let at = self.place(target.seg);
         if at >= self.segments.len() {
             return false;
         }
-        self.segments[at].make_gray(target.serial);
+        self.segments[at].make_gray_linked(target.serial, target.slot);
         self.hints.gray = at;
         true
     }

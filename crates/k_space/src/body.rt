@@ -7,15 +7,42 @@ ghost use Rattle.k_space.specs.Objects.{HasRef, HasInt, content_of, new_body, ne
 ghost use Rattle.k_types.specs.Names.{name_of};
 
 use k_io::NoMemory;
-use k_types::{Field, Link, Name, TypeId, TypeTable, object_size};
+use k_types::{Field, Link, Name, Slot, TypeId, TypeTable, object_size};
 use std::alloc::Global;
 use std::marker::Model;
 
-/// What a field holds: a reference, kept by its name, or null, or a number.
+/// The slot in which the object of a reference may lie, as far as 32 bits can name it. No contract speaks of it, and it is tested
+/// where it is used. It fills the four bytes that a field has to spare beside a name.
+#[derive(Clone, Copy, Debug)]
+pub struct Hint(u32);
+
+/// The highest slot that a hint names, and what it names in the place of those above.
+const LAST_HINTED: usize = 4_294_967_295;
+
+impl Hint {
+    /// The hint of a slot.
+    fn of(slot: Slot) -> Hint {
+        Hint(slot.0.min(LAST_HINTED) as u32)
+    }
+
+    /// The reference of that name, with the slot.
+    pub fn link(self, name: Name) -> Link
+        ensures { name_of result ≡ name }
+    {
+        let Name { seg, serial } = name;
+        Link {
+            seg,
+            serial,
+            slot: Slot(self.0 as usize),
+        }
+    }
+}
+
+/// What a field holds: a reference, kept by its name and with a hint, or null, or a number.
 #[derive(Clone, Copy, Debug)]
 pub enum Stored {
     Null,
-    Refers(Name),
+    Refers(Name, Hint),
     Holds(u64),
 }
 
@@ -35,7 +62,7 @@ impl Stored {
         ensures { content_of result ≡ Refers (option_map name_of value) }
     {
         match value {
-            Some(link) => Stored::Refers(link.name()),
+            Some(link) => Stored::Refers(link.name(), Hint::of(link.slot)),
             None => Stored::Null,
         }
     }
@@ -117,7 +144,7 @@ impl Body {
     {
         match self.fields.get(field as usize) {
             Some(Stored::Null) => Some(Field::Ref),
-            Some(Stored::Refers(_)) => Some(Field::Ref),
+            Some(Stored::Refers(_, _)) => Some(Field::Ref),
             Some(Stored::Holds(_)) => Some(Field::Int),
             None => None,
         }
@@ -152,7 +179,7 @@ impl Body {
         ensures { slice_get self.now.fields field ≡ Some (Refers (option_map name_of result)) }
     {
         match self.fields[field as usize] {
-            Stored::Refers(name) => Some(name.link()),
+            Stored::Refers(name, hint) => Some(hint.link(name)),
             Stored::Null => None,
             Stored::Holds(_) => None,
         }
@@ -166,7 +193,7 @@ impl Body {
         match self.fields[field as usize] {
             Stored::Holds(number) => number,
             Stored::Null => 0,
-            Stored::Refers(_) => 0,
+            Stored::Refers(_, _) => 0,
         }
     }
 

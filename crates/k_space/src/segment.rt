@@ -1,29 +1,20 @@
 //! The objects made under one number.
-ghost use Rattle.std.specs.Prelude.{◌≡◌, ◌<◌, ◌≤◌, ◌+◌, ℕ, length, map, Some, None, option_map, IfOk, IfSome, IfNone, IsSome, ◌∷◌, [], slice_set, slice_get, ◌==◌, IsFalse, IsTrue, OnSome};
+ghost use Rattle.std.specs.Prelude.{◌≡◌, ◌<◌, ◌≤◌, ◌+◌, ℕ, length, map, Some, None, option_map, IfOk, IfSome, IfNone, ◌∷◌, [], slice_set, slice_get, ◌==◌};
 ghost use Rattle.k_types.specs.State.{Refers, Holds, field_kind};
 ghost use Rattle.k_types.specs.Types.{object_size};
 ghost use Rattle.k_space.specs.Objects.{HasRef, HasInt, content_of};
 ghost use Rattle.k_types.specs.Names.{name_of};
-ghost use Rattle.k_space.specs.Segments.{Row, White, LiesAt, IsLive, row_at, made, with_row, IsSegment, placed, some_gray, is_gray, is_marked, gray_or_black, segment_bytes, unmarked_segment, blackened_segment, body_of};
-ghost use Rattle.k_space.specs.Sweeping.{IsFreed, IsFree, IsFirstUnmarked, IsTakenAway, IsUnmarkedAt};
-ghost use Rattle.k_space.specs.Visiting.{AreHeld, IsVisitedFromIn, IsVisitedIn};
-ghost use Rattle.slab.specs.Slab.{get};
-ghost use Rattle.k_space.specs.declared.segment.Cell.{Cell as SlabCell};
+ghost use Rattle.k_space.specs.Segments.{Row, LiesAt, IsLive, row_at, made, with_row, IsSegment, placed, segment_bytes, body_of};
 
 use crate::body::{Body, Stored};
-use crate::live::{Pass, blacken, next_white, passed};
-use crate::marks::{Mark, Place, Places};
+use crate::catalog::Catalog;
+use crate::cells::{Cell, FIRST_EPOCH, UNMARKED, lies_there};
+use crate::grays::Grays;
 use k_io::NoMemory;
 use k_types::{Field, Link, Name, Seg, Serial, Slot, TypeId};
 use slab::Slab;
 use std::alloc::Global;
 use std::marker::Model;
-
-#[derive(Drop)]
-struct Cell {
-    serial: Serial,
-    body: Body,
-}
 
 /// An object that was freed: where it lay, its serial, and its size in bytes.
 #[derive(Clone, Copy, Debug)]
@@ -41,24 +32,23 @@ pub struct Visited {
 }
 
 /// The objects that were made under one number. Each has a serial, which is never used again, and
-/// lies in a slot, which is.
+/// lies in a slot, which is. The slots know serials and marks; memory goes by what lives, and what was made since the last sweep.
 pub struct Segment {
-    number: Seg,
-    room: u32,
-    places: Places,
-    cells: Slab<Cell>,
-    // The serial of the gray object that was made gray first; 0 where there is none.
-    gray: u32,
-    // That of the one that was made gray last.
-    last: u32,
+    pub(crate) number: Seg,
+    pub(crate) room: u32,
+    pub(crate) cells: Slab<Cell>,
+    pub(crate) catalog: Catalog,
+    // The number by which marks are known.
+    pub(crate) epoch: u32,
+    pub(crate) grays: Grays,
     // Those of the live objects.
-    bytes: u64,
+    pub(crate) bytes: u64,
     // One more than the highest slot that was ever used.
-    end: usize,
-    // The serials of the live objects, in any order, and of some that are gone.
-    live: Vec<u32>,
-    // How far a sweep has come on that list.
-    pass: Pass,
+    pub(crate) end: usize,
+    // No entry of the catalog before this one is of an object without a mark.
+    pub(crate) passed: usize,
+    // Each entry of the catalog before this one is of a live object.
+    pub(crate) whole: usize,
 }
 
 impl Drop for Segment {
@@ -66,14 +56,14 @@ impl Drop for Segment {
         let Segment {
             number: _,
             room: _,
-            places: _,
             cells: _,
-            gray: _,
-            last: _,
+            catalog: _,
+            epoch: _,
+            grays: _,
             bytes: _,
             end: _,
-            live: _,
-            pass: _,
+            passed: _,
+            whole: _,
         } = self;
     }
 }
@@ -83,35 +73,19 @@ impl Model for Segment {
 
     ghost Value = { SegmentValue };
 
-    ghost use Rattle.std.specs.Prelude.{map, vec_capacity, ◌≡◌};
-    ghost use Rattle.k_space.specs.Places.{row_of, IsSound, IsLastGray, AreBytes, AreBelow};
-    ghost use Rattle.k_space.specs.Listed.{IsListed};
+    ghost use Rattle.k_space.specs.Cells.{IsSound, AreBytes, AreStamped, rows_of};
+    ghost use Rattle.k_space.specs.Catalogs.{AreEntered};
+    ghost use Rattle.k_space.specs.Queued.{AreQueued};
 
-    ghost view = { λ s. record { number = s.number.0; room = s.room; rows = map (row_of s.cells) s.places.items } };
+    ghost view = { λ s. record { number = s.number.0; room = s.room; rows = rows_of s.epoch s.cells s.catalog.made } };
 
     ghost invariant = { λ s. record {
-      sound : IsSound s.places.items s.cells s.room s.places.capacity s.gray;
-      last : IsLastGray s.places.items s.last;
-      bytes : AreBytes s.places.items s.cells s.bytes;
-      end : AreBelow s.cells s.end;
-      listed : IsListed s.places.items s.live.items s.pass.kept s.pass.next;
-      reserved : vec_capacity s.live ≡ s.room;
+      sound : IsSound s.cells s.catalog.made s.room s.end;
+      stamped : AreStamped s.epoch s.cells;
+      entered : AreEntered s.epoch s.cells s.catalog s.room s.passed s.whole;
+      queued : AreQueued s.epoch s.cells s.grays s.room;
+      bytes : AreBytes (rows_of s.epoch s.cells s.catalog.made) s.bytes;
     } };
-}
-
-/// Writes what the fields of the object hold to the front of the list, unless it is skipped.
-fn copy_unless(cells: &Slab<Cell>, slot: usize, skip: bool, into: &mut [Stored]) -> u32
-    requires live { IsSome (get cells.now slot) }
-    requires few { (cell : SlabCell) → get cells.now slot ≡ Some cell → length cell.body.fields ≤ 16 }
-    requires list { 16 ≤ length into.old }
-    ensures most { result ≤ 16 }
-    ensures held { IsFalse skip → (cell : SlabCell) → get cells.now slot ≡ Some cell → AreHeld cell.body.fields result into.new }
-    ensures len { length into.new ≡ length into.old }
-{
-    if skip {
-        return 0;
-    }
-    cells[slot].body.copy_to(into)
 }
 
 impl Segment {
@@ -120,22 +94,20 @@ impl Segment {
     pub fn make(alloc: Global, seg: Seg, room: u32) -> Result<Segment, NoMemory>
         ensures { IfOk result (λ s. s ≡ record { number = seg.0; room = room; rows = None ∷ [] }) }
     {
-        let mut places = Places::make(alloc, room as usize + 1)?;
-        places.push_reserved(Place::Empty);
         let cells = Slab::with_capacity(alloc, room as usize)?;
         // Read so that the proof has its range: the number of a slot, plus 1, fits.
         let _slots = cells.capacity();
         Ok(Segment {
             number: seg,
             room,
-            places,
             cells,
-            gray: 0,
-            last: 0,
+            catalog: Catalog::make(alloc, room as usize)?,
+            epoch: FIRST_EPOCH,
+            grays: Grays::make(alloc, room as usize)?,
             bytes: 0,
             end: 0,
-            live: Vec::with_capacity(alloc, room as usize)?,
-            pass: Pass { kept: 0, next: 0 },
+            passed: 0,
+            whole: 0,
         })
     }
 
@@ -153,7 +125,7 @@ impl Segment {
         ensures begun { length self.now.rows ≡ result + 1 }
         ensures sound { IsSegment self.now }
     {
-        (self.places.len() - 1) as u32
+        (self.catalog.made() - 1) as u32
     }
 
     /// The bytes of the live objects. They are kept, and not added up here: constant time.
@@ -173,34 +145,46 @@ impl Segment {
         ensures next { result.serial.0 ≡ made self.old + 1 }
         ensures placed { self.new ≡ placed self.old result.slot.0 body }
     {
-        let serial = self.places.len() as u32;
+        let serial = Serial(self.catalog.made() as u32);
         self.bytes += body.bytes();
         let slot = self.cells.insert_reserved(Cell {
-            serial: Serial(serial),
+            serial,
+            stamp: UNMARKED,
             body,
         });
-        self.places.push_reserved(Place::At(slot, Mark::White));
+        self.catalog.push_reserved(slot);
         self.end = self.end.max(slot + 1);
-        self.live.push_reserved(serial);
         Link {
             seg: self.number,
             slot: Slot(slot),
-            serial: Serial(serial),
+            serial,
         }
     }
 
-    /// Where the object of that serial lies. Constant time.
+    /// Where the object of that serial lies. Constant time for what was made since the last sweep; else it is looked for among
+    /// those of a stretch of serials. One who has a reference asks [`Segment::find_linked`].
     pub fn find(&self, serial: Serial) -> Option<Slot>
         ensures { option_map (λ s. s.0) result ≡ option_map (λ row. row.slot) (row_at self.now serial.0) }
     {
-        let at = serial.0 as usize;
-        if at >= self.places.len() {
+        if serial.0 as usize >= self.catalog.made() {
             return None;
         }
-        match self.places.at(at) {
-            Place::At(slot, _) => Some(Slot(slot)),
-            Place::Empty => None,
+        let slot = self.catalog.find(serial.0)?;
+        if lies_there(&self.cells, slot, serial.0) {
+            Some(Slot(slot))
+        } else {
+            None
         }
+    }
+
+    /// The same, which tries the slot first that the reference has. Constant time where that is the one.
+    pub fn find_linked(&self, serial: Serial, hint: Slot) -> Option<Slot>
+        ensures { option_map (λ s. s.0) result ≡ option_map (λ row. row.slot) (row_at self.now serial.0) }
+    {
+        if lies_there(&self.cells, hint.0, serial.0) {
+            return Some(hint);
+        }
+        self.find(serial)
     }
 
     /// The serial of the object there. Constant time.
@@ -278,6 +262,7 @@ impl Segment {
         ensures { (serial : ℕ) (row : Row) → LiesAt self.old slot.0 serial row →
             self.new ≡ with_row self.old serial (Some (record row { fields = slice_set row.fields field (Refers (option_map name_of value)) })) }
     {
+        let value = self.near(value);
         self.cells[slot.0].body.write_ref(field, value);
     }
 
@@ -291,156 +276,6 @@ impl Segment {
         self.cells[slot.0].body.write_int(field, value);
     }
 
-    /// Makes a white object gray. Other objects, and serials with no object, stay as they are. Constant
-    /// time, and no memory.
-    #[tactic(auto, using(crate::proofs::Rows::kept_view))]
-    pub fn make_gray(&mut self, serial: Serial)
-        ensures grayed { (row : Row) → row_at self.old serial.0 ≡ Some row → self.new ≡ with_row self.old serial.0 (Some (record row { color = gray_or_black row.color })) }
-        ensures gone { row_at self.old serial.0 ≡ None → self.new ≡ self.old }
-        ensures number { self.new.number ≡ self.old.number }
-    {
-        let at = serial.0 as usize;
-        if at >= self.places.len() {
-            return;
-        }
-        let place = self.places.at(at);
-        match place {
-            Place::At(slot, mark) => match mark {
-                Mark::White => {
-                    // Behind the others, so that objects are visited mostly in the order of their making.
-                    let last = self.last;
-                    self.last = serial.0;
-                    self.places.set(at, Place::At(slot, Mark::Gray(0)));
-                    if self.gray == 0 {
-                        self.gray = serial.0;
-                    } else {
-                        self.places.follow(last as usize, serial.0);
-                    }
-                }
-                Mark::Gray(_) => {}
-                Mark::Black => {}
-            },
-            Place::Empty => {}
-        }
-    }
-
-    /// Takes a gray object, makes it black, and writes what its fields hold to the front of the list. `None` comes
-    /// where no object is gray. Constant time, and no memory.
-    pub fn visit_gray(&mut self, into: &mut [Stored]) -> Option<Visited>
-        requires { 16 ≤ length into.old }
-        ensures some { IfSome result (λ found. IsVisitedIn self.old self.new found into.new) }
-        ensures none { IfNone result ((serial : ℕ) → IsFalse (some_gray (row_at self.old serial))) }
-        ensures kept { IfNone result (self.new ≡ self.old) }
-        ensures number { self.new.number ≡ self.old.number }
-        ensures len { length into.new ≡ length into.old }
-    {
-        self.visit_gray_from(0, into)
-    }
-
-    /// The same, but an object with a lower serial than that is not read, and nothing is said of the list. Constant time, and no memory.
-    pub fn visit_gray_from(&mut self, below: u64, into: &mut [Stored]) -> Option<Visited>
-        requires { 16 ≤ length into.old }
-        ensures some { IfSome result (λ found. IsVisitedFromIn below self.old self.new found into.new) }
-        ensures none { IfNone result ((serial : ℕ) → IsFalse (some_gray (row_at self.old serial))) }
-        ensures kept { IfNone result (self.new ≡ self.old) }
-        ensures number { self.new.number ≡ self.old.number }
-        ensures len { length into.new ≡ length into.old }
-    {
-        if self.gray == 0 {
-            return None;
-        }
-        let serial = self.gray;
-        let at = serial as usize;
-        let place = self.places.at(at);
-        match place {
-            Place::At(slot, mark) => match mark {
-                Mark::Gray(next) => {
-                    let skip = u64::from(serial) < below;
-                    let fields = copy_unless(&self.cells, slot, skip, into);
-                    self.places.set(at, Place::At(slot, Mark::Black));
-                    self.gray = next;
-                    Some(Visited {
-                        name: Name {
-                            seg: self.number,
-                            serial: Serial(serial),
-                        },
-                        fields,
-                    })
-                }
-                Mark::White => unreachable!(),
-                Mark::Black => unreachable!(),
-            },
-            Place::Empty => unreachable!(),
-        }
-    }
-
-    /// Whether there is an object of that serial, and it is gray. Constant time.
-    pub fn is_gray(&self, serial: Serial) -> bool
-        ensures { result ≡ some_gray (row_at self.now serial.0) }
-    {
-        let at = serial.0 as usize;
-        if at >= self.places.len() {
-            return false;
-        }
-        self.places.at(at).is_gray()
-    }
-
-    /// Makes the objects with a lower serial black, where none is gray. It looks once at each object that is live.
-    pub fn blacken_below(&mut self, below: u64)
-        requires { (serial : ℕ) → IsFalse (some_gray (row_at self.old serial)) }
-        ensures { self.new ≡ blackened_segment below self.old }
-    {
-        let front = blacken(&self.live, &mut self.places, below);
-        self.gray = 0;
-        // A sweep keeps these without a look at them.
-        self.pass = Pass {
-            kept: front,
-            next: front,
-        };
-    }
-
-    /// Takes the marks of all objects away. Constant time, however many objects were ever made, but for one pass
-    /// of the serials at each 2,000,000,000th call.
-    pub fn unmark_all(&mut self)
-        ensures { self.new ≡ unmarked_segment self.old }
-    {
-        self.places.whiten();
-        self.gray = 0;
-        self.pass = Pass { kept: 0, next: 0 };
-    }
-
-    /// Frees the first object that isn't marked, by slots from that one on. It passes the slots up to
-    /// that object, so that calls from the freed slot on pass each slot once that was ever used.
-    /// [`Segment::free_unmarked`], which keeps no order, passes those of live objects alone.
-    pub fn sweep_next(&mut self, from: Slot) -> Option<Gone>
-        ensures freed { IfSome result (λ gone. IsFreed self.old self.new from.0 gone) }
-        ensures none { IfNone result ((serial : ℕ) (row : Row) → row_at self.old serial ≡ Some row → from.0 ≤ row.slot → IsTrue (is_marked row.color)) }
-        ensures kept { IfNone result (self.new ≡ self.old) }
-    {
-        match self.first_unmarked(from.0) {
-            Some(slot) => Some(self.free(slot)),
-            None => None,
-        }
-    }
-
-    /// Frees an object that isn't marked. All calls up to the one that frees nothing look once, at most, at each object
-    /// that was live, freed or not, and at none that were freed before: a sweep costs no more than that.
-    pub fn free_unmarked(&mut self) -> Option<Gone>
-        ensures freed { IfSome result (λ gone. IsTakenAway self.old self.new gone) }
-        ensures none { IfNone result ((serial : ℕ) (row : Row) → row_at self.old serial ≡ Some row → IsTrue (is_marked row.color)) }
-        ensures kept { IfNone result (self.new ≡ self.old) }
-    {
-        let pass = next_white(&mut self.live, &self.places, self.pass);
-        self.pass = pass;
-        if pass.next >= self.live.len() {
-            return None;
-        }
-        match self.places.at(self.live[pass.next] as usize) {
-            Place::At(slot, _) => Some(self.free(slot)),
-            Place::Empty => unreachable!(),
-        }
-    }
-
     /// The content of the object there.
     fn body_at(&self, slot: Slot) -> &Body
         requires { IsLive self.now slot.0 }
@@ -449,52 +284,21 @@ impl Segment {
         &self.cells[slot.0].body
     }
 
-    /// The first slot from that one on with an object that isn't marked.
-    fn first_unmarked(&self, from: usize) -> Option<usize>
-        ensures some { IfSome result (λ slot. IsFirstUnmarked self.now from slot) }
-        ensures none { IfNone result ((serial : ℕ) (row : Row) → row_at self.now serial ≡ Some row → from ≤ row.slot → IsTrue (is_marked row.color)) }
+    /// The reference with the slot of its object, where that is one of the segment's.
+    fn near(&self, value: Option<Link>) -> Option<Link>
+        ensures { option_map name_of result ≡ option_map name_of value }
     {
-        for slot in from..self.end() {
-            if self.is_unmarked(slot) {
-                return Some(slot);
-            }
+        let link = value?;
+        if link.seg != self.number {
+            return value;
         }
-        None
-    }
-
-    /// No object lies at this slot or a higher one.
-    fn end(&self) -> usize
-        ensures { (serial : ℕ) (row : Row) → row_at self.now serial ≡ Some row → row.slot < result }
-    {
-        self.end
-    }
-
-    /// Whether an object without a mark lies there.
-    fn is_unmarked(&self, slot: usize) -> bool
-        ensures yes { IsTrue result → IsUnmarkedAt self.now slot }
-        ensures no { IsFalse result → (serial : ℕ) (row : Row) → row_at self.now serial ≡ Some row → row.slot ≡ slot → IsTrue (is_marked row.color) }
-    {
-        let Some(cell) = self.cells.get(slot) else {
-            return false;
-        };
-        self.places.at(cell.serial.0 as usize).is_white()
-    }
-
-    /// Frees the object there, which isn't marked.
-    fn free(&mut self, slot: usize) -> Gone
-        requires { IsUnmarkedAt self.old slot }
-        ensures slot { result.slot.0 ≡ slot }
-        ensures freed { (serial : ℕ) (row : Row) → LiesAt self.old slot serial row → IsFree self.old self.new serial row result }
-    {
-        let cell = self.cells.remove(slot);
-        let bytes = cell.body.bytes();
-        self.places.set(cell.serial.0 as usize, Place::Empty);
-        self.bytes -= bytes;
-        self.pass = passed(&self.live, &self.places, self.pass, cell.serial.0);
-        Gone {
-            slot: Slot(slot),
-            serial: cell.serial,
-            bytes,
+        match self.find_linked(link.serial, link.slot) {
+            Some(slot) => Some(Link {
+                seg: link.seg,
+                serial: link.serial,
+                slot,
+            }),
+            None => value,
         }
     }
 }

@@ -2,8 +2,8 @@ use Rattle.std.proofs.Common.{◌≡◌, ℕ, List, map, sym, ap, ◌∙◌, len
 use Rattle.std.proofs.lemmas.List.{length-map}
 use Rattle.k_space.specs.Segments.{SegmentValue, row_at, some_gray, blackened_segment}
 use Rattle.k_space.specs.Areas.{AreaValue, blackened}
-use Rattle.k_space.proofs.Rows.{front_whole}
-use Rattle.k_space.proofs.Blackened.{segments_plain}
+use Rattle.k_space.proofs.Plain.{front_whole}
+use Rattle.k_space.proofs.Plain.{segments_plain}
 use Rattle.k_space.proofs.area.Area.blacken_below.Goals as goal
 
 -- the segments after the pass

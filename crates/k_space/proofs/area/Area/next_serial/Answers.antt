@@ -1,7 +1,7 @@
 use Rattle.std.proofs.Common.{◌≡◌, ◌<◌, ◌≤◌, ℕ, List, length, slice_get, Some, ap, subst, ◌∙◌, arith}
 use Rattle.k_space.specs.Segments.{SegmentValue}
 use Rattle.k_space.specs.Areas.{AreaValue}
-use Rattle.k_space.proofs.Blackened.{below_next}
+use Rattle.k_space.proofs.Plain.{below_next}
 use Rattle.k_space.proofs.area.Area.next_serial.Goals as goal
 
 pub returns : goal.returns

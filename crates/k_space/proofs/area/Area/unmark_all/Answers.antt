@@ -3,7 +3,7 @@ use Rattle.std.proofs.lemmas.List.{length-map}
 use Rattle.k_space.specs.Segments.{SegmentValue, unmarked_segment}
 use Rattle.k_space.specs.Areas.{AreaValue, unmarked}
 use Rattle.k_space.specs.Hints.{AreExact, numbers}
-use Rattle.k_space.proofs.Rows.{front_whole}
+use Rattle.k_space.proofs.Plain.{front_whole}
 use Rattle.k_space.proofs.Hinted.{exact_unmarked}
 use Rattle.k_space.proofs.area.Area.unmark_all.Goals as goal
 

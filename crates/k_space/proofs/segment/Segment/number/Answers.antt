@@ -1,4 +1,4 @@
-use Rattle.k_space.proofs.Soundness.{segment_sound}
+use Rattle.k_space.proofs.Sound.{segment_sound}
 use Rattle.k_space.proofs.segment.Segment.number.Goals as goal
 
 pub returns-clause-sound : goal.returns-clause-sound

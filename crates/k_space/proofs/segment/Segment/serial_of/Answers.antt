@@ -1,17 +1,17 @@
 use Rattle.std.proofs.Common.{◌≡◌, is_some, sym, ap, ◌∙◌}
-use Rattle.k_space.specs.declared.segment.Cell.{Cell}
-use Rattle.k_space.proofs.Rows.{lies_in, same_cell}
+use Rattle.k_base.proofs.Lists.{some_one}
+use Rattle.k_space.specs.declared.cells.Cell.{Cell}
+use Rattle.k_space.proofs.Views.{lies_in}
 use Rattle.k_space.proofs.segment.Segment.serial_of.Goals as goal
 
 pub index-requires : goal.index-requires
 index-requires c =
     let live = c.requires in
-    let l = lies_in _ _ c.self.inside.places.items c.self.inside.cells c.args.self.now c.args.slot.0 live.serial live.row c.self.view_is live.lies in
+    let l = lies_in _ _ _ _ _ c.self.inside.cells c.args.self.now c.self.invariant.sound c.self.view_is c.args.slot.0 live.serial live.row live.lies in
     ap is_some l.there
 
 pub returns : goal.returns
 returns c = λ serial row lies.
-    let l = lies_in _ _ c.self.inside.places.items c.self.inside.cells c.args.self.now c.args.slot.0 serial row c.self.view_is lies in
-    let at = c.self.invariant.sound.placed serial c.args.slot.0 l.mark l.at in
-    let one : c.index.result.now ≡ at.cell = same_cell (sym c.index.ensures ∙ at.there) in
-    ap (λ (x : Cell). x.serial.0) one ∙ at.serial_is
+    let l = lies_in _ _ _ _ _ c.self.inside.cells c.args.self.now c.self.invariant.sound c.self.view_is c.args.slot.0 serial row lies in
+    let one : c.index.result.now ≡ l.cell = some_one (sym c.index.ensures ∙ l.there) in
+    ap (λ (x : Cell). x.serial.0) one ∙ l.serial_is
