@@ -17,3 +17,6 @@ pub mod Waiting
 pub mod Sound
 pub mod Found
 pub mod Coloring
+pub mod Forgotten
+pub mod Darkened
+pub mod Blackened

@@ -1,9 +1,9 @@
 -- The entries of objects by rising serials. No public clause cites this file.
-use Rattle.std.specs.Prelude.{◌≡◌, ◌≢◌, ℕ, ◌+◌, ◌<◌, ◌≤◌, Bool, true, false, List, [], ◌∷◌, length, slice_index_or, Some}
+use Rattle.std.specs.Prelude.{◌≡◌, ◌≢◌, ◌⊎◌, ℕ, ◌+◌, ◌<◌, ◌≤◌, Bool, true, false, List, [], ◌∷◌, length, slice_index_or, Some, None}
 use Rattle.slab.specs.Slab.{Slab, get, slab_len}
 use Rattle.k_space.specs.declared.cells.Cell.{Cell}
 use Rattle.k_space.specs.declared.entries.Entry.{Entry}
-use Rattle.k_space.specs.Cells.{has_serial, is_white_in, restamped}
+use Rattle.k_space.specs.Cells.{has_serial, is_white_in}
 
 -- the entries, how many serials there are, and for how many entries there is memory
 pub record CatalogValue : Type 0 where
@@ -67,16 +67,16 @@ pub record IsFirstWhite (epoch : ℕ) (cells : Slab Cell) (entries : List Entry)
   pub first : IsFirst epoch cells entries at
   pub slot_is : (slice_index_or entries at blank).slot ≡ slot
 
--- so many entries at the front have lower serials; their objects have that stamp, and all else is as it was
+-- so many entries at the front have lower serials; their objects have that stamp, and no other has changed but to have it too
 pub record AreBlackenedTo (black below front : ℕ) (entries : List Entry) (old new : Slab Cell) : Type 0 where
   pub capacity : new.capacity ≡ old.capacity
   pub len : slab_len new ≡ slab_len old
   pub within : front ≤ length entries
   pub low : (at : ℕ) → at < front → (slice_index_or entries at blank).serial < below
-  pub all : (at : ℕ) → front ≤ at → at < length entries → below ≤ (slice_index_or entries at blank).serial
-  pub done : (at : ℕ) → at < front → is_live old (slice_index_or entries at blank) ≡ true →
-    get new (slice_index_or entries at blank).slot ≡ restamped black (get old (slice_index_or entries at blank).slot)
-  pub rest : (slot : ℕ) → ((at : ℕ) → at < front → is_live old (slice_index_or entries at blank) ≡ true → (slice_index_or entries at blank).slot ≢ slot) → get new slot ≡ get old slot
+  pub each : (slot : ℕ) (cell : Cell) → get old slot ≡ Some cell → (get new slot ≡ Some cell) ⊎ ((cell.serial.0 < below) × (get new slot ≡ Some (record cell { stamp = black })))
+  pub vacant : (slot : ℕ) → get old slot ≡ None → get new slot ≡ None
+  pub done : (at : ℕ) (cell : Cell) → at < front → get old (slice_index_or entries at blank).slot ≡ Some cell → cell.serial.0 ≡ (slice_index_or entries at blank).serial →
+    get new (slice_index_or entries at blank).slot ≡ Some (record cell { stamp = black })
 
 -- each object has its entry, and what is known of the front of the entries
 pub record AreEntered (epoch : ℕ) (cells : Slab Cell) (catalog : CatalogValue) (room passed whole : ℕ) : Type 0 where

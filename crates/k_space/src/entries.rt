@@ -1,7 +1,7 @@
 //! The entries of a catalog, by rising serials.
-ghost use Rattle.std.specs.Prelude.{◌≡◌, ◌<◌, ◌≤◌, ◌+◌, length, vec_capacity, IfSome, IfNone, IsTrue};
+ghost use Rattle.std.specs.Prelude.{◌≡◌, ◌<◌, ◌≤◌, length, slice_index_or, vec_capacity, IfSome, IfNone, IsTrue};
 ghost use Rattle.std.specs.List.{filter};
-ghost use Rattle.k_space.specs.Catalogs.{AreBlackenedTo, AreDark, AreLive, AreRising, HasNone, HasNoneBetween, IsFirst, IsSerialAt, is_live};
+ghost use Rattle.k_space.specs.Catalogs.{AreBlackenedTo, AreDark, AreLive, AreRising, HasNone, HasNoneBetween, IsFirst, IsSerialAt, blank, is_live};
 
 use crate::cells::{Cell, is_white_there, lies_there, stamp};
 use crate::index::Index;
@@ -87,7 +87,8 @@ pub(crate) fn first_white(entries: &[Entry], cells: &Slab<Cell>, epoch: u32, fro
 
 /// Makes the objects of lower serials black, and tells how many entries at the front are theirs.
 pub(crate) fn blacken(entries: &[Entry], cells: &mut Slab<Cell>, below: u64, black: u32) -> usize
-    ensures { AreBlackenedTo black below result entries.now cells.old cells.new }
+    ensures black { AreBlackenedTo black below result entries.now cells.old cells.new }
+    ensures all { result < length entries.now → below ≤ (slice_index_or entries.now result blank).serial }
 {
     let mut front = 0;
     while front < entries.len() {
