@@ -7,12 +7,12 @@ use Rattle.std.proofs.lemmas.Option.{get_or_from_slice_get}
 use Rattle.slab.specs.Slab.{Slab, get, with_value}
 use Rattle.k_space.specs.declared.body.Stored.{Stored}
 use Rattle.k_space.specs.declared.cells.Cell.{Cell}
-use Rattle.k_space.specs.Segments.{Color, White, Gray, Black, Row, SegmentValue, LiesAt, row_at, with_row, gray_or_black, is_gray, is_marked, some_gray, unmarked_row, unmarked_segment}
-use Rattle.k_space.specs.Cells.{AreApart, AreStamped, IsSound, color_of, row_bytes, row_in, row_of, rows_of, stamped}
+use Rattle.k_space.specs.Segments.{Color, White, Gray, Black, Row, SegmentValue, LiesAt, row_at, with_row, gray_or_black, is_gray, is_marked, some_gray}
+use Rattle.k_space.specs.Cells.{IsSound, row_in, rows_of, stamped}
 use Rattle.k_space.specs.Sweeping.{IsUnmarkedAt}
 use Rattle.k_space.specs.Visiting.{AreHeld, IsVisitedFromIn}
-use Rattle.k_space.proofs.Cellular.{color_black, color_gray, color_marked, color_white, gray_stamp, row_mapped}
-use Rattle.k_space.proofs.Views.{lies_in, lies_row, row_seen, row_there, rows_each}
+use Rattle.k_space.proofs.Cellular.{color_black, color_gray, color_marked, color_white, gray_stamp}
+use Rattle.k_space.proofs.Views.{lies_in, lies_row, row_there}
 use Rattle.k_space.proofs.Written.{written_view}
 
 -- an object put back as it is
@@ -110,29 +110,3 @@ module _ (number room epoch made end : ℕ) (cells : Slab Cell) (s : SegmentValu
       let l = lies_in number room epoch made end cells s sound is slot serial row (record { there = at; slot_is = slot_is }) in
       let both : ◌≡◌ {A = Option Cell} None (Some l.cell) = sym none ∙ l.there in
       cc
-
-  -- a later epoch, in which each is white
-  pub later_view : (after : ℕ) (new : Slab Cell) → AreApart new → ((t : ℕ) (x : Cell) → get cells t ≡ Some x → (y : Cell) × (get new t ≡ Some y) × (y.serial ≡ x.serial) × (y.body ≡ x.body) × (y.stamp < after)) →
-      ((t : ℕ) (y : Cell) → get new t ≡ Some y → (x : Cell) × (get cells t ≡ Some x) × (x.serial.0 ≡ y.serial.0)) →
-      record { number = number; room = room; rows = rows_of after new made } ≡ unmarked_segment s
-  later_view after new apart forth back =
-      ap (λ (rs : List (Option Row)). record { number = number; room = room; rows = rs })
-      (rows_each epoch after made cells new unmarked_row (λ n low. row_mapped epoch after n cells new white sound.apart apart (λ t x e has. one n t x e has) (λ t y e has. let b = back t y e in (b.0, b.1, b.2 ∙ has)) ∙ same (row_of epoch cells n)))
-      ∙ ap (λ (x : SegmentValue). unmarked_segment x) is
-    where
-      white : Row → Row
-      white r = record r { color = White }
-
-      same : (o : Option Row) → option_map white o ≡ unmarked_row o
-      same None = refl
-      same (Some r) = refl
-
-      one : (n t : ℕ) (x : Cell) → get cells t ≡ Some x → x.serial.0 ≡ n → (y : Cell) × (get new t ≡ Some y) × (y.serial.0 ≡ n) × (row_in after t y ≡ white (row_in epoch t x))
-      one n t x e has =
-          let f = forth t x e in
-          (
-            f.0,
-            f.1,
-            ap (λ k. k.0) f.2 ∙ has,
-            ap₂ (λ (c : Color) b. record { slot = t; color = c; ty = b.ty; fields = b.fields }) (color_white after f.0.stamp f.4) f.3,
-          )

@@ -20,3 +20,5 @@ pub mod Coloring
 pub mod Forgotten
 pub mod Darkened
 pub mod Blackened
+pub mod Swept
+pub mod Whitened

@@ -1,11 +1,12 @@
 -- Entries by rising serials.
 use Rattle.std.proofs.Common.{◌≡◌, ◌≢◌, ℕ, zero, suc, ◌+◌, ◌<◌, ◌≤◌, Bool, true, false, cond, refl, sym, ap, subst, ◌∙◌, inl, inr, List, [], ◌∷◌, ◌++◌, length, get_or, take, filter, arith}
 use Rattle.std.proofs.lemmas.Bool.{cases_eq, cases_lt}
+use Rattle.std.proofs.lemmas.List.{get_or_default}
 use Rattle.std.proofs.lemmas.List.Filters.{FiltersInPlace}
 use Rattle.slab.specs.Slab.{Slab}
 use Rattle.k_space.specs.declared.cells.Cell.{Cell}
 use Rattle.k_space.specs.declared.entries.Entry.{Entry}
-use Rattle.k_space.specs.Catalogs.{AreDark, AreLive, AreRising, HasNone, blank, is_live, is_white_entry}
+use Rattle.k_space.specs.Catalogs.{AreDark, AreLive, AreRising, HasNone, HasNoneBetween, IsEntryOf, IsSerialAt, blank, is_live, is_white_entry}
 
 -- serials that rise
 pub rising_end : (from : ℕ) (entries : List Entry) (made : ℕ) → AreRising from entries made → from ≤ made
@@ -89,3 +90,12 @@ take_live cells (r ∷ entries) (suc n) used =
 
 pub begins_filtered : (cells : Slab Cell) (entries : List Entry) (from : ℕ) → AreLive cells entries from → from ≤ length entries → FiltersInPlace (is_live cells) entries entries from from
 begins_filtered cells entries from used within = record { front = take_live cells entries from used; rest = refl; behind = omega arith; within = within; long = refl }
+
+-- the entry that is read
+pub entry_there : (entries : List Entry) (serial at : ℕ) (e d : Entry) → IsSerialAt entries serial at → e ≡ get_or entries at d → IsEntryOf entries serial e.slot
+entry_there entries serial at e d is read =
+    let one : get_or entries at blank ≡ e = sym (read ∙ get_or_default entries at d blank is.within) in
+    record { at = at; within = is.within; serial_is = is.is; slot_is = ap (λ (n : Entry). n.slot) one }
+
+pub none_between : (entries : List Entry) (serial to : ℕ) → to ≡ length entries → HasNoneBetween entries 0 to serial → HasNone entries serial
+none_between entries serial to all none = λ at within. none at (omega arith) (omega (arith, within, all))

@@ -93,6 +93,29 @@ pub record AreStamped (epoch : ℕ) (cells : Slab Cell) : Type 0 where
   pub small : epoch + 1 < 2 ^ 32
   pub past : (slot : ℕ) (cell : Cell) → get cells slot ≡ Some cell → cell.stamp < epoch + 2
 
+-- the slot has the same object with an older stamp than that of the epoch
+pub record IsWhiteAgain (new : Slab Cell) (epoch slot : ℕ) (cell : Cell) : Type 0 where
+  pub after : Cell
+  pub there : get new slot ≡ Some after
+  pub serial : after.serial ≡ cell.serial
+  pub body : after.body ≡ cell.body
+  pub white : after.stamp < epoch
+
+-- the slot had an object of the same serial
+pub record IsOfBefore (old : Slab Cell) (slot : ℕ) (cell : Cell) : Type 0 where
+  pub before : Cell
+  pub there : get old slot ≡ Some before
+  pub serial : before.serial ≡ cell.serial
+
+-- the same objects, of which none has a mark in the epoch
+pub record IsWhitened (old new : Slab Cell) (epoch : ℕ) : Type 0 where
+  pub begun : 1 ≤ epoch
+  pub small : epoch + 1 < 2 ^ 32
+  pub capacity : new.capacity ≡ old.capacity
+  pub len : slab_len new ≡ slab_len old
+  pub each : (slot : ℕ) (cell : Cell) → get old slot ≡ Some cell → IsWhiteAgain new epoch slot cell
+  pub back : (slot : ℕ) (cell : Cell) → get new slot ≡ Some cell → IsOfBefore old slot cell
+
 -- the bytes of an object
 abbrev pub row_bytes : Option Row → ℕ
 row_bytes None = 0

@@ -1,7 +1,7 @@
 //! Where the objects of a segment lie, by their serials.
 ghost use Rattle.std.specs.Prelude.{ℕ, ◌≡◌, ◌<◌, ◌≤◌, ◌+◌, ◌++◌, ◌∷◌, [], length, IfOk, IfSome, IfNone};
 ghost use Rattle.std.specs.List.{filter};
-ghost use Rattle.k_space.specs.Catalogs.{AreDark, AreLive, HasNone, IsEntryOf, IsFirstWhite, is_live};
+ghost use Rattle.k_space.specs.Catalogs.{AreDark, AreLive, AreRising, HasNone, IsEntryOf, IsFirstWhite, is_live};
 
 use crate::cells::Cell;
 use crate::entries::{Entry, entry_of, first_white, forget};
@@ -48,7 +48,7 @@ impl Catalog {
     /// How many serials there are, with 0.
     pub(crate) fn made(&self) -> usize
         ensures value { result ≡ self.now.made }
-        ensures some { 1 ≤ result }
+        ensures rising { AreRising 1 self.now.entries self.now.made }
     {
         self.made
     }
@@ -89,6 +89,7 @@ impl Catalog {
         requires { AreDark epoch cells.now self.now.entries from }
         ensures some { IfSome result (λ found. IsFirstWhite epoch cells.now self.now.entries found.0 found.1) }
         ensures none { IfNone result (AreDark epoch cells.now self.now.entries (length self.now.entries)) }
+        ensures rising { AreRising 1 self.now.entries self.now.made }
     {
         let at = first_white(&self.entries, cells, epoch, from)?;
         Some((at, self.entries[at].slot))
@@ -96,7 +97,8 @@ impl Catalog {
 
     /// The entries, for one that goes along them.
     pub(crate) fn entries(&self) -> &[Entry]
-        ensures { result.now ≡ self.now.entries }
+        ensures value { result.now ≡ self.now.entries }
+        ensures rising { AreRising 1 self.now.entries self.now.made }
     {
         &self.entries
     }

@@ -1,8 +1,8 @@
 //! The slots of a segment, each with an object, its serial and its mark.
-ghost use Rattle.std.specs.Prelude.{◌≡◌, ◌≤◌, Some, IsSome, IsFalse, length};
+ghost use Rattle.std.specs.Prelude.{◌≡◌, ◌<◌, ◌≤◌, ℕ, Some, IsSome, IsFalse, length};
 ghost use Rattle.slab.specs.Slab.{get};
 ghost use Rattle.k_space.specs.declared.cells.Cell.{Cell as SlabCell};
-ghost use Rattle.k_space.specs.Cells.{IsTakenOut, WithStamp, has_serial, is_white_in, stamped};
+ghost use Rattle.k_space.specs.Cells.{AreStamped, IsTakenOut, IsWhitened, WithStamp, has_serial, is_white_in, stamped};
 ghost use Rattle.k_space.specs.Visiting.{AreHeld};
 
 use crate::body::{Body, Stored};
@@ -17,7 +17,7 @@ pub(crate) const UNMARKED: u32 = 0;
 pub(crate) const FIRST_EPOCH: u32 = 1;
 
 /// The number of the last epoch: that of the one after it would not fit.
-pub(crate) const LAST_EPOCH: u32 = 4_294_967_291;
+const LAST_EPOCH: u32 = 4_294_967_291;
 
 /// An object as its slot keeps it. With the epoch's number for a stamp it is gray, and with the one after it black; with any
 /// lower it is white, so that a new epoch makes all objects white. The slot knows the serial, so that a reference with a
@@ -70,15 +70,29 @@ pub(crate) fn take_out(cells: &mut Slab<Cell>, slot: usize) -> Gone
     }
 }
 
-/// Takes the stamps of all epochs away. The slots with objects are lower than that one.
-pub(crate) fn restamp(cells: &mut Slab<Cell>, end: usize)
-    ensures { WithStamp UNMARKED end cells.old cells.new }
+/// Takes the stamps of all epochs away from the objects in slots below that one.
+fn restamp(cells: &mut Slab<Cell>, end: usize)
+    ensures { WithStamp 0 end cells.old cells.new }
 {
     for slot in 0..end {
         if cells.contains(slot) {
             stamp(cells, slot, UNMARKED);
         }
     }
+}
+
+/// The number of the epoch after that one, in which no object has a mark. Constant time, but for one pass of the slots at each
+/// 2,000,000,000th epoch. The slots with objects are lower than the end.
+pub(crate) fn next_epoch(cells: &mut Slab<Cell>, end: usize, epoch: u32) -> u32
+    requires below { (slot : ℕ) (cell : SlabCell) → get cells.old slot ≡ Some cell → slot < end }
+    requires stamped { AreStamped epoch cells.old }
+    ensures { IsWhitened cells.old cells.new result }
+{
+    if epoch < LAST_EPOCH {
+        return epoch + 2;
+    }
+    restamp(cells, end);
+    FIRST_EPOCH
 }
 
 /// Writes what the fields of the object hold to the front of the list, unless it is skipped.

@@ -4,7 +4,7 @@ ghost use Rattle.k_space.specs.Segments.{Row, LiesAt, IsLive, row_at, with_row, 
 ghost use Rattle.k_space.specs.Visiting.{IsVisitedFromIn, IsVisitedIn};
 
 use crate::body::Stored;
-use crate::cells::{FIRST_EPOCH, LAST_EPOCH, copy_unless, restamp, stamp};
+use crate::cells::{copy_unless, next_epoch, stamp};
 use crate::entries::blacken;
 use crate::segment::{Segment, Visited};
 use k_types::{Name, Serial, Slot};
@@ -107,12 +107,7 @@ impl Segment {
     pub fn unmark_all(&mut self)
         ensures { self.new ≡ unmarked_segment self.old }
     {
-        if self.epoch < LAST_EPOCH {
-            self.epoch += 2;
-        } else {
-            restamp(&mut self.cells, self.end);
-            self.epoch = FIRST_EPOCH;
-        }
+        self.epoch = next_epoch(&mut self.cells, self.end, self.epoch);
         self.grays.clear();
         self.passed = 0;
     }

@@ -14,5 +14,5 @@ returns-then-lies_there c = found_there _ _ _ _ _ c.self.inside.cells c.args.sel
 
 pub returns-else-lies_there : goal.returns-else-lies_there
 returns-else-lies_there c =
-    none_at _ _ _ _ _ c.self.inside.cells c.args.self.now c.self.invariant.sound c.self.view_is c.self.inside.catalog.entries c.args.serial.0 c.in_ok-slot.slot c.self.inside.catalog.rising
+    none_at _ _ _ _ _ c.self.inside.cells c.args.self.now c.self.invariant.sound c.self.view_is c.self.inside.catalog.entries c.args.serial.0 c.in_ok-slot.slot c.made.ensures.rising
     c.self.invariant.entered.covers c.in_ok-slot.ensures.some (sym c.lies_there.ensures ∙ c.if-lies_there.false)

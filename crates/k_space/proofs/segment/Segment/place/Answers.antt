@@ -44,7 +44,7 @@ invariant_of-self c =
     rw (c.push_reserved.ensures, c.max-self-inside.ensures, c.bytes.ensures.size) (record {
       sound = filled_sound cells after slot catalog.made new vacant updates serial room end past sound more c.insert_reserved-slot.ensures.len c.insert_reserved-slot.ensures.capacity few (omega arith) (omega arith);
       stamped = filled_stamped cells after slot catalog.made new vacant updates serial epoch c.self.invariant.stamped (omega (arith, white));
-      entered = entered_filled epoch catalog.made cells after catalog room c.self.inside.passed c.self.inside.whole slot new vacant updates serial refl (λ at low. rising_high 1 catalog.entries catalog.made at c.self.inside.catalog.rising low) c.self.invariant.entered;
+      entered = entered_filled epoch catalog.made cells after catalog room c.self.inside.passed c.self.inside.whole slot new vacant updates serial refl (λ at low. rising_high 1 catalog.entries catalog.made at c.made.ensures.rising low) c.self.invariant.entered;
       queued = queued_filled epoch room slot catalog.made cells after new c.self.inside.grays vacant updates serial white c.self.invariant.queued;
       bytes = bytes;
     })

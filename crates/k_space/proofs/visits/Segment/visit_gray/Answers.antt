@@ -1,0 +1,9 @@
+use Rattle.k_space.specs.declared.segment.Visited.{Visited}
+use Rattle.k_space.specs.Visiting.{IsVisitedIn, IsVisitedFromIn}
+use Rattle.k_space.proofs.Segs.{if_some_more, visited_all_in}
+use Rattle.k_space.proofs.visits.Segment.visit_gray.Goals as goal
+
+pub returns-clause-some : goal.returns-clause-some
+returns-clause-some c =
+    if_some_more (λ (found : Visited). IsVisitedFromIn 0 c.args.self.now c.visit_gray_from.new.self found c.visit_gray_from.new.into) (λ (found : Visited). IsVisitedIn c.args.self.now c.visit_gray_from.new.self found c.visit_gray_from.new.into) c.visit_gray_from.result
+    (λ found v. visited_all_in c.args.self.now c.visit_gray_from.new.self found c.visit_gray_from.new.into v) c.visit_gray_from.ensures.some
