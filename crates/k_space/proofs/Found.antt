@@ -4,7 +4,7 @@ use Rattle.std.proofs.lemmas.Bool.{cases_eq, cases_lt, false≢true}
 use Rattle.slab.specs.Slab.{Slab, get}
 use Rattle.k_space.specs.declared.cells.Cell.{Cell}
 use Rattle.k_space.specs.declared.entries.Entry.{Entry}
-use Rattle.k_space.specs.Segments.{Row, SegmentValue, row_at}
+use Rattle.k_space.specs.Segments.{IsLive, LiesAt, Row, SegmentValue, row_at}
 use Rattle.k_space.specs.Cells.{IsSound, has_serial, row_in, rows_of}
 use Rattle.k_space.specs.Catalogs.{AreRising, HasNone, IsEntryOf, blank}
 use Rattle.k_space.proofs.Entered.{has_from, has_is}
@@ -52,3 +52,17 @@ module _ (number room epoch made end : ℕ) (cells : Slab Cell) (s : SegmentValu
       let at : mine.at ≡ entry.at = same_entry entries made mine.at entry.at rising mine.within entry.within (mine.serial_is ∙ same ∙ sym entry.serial_is) in
       let slots : t ≡ slot = sym mine.slot_is ∙ ap (λ (k : ℕ). (get_or entries k blank).slot) at ∙ entry.slot_is in
       false≢true (sym off ∙ has_from serial (get cells slot) cell (ap (get cells) (sym slots) ∙ e) same))
+
+-- what is found lies there
+pub live_there : (s : SegmentValue) (serial slot : ℕ) → Some slot ≡ option_map (λ (row : Row). row.slot) (row_at s serial) → IsLive s slot
+live_there s serial slot found = by_row (row_at s serial) refl found
+  where
+    by_row : (o : Option Row) → row_at s serial ≡ o → Some slot ≡ option_map (λ (row : Row). row.slot) o → IsLive s slot
+    by_row None e f = absurd (cc)
+    by_row (Some row) e f = let at : row.slot ≡ slot = cc in record { serial = serial; row = row; lies = record { there = e; slot_is = at } }
+
+pub lies_found : (s : SegmentValue) (serial slot : ℕ) (row : Row) → Some slot ≡ option_map (λ (row : Row). row.slot) (row_at s serial) → row_at s serial ≡ Some row → LiesAt s slot serial row
+lies_found s serial slot row found at =
+    let both : Some slot ≡ Some row.slot = found ∙ ap (λ (o : Option Row). option_map (λ (row : Row). row.slot) o) at in
+    let is : row.slot ≡ slot = cc in
+    record { there = at; slot_is = is }
