@@ -1,8 +1,7 @@
 -- Places of which those of the lower serials are black.
-use Rattle.std.proofs.Common.{◌≡◌, ◌≢◌, ◌⊎◌, ℕ, zero, suc, ◌+◌, ◌<◌, ◌≤◌, false, refl, sym, ap, ap₂, subst, ◌∙◌, inl, inr, List, [], ◌∷◌, length, map, get_or, slice_get, set, Option, Some, None, count_by, arith}
-use Rattle.std.proofs.lemmas.Bool.{cases_eq, cases_lt, false≢true}
+use Rattle.std.proofs.Common.{◌≡◌, ◌⊎◌, ℕ, zero, suc, ◌<◌, ◌≤◌, false, refl, sym, ap, ap₂, subst, ◌∙◌, inl, inr, List, [], ◌∷◌, length, map, get_or, slice_get, Option, Some, None, count_by, arith}
+use Rattle.std.proofs.lemmas.Bool.{false≢true}
 use Rattle.std.proofs.lemmas.List.Sums.{sum_by-cons}
-use Rattle.std.proofs.lemmas.List.{get_or-set_same, get_or-set_other, length-set}
 use Rattle.std.proofs.lemmas.Option.{slice_get_within}
 use Rattle.slab.specs.Slab.{Slab, get}
 use Rattle.k_base.proofs.Lists.{some_inside}
@@ -15,77 +14,10 @@ use Rattle.k_space.specs.declared.marks.Mark.TheVariants.{White as MarkWhite, Gr
 use Rattle.k_space.specs.declared.segment.Cell.{Cell}
 use Rattle.k_space.specs.Segments.{Row, SegmentValue, row_at, some_gray, blackened_row, blackened_rows}
 use Rattle.k_space.specs.Areas.{HasDistinct, place_of, row_in_segment, row_of_name, segment_at}
-use Rattle.k_space.specs.Places.{row_of, row_in, row_bytes, AreBytes, IsSound, IsGrayList, IsLastGray, is_gray_place, is_white_place, black_place, black_places}
-use Rattle.k_space.specs.Listed.{AreBlackened, AreInFront, IsListed}
+use Rattle.k_space.specs.Places.{row_of, row_in, row_bytes, AreBytes, IsSound, IsGrayList, IsLastGray, is_gray_place, black_place, black_places}
 use Rattle.k_space.proofs.GrayLists.{bit}
 use Rattle.k_space.proofs.Numbers.{found_at}
 use Rattle.k_space.proofs.Rows.{row_at_view, same_At}
-
--- the loop
-pub none_blackened : (live : List ℕ) (below : ℕ) (places : List Place) → AreBlackened live below 0 places places
-none_blackened live below places = record { len = refl; each = λ i. inl refl; done = λ k low. absurd (omega (arith, low)) }
-
-black_again : (p : Place) → black_place (black_place p) ≡ black_place p
-black_again Empty = refl
-black_again (At slot mark) = refl
-
-black_same : (live : List ℕ) (below count : ℕ) (old now : List Place) → AreBlackened live below count old now → (i : ℕ) → black_place (get_or now i Empty) ≡ black_place (get_or old i Empty)
-black_same live below count old now was i =
-    elim (was.each i) [
-      | inl same ↦ ap black_place same
-      | inr black ↦ ap black_place black.1 ∙ black_again (get_or old i Empty)
-    ]
-
-pub one_blackened : (live : List ℕ) (below count serial : ℕ) (old now : List Place) → AreBlackened live below count old now → serial ≡ get_or live count 0 → serial < below → serial < length now →
-    AreBlackened live below (count + 1) old (set now serial (black_place (get_or now serial Empty)))
-one_blackened live below count serial old now was is low within = record {
-  len = length-set now serial (black_place (get_or now serial Empty)) ∙ was.len;
-  each = λ i.
-      elim (cases_eq i serial) [
-        | inl same ↦ inr (omega (arith, same, low), here i same)
-        | inr differs ↦ let stays = get_or-set_other now serial i (black_place (get_or now serial Empty)) Empty differs in elim (was.each i) [ inl e ↦ inl (stays ∙ e) | inr e ↦ inr (e.0, stays ∙ e.1) ]
-      ];
-  done = λ k before lower.
-      elim (cases_eq (get_or live k 0) serial) [
-        | inl same ↦ here (get_or live k 0) same
-        | inr differs ↦ get_or-set_other now serial (get_or live k 0) (black_place (get_or now serial Empty)) Empty differs ∙ was.done k (earlier k before differs) lower
-      ];
-}
-  where
-    here : (i : ℕ) → i ≡ serial → get_or (set now serial (black_place (get_or now serial Empty))) i Empty ≡ black_place (get_or old i Empty)
-    here i same =
-        ap (λ k. get_or (set now serial (black_place (get_or now serial Empty))) k Empty) same
-        ∙ get_or-set_same now serial (black_place (get_or now serial Empty)) Empty within
-        ∙ black_same live below count old now was serial
-        ∙ ap (λ k. black_place (get_or old k Empty)) (sym same)
-
-    earlier : (k : ℕ) → k < count + 1 → get_or live k 0 ≢ serial → k < count
-    earlier k before differs =
-        elim (cases_eq k count) [
-          | inl same ↦ absurd (differs (ap (λ n. get_or live n 0) same ∙ sym is))
-          | inr apart ↦ omega (arith, before, apart)
-        ]
-
-pub passed_blackened : (live : List ℕ) (below count : ℕ) (old now : List Place) → AreBlackened live below count old now → below ≤ get_or live count 0 → AreBlackened live below (count + 1) old now
-passed_blackened live below count old now was high = record {
-  len = was.len;
-  each = was.each;
-  done = λ k before lower.
-      elim (cases_eq k count) [
-        | inl same ↦ let at : get_or live k 0 ≡ get_or live count 0 = ap (λ n. get_or live n 0) same in absurd (omega (arith, at, lower, high))
-        | inr apart ↦ was.done k (omega (arith, before, apart)) lower
-      ];
-}
-
-pub one_in_front : (live : List ℕ) (below front i : ℕ) → AreInFront live below front → front ≡ i → i < length live → get_or live i 0 < below → AreInFront live below (front + 1)
-one_in_front live below front i was same within low = record {
-  within = omega (arith, same, within);
-  low = λ k before.
-      elim (cases_eq k i) [
-        | inl here ↦ let at : get_or live k 0 ≡ get_or live i 0 = ap (λ n. get_or live n 0) here in omega (arith, at, low)
-        | inr apart ↦ was.low k (omega (arith, before, same, apart))
-      ];
-}
 
 -- what it leaves
 all_agree : (xs ys : List Place) → length xs ≡ length ys → ((i : ℕ) → get_or xs i Empty ≡ get_or ys i Empty) → xs ≡ ys
@@ -94,7 +26,7 @@ all_agree [] (b ∷ ys) len h = absurd (omega arith)
 all_agree (a ∷ xs) [] len h = absurd (omega arith)
 all_agree (a ∷ xs) (b ∷ ys) len h = ap₂ (λ z zs. z ∷ zs) (h 0) (all_agree xs ys (omega (arith, len)) (λ i. h (suc i)))
 
-black_places_are : (below : ℕ) (new old : List Place) → length new ≡ length old → ((i : ℕ) → i < below → get_or new i Empty ≡ black_place (get_or old i Empty)) → ((i : ℕ) → below ≤ i → get_or new i Empty ≡ get_or old i Empty) →
+pub black_places_are : (below : ℕ) (new old : List Place) → length new ≡ length old → ((i : ℕ) → i < below → get_or new i Empty ≡ black_place (get_or old i Empty)) → ((i : ℕ) → below ≤ i → get_or new i Empty ≡ get_or old i Empty) →
     new ≡ black_places below old
 black_places_are zero new old len low high = all_agree new old len (λ i. high i (omega arith))
 black_places_are (suc n) [] [] len low high = refl
@@ -102,18 +34,6 @@ black_places_are (suc n) [] (q ∷ old) len low high = absurd (omega arith)
 black_places_are (suc n) (p ∷ new) [] len low high = absurd (omega arith)
 black_places_are (suc n) (p ∷ new) (q ∷ old) len low high =
     ap₂ (λ z zs. z ∷ zs) (low 0 (omega arith)) (black_places_are n new old (omega (arith, len)) (λ i below. low (suc i) (omega (arith, below))) (λ i above. high (suc i) (omega (arith, above))))
-
-pub blackened_is : (live : List ℕ) (below kept next : ℕ) (old new : List Place) → IsListed old live kept next → AreBlackened live below (length live) old new → new ≡ black_places below old
-blackened_is live below kept next old new listed was =
-    black_places_are below new old was.len
-    (λ i low. elim (was.each i) [ inl same ↦ by_place i low same (get_or old i Empty) refl | inr black ↦ black.1 ])
-    (λ i high. elim (was.each i) [ inl same ↦ same | inr black ↦ absurd (omega (arith, high, black.0)) ])
-  where
-    by_place : (i : ℕ) → i < below → get_or new i Empty ≡ get_or old i Empty → (p : Place) → get_or old i Empty ≡ p → get_or new i Empty ≡ black_place (get_or old i Empty)
-    by_place i low same Empty e = same ∙ e ∙ sym (ap black_place e)
-    by_place i low same (At slot mark) e =
-        let a = listed.covers i slot mark e in
-        subst (λ n. get_or new n Empty ≡ black_place (get_or old n Empty)) a.is (was.done a.at a.below (let at : get_or live a.at 0 ≡ i = a.is in omega (arith, at, low)))
 
 -- each place is as it was, or black
 pub at_black : (n : ℕ) (places : List Place) (i : ℕ) → (get_or (black_places n places) i Empty ≡ get_or places i Empty) ⊎ (get_or (black_places n places) i Empty ≡ black_place (get_or places i Empty))
@@ -219,30 +139,6 @@ total_blackened (suc n) (p ∷ places) cells = omega (arith, black_bytes cells p
 
 pub bytes_blackened : (n : ℕ) (places : List Place) (cells : Slab Cell) (bytes : ℕ) → AreBytes places cells bytes → AreBytes (black_places n places) cells bytes
 bytes_blackened n places cells bytes was = record { counted = was.counted ∙ sym (total_blackened n places cells); small = omega (arith, was.small, length-black n places) }
-
-black_dark : (p : Place) → is_white_place (black_place p) ≡ false
-black_dark Empty = refl
-black_dark (At slot mark) = refl
-
-pub listed_blackened : (n : ℕ) (places new : List Place) (live : List ℕ) (kept next front : ℕ) → IsListed places live kept next → AreBlackened live n (length live) places new → new ≡ black_places n places → AreInFront live n front →
-    IsListed (black_places n places) live front front
-listed_blackened n places new live kept next front was black is at_front = record {
-  few = omega (arith, was.few, length-black n places);
-  within = omega arith;
-  reached = at_front.within;
-  inside = λ k below. omega (arith, was.inside k below, length-black n places);
-  covers = λ i s mark e.
-      let there = black_there n places i s mark e in
-      let a = was.covers i s there.0 there.1 in
-      record { at = a.at; below = a.below; is = a.is; outside = sides a.at };
-  done = λ k low.
-      ap (λ (ps : List Place). is_white_place (get_or ps (get_or live k 0) Empty)) (sym is)
-      ∙ ap is_white_place (black.done k (omega (arith, low, at_front.within)) (at_front.low k low))
-      ∙ black_dark (get_or places (get_or live k 0) Empty);
-}
-  where
-    sides : (at : ℕ) → (at < front) ⊎ (front ≤ at)
-    sides at = cases_lt at front
 
 black_shown : (cells : Slab Cell) (p : Place) → row_of cells (black_place p) ≡ blackened_row (row_of cells p)
 black_shown cells Empty = refl

@@ -10,11 +10,11 @@ use Rattle.k_space.specs.declared.marks.Mark.{Mark}
 use Rattle.k_space.specs.declared.marks.Mark.TheVariants.{White as MarkWhite, Gray as MarkGray, Black as MarkBlack}
 use Rattle.k_space.specs.declared.segment.Cell.{Cell}
 use Rattle.k_space.specs.declared.segment.Gone.{Gone}
-use Rattle.k_space.specs.Segments.{White, Row, SegmentValue, LiesAt, row_at, with_row, is_marked}
+use Rattle.k_space.specs.Segments.{Color, White, Gray, Black, Row, SegmentValue, LiesAt, row_at, with_row, is_marked, gray_or_black}
 use Rattle.k_space.specs.Sweeping.{IsUnmarkedAt, IsFree, IsTakenAway}
 use Rattle.k_space.specs.Places.{row_of, row_in, color_of, IsSound, IsPlaced, IsKept, IsGrayList, is_gray_place, is_white_place}
 use Rattle.k_space.proofs.GrayLists.{At_inside, list_kept, count-set}
-use Rattle.k_space.proofs.Rows.{set_agree, row_at_view, same_At, lies_in, row_there, bit, same_cell}
+use Rattle.k_space.proofs.Rows.{kept_view, set_agree, row_at_view, same_At, lies_in, row_there, bit, same_cell}
 
 -- the object of one slot is gone
 count_none : (slots : List (Option Cell)) (key : ℕ) (cell : Cell) → get_or slots key None ≡ Some cell → count_by is_some (set slots key None) + 1 ≡ count_by is_some slots
@@ -130,6 +130,19 @@ pub other_mark : (slot : ℕ) (mark : Mark) → is_white_place (At slot mark) �
 other_mark slot MarkWhite e = absurd (cc)
 other_mark slot (MarkGray next) e = refl
 other_mark slot MarkBlack e = refl
+
+-- a marked object stays as it is where it is made gray
+marked_color : (color : Color) → is_marked color ≡ true → gray_or_black color ≡ color
+marked_color White e = absurd (cc)
+marked_color Gray e = refl
+marked_color Black e = refl
+
+pub marked_stays : (number room : ℕ) (places : List Place) (cells : Slab Cell) (s : SegmentValue) (serial : ℕ) (row : Row) → record { number = number; room = room; rows = map (row_of cells) places } ≡ s →
+    is_white_place (get_or places serial Empty) ≡ false → row_at s serial ≡ Some row → s ≡ with_row s serial (Some (record row { color = gray_or_black row.color }))
+marked_stays number room places cells s serial row is dark at =
+    let l = lies_in number room places cells s row.slot serial row is (record { there = at; slot_is = refl }) in
+    let marked = ap (λ (r : Row). is_marked r.color) l.row_is ∙ other_mark row.slot l.mark (sym (ap is_white_place l.at) ∙ dark) in
+    kept_view s serial row at ∙ ap (λ (x : Color). with_row s serial (Some (record row { color = x }))) (sym (marked_color row.color marked))
 
 pub unmarked_there : (number room : ℕ) (places : List Place) (cells : Slab Cell) (capacity : ℕ) (head : ℕ) (s : SegmentValue) (slot : ℕ) (cell : Cell) → IsSound places cells room capacity head →
     record { number = number; room = room; rows = map (row_of cells) places } ≡ s → get cells slot ≡ Some cell → is_white_place (get_or places cell.serial.0 Empty) ≡ true →

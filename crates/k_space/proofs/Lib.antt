@@ -4,7 +4,10 @@ pub mod GrayLists
 pub mod Rows
 pub mod Pushed
 pub mod GrayQueue
-pub mod ListedLemmas
+pub mod KeptLemmas
+pub mod RowLoops
+pub mod ShownLemmas
+pub mod PlacesLemmas
 pub mod Freed
 pub mod AreaRows
 pub mod Segs

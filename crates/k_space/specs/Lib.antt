@@ -3,7 +3,7 @@ pub mod Segments
 pub mod Sweeping
 pub mod Places
 pub mod Stamps
-pub mod Listed
+pub mod Kept
 pub mod Areas
 pub mod Hints
 pub mod AreaLends

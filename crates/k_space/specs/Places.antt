@@ -42,6 +42,16 @@ pub record IsGrayEnd (places : List Place) (last : ℕ) : Type 0 where
   pub slot : ℕ
   pub there : slice_index_or places last Empty ≡ At slot (MarkGray 0)
 
+-- the place there is white
+pub record IsWhiteAt (places : List Place) (serial : ℕ) : Type 0 where
+  pub slot : ℕ
+  pub there : slice_index_or places serial Empty ≡ At slot MarkWhite
+
+-- a white place has that slot
+pub record IsWhitePlace (places : List Place) (slot : ℕ) : Type 0 where
+  pub serial : ℕ
+  pub there : slice_index_or places serial Empty ≡ At slot MarkWhite
+
 -- no other gray place names no next one
 abbrev pub IsLastGray : List Place → ℕ → Type 0
 IsLastGray places last = (i : ℕ) (slot : ℕ) → slice_index_or places i Empty ≡ At slot (MarkGray 0) → i ≡ last
@@ -94,11 +104,6 @@ white_place (At slot mark) = At slot MarkWhite
 abbrev pub is_white_place : Place → Bool
 is_white_place (At slot MarkWhite) = true
 is_white_place _ = false
-
--- the place has no object
-abbrev pub is_empty_place : Place → Bool
-is_empty_place Empty = true
-is_empty_place (At slot mark) = false
 
 -- the place of a black object
 abbrev pub black_place : Place → Place

@@ -11,8 +11,8 @@ ghost use Rattle.slab.specs.Slab.{get};
 ghost use Rattle.k_space.specs.declared.segment.Cell.{Cell as SlabCell};
 
 use crate::body::{Body, Stored};
-use crate::live::{Pass, blacken, next_white, passed};
-use crate::marks::{Mark, Place, Places};
+use crate::marks::{Mark, Place};
+use crate::places::Places;
 use k_io::NoMemory;
 use k_types::{Field, Link, Name, Seg, Serial, Slot, TypeId};
 use slab::Slab;
@@ -55,10 +55,6 @@ pub struct Segment {
     bytes: u64,
     // One more than the highest slot that was ever used.
     end: usize,
-    // The serials of the live objects, in any order, and of some that are gone.
-    live: Vec<u32>,
-    // How far a sweep has come on that list.
-    pass: Pass,
 }
 
 impl Drop for Segment {
@@ -72,8 +68,6 @@ impl Drop for Segment {
             last: _,
             bytes: _,
             end: _,
-            live: _,
-            pass: _,
         } = self;
     }
 }
@@ -83,9 +77,8 @@ impl Model for Segment {
 
     ghost Value = { SegmentValue };
 
-    ghost use Rattle.std.specs.Prelude.{map, vec_capacity, ◌≡◌};
+    ghost use Rattle.std.specs.Prelude.{map};
     ghost use Rattle.k_space.specs.Places.{row_of, IsSound, IsLastGray, AreBytes, AreBelow};
-    ghost use Rattle.k_space.specs.Listed.{IsListed};
 
     ghost view = { λ s. record { number = s.number.0; room = s.room; rows = map (row_of s.cells) s.places.items } };
 
@@ -94,8 +87,6 @@ impl Model for Segment {
       last : IsLastGray s.places.items s.last;
       bytes : AreBytes s.places.items s.cells s.bytes;
       end : AreBelow s.cells s.end;
-      listed : IsListed s.places.items s.live.items s.pass.kept s.pass.next;
-      reserved : vec_capacity s.live ≡ s.room;
     } };
 }
 
@@ -115,13 +106,13 @@ fn copy_unless(cells: &Slab<Cell>, slot: usize, skip: bool, into: &mut [Stored])
 }
 
 impl Segment {
-    /// A segment with no object, in which `room` serials can be given. It takes the memory for all of
-    /// them at once; `NoMemory` comes where there is none.
+    /// A segment with no object, in which `room` serials can be given. It takes the memory for as many objects
+    /// at once; `NoMemory` comes where there is none. Of the places it uses only as much as the objects need that a sweep
+    /// left and those made since.
     pub fn make(alloc: Global, seg: Seg, room: u32) -> Result<Segment, NoMemory>
         ensures { IfOk result (λ s. s ≡ record { number = seg.0; room = room; rows = None ∷ [] }) }
     {
-        let mut places = Places::make(alloc, room as usize + 1)?;
-        places.push_reserved(Place::Empty);
+        let places = Places::make(alloc, room as usize + 1)?;
         let cells = Slab::with_capacity(alloc, room as usize)?;
         // Read so that the proof has its range: the number of a slot, plus 1, fits.
         let _slots = cells.capacity();
@@ -134,8 +125,6 @@ impl Segment {
             last: 0,
             bytes: 0,
             end: 0,
-            live: Vec::with_capacity(alloc, room as usize)?,
-            pass: Pass { kept: 0, next: 0 },
         })
     }
 
@@ -179,9 +168,8 @@ impl Segment {
             serial: Serial(serial),
             body,
         });
-        self.places.push_reserved(Place::At(slot, Mark::White));
+        self.places.push_reserved(slot);
         self.end = self.end.max(slot + 1);
-        self.live.push_reserved(serial);
         Link {
             seg: self.number,
             slot: Slot(slot),
@@ -189,7 +177,8 @@ impl Segment {
         }
     }
 
-    /// Where the object of that serial lies. Constant time.
+    /// Where the object of that serial lies. Constant time for what was made since the last sweep. A kept object takes at
+    /// most as many steps as the number of kept ones can be halved.
     pub fn find(&self, serial: Serial) -> Option<Slot>
         ensures { option_map (λ s. s.0) result ≡ option_map (λ row. row.slot) (row_at self.now serial.0) }
     {
@@ -197,7 +186,7 @@ impl Segment {
         if at >= self.places.len() {
             return None;
         }
-        match self.places.at(at) {
+        match self.places.at(serial.0) {
             Place::At(slot, _) => Some(Slot(slot)),
             Place::Empty => None,
         }
@@ -291,8 +280,8 @@ impl Segment {
         self.cells[slot.0].body.write_int(field, value);
     }
 
-    /// Makes a white object gray. Other objects, and serials with no object, stay as they are. Constant
-    /// time, and no memory.
+    /// Makes a white object gray. Other objects, and serials with no object, stay as they are. It costs as much
+    /// as [`Segment::find`], but that objects near each other are found at once, and takes no memory.
     #[tactic(auto, using(crate::proofs::Rows::kept_view))]
     pub fn make_gray(&mut self, serial: Serial)
         ensures grayed { (row : Row) → row_at self.old serial.0 ≡ Some row → self.new ≡ with_row self.old serial.0 (Some (record row { color = gray_or_black row.color })) }
@@ -303,29 +292,20 @@ impl Segment {
         if at >= self.places.len() {
             return;
         }
-        let place = self.places.at(at);
-        match place {
-            Place::At(slot, mark) => match mark {
-                Mark::White => {
-                    // Behind the others, so that objects are visited mostly in the order of their making.
-                    let last = self.last;
-                    self.last = serial.0;
-                    self.places.set(at, Place::At(slot, Mark::Gray(0)));
-                    if self.gray == 0 {
-                        self.gray = serial.0;
-                    } else {
-                        self.places.follow(last as usize, serial.0);
-                    }
-                }
-                Mark::Gray(_) => {}
-                Mark::Black => {}
-            },
-            Place::Empty => {}
+        if self.places.gray(serial.0) {
+            // Behind the others, so that objects are visited mostly in the order of their making.
+            let last = self.last;
+            self.last = serial.0;
+            if self.gray == 0 {
+                self.gray = serial.0;
+            } else {
+                self.places.follow(last, serial.0);
+            }
         }
     }
 
     /// Takes a gray object, makes it black, and writes what its fields hold to the front of the list. `None` comes
-    /// where no object is gray. Constant time, and no memory.
+    /// where no object is gray. It costs as much as [`Segment::make_gray`], and takes no memory.
     pub fn visit_gray(&mut self, into: &mut [Stored]) -> Option<Visited>
         requires { 16 ≤ length into.old }
         ensures some { IfSome result (λ found. IsVisitedIn self.old self.new found into.new) }
@@ -337,7 +317,7 @@ impl Segment {
         self.visit_gray_from(0, into)
     }
 
-    /// The same, but an object with a lower serial than that is not read, and nothing is said of the list. Constant time, and no memory.
+    /// The same, but an object with a lower serial than that is not read, and nothing is said of the list.
     pub fn visit_gray_from(&mut self, below: u64, into: &mut [Stored]) -> Option<Visited>
         requires { 16 ≤ length into.old }
         ensures some { IfSome result (λ found. IsVisitedFromIn below self.old self.new found into.new) }
@@ -350,14 +330,12 @@ impl Segment {
             return None;
         }
         let serial = self.gray;
-        let at = serial as usize;
-        let place = self.places.at(at);
+        let place = self.places.blacken(serial);
         match place {
             Place::At(slot, mark) => match mark {
                 Mark::Gray(next) => {
                     let skip = u64::from(serial) < below;
                     let fields = copy_unless(&self.cells, slot, skip, into);
-                    self.places.set(at, Place::At(slot, Mark::Black));
                     self.gray = next;
                     Some(Visited {
                         name: Name {
@@ -374,7 +352,7 @@ impl Segment {
         }
     }
 
-    /// Whether there is an object of that serial, and it is gray. Constant time.
+    /// Whether there is an object of that serial, and it is gray. It costs as much as [`Segment::find`].
     pub fn is_gray(&self, serial: Serial) -> bool
         ensures { result ≡ some_gray (row_at self.now serial.0) }
     {
@@ -382,31 +360,25 @@ impl Segment {
         if at >= self.places.len() {
             return false;
         }
-        self.places.at(at).is_gray()
+        self.places.at(serial.0).is_gray()
     }
 
-    /// Makes the objects with a lower serial black, where none is gray. It looks once at each object that is live.
+    /// Makes the objects with a lower serial black, where none is gray. It looks once at each of these that the last sweep
+    /// left or that was made since.
     pub fn blacken_below(&mut self, below: u64)
         requires { (serial : ℕ) → IsFalse (some_gray (row_at self.old serial)) }
         ensures { self.new ≡ blackened_segment below self.old }
     {
-        let front = blacken(&self.live, &mut self.places, below);
+        self.places.blacken_below(below);
         self.gray = 0;
-        // A sweep keeps these without a look at them.
-        self.pass = Pass {
-            kept: front,
-            next: front,
-        };
     }
 
-    /// Takes the marks of all objects away. Constant time, however many objects were ever made, but for one pass
-    /// of the serials at each 2,000,000,000th call.
+    /// Takes the marks of all objects away. Constant time, but for one pass at each 2,000,000,000th call.
     pub fn unmark_all(&mut self)
         ensures { self.new ≡ unmarked_segment self.old }
     {
         self.places.whiten();
         self.gray = 0;
-        self.pass = Pass { kept: 0, next: 0 };
     }
 
     /// Frees the first object that isn't marked, by slots from that one on. It passes the slots up to
@@ -423,21 +395,17 @@ impl Segment {
         }
     }
 
-    /// Frees an object that isn't marked. All calls up to the one that frees nothing look once, at most, at each object
-    /// that was live, freed or not, and at none that were freed before: a sweep costs no more than that.
+    /// Frees an object that isn't marked. All calls up to the one that frees nothing look twice, at most, at each object
+    /// that was live, freed or not, and at none that an earlier sweep freed: a sweep costs no more than that. The call that
+    /// frees nothing drops the places of what is gone.
     pub fn free_unmarked(&mut self) -> Option<Gone>
         ensures freed { IfSome result (λ gone. IsTakenAway self.old self.new gone) }
         ensures none { IfNone result ((serial : ℕ) (row : Row) → row_at self.old serial ≡ Some row → IsTrue (is_marked row.color)) }
         ensures kept { IfNone result (self.new ≡ self.old) }
     {
-        let pass = next_white(&mut self.live, &self.places, self.pass);
-        self.pass = pass;
-        if pass.next >= self.live.len() {
-            return None;
-        }
-        match self.places.at(self.live[pass.next] as usize) {
-            Place::At(slot, _) => Some(self.free(slot)),
-            Place::Empty => unreachable!(),
+        match self.places.next_white() {
+            Some(slot) => Some(self.free(slot)),
+            None => None,
         }
     }
 
@@ -477,7 +445,7 @@ impl Segment {
         let Some(cell) = self.cells.get(slot) else {
             return false;
         };
-        self.places.at(cell.serial.0 as usize).is_white()
+        self.places.at(cell.serial.0).is_white()
     }
 
     /// Frees the object there, which isn't marked.
@@ -488,9 +456,8 @@ impl Segment {
     {
         let cell = self.cells.remove(slot);
         let bytes = cell.body.bytes();
-        self.places.set(cell.serial.0 as usize, Place::Empty);
+        self.places.clear(cell.serial.0);
         self.bytes -= bytes;
-        self.pass = passed(&self.live, &self.places, self.pass, cell.serial.0);
         Gone {
             slot: Slot(slot),
             serial: cell.serial,

@@ -3,10 +3,9 @@ use Rattle.k_space.specs.Segments.{SegmentValue}
 use Rattle.k_space.specs.Places.{row_of, AreBytes, AreBelow}
 use Rattle.k_types.specs.Types.{object_size}
 use Rattle.k_space.specs.declared.marks.Place.{Place}
-use Rattle.k_space.specs.Stamps.{PlacesValue}
+use Rattle.k_space.specs.Kept.{PlacesValue}
 use Rattle.k_space.proofs.Pushed.{pushed, pushed_view, rows_kept}
 use Rattle.k_space.proofs.GrayQueue.{last_pushed}
-use Rattle.k_space.proofs.ListedLemmas.{listed_pushed}
 use Rattle.k_space.proofs.Bytes.{bytes_pushed, below_pushed}
 use Rattle.k_space.proofs.segment.Segment.place.Goals as goal
 use Rattle.std.proofs.lemmas.List.{length-map}
@@ -43,8 +42,6 @@ invariant_of-self c =
       end =
           subst (λ n. AreBelow c.insert_reserved-slot.new.self n) (sym c.max-self-inside.ensures)
           (below_pushed c.self.inside.cells c.insert_reserved-slot.new.self c.insert_reserved-slot.result _ c.self.inside.end c.self.invariant.end updates);
-      listed = rw (c.push_reserved.ensures, c.push_reserved-2.ensures.items) (listed_pushed places c.self.inside.live.items _ _ c.insert_reserved-slot.result c.len-serial.result c.self.invariant.listed serial);
-      reserved = omega (arith, c.push_reserved-2.ensures.capacity, c.self.invariant.reserved);
       last = rw c.push_reserved.ensures (last_pushed places c.self.inside.last c.insert_reserved-slot.result c.self.invariant.last);
     }
 

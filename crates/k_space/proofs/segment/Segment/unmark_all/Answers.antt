@@ -2,7 +2,6 @@ use Rattle.std.proofs.Common.{List, Option, ap, ◌∙◌}
 use Rattle.k_space.specs.Segments.{Row, SegmentValue, unmarked_segment}
 use Rattle.k_space.proofs.Rows.{whitened, whitened_rows}
 use Rattle.k_space.proofs.GrayQueue.{last_whitened}
-use Rattle.k_space.proofs.ListedLemmas.{listed_whitened}
 use Rattle.k_space.proofs.Bytes.{bytes_whitened}
 use Rattle.k_space.proofs.segment.Segment.unmark_all.Goals as goal
 
@@ -13,8 +12,6 @@ invariant_of-self c =
       sound = whitened places c.self.inside.cells c.self.inside.room _ c.self.inside.gray c.self.invariant.sound;
       bytes = bytes_whitened places c.self.inside.cells c.self.inside.bytes c.self.invariant.bytes;
       end = c.self.invariant.end;
-      listed = listed_whitened places _ _ _ c.self.invariant.listed;
-      reserved = c.self.invariant.reserved;
       last = last_whitened places c.self.inside.last;
     })
 

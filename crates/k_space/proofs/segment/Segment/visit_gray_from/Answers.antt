@@ -1,15 +1,21 @@
-use Rattle.std.proofs.Common.{◌≡◌, ℕ, refl, sym, ap, subst, ◌∙◌, get_or, count_by, is_some, arith}
+use Rattle.std.proofs.Common.{◌≡◌, ℕ, refl, sym, ap, subst, ◌∙◌, get_or, set, count_by, is_some, arith}
 use Rattle.std.proofs.lemmas.Bool.{le-ltb}
 use Rattle.k_space.specs.declared.marks.Place.TheVariants.{Empty, At}
 use Rattle.k_space.specs.declared.marks.Mark.TheVariants.{White as MarkWhite, Gray as MarkGray, Black as MarkBlack}
 use Rattle.k_space.specs.Segments.{SegmentValue, row_at, some_gray}
-use Rattle.k_space.specs.Places.{IsGrayList, is_gray_place}
+use Rattle.k_space.specs.Places.{IsGrayList, is_gray_place, black_place}
+use Rattle.k_space.specs.Kept.{PlacesValue}
+use Rattle.k_space.specs.declared.marks.Place.{Place}
 use Rattle.k_space.proofs.GrayQueue.{last_set}
-use Rattle.k_space.proofs.ListedLemmas.{listed_set}
 use Rattle.k_space.proofs.Bytes.{bytes_recolored}
 use Rattle.k_space.proofs.GrayLists.{above_zero, first_left, head_gray, none_gray, no_head, At_inside}
 use Rattle.k_space.proofs.Rows.{recolored, visited, gray_row, row_at_view}
 use Rattle.k_space.proofs.segment.Segment.visit_gray_from.Goals as goal
+
+-- the place of the visited object
+black : (places new : PlacesValue) (at slot next : ℕ) → new ≡ record places { items = set places.items at (black_place (get_or places.items at Empty)) } → get_or places.items at Empty ≡ At slot (MarkGray next) →
+    new ≡ record places { items = set places.items at (At slot MarkBlack) }
+black places new at slot next e here = e ∙ ap (λ (p : Place). record places { items = set places.items at (black_place p) }) here
 
 pub returns-then-self-eq0-clause-none : goal.returns-then-self-eq0-clause-none
 returns-then-self-eq0-clause-none c = λ serial.
@@ -25,15 +31,13 @@ invariant_of-self c =
     let at = c.self.inside.gray in
     let some = above_zero at c.if-self-eq0.false in
     let first = head_gray places _ at some c.self.invariant.sound.grays in
-    let here = sym c.at-place.ensures ∙ (c.in-At.is ∙ ap (At c.in-At.slot) c.in-Gray.is) in
-    rw c.set.ensures (record {
+    let here = sym c.blacken-place.ensures.was ∙ (c.in-At.is ∙ ap (At c.in-At.slot) c.in-Gray.is) in
+    rw (black c.self.inside.places _ c.self.inside.gray c.in-At.slot c.in-Gray.next c.blacken-place.ensures.black here) (record {
       sound =
           recolored places c.self.inside.cells c.self.inside.room _ at c.in-Gray.next at c.in-At.slot (MarkGray c.in-Gray.next) MarkBlack c.self.invariant.sound here
           (first_left places _ at c.in-At.slot c.in-Gray.next (At c.in-At.slot MarkBlack) refl here some c.self.invariant.sound.grays refl);
       bytes = bytes_recolored places c.self.inside.cells c.self.inside.bytes at c.in-At.slot (MarkGray c.in-Gray.next) MarkBlack c.self.invariant.bytes here;
       end = c.self.invariant.end;
-      listed = listed_set places _ _ _ at (At c.in-At.slot MarkBlack) c.self.invariant.listed (At_inside places at c.in-At.slot (MarkGray c.in-Gray.next) here) refl (λ s m e. c.self.invariant.listed.covers at c.in-At.slot (MarkGray c.in-Gray.next) here);
-      reserved = c.self.invariant.reserved;
       last = last_set places c.self.inside.last at (At c.in-At.slot MarkBlack) c.self.invariant.last (At_inside places at c.in-At.slot (MarkGray c.in-Gray.next) here) refl;
     })
 
@@ -42,7 +46,7 @@ unreachable-requires c =
     let places = c.self.inside.places.items in
     let at = c.self.inside.gray in
     let first = head_gray places _ at (above_zero at c.if-self-eq0.false) c.self.invariant.sound.grays in
-    let here = sym c.at-place.ensures ∙ (c.in-At.is ∙ ap (At c.in-At.slot) c.in-White.is) in
+    let here = sym c.blacken-place.ensures.was ∙ (c.in-At.is ∙ ap (At c.in-At.slot) c.in-White.is) in
     let both : At first.0 (MarkGray first.1) ≡ At c.in-At.slot MarkWhite = sym first.2 ∙ here in
     cc
 
@@ -51,13 +55,13 @@ unreachable-requires-in-Black c =
     let places = c.self.inside.places.items in
     let at = c.self.inside.gray in
     let first = head_gray places _ at (above_zero at c.if-self-eq0.false) c.self.invariant.sound.grays in
-    let here = sym c.at-place.ensures ∙ (c.in-At.is ∙ ap (At c.in-At.slot) c.in-Black.is) in
+    let here = sym c.blacken-place.ensures.was ∙ (c.in-At.is ∙ ap (At c.in-At.slot) c.in-Black.is) in
     let both : At first.0 (MarkGray first.1) ≡ At c.in-At.slot MarkBlack = sym first.2 ∙ here in
     cc
 
 pub copy_unless-fields-requires-clause-live : goal.copy_unless-fields-requires-clause-live
 copy_unless-fields-requires-clause-live c =
-    let here = sym c.at-place.ensures ∙ (c.in-At.is ∙ ap (At c.in-At.slot) c.in-Gray.is) in
+    let here = sym c.blacken-place.ensures.was ∙ (c.in-At.is ∙ ap (At c.in-At.slot) c.in-Gray.is) in
     ap is_some (c.self.invariant.sound.placed c.self.inside.gray c.in-At.slot (MarkGray c.in-Gray.next) here).there
 
 pub copy_unless-fields-requires-clause-few : goal.copy_unless-fields-requires-clause-few
@@ -65,8 +69,8 @@ copy_unless-fields-requires-clause-few c = λ cell e. (c.self.invariant.sound.ke
 
 pub returns-clause-some : goal.returns-clause-some
 returns-clause-some c =
-    let here = sym c.at-place.ensures ∙ (c.in-At.is ∙ ap (At c.in-At.slot) c.in-Gray.is) in
+    let here = sym c.blacken-place.ensures.was ∙ (c.in-At.is ∙ ap (At c.in-At.slot) c.in-Gray.is) in
     let placed = c.self.invariant.sound.placed c.self.inside.gray c.in-At.slot (MarkGray c.in-Gray.next) here in
-    rw c.set.ensures
+    rw (black c.self.inside.places _ c.self.inside.gray c.in-At.slot c.in-Gray.next c.blacken-place.ensures.black here)
     (visited c.args.below _ _ c.self.inside.places.items c.self.inside.cells c.args.self.now c.self.inside.gray c.in-At.slot c.in-Gray.next placed.cell c.copy_unless-fields.result c.copy_unless-fields.new.into c.self.view_is here placed.there c.copy_unless-fields.ensures.most
     (λ high. c.copy_unless-fields.ensures.held (le-ltb _ c.args.below (omega (arith, high, c.from.ensures))) placed.cell placed.there))

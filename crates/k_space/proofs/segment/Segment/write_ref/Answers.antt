@@ -37,8 +37,6 @@ invariant_of-self c =
       sound = rewritten c.self.inside.places.items c.self.inside.cells c.self.inside.room _ c.self.inside.gray c.args.slot.0 cell new c.self.invariant.sound found refl fields;
       bytes = bytes_rewritten c.self.inside.places.items c.self.inside.cells c.self.inside.bytes c.args.slot.0 cell new c.self.invariant.bytes found fields (slot_inside c.self.inside.cells.slots c.args.slot.0 cell found);
       end = below_rewritten c.self.inside.cells c.args.slot.0 cell new c.self.inside.end c.self.invariant.end found;
-      listed = c.self.invariant.listed;
-      reserved = c.self.invariant.reserved;
       last = c.self.invariant.last;
     }
 
