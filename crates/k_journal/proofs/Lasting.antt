@@ -1,5 +1,5 @@
 -- The last events of a journal that grows.
-use Rattle.std.specs.Prelude.{◌≡◌, ℕ, suc, ◌+◌, ◌-◌, ◌<◌, ◌≤◌, List, [], ◌∷◌, ◌++◌, drop, length, slice_get}
+use Rattle.std.specs.Prelude.{◌≡◌, ℕ, zero, suc, ◌+◌, ◌-◌, ◌<◌, ◌≤◌, List, [], ◌∷◌, ◌++◌, drop, length, slice_get}
 use Rattle.std.proofs.Common.{refl, sym, ap, ◌∙◌, arith, length-append}
 use Rattle.std.proofs.lemmas.List.{drop-append-le, drop-drop, length-drop}
 use Rattle.circular_buffer.specs.Buffer.{keep_last}
@@ -16,9 +16,9 @@ module _ {A : Type 0} where
 
   -- what is found in a list past those that are left out
   at_after : (k : ℕ) (xs : List A) (i j : ℕ) → j ≡ k + i → slice_get (drop k xs) i ≡ slice_get xs j
-  at_after 0 xs i j e = let same : i ≡ j = omega arith in ap (slice_get xs) same
+  at_after zero xs i j e = let same : i ≡ j = omega arith in ap (slice_get xs) same
   at_after (suc k) [] i j e = refl
-  at_after (suc k) (x ∷ xs) i 0 e = absurd (omega arith)
+  at_after (suc k) (x ∷ xs) i zero e = absurd (omega arith)
   at_after (suc k) (x ∷ xs) i (suc j) e = at_after k xs i j (omega arith)
 
   -- one of the last stands among them by its number less those that are gone
