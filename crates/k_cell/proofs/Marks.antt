@@ -14,7 +14,7 @@ use Rattle.k_types.specs.Reach.{reach_among}
 use Rattle.k_types.specs.State.{Object, refers, refers_in}
 use Rattle.k_types.specs.Totals.{total}
 use Rattle.k_base.proofs.NameTests.{name_eq-same}
-use Rattle.k_space.specs.Segments.{Color, White, Gray, Black, Row, SegmentValue, is_black, is_marked, gray_or_black, made, some_black}
+use Rattle.k_space.specs.Segments.{Color, White, Gray, Black, Row, SegmentValue, is_black, is_marked, gray_or_black, made, some_black, some_marked}
 use Rattle.k_space.specs.Areas.{AreaValue, black_at, gray_at, grayed, grayed_row, is_foreign, marked_at, row_of_name, segment_at, unmarked}
 use Rattle.k_space.proofs.AreaRows.{same_unmarked}
 use Rattle.k_exit.specs.Exits.{ExitList, ExitRow, IsTaken, has_target, target_marked, targets, unmarked as unmarked_exits}

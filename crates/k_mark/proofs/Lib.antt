@@ -8,5 +8,6 @@ pub mod Traces
 pub mod Work
 pub mod SweepSteps
 pub mod SweepAll
+pub mod Telling
 pub mod ReachedIs
 pub mod Example

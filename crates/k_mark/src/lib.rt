@@ -5,7 +5,8 @@
 //! of marked objects. The counter that `mark` takes has risen by the number of marked objects and of
 //! their reference fields. [`mark_kept`] marks the same and does not trace what an earlier collection kept, where
 //! that is reached still. [`sweep`] frees exactly the objects that aren't marked, and adds up how
-//! many they were and what they took. No call takes memory.
+//! many they were and what they took. [`sweep_telling`] also tells a [`Listener`] their names, each once: [`Freed`] keeps
+//! them. No call but `Freed::make` takes memory.
 //!
 //! The crate stands on `k_space` for segments and on `k_exit` for exit items. A law ties what is
 //! reached here, by steps along references, to the closure by which the machine has it.
@@ -13,12 +14,14 @@
 
 mod keeping;
 mod laws;
+mod listening;
 mod marking;
 mod steps;
 mod sweeping;
 
 pub use keeping::mark_kept;
 pub use laws::{marked_is_the_closure, reached_is_the_closure};
+pub use listening::{Freed, Listener, Nobody};
 pub use marking::{clear, mark, mark_uncounted, root};
 pub use steps::Steps;
-pub use sweeping::{Swept, sweep};
+pub use sweeping::{Swept, sweep, sweep_telling};
