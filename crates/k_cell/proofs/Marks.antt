@@ -11,7 +11,8 @@ use Rattle.k_types.specs.declared.names.CellPhase.TheVariants.{Idle, Begun, Mark
 use Rattle.k_types.specs.Names.{name_among, name_eq, name_of}
 use Rattle.k_types.specs.Owners.{object_bytes}
 use Rattle.k_types.specs.Reach.{reach_among}
-use Rattle.k_types.specs.State.{Object, refers, refers_in}
+use Rattle.k_types.specs.declared.names.TypeId.{TypeId}
+use Rattle.k_types.specs.State.{Content, Object, refers, refers_in}
 use Rattle.k_types.specs.Totals.{total}
 use Rattle.k_base.proofs.NameTests.{name_eq-same}
 use Rattle.k_space.specs.Segments.{Color, White, Gray, Black, Row, SegmentValue, is_black, is_marked, gray_or_black, made, some_black, some_marked}
@@ -20,7 +21,8 @@ use Rattle.k_space.proofs.AreaRows.{same_unmarked}
 use Rattle.k_exit.specs.Exits.{ExitList, ExitRow, IsTaken, has_target, target_marked, targets, unmarked as unmarked_exits}
 use Rattle.k_exit.proofs.Takes.{targets_distinct}
 use Rattle.k_mark.specs.Marking.{IsExit, IsReachedIn, refers_at}
-use Rattle.k_mark.specs.Sweeping.{dead_bytes, dead_objects, survivor, swept, swept_segment}
+use Rattle.k_mark.specs.Listening.{dead_at}
+use Rattle.k_mark.specs.Sweeping.{dead_bytes, dead_objects, dead_row, survivor, swept, swept_segment}
 use Rattle.k_tie.specs.Values.{NoteValue}
 use Rattle.k_agree.specs.Marking.{begun, marked}
 use Rattle.k_areas.specs.Shown.{area_objects, AreNumberedBelow, HasNoneFrom}
@@ -34,13 +36,13 @@ use Rattle.k_areas.proofs.Named.{black_named, gray_named, made_listed, marked_na
 use Rattle.k_areas.proofs.OfParts.{black_reached, exits_reached, map_begun, leads, black_marked}
 use Rattle.k_areas.proofs.Shown.{any_area}
 use Rattle.k_areas.proofs.Sums.{dead_counted, dead_weighed}
-use Rattle.k_cell.specs.Changes.{HasDroppedExit, HasItsExits, HasMarked, HasRoot, with_black_alone}
+use Rattle.k_cell.specs.Changes.{HasDroppedExit, HasItsExits, HasMarked, HasRoot, freed_at, with_black_alone}
 use Rattle.k_cell.specs.Holdings.{AreBegun, AreHoldings, AreMarksKept, cell_seen, holdings_seen, serial_rooms_of}
 use Rattle.k_cell.proofs.Areas.{AreAlike, alike, same_below}
 use Rattle.k_cell.proofs.Lists.{all_rows_marked, none_target_marked, unmarked_targets}
 use Rattle.k_cell.proofs.Seen.{same_cell, same_holdings}
 use Rattle.k_base.proofs.Lists.{filter_stronger}
-use Rattle.k_base.proofs.Sums.{parts_sum}
+use Rattle.k_base.proofs.Sums.{bit, parts_sum}
 use Rattle.k_space.proofs.Segs.{unmarked_twice}
 use Rattle.k_mark.proofs.Rows.{black_unmarked}
 
@@ -244,6 +246,19 @@ module _ (bound bytes : ℕ) (a new : AreaValue) (items : List ExitRow) (kept : 
   dead_bytes_here : dead_bytes a ≡ total object_bytes (filter (λ (o : Object). not (name_among o.name (black_names bound a))) (area_objects bound a.segments))
   dead_bytes_here = dead_weighed a bound kept.numbered ∙ ap (total object_bytes) dead_named
 
+  freed_here : (n : Name) → dead_at a n ≡ freed_at (cell_seen bound Marked a items) n
+  freed_here n =
+      sym (ap₂ (λ h b. bit (h && not b)) (area_has a.segments bound kept.numbered.none n) (sym (named_black n)) ∙ by_row (row_of_name a.segments n))
+    where
+      by_color : (slot : ℕ) (color : Color) (ty : Option TypeId) (fields : List Content) → bit (not (is_marked color)) ≡ dead_row (Some (record { slot = slot; color = color; ty = ty; fields = fields }))
+      by_color slot White ty fields = refl
+      by_color slot Gray ty fields = refl
+      by_color slot Black ty fields = refl
+
+      by_row : (o : Option Row) → bit (is_some o && not (some_marked o)) ≡ dead_row o
+      by_row None = refl
+      by_row (Some row) = by_color row.slot row.color row.ty row.fields
+
   bytes_left : bytes ≡ total object_bytes (area_objects bound new.segments) + dead_bytes a
   bytes_left =
       let parts = parts_sum object_bytes (λ (o : Object). name_among o.name (black_names bound a)) (area_objects bound a.segments) in
@@ -271,6 +286,12 @@ sweep_is bound bytes Marked a items kept marked = record {
   bytes_of = dead_bytes_here bound bytes a (swept a) items kept refl;
   most = omega (arith, bytes_left bound bytes a (swept a) items kept refl);
 }
+
+-- what is freed is what is not black
+pub freed_named : (bound bytes : ℕ) (phase : CellPhase) (a : AreaValue) (items : List ExitRow) → AreHoldings bound bytes phase a items → phase ≡ Marked → (n : Name) → dead_at a n ≡ freed_at (cell_seen bound phase a items) n
+freed_named bound bytes Idle a items kept marked n = absurd (cc)
+freed_named bound bytes Begun a items kept marked n = absurd (cc)
+freed_named bound bytes Marked a items kept marked n = freed_here bound bytes a (swept a) items kept refl n
 
 pub swept_kept : (bound bytes left : ℕ) (phase : CellPhase) (a new : AreaValue) (items : List ExitRow) → AreHoldings bound bytes phase a items → phase ≡ Marked → new ≡ swept a → left + dead_bytes a ≡ bytes → AreHoldings bound left phase new items
 swept_kept bound bytes left Idle a new items kept marked is e = absurd (cc)

@@ -42,6 +42,10 @@ without_segment number v = record v { objects = filter (λ o. not (o.name.seg.0 
 abbrev pub with_black_alone : CellValue → CellValue
 with_black_alone v = record v { objects = filter (λ o. name_among o.name v.black) v.objects }
 
+-- 1 for an object that is not black
+abbrev pub freed_at : CellValue → Name → ℕ
+freed_at v n = if has v.objects n && not (name_among n v.black) then 1 else 0
+
 -- that exit item is gone, and no other; the rest stand in any order, black or not as they were
 pub record HasDroppedExit (old new : CellValue) (n : Name) : Type 0 where
   pub rest : new ≡ record old { exits = new.exits; black_exits = new.black_exits }

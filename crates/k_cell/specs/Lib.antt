@@ -7,6 +7,7 @@ pub mod Rooted
 pub mod Lends
 pub use Rattle.k_agree.specs.Marking
 pub use Rattle.k_agree.specs.Ending
+pub use Rattle.k_mark.specs.Listening
 pub use Rattle.k_agree.specs.GivingAway
 pub use Rattle.k_agree.specs.Opening
 pub use Rattle.k_changes.specs.CellChanges

@@ -18,7 +18,8 @@ ghost use Rattle.k_space.specs.Segments.{made, segment_bytes};
 ghost use Rattle.k_agree.specs.Marking.{begun};
 ghost use Rattle.k_agree.specs.Ending.{freed_bytes, freed_objects};
 ghost use Rattle.k_cell.specs.Looks.{field_among, field_count_among, type_among};
-ghost use Rattle.k_cell.specs.Changes.{HasDroppedExit, HasGrayed, HasItsExits, HasMarked, HasRoot, next_in, with_black_alone, with_body, with_exit_item, with_field};
+ghost use Rattle.k_cell.specs.Changes.{HasDroppedExit, HasGrayed, HasItsExits, HasMarked, HasRoot, next_in, with_black_alone, with_body, with_exit_item, with_field, freed_at};
+ghost use Rattle.k_mark.specs.Listening.{AreTold};
 ghost use Rattle.k_cell.specs.Holdings.{HasGivenSegment, HasSerialLeft, fresh_holdings, with_segment_added};
 
 use crate::carrying::{Carried, still_whole};
@@ -26,7 +27,7 @@ use crate::rooms::HoldingRooms;
 use crate::rooting::RootedArea;
 use k_exit::ExitTable;
 use k_io::NoMemory;
-use k_mark::Swept;
+use k_mark::{Listener, Nobody, Swept};
 use k_space::{Body, Segment, Stored};
 use k_tie::Note;
 use k_types::{CellPhase, Link, Name, Seg, TypeId};
@@ -309,8 +310,24 @@ impl Holdings {
         ensures objects { into.new.objects ≡ into.old.objects + freed_objects self.old.value }
         ensures bytes { into.new.bytes ≡ into.old.bytes + freed_bytes self.old.value }
     {
+        let mut nobody = Nobody;
+        self.sweep_telling(into, &mut nobody);
+    }
+
+    /// The same, and the name of each object that goes is told, in any order.
+    pub fn sweep_telling<L: Listener>(&mut self, into: &mut Swept, listener: &mut L)
+        requires marked { self.old.value.collection ≡ Marked }
+        requires objects { into.old.objects + freed_objects self.old.value < 2 ^ 32 }
+        requires bytes { into.old.bytes + freed_bytes self.old.value < 2 ^ 64 }
+        ensures swept { self.new ≡ record self.old { value = with_black_alone self.old.value } }
+        ensures objects { into.new.objects ≡ into.old.objects + freed_objects self.old.value }
+        ensures bytes { into.new.bytes ≡ into.old.bytes + freed_bytes self.old.value }
+        ensures room { L.room listener.new ≡ L.room listener.old }
+        ensures told { length (L.heard listener.old) + freed_objects self.old.value ≤ L.room listener.old →
+            AreTold (freed_at self.old.value) (freed_objects self.old.value) (L.heard listener.old) (L.heard listener.new) }
+    {
         let before = into.bytes;
-        self.area.sweep(into);
+        self.area.sweep_telling(into, listener);
         self.bytes -= into.bytes - before;
         // What is left is what this collection kept.
         swap(&mut self.carried.roots, &mut self.carried.pending);

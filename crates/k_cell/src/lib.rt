@@ -10,5 +10,5 @@ mod rooting;
 mod writing;
 
 pub use holding::Holdings;
-pub use k_mark::Swept;
+pub use k_mark::{Listener, Swept};
 pub use rooms::HoldingRooms;

@@ -1,5 +1,5 @@
 //! The segments of a heap, whose roots are noted first and made gray later.
-ghost use Rattle.std.specs.Prelude.{◌≡◌, ◌≢◌, ◌+◌, ◌<◌, ◌^◌, ◌↔◌, ℕ, ◌++◌, ◌∷◌, [], IfNone, IfOk, IfSome, IsFalse, IsTrue, None, Some, is_some, length, option_map, slice_get, slice_index_or};
+ghost use Rattle.std.specs.Prelude.{◌≡◌, ◌≢◌, ◌+◌, ◌<◌, ◌^◌, ◌↔◌, ℕ, ◌++◌, ◌∷◌, [], IfNone, IfOk, IfSome, IsFalse, IsTrue, None, Some, is_some, length, option_map, slice_get, slice_index_or, ◌≤◌};
 ghost use Rattle.k_types.specs.Names.{name_among, name_eq, name_of};
 ghost use Rattle.k_types.specs.State.{Holds, Refers};
 ghost use Rattle.k_types.specs.declared.names.Name.{Name as Named};
@@ -7,6 +7,7 @@ ghost use Rattle.k_space.specs.Areas.{HasDistinct, black_at, gray_at, grayed, is
 ghost use Rattle.k_space.specs.Objects.{content_of};
 ghost use Rattle.k_exit.specs.Exits.{has_target, target_marked, targets, unmarked as unmarked_exits};
 ghost use Rattle.k_mark.specs.Kept.{IsBeginning, IsKept, old_at};
+ghost use Rattle.k_mark.specs.Listening.{AreTold, dead_at};
 ghost use Rattle.k_mark.specs.Marking.{IsExit, IsReachedIn, refers_at};
 ghost use Rattle.k_mark.specs.Sweeping.{dead_bytes, dead_objects, swept};
 ghost use Rattle.k_cell.specs.Looks.{row_fields, row_type};
@@ -18,7 +19,7 @@ use crate::looking::{count_at, field_at, lives_at, type_at};
 use crate::writing::{place_in, write_int_in, write_ref_in};
 use k_exit::ExitTable;
 use k_io::NoMemory;
-use k_mark::{Swept, clear, mark_kept, root, sweep};
+use k_mark::{Listener, Swept, clear, mark_kept, root, sweep_telling};
 use k_space::{Area, Body, Segment, Stored};
 use k_types::{Link, Name, Seg, TypeId};
 use std::alloc::Global;
@@ -338,16 +339,19 @@ impl RootedArea {
         marked_below(self.all_noted, next)
     }
 
-    /// Frees the objects that are not marked, and adds their number and bytes.
-    pub(crate) fn sweep(&mut self, from_dead: &mut Swept)
+    /// Frees the objects that are not marked, adds their number and bytes, and tells their names.
+    pub(crate) fn sweep_telling<L: Listener>(&mut self, from_dead: &mut Swept, listener: &mut L)
         requires distinct { HasDistinct self.old.segments }
         requires objects { from_dead.old.objects + dead_objects self.old < 2 ^ 32 }
         requires bytes { from_dead.old.bytes + dead_bytes self.old < 2 ^ 64 }
         ensures area { self.new ≡ swept self.old }
         ensures objects { from_dead.new.objects ≡ from_dead.old.objects + dead_objects self.old }
         ensures bytes { from_dead.new.bytes ≡ from_dead.old.bytes + dead_bytes self.old }
+        ensures room { L.room listener.new ≡ L.room listener.old }
+        ensures told { length (L.heard listener.old) + dead_objects self.old ≤ L.room listener.old →
+            AreTold (dead_at self.old) (dead_objects self.old) (L.heard listener.old) (L.heard listener.new) }
     {
         settle(&mut self.area, &mut self.noted, &mut self.all_noted);
-        sweep(&mut self.area, from_dead);
+        sweep_telling(&mut self.area, from_dead, listener);
     }
 }

@@ -7,6 +7,7 @@ pub mod Marked
 pub mod Roots
 pub mod Ways
 pub mod Sizes
+pub mod Freed
 pub mod Begins
 pub mod KernelBegins
 pub mod WhatGoes

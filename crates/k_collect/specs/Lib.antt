@@ -6,4 +6,5 @@ pub mod Collecting
 pub mod SweptAlone
 pub mod Begun
 pub mod Ended
+pub mod Freed
 pub mod Settling

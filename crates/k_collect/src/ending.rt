@@ -1,19 +1,20 @@
 //! The ends of collections.
-ghost use Rattle.std.specs.Prelude.{◌≡◌};
+ghost use Rattle.std.specs.Prelude.{◌≡◌, ◌<◌, ◌+◌, [], length};
 ghost use Rattle.k_types.specs.Trace.{Trace};
 ghost use Rattle.k_agree.specs.Meeting.{Fits};
 ghost use Rattle.k_collect.specs.Collecting.{CanEndHeap, CanEndKernel};
 ghost use Rattle.k_collect.specs.Ended.{HasEndedHeap, HasEndedKernel};
+ghost use Rattle.k_collect.specs.Freed.{AreFreed};
 ghost use Rattle.k_collect.specs.SweptAlone.{CanEndSwept, CanEndSweptKernel, KernelNoteHasMet, NoteHasMet};
 
 use crate::leaving::{leave_kernel_unmarked, leave_unmarked};
-use crate::sweeping::{sweep_heap, sweep_kernel};
+use crate::sweeping::{sweep_heap_telling, sweep_kernel_telling};
 use crate::unsharing::drop_shares;
 use k_book::Book;
 use k_commit::{append_heap, append_kernel, meet_heap, meet_kernel};
 use k_heap::HeapCell;
 use k_kernel::KernelCell;
-use k_mark::Swept;
+use k_mark::{Freed, Listener, Nobody, Swept};
 use k_types::{Event, Heap};
 
 /// The note of the process's cell meets the journal, whatever the cell shows. Constant time.
@@ -59,8 +60,34 @@ pub fn end_heap(cell: &mut HeapCell, book: &mut Book) -> Event
     requires { CanEndHeap trace cell.old book.old }
     ensures { HasEndedHeap trace cell.old cell.new book.old book.new result }
 {
+    let mut nobody = Nobody;
+    end_heap_telling(cell, book, &mut nobody)
+}
+
+/// The same, and the list then has the names of the objects that went, and no others, each once and in any order, where it has room for one more
+/// than there are events.
+pub fn end_heap_listing(cell: &mut HeapCell, book: &mut Book, freed: &mut Freed) -> Event
+    ghost trace: { Trace }
+    requires { CanEndHeap trace cell.old book.old }
+    ensures ended { HasEndedHeap trace cell.old cell.new book.old book.new result }
+    ensures room { freed.new.room ≡ freed.old.room }
+    ensures listed { length book.old.journal.list < freed.old.room → AreFreed trace book.old.journal.list result [] freed.new.names }
+{
+    freed.clear();
+    end_heap_telling(cell, book, freed)
+}
+
+/// Ends the collection, and tells the name of each object that goes, in any order.
+fn end_heap_telling<L: Listener>(cell: &mut HeapCell, book: &mut Book, listener: &mut L) -> Event
+    ghost trace: { Trace }
+    requires { CanEndHeap trace cell.old book.old }
+    ensures ended { HasEndedHeap trace cell.old cell.new book.old book.new result }
+    ensures room { L.room listener.new ≡ L.room listener.old }
+    ensures told { length (L.heard listener.old) + length book.old.journal.list < L.room listener.old →
+        AreFreed trace book.old.journal.list result (L.heard listener.old) (L.heard listener.new) }
+{
     meet_heap(cell, book);
-    let freed = sweep_heap(cell);
+    let freed = sweep_heap_telling(cell, listener);
     end_swept_heap(cell, book, freed)
 }
 
@@ -100,7 +127,37 @@ pub fn end_kernel(kernel: &mut KernelCell, book: &mut Book) -> Event
     requires { CanEndKernel trace kernel.old book.old }
     ensures { HasEndedKernel trace kernel.old kernel.new book.old book.new result }
 {
+    let mut nobody = Nobody;
+    end_kernel_telling(kernel, book, &mut nobody)
+}
+
+/// The same, and the list then has the names of the objects that went, and no others, each once and in any order, where it has room for one more
+/// than there are events.
+pub fn end_kernel_listing(kernel: &mut KernelCell, book: &mut Book, freed: &mut Freed) -> Event
+    ghost trace: { Trace }
+    requires { CanEndKernel trace kernel.old book.old }
+    ensures ended { HasEndedKernel trace kernel.old kernel.new book.old book.new result }
+    ensures room { freed.new.room ≡ freed.old.room }
+    ensures listed { length book.old.journal.list < freed.old.room → AreFreed trace book.old.journal.list result [] freed.new.names }
+{
+    freed.clear();
+    end_kernel_telling(kernel, book, freed)
+}
+
+/// Ends the collection, and tells the name of each object that goes, in any order.
+fn end_kernel_telling<L: Listener>(
+    kernel: &mut KernelCell,
+    book: &mut Book,
+    listener: &mut L,
+) -> Event
+    ghost trace: { Trace }
+    requires { CanEndKernel trace kernel.old book.old }
+    ensures ended { HasEndedKernel trace kernel.old kernel.new book.old book.new result }
+    ensures room { L.room listener.new ≡ L.room listener.old }
+    ensures told { length (L.heard listener.old) + length book.old.journal.list < L.room listener.old →
+        AreFreed trace book.old.journal.list result (L.heard listener.old) (L.heard listener.new) }
+{
     meet_kernel(kernel, book);
-    let freed = sweep_kernel(kernel);
+    let freed = sweep_kernel_telling(kernel, listener);
     end_swept_kernel(kernel, book, freed)
 }

@@ -11,12 +11,13 @@ ghost use Rattle.k_types.specs.declared.names.Name.{Name as Named};
 ghost use Rattle.k_cell.specs.Marking.{begun};
 ghost use Rattle.k_cell.specs.Ending.{freed_bytes, freed_objects};
 ghost use Rattle.k_cell.specs.Looks.{field_among, field_count_among};
-ghost use Rattle.k_cell.specs.Changes.{HasDroppedExit, HasGrayed, HasItsExits, HasMarked, HasRoot, next_in, with_black_alone, with_body, with_exit_item, with_field};
+ghost use Rattle.k_cell.specs.Changes.{HasDroppedExit, HasGrayed, HasItsExits, HasMarked, HasRoot, next_in, with_black_alone, with_body, with_exit_item, with_field, freed_at};
+ghost use Rattle.k_cell.specs.Listening.{AreTold};
 ghost use Rattle.k_cell.specs.Holdings.{HasGivenSegment, HasSerialLeft};
 ghost use Rattle.k_heap.specs.Heaps.{holdings_of, own_segment};
 
 use crate::heap::HeapCell;
-use k_cell::Swept;
+use k_cell::{Listener, Swept};
 use k_space::{Body, Segment};
 use k_types::{Link, Name, Seg};
 
@@ -122,6 +123,21 @@ impl HeapCell {
         ensures bytes { into.new.bytes ≡ into.old.bytes + freed_bytes self.old.value }
     {
         self.holdings.sweep(into);
+    }
+
+    /// The same, and the name of each object that goes is told, in any order.
+    pub fn sweep_telling<L: Listener>(&mut self, into: &mut Swept, listener: &mut L)
+        requires marked { self.old.value.collection ≡ Marked }
+        requires objects { into.old.objects + freed_objects self.old.value < 2 ^ 32 }
+        requires bytes { into.old.bytes + freed_bytes self.old.value < 2 ^ 64 }
+        ensures swept { self.new ≡ record self.old { value = with_black_alone self.old.value } }
+        ensures objects { into.new.objects ≡ into.old.objects + freed_objects self.old.value }
+        ensures bytes { into.new.bytes ≡ into.old.bytes + freed_bytes self.old.value }
+        ensures room { L.room listener.new ≡ L.room listener.old }
+        ensures told { length (L.heard listener.old) + freed_objects self.old.value ≤ L.room listener.old →
+            AreTold (freed_at self.old.value) (freed_objects self.old.value) (L.heard listener.old) (L.heard listener.new) }
+    {
+        self.holdings.sweep_telling(into, listener);
     }
 
     /// Ends the collection, of which no mark is left. Constant time.

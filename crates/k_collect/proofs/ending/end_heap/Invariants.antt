@@ -1,10 +1,4 @@
 use Rattle.k_collect.proofs.ending.end_heap.Given as goal
 
-abbrev pub ghost-meet_heap : goal.ghost-meet_heap
-ghost-meet_heap g a = g.trace
-
-abbrev pub ghost-sweep_heap : goal.ghost-sweep_heap
-ghost-sweep_heap g a = g.trace
-
-abbrev pub ghost-end_swept_heap : goal.ghost-end_swept_heap
-ghost-end_swept_heap g a = g.trace
+abbrev pub ghost-end_heap_telling : goal.ghost-end_heap_telling
+ghost-end_heap_telling g a = g.trace
