@@ -1,11 +1,14 @@
 -- A whole collection can be done by what serves, which serves afterwards.
-use Rattle.std.proofs.Common.{◌≡◌, ◌+◌, ◌<◌, refl, sym, ap, ap₂, ◌∙◌, subst, [], ◌∷◌, ◌++◌, length, arith}
+use Rattle.std.proofs.Common.{◌≡◌, ℕ, ◌+◌, ◌<◌, refl, sym, ap, ap₂, ◌∙◌, subst, List, [], ◌∷◌, ◌++◌, length, arith}
 use Rattle.std.proofs.lemmas.List.{length-append}
 use Rattle.k_types.specs.declared.event.Event.{Event}
 use Rattle.k_types.specs.declared.event.Event.TheVariants.{Done, Ended}
 use Rattle.k_types.specs.declared.event.Reply.TheVariants.{Done as DoneReply}
 use Rattle.k_types.specs.declared.names.Heap.TheVariants.{Kernel, User}
+use Rattle.k_types.specs.declared.names.Name.{Name}
 use Rattle.k_types.specs.declared.op.Op.TheVariants.{Collect, KCollect}
+use Rattle.k_types.specs.Steps.{state_after}
+use Rattle.k_types.specs.Trace.{Trace}
 use Rattle.k_types.specs.Agree.{CellValue}
 use Rattle.k_agree.specs.Agreement.{Agrees}
 use Rattle.k_book.specs.Books.{BookRecord}
@@ -15,6 +18,7 @@ use Rattle.k_commit.specs.Published.{HasPublished}
 use Rattle.k_collect.specs.Begun.{HasBegunHeap, HasBegunKernel}
 use Rattle.k_collect.specs.Collecting.{CanEndHeap, CanEndKernel}
 use Rattle.k_collect.specs.Ended.{HasEndedHeap, HasEndedKernel}
+use Rattle.k_collect.specs.Freed.{AreFreed, gone_between}
 use Rattle.k_collect.specs.Marking.{CanMark, HasMarkedOn}
 use Rattle.k_guests.specs.declared.guest.Guest.{Guest}
 use Rattle.k_guests.specs.Serving.{Basis, BookServes, GuestServes, KernelServes}
@@ -22,7 +26,7 @@ use Rattle.k_calls.proofs.Due.{book_published, longer_published}
 use Rattle.k_calls.proofs.Going.{book_goes_on, guest_goes_on, kernel_goes_on}
 use Rattle.k_calls.proofs.Rooms.{event_left}
 use Rattle.k_ends.specs.Collecting.{CanBeginKernel, CanGoOn}
-use Rattle.k_ends.specs.Whole.{CanCollect, CanCollectKernel, HasCollected, HasCollectedKernel}
+use Rattle.k_ends.specs.Whole.{AreFreedLast, CanCollect, CanCollectKernel, HasCollected, HasCollectedKernel}
 
 -- with room for two events there is room for one
 pub goes_on : (basis : Basis) (g : Guest) (b : BookRecord) → CanCollect basis g b → CanGoOn basis g b
@@ -30,6 +34,21 @@ goes_on basis g b can = record { guest = can.guest; book = can.book; lives = can
 
 pub begins_kernel : (basis : Basis) (g : Guest) (k : HoldingsValue) (b : BookRecord) → CanCollectKernel basis g k b → CanBeginKernel basis g k b
 begins_kernel basis g k b can = record { own = record { can = goes_on basis g b can.own; idle = can.own.idle }; kernel = can.kernel; idle = can.idle; orphans = can.orphans }
+
+plus_none : (n : ℕ) → 0 + n ≡ n
+plus_none n = omega arith
+
+-- what the end of a collection freed, which is the last event
+pub last_freed : (trace : Trace) (before history : List Event) (event : Event) (names : List Name) → history ≡ before ++ event ∷ [] → AreFreed trace before event [] names → AreFreedLast trace history names
+last_freed trace before history event names is freed = record {
+  before = before;
+  last = event;
+  history_is = is;
+  once = λ n.
+      freed.once n
+      ∙ plus_none (gone_between (state_after trace before) (state_after trace (before ++ event ∷ [])) n)
+      ∙ ap (λ (events : List Event). gone_between (state_after trace before) (state_after trace events) n) (sym is);
+}
 
 -- a process that has published
 module _ (basis : Basis) (g : Guest) (b : BookRecord) (can : CanCollect basis g b) (w : HeapRecord) (l : BookRecord) (s : HasPublished basis.trace g.cell.value.tail g.cell w b l) where
@@ -54,6 +73,9 @@ module _ (basis : Basis) (g : Guest) (b : BookRecord) (can : CanCollect basis g 
 
   -- whose collection has begun
   module _ (v : HeapRecord) (m : BookRecord) (first : Event) (d : HasBegunHeap basis.trace w v l m first) where
+    pub room_left : length m.journal.list < basis.events
+    room_left = left_behind m first d.appended.journal
+
     pub can_mark_then : CanMark basis.trace (User v.pid) v.note v.value
     can_mark_then = record { keeps = can.guest.rules; agrees = d.heap_goes_on.agrees; begun = d.heap_goes_on.in_phase }
 
@@ -110,6 +132,9 @@ module _ (basis : Basis) (g : Guest) (b : BookRecord) (can : CanCollect basis g 
 
   -- with which the collection of the kernel's heap has begun
   module _ (k : HoldingsValue) (kernel : KernelServes basis b.journal.table k) (v : HeapRecord) (x : HoldingsValue) (m : BookRecord) (first : Event) (d : HasBegunKernel basis.trace w v k x l m first) where
+    pub kernel_room_left : length m.journal.list < basis.events
+    kernel_room_left = left_behind m first d.appended.journal
+
     pub kernel_can_mark_then : CanMark basis.trace Kernel x.note x.value
     kernel_can_mark_then = record { keeps = kernel.rules; agrees = d.kernel_goes_on.agrees; begun = d.kernel_goes_on.in_phase }
 

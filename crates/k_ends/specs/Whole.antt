@@ -1,13 +1,18 @@
 -- What a whole collection of a host asks and leaves, and when it is refused: it begins, marks and ends in one call.
-use Rattle.std.specs.Prelude.{◌≡◌, ◌⊎◌, ◌+◌, ◌≤◌, IsFalse, None, [], ◌∷◌, ◌++◌, length}
+use Rattle.std.specs.Prelude.{◌≡◌, ◌⊎◌, ◌+◌, ◌≤◌, IsFalse, List, None, [], ◌∷◌, ◌++◌, length}
 use Rattle.k_types.specs.declared.event.Event.{Event}
 use Rattle.k_types.specs.declared.event.Event.TheVariants.{Done}
 use Rattle.k_types.specs.declared.event.Reply.TheVariants.{Done as DoneReply}
 use Rattle.k_types.specs.declared.names.CellPhase.TheVariants.{Idle}
 use Rattle.k_types.specs.declared.names.Heap.TheVariants.{Kernel, User}
+use Rattle.k_types.specs.declared.names.Name.{Name}
 use Rattle.k_types.specs.declared.op.Op.TheVariants.{Collect, KCollect}
+use Rattle.k_types.specs.Steps.{state_after}
+use Rattle.k_types.specs.Trace.{Trace}
+use Rattle.k_mark.specs.Listening.{times}
 use Rattle.k_book.specs.Books.{BookRecord}
 use Rattle.k_cell.specs.Holdings.{HoldingsValue}
+use Rattle.k_collect.specs.Freed.{gone_between}
 use Rattle.k_collect.specs.Settling.{IsTheEnd}
 use Rattle.k_heap.specs.Heaps.{has_ended_in}
 use Rattle.k_shares.specs.Sharers.{lowest_orphan}
@@ -16,6 +21,13 @@ use Rattle.k_guests.specs.Serving.{Basis, BookServes, GuestServes, KeepsPair, Ke
 use Rattle.k_calls.specs.declared.errors.HostError.{HostError}
 use Rattle.k_calls.specs.declared.errors.HostError.TheVariants.{Full, Orphan, Phase}
 use Rattle.k_calls.specs.Refusals.{IsNotAwake, Lacks}
+
+-- each object that the machine had before the last of these events, and has no more, stands once among the names, and nothing else does
+pub record AreFreedLast (trace : Trace) (history : List Event) (names : List Name) : Type 0 where
+  pub before : List Event
+  pub last : Event
+  pub history_is : history ≡ before ++ last ∷ []
+  pub once : (n : Name) → times n names ≡ gone_between (state_after trace before) (state_after trace history) n
 
 -- the journal has room for the unpublished events of the process, and for the two of a collection
 abbrev pub HasRoomToCollect : Basis → Guest → BookRecord → Type 0

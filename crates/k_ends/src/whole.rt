@@ -1,13 +1,14 @@
 //! Whole collections of a host's heaps: each is tested before it begins, and then it ends too.
-ghost use Rattle.std.specs.Prelude.{◌≡◌, ◌↔◌, IfErr, IfOk, IsTrue};
+ghost use Rattle.std.specs.Prelude.{◌≡◌, ◌≤◌, ◌↔◌, IfErr, IfOk, IsTrue, OnErr, OnOk};
 ghost use Rattle.k_guests.specs.Serving.{Basis, BookServes, GuestServes, KernelServes, basis_of};
-ghost use Rattle.k_ends.specs.Whole.{CanCollect, CanCollectKernel, CanNotCollect, CanNotCollectKernel, HasCollected, HasCollectedKernel, HasRoomToCollect};
+ghost use Rattle.k_ends.specs.Whole.{AreFreedLast, CanCollect, CanCollectKernel, CanNotCollect, CanNotCollectKernel, HasCollected, HasCollectedKernel, HasRoomToCollect};
 
 use k_book::Book;
-use k_calls::{HostError, awake, begin_heap, begin_kernel, end_heap, end_kernel, is_idle, publish};
-use k_collect::{mark_heap, mark_kernel};
+use k_calls::{HostError, awake, begin_heap, begin_kernel, is_idle, publish};
+use k_collect::{end_heap_listing, end_kernel_listing, mark_heap, mark_kernel};
 use k_guests::{Guest, Terms};
 use k_kernel::KernelCell;
+use k_mark::Freed;
 use k_types::Event;
 
 /// Whether the journal has room for what the process has unpublished and for the two events of a collection.
@@ -17,58 +18,74 @@ fn has_room_to_collect(terms: &Terms, guest: &Guest, book: &Book) -> bool
     u64::from(book.len()) + u64::from(guest.cell.tail_len()) + 2 <= u64::from(terms.events)
 }
 
-/// Publishes, and collects the process's heap.
-fn do_collect(terms: &Terms, guest: &mut Guest, book: &mut Book) -> Event
+/// Publishes, and collects the process's heap. The list then has the names of what that freed, and no others.
+fn do_collect(terms: &Terms, guest: &mut Guest, book: &mut Book, freed: &mut Freed) -> Event
     ghost basis: { Basis }
     requires { CanCollect basis guest.old book.old }
-    ensures { HasCollected basis guest.old guest.new book.old book.new result }
+    ensures done { HasCollected basis guest.old guest.new book.old book.new result }
+    ensures freed { basis.events ≤ freed.old.room → AreFreedLast basis.trace book.new.journal.list freed.new.names }
+    ensures room { freed.new.room ≡ freed.old.room }
 {
     let _setup = &terms.setup;
     publish(&mut guest.cell, book);
     begin_heap(&mut guest.cell, book);
     mark_heap(&mut guest.cell);
-    end_heap(&mut guest.cell, book)
+    end_heap_listing(&mut guest.cell, book, freed)
 }
 
-/// Collects the process's heap, if no collection of it is open and there is room.
-pub fn try_collect(terms: &Terms, guest: &mut Guest, book: &mut Book) -> Result<Event, HostError>
+/// Collects the process's heap, if no collection of it is open and there is room. The list then has the names of what that freed, and no
+/// others, where it has room for as many as there can be events.
+pub fn try_collect(
+    terms: &Terms,
+    guest: &mut Guest,
+    book: &mut Book,
+    freed: &mut Freed,
+) -> Result<Event, HostError>
     requires guest { GuestServes (basis_of terms.now) book.old.journal.table guest.old }
     requires book { BookServes (basis_of terms.now) book.old }
     ensures done { IfOk result (λ event. HasCollected (basis_of terms.now) guest.old guest.new book.old book.new event) }
     ensures same { IfErr result (λ why. (guest.new ≡ guest.old) × (book.new ≡ book.old)) }
     ensures why { IfErr result (λ why. CanNotCollect (basis_of terms.now) book.old guest.old why) }
+    ensures freed { (basis_of terms.now).events ≤ freed.old.room → OnOk result (AreFreedLast (basis_of terms.now).trace book.new.journal.list freed.new.names) }
+    ensures kept { OnErr result (freed.new ≡ freed.old) }
+    ensures room { freed.new.room ≡ freed.old.room }
 {
     awake(guest)?;
     if !has_room_to_collect(terms, guest, book) {
         return Err(HostError::Full);
     }
-    Ok(do_collect(terms, guest, book))
+    Ok(do_collect(terms, guest, book, freed))
 }
 
-/// Publishes, and collects the kernel's heap.
+/// Publishes, and collects the kernel's heap. The list then has the names of what that freed, and no others.
 fn do_collect_kernel(
     terms: &Terms,
     guest: &mut Guest,
     kernel: &mut KernelCell,
     book: &mut Book,
+    freed: &mut Freed,
 ) -> Event
     ghost basis: { Basis }
     requires { CanCollectKernel basis guest.old kernel.old book.old }
-    ensures { HasCollectedKernel basis guest.old guest.new kernel.new book.old book.new result }
+    ensures done { HasCollectedKernel basis guest.old guest.new kernel.new book.old book.new result }
+    ensures freed { basis.events ≤ freed.old.room → AreFreedLast basis.trace book.new.journal.list freed.new.names }
+    ensures room { freed.new.room ≡ freed.old.room }
 {
     let _setup = &terms.setup;
     publish(&mut guest.cell, book);
     begin_kernel(&mut guest.cell, kernel, book);
     mark_kernel(kernel);
-    end_kernel(kernel, book)
+    end_kernel_listing(kernel, book, freed)
 }
 
-/// Collects the kernel's heap, if no collection of it or of the process's heap is open, no shared heap is an orphan and there is room.
+/// Collects the kernel's heap, if no collection of it or of the process's heap is open, no shared heap is an orphan and there is room. The
+/// list then has the names of what that freed, and no others, where it has room for as many as there can be events.
 pub fn try_collect_kernel(
     terms: &Terms,
     guest: &mut Guest,
     kernel: &mut KernelCell,
     book: &mut Book,
+    freed: &mut Freed,
 ) -> Result<Event, HostError>
     requires guest { GuestServes (basis_of terms.now) book.old.journal.table guest.old }
     requires kernel { KernelServes (basis_of terms.now) book.old.journal.table kernel.old }
@@ -76,6 +93,9 @@ pub fn try_collect_kernel(
     ensures done { IfOk result (λ event. HasCollectedKernel (basis_of terms.now) guest.old guest.new kernel.new book.old book.new event) }
     ensures same { IfErr result (λ why. (guest.new ≡ guest.old) × (kernel.new ≡ kernel.old) × (book.new ≡ book.old)) }
     ensures why { IfErr result (λ why. CanNotCollectKernel (basis_of terms.now) kernel.old book.old guest.old why) }
+    ensures freed { (basis_of terms.now).events ≤ freed.old.room → OnOk result (AreFreedLast (basis_of terms.now).trace book.new.journal.list freed.new.names) }
+    ensures kept { OnErr result (freed.new ≡ freed.old) }
+    ensures room { freed.new.room ≡ freed.old.room }
 {
     awake(guest)?;
     if !is_idle(kernel.phase()) {
@@ -87,5 +107,5 @@ pub fn try_collect_kernel(
     if !has_room_to_collect(terms, guest, book) {
         return Err(HostError::Full);
     }
-    Ok(do_collect_kernel(terms, guest, kernel, book))
+    Ok(do_collect_kernel(terms, guest, kernel, book, freed))
 }

@@ -10,3 +10,4 @@ pub use Rattle.k_ends.specs.Whole
 pub use Rattle.k_ends.specs.HostError
 pub use Rattle.k_ends.specs.CallsRefusals
 pub use Rattle.k_ends.specs.Doing
+pub use Rattle.k_mark.specs.Listening

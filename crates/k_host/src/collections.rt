@@ -1,8 +1,8 @@
 //! Collections, absorptions and ends of processes, called on a host, and what a process does inside its heap.
-ghost use Rattle.std.specs.Prelude.{◌≡◌, IfErr, IfOk, MatchOption, OnErr, OnOk};
+ghost use Rattle.std.specs.Prelude.{◌≡◌, ◌≤◌, IfErr, IfOk, MatchOption, OnErr, OnOk};
 ghost use Rattle.k_ends.specs.CallsRefusals.{CanNotDoInside, CanNotPublish};
 ghost use Rattle.k_ends.specs.Refusals.{CanNotBegin, CanNotBeginKernel, CanNotEnd, CanNotEndKernel, CanNotExit, CanNotMark, CanNotMarkKernel, CanNotSettle, CanNotSettleKernel};
-ghost use Rattle.k_ends.specs.Whole.{CanNotCollect, CanNotCollectKernel};
+ghost use Rattle.k_ends.specs.Whole.{AreFreedLast, CanNotCollect, CanNotCollectKernel};
 ghost use Rattle.k_host.specs.Calls.{HasAbsorbedIn, HasBegunIn, HasBegunKernelIn, HasCollectedIn, HasCollectedKernelIn, HasDoneInsideIn, HasEndedIn, HasEndedKernelIn, HasExitedIn, HasLeftOutside, HasMarkedIn, HasMarkedKernelIn, HasPublishedIn, HasSettledIn, HasSettledKernelIn};
 ghost use Rattle.k_host.specs.Refusals.{MayRefuse, MayRefuseAbsorption};
 
@@ -13,6 +13,7 @@ use k_ends::{
     try_end_kernel, try_exit, try_inside, try_mark, try_mark_kernel, try_publish, try_settle,
     try_settle_kernel,
 };
+use k_mark::Freed;
 use k_types::{Event, Op, Pid, Reply, SharedId};
 
 impl Host {
@@ -165,21 +166,25 @@ impl Host {
         try_settle_kernel(&self.terms, &mut self.kernel, &mut self.book)
     }
 
-    /// Collects the process's heap whole: begins, marks and ends. It answers the event of the end, with what was freed. The cost is in
-    /// proportion to the objects of the heap, its exit items and its entered and pinned objects.
+    /// Collects the process's heap whole: begins, marks and ends. It answers the event of the end, with what was freed, of which the
+    /// list then has the names: those of this collection alone, each once, where it has room for as many as the host for events. The cost is
+    /// in proportion to the objects of the heap, its exit items and its entered and pinned objects.
     ///
     /// # Errors
     ///
     /// Each changes nothing: `Unknown`, `Ended`, `Phase` where a collection of the heap is open, and `Full` where the journal has no room
     /// for what is unpublished and two events more.
-    pub fn collect(&mut self, pid: Pid) -> Result<Event, HostError>
+    pub fn collect(&mut self, pid: Pid, freed: &mut Freed) -> Result<Event, HostError>
         ensures done { IfOk result (λ event. HasCollectedIn self.old self.new pid event) }
         ensures same { OnErr result (self.new ≡ self.old) }
         ensures why { IfErr result (λ why. MayRefuse self.old pid (CanNotCollect self.old.basis self.old.book) why) }
+        ensures freed { self.old.basis.events ≤ freed.old.room → OnOk result (AreFreedLast self.new.basis.trace self.new.book.journal.list freed.new.names) }
+        ensures kept { OnErr result (freed.new ≡ freed.old) }
+        ensures room { freed.new.room ≡ freed.old.room }
     {
         let at = place_of(&self.guests, pid)?;
         let guest = &mut self.guests[at];
-        try_collect(&self.terms, guest, &mut self.book)
+        try_collect(&self.terms, guest, &mut self.book, freed)
     }
 
     /// Collects the kernel's heap whole, as the process. It answers the event of the end, with what was freed.
@@ -188,14 +193,17 @@ impl Host {
     ///
     /// Each changes nothing: `Unknown`, `Ended`, `Phase` where a collection of either heap is open, `Orphan` where a shared heap has
     /// to be absorbed first, and `Full` where the journal has no room for what is unpublished and two events more.
-    pub fn collect_kernel(&mut self, pid: Pid) -> Result<Event, HostError>
+    pub fn collect_kernel(&mut self, pid: Pid, freed: &mut Freed) -> Result<Event, HostError>
         ensures done { IfOk result (λ event. HasCollectedKernelIn self.old self.new pid event) }
         ensures same { OnErr result (self.new ≡ self.old) }
         ensures why { IfErr result (λ why. MayRefuse self.old pid (CanNotCollectKernel self.old.basis self.old.kernel self.old.book) why) }
+        ensures freed { self.old.basis.events ≤ freed.old.room → OnOk result (AreFreedLast self.new.basis.trace self.new.book.journal.list freed.new.names) }
+        ensures kept { OnErr result (freed.new ≡ freed.old) }
+        ensures room { freed.new.room ≡ freed.old.room }
     {
         let at = place_of(&self.guests, pid)?;
         let guest = &mut self.guests[at];
-        try_collect_kernel(&self.terms, guest, &mut self.kernel, &mut self.book)
+        try_collect_kernel(&self.terms, guest, &mut self.kernel, &mut self.book, freed)
     }
 
     /// Ends the process, by its operation `exit`: its heap becomes the kernel's.

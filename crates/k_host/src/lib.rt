@@ -8,6 +8,8 @@
 //!
 //! [`charges_are_the_machines`] is a law: what [`Host::charge`] tells that a process is charged is what the machine charges it.
 //!
+//! A whole collection writes the names of what it freed into a list, [`Freed`].
+//!
 //! A [`Twin`] is the machine on one thread beside a host, which takes the events that the host answers.
 #![tactic(auto)]
 
@@ -25,5 +27,6 @@ pub use errors::OpenError;
 pub use host::Host;
 pub use k_ends::HostError;
 pub use k_guests::Terms;
+pub use k_mark::Freed;
 pub use laws::charges_are_the_machines;
 pub use twin::Twin;

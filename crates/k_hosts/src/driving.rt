@@ -1,5 +1,5 @@
 //! The calls of a host as tests make them, each in a function that promises nothing, so that a test of many calls is proved quickly.
-use k_host::{Host, HostError};
+use k_host::{Freed, Host, HostError};
 use k_types::{Event, Op, Pid, Reply, SharedId};
 
 pub(crate) fn operate(host: &mut Host, pid: Pid, op: &Op) -> Result<Event, HostError> {
@@ -54,12 +54,16 @@ pub(crate) fn absorb(host: &mut Host, id: SharedId) -> Result<Event, HostError> 
     host.absorb(id)
 }
 
-pub(crate) fn collect(host: &mut Host, pid: Pid) -> Result<Event, HostError> {
-    host.collect(pid)
+pub(crate) fn collect(host: &mut Host, pid: Pid, freed: &mut Freed) -> Result<Event, HostError> {
+    host.collect(pid, freed)
 }
 
-pub(crate) fn collect_kernel(host: &mut Host, pid: Pid) -> Result<Event, HostError> {
-    host.collect_kernel(pid)
+pub(crate) fn collect_kernel(
+    host: &mut Host,
+    pid: Pid,
+    freed: &mut Freed,
+) -> Result<Event, HostError> {
+    host.collect_kernel(pid, freed)
 }
 
 pub(crate) fn charge(host: &Host, pid: Pid) -> Option<u64> {

@@ -15,9 +15,12 @@ pub(crate) const NODE: TypeId = TypeId(0);
 
 pub(crate) const S: SharedId = SharedId(0);
 
+/// The room for events of the usual host.
+pub(crate) const EVENTS: u32 = 2000;
+
 /// A host of the usual setup.
 pub(crate) fn usual(alloc: Global) -> Result<Host, OpenError> {
-    Host::read(alloc, USUAL, NODE, 100, 2000)
+    Host::read(alloc, USUAL, NODE, 100, EVENTS)
 }
 
 /// Drops the host. A function that has a host drops all its parts wherever it can end; so tests only lend theirs, and end here.

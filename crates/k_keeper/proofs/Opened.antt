@@ -1,5 +1,6 @@
 -- A keeper is opened over a host in which nothing has happened.
-use Rattle.std.proofs.Common.{◌≡◌, ◌≤◌, ◌+◌, ◌-◌, ◌↔◌, ℕ, Bool, false, refl, ap, length, arith, IsTrue}
+use Rattle.std.proofs.Common.{◌≡◌, ◌≤◌, ◌+◌, ◌-◌, ◌↔◌, ℕ, Bool, false, refl, ap, List, length, arith, IsTrue}
+use Rattle.k_types.specs.declared.names.Name.{Name}
 use Rattle.k_types.specs.declared.names.TypeId.{TypeId}
 use Rattle.k_words.specs.Words.{Text}
 use Rattle.k_guests.specs.Serving.{Basis}
@@ -26,12 +27,15 @@ fresh_kept basis bodies h left f enough = record {
 }
 
 module _ (text : Text) (ty : TypeId) (bodies events : ℕ) (h : HostValue) (read : HasRead text ty bodies events h) where
+  pub opened_room : h.basis.events ≤ events
+  opened_room = let same = ap (λ (b : Basis). b.events) read.fresh.basis_is in omega (arith, same)
+
   module _ (fits : needed_to_operate h + length h.guests ≤ events) (count : ℕ) (counted : count ≡ length h.guests) where
     pub read_kept : IsKept h (events - count)
     read_kept = fresh_kept _ bodies h (events - count) read.fresh (omega (arith, fits, counted))
 
-    pub opened : HasOpened text ty bodies events (keeper_of h (events - count))
-    opened = record { read = read; all = omega (arith, fits, counted); enough = omega (arith, fits, counted) }
+    pub opened : (freed : List Name) → HasOpened text ty bodies events (keeper_of h (events - count) freed)
+    opened freed = record { read = read; all = omega (arith, fits, counted); enough = omega (arith, fits, counted) }
 
   pub few_events : (test : Bool) → (IsTrue test ↔ (needed_to_operate h + length h.guests ≤ events)) → test ≡ false → HasFewEvents text ty bodies events Terms
   few_events test decides fails = record {

@@ -1,19 +1,22 @@
 -- Why a call of a keeper is refused, and that nothing else refuses it.
-use Rattle.std.proofs.Common.{◌≡◌, ◌≤◌, ◌+◌, ℕ, refl, sym, ap, ◌∙◌, subst, Bool, false, true, Option, Some, None, option_map, slice_get, IsFalse, inl, inr, arith, Result, Ok, Err, IfErr, OnErr, OnOk, ◌⊎◌}
+use Rattle.std.proofs.Common.{◌≡◌, ◌≤◌, ◌+◌, ℕ, refl, sym, ap, ◌∙◌, subst, Bool, false, true, List, Option, Some, None, option_map, slice_get, IsFalse, inl, inr, arith, Result, Ok, Err, IfErr, OnErr, OnOk, ◌⊎◌}
 use Rattle.std.proofs.lemmas.Bool.{false≢true}
 use Rattle.std.specs.Prelude.{IfOk, MatchOption}
 use Rattle.k_types.specs.declared.event.Event.{Event}
+use Rattle.k_types.specs.declared.names.Name.{Name}
 use Rattle.k_types.specs.declared.names.Pid.{Pid}
 use Rattle.k_types.specs.declared.names.SharedId.{SharedId}
 use Rattle.k_types.specs.declared.op.Op.{Op}
 use Rattle.k_guests.specs.declared.guest.Guest.{Guest}
+use Rattle.k_guests.specs.Serving.{Basis}
 use Rattle.k_host.specs.HostError.{HostError}
 use Rattle.k_host.specs.HostError.TheVariants.{Ended, Reserved, Unknown}
 use Rattle.k_host.specs.CallsRefusals.{Lacks}
 use Rattle.k_host.specs.EndsRefusals.{CanNotExit}
 use Rattle.k_host.specs.Whole.{CanNotCollect, CanNotCollectKernel}
+use Rattle.k_host.specs.Listening.{FreedNames}
 use Rattle.k_host.specs.Asked.{has_ended_of}
-use Rattle.k_host.specs.Calls.{HasCollectedIn, HasCollectedKernelIn, HasExitedIn, HasOperatedIn}
+use Rattle.k_host.specs.Calls.{HasAbsorbedIn, HasCollectedIn, HasCollectedKernelIn, HasExitedIn, HasOperatedIn}
 use Rattle.k_host.specs.Hosts.{HostServes, HostValue}
 use Rattle.k_host.specs.Refusals.{CanNotOperateIn, MayRefuse, MayRefuseAbsorption}
 use Rattle.k_keeper.specs.Keeping.{IsKept, KeeperValue, left_after, needed_by_the_kernel, needed_to_absorb, needed_to_collect, needed_to_operate}
@@ -51,8 +54,8 @@ pub gone_operates : (h : HostValue) (pid : Pid) (op : Op) (why : HostError) → 
 gone_operates h pid op why gone = gone_by h op (slice_get h.guests pid.0) why gone
 
 -- a keeper of these
-abbrev pub keeper_of : HostValue → ℕ → KeeperValue
-keeper_of h left = record { host = h; left = left }
+abbrev pub keeper_of : HostValue → ℕ → List Name → KeeperValue
+keeper_of h left freed = record { host = h; left = left; freed = freed }
 
 -- what a call takes
 pub takes : (left cost rest : ℕ) (r : Result Event HostError) → cost ≤ left → rest ≡ left_after left cost r → OnOk r (left ≡ rest + cost)
@@ -67,13 +70,49 @@ pub leaves : (left cost rest needed : ℕ) (r : Result Event HostError) → cost
 leaves left cost rest needed (Ok event) enough is more = omega (arith, enough, is, more)
 leaves left cost rest needed (Err why) enough is more = tt
 
-pub unchanged : (h n : HostValue) (left cost rest : ℕ) (r : Result Event HostError) → rest ≡ left_after left cost r → OnErr r (n ≡ h) → OnErr r (keeper_of n rest ≡ keeper_of h left)
-unchanged h n left cost rest (Ok event) is same = tt
-unchanged h n left cost rest (Err why) is same = ap (λ x. keeper_of x rest) same ∙ ap (keeper_of h) is
+pub still : (freed : List Name) (r : Result Event HostError) → OnErr r (freed ≡ freed)
+still freed (Ok event) = tt
+still freed (Err why) = refl
 
-pub unchanged_left : (h n : HostValue) (left : ℕ) (r : Result Event HostError) → OnErr r (n ≡ h) → OnErr r (keeper_of n left ≡ keeper_of h left)
-unchanged_left h n left (Ok event) same = tt
-unchanged_left h n left (Err why) same = ap (λ x. keeper_of x left) same
+pub unchanged : (h n : HostValue) (left cost rest : ℕ) (freed names : List Name) (r : Result Event HostError) → rest ≡ left_after left cost r → OnErr r (n ≡ h) → OnErr r (names ≡ freed) → OnErr r (keeper_of n rest names ≡ keeper_of h left freed)
+unchanged h n left cost rest freed names (Ok event) is same kept = tt
+unchanged h n left cost rest freed names (Err why) is same kept = ap (λ x. keeper_of x rest names) same ∙ ap (λ k. keeper_of h k names) is ∙ ap (keeper_of h left) kept
+
+pub unchanged_left : (h n : HostValue) (left : ℕ) (freed : List Name) (r : Result Event HostError) → OnErr r (n ≡ h) → OnErr r (keeper_of n left freed ≡ keeper_of h left freed)
+unchanged_left h n left freed (Ok event) same = tt
+unchanged_left h n left freed (Err why) same = ap (λ x. keeper_of x left freed) same
+
+pub names_kept : (old new : FreedNames) (r : Result Event HostError) → OnErr r (new ≡ old) → OnErr r (new.names ≡ old.names)
+names_kept old new (Ok event) same = tt
+names_kept old new (Err why) same = ap (λ (f : FreedNames). f.names) same
+
+-- a host has room for as many events as before
+basis_by : (h n : HostValue) (Way : Event → Type 0) (r : Result Event HostError) → ((event : Event) → Way event → n.basis ≡ h.basis) → IfOk r Way → OnErr r (n ≡ h) → n.basis ≡ h.basis
+basis_by h n Way (Ok event) by done same = by event done
+basis_by h n Way (Err why) by done same = ap (λ (x : HostValue). x.basis) same
+
+operated_basis : (h n : HostValue) (pid : Pid) (op : Op) (event : Event) → HasOperatedIn h n pid op event → n.basis ≡ h.basis
+operated_basis h n pid op event (inl c) = ap (λ (x : HostValue). x.basis) c.host_is
+operated_basis h n pid op event (inr c) = ap (λ (x : HostValue). x.basis) c.host_is
+
+module _ (h n : HostValue) (room : ℕ) (fits : h.basis.events ≤ room) (r : Result Event HostError) (same : OnErr r (n ≡ h)) where
+  room_by : n.basis ≡ h.basis → n.basis.events ≤ room
+  room_by is = subst (λ (b : Basis). b.events ≤ room) (sym is) fits
+
+  pub operate_room : (pid : Pid) (op : Op) → IfOk r (λ event. HasOperatedIn h n pid op event) → n.basis.events ≤ room
+  operate_room pid op done = room_by (basis_by h n (λ event. HasOperatedIn h n pid op event) r (operated_basis h n pid op) done same)
+
+  pub collect_room : (pid : Pid) → IfOk r (λ event. HasCollectedIn h n pid event) → n.basis.events ≤ room
+  collect_room pid done = room_by (basis_by h n (λ event. HasCollectedIn h n pid event) r (λ event c. ap (λ (x : HostValue). x.basis) c.host_is) done same)
+
+  pub kernel_room : (pid : Pid) → IfOk r (λ event. HasCollectedKernelIn h n pid event) → n.basis.events ≤ room
+  kernel_room pid done = room_by (basis_by h n (λ event. HasCollectedKernelIn h n pid event) r (λ event c. ap (λ (x : HostValue). x.basis) c.host_is) done same)
+
+  pub exit_room : (pid : Pid) → IfOk r (λ event. HasExitedIn h n pid event) → n.basis.events ≤ room
+  exit_room pid done = room_by (basis_by h n (λ event. HasExitedIn h n pid event) r (λ event c. ap (λ (x : HostValue). x.basis) c.host_is) done same)
+
+  pub absorb_room : (id : SharedId) → IfOk r (λ event. HasAbsorbedIn h n id event) → n.basis.events ≤ room
+  absorb_room id done = room_by (basis_by h n (λ event. HasAbsorbedIn h n id event) r (λ event c. ap (λ (x : HostValue). x.basis) c.host_is) done same)
 
 module _ (h : HostValue) (left : ℕ) (kept : IsKept h left) where
   pub same_kept : (n : HostValue) (rest : ℕ) → n ≡ h → rest ≡ left → IsKept n rest
@@ -144,36 +183,36 @@ alive_still h n pid same alive = record { guest = alive.guest; there = ap (λ gs
 fewer : (left asked needed : ℕ) (why : HostError) → asked ≡ needed → Lacks Reserved (asked ≤ left) why → Lacks Reserved (needed ≤ left) why
 fewer left asked needed why is lacks = record { error_is = lacks.error_is; fails = λ enough. lacks.fails (omega (arith, is, enough)) }
 
-module _ (h : HostValue) (left : ℕ) where
-  pub operation_unready : (pid : Pid) (op : Op) (asked : ℕ) → asked ≡ needed_to_operate h → (why : HostError) → IsGone h pid why ⊎ Lacks Reserved (asked ≤ left) why → MayRefuseOperation (keeper_of h left) pid op why
+module _ (h : HostValue) (left : ℕ) (freed : List Name) where
+  pub operation_unready : (pid : Pid) (op : Op) (asked : ℕ) → asked ≡ needed_to_operate h → (why : HostError) → IsGone h pid why ⊎ Lacks Reserved (asked ≤ left) why → MayRefuseOperation (keeper_of h left freed) pid op why
   operation_unready pid op asked is why (inl gone) = inl (gone_operates h pid op why gone)
   operation_unready pid op asked is why (inr lacks) = inr (fewer left asked (needed_to_operate h) why is lacks)
 
-  pub operation_refused : (pid : Pid) (op : Op) (r : Result Event HostError) → IfErr r (λ why. MayRefuse h pid (CanNotOperateIn h op) why) → IfErr r (λ why. MayRefuseOperation (keeper_of h left) pid op why)
+  pub operation_refused : (pid : Pid) (op : Op) (r : Result Event HostError) → IfErr r (λ why. MayRefuse h pid (CanNotOperateIn h op) why) → IfErr r (λ why. MayRefuseOperation (keeper_of h left freed) pid op why)
   operation_refused pid op (Ok event) why = tt
   operation_refused pid op (Err error) why = inl why
 
-  pub collection_unready : (pid : Pid) (asked : ℕ) → asked ≡ needed_to_collect h → (why : HostError) → IsGone h pid why ⊎ Lacks Reserved (asked ≤ left) why → MayRefuseCollection (keeper_of h left) pid why
+  pub collection_unready : (pid : Pid) (asked : ℕ) → asked ≡ needed_to_collect h → (why : HostError) → IsGone h pid why ⊎ Lacks Reserved (asked ≤ left) why → MayRefuseCollection (keeper_of h left freed) pid why
   collection_unready pid asked is why (inl gone) = inl gone
   collection_unready pid asked is why (inr lacks) = inr (fewer left asked (needed_to_collect h) why is lacks)
 
-  pub kernel_unready : (pid : Pid) (asked : ℕ) → asked ≡ needed_by_the_kernel h → (why : HostError) → IsGone h pid why ⊎ Lacks Reserved (asked ≤ left) why → MayRefuseKernel (keeper_of h left) pid why
+  pub kernel_unready : (pid : Pid) (asked : ℕ) → asked ≡ needed_by_the_kernel h → (why : HostError) → IsGone h pid why ⊎ Lacks Reserved (asked ≤ left) why → MayRefuseKernel (keeper_of h left freed) pid why
   kernel_unready pid asked is why (inl gone) = inl gone
   kernel_unready pid asked is why (inr lacks) = inr (fewer left asked (needed_by_the_kernel h) why is lacks)
 
-  pub absorption_unready : (id : SharedId) (asked : ℕ) → asked ≡ needed_to_absorb h → (why : HostError) → Lacks Reserved (asked ≤ left) why → MayRefuseToAbsorb (keeper_of h left) id why
+  pub absorption_unready : (id : SharedId) (asked : ℕ) → asked ≡ needed_to_absorb h → (why : HostError) → Lacks Reserved (asked ≤ left) why → MayRefuseToAbsorb (keeper_of h left freed) id why
   absorption_unready id asked is why lacks = inr (fewer left asked (needed_to_absorb h) why is lacks)
 
-  pub absorption_refused : (id : SharedId) (r : Result Event HostError) → IfErr r (λ why. MayRefuseAbsorption h id why) → IfErr r (λ why. MayRefuseToAbsorb (keeper_of h left) id why)
+  pub absorption_refused : (id : SharedId) (r : Result Event HostError) → IfErr r (λ why. MayRefuseAbsorption h id why) → IfErr r (λ why. MayRefuseToAbsorb (keeper_of h left freed) id why)
   absorption_refused id (Ok event) why = tt
   absorption_refused id (Err error) why = inl why
 
 -- a whole collection of the kernel's heap, behind the absorptions
-pub collected_all : (h m n : HostValue) (left between rest : ℕ) (pid : Pid) (r : Result Event HostError) → HaveAbsorbed h m left between → HasNoOrphan m → 2 ≤ between → rest ≡ left_after between 2 r →
-    IfOk r (λ event. HasCollectedKernelIn m n pid event) → IfOk r (λ event. HasCollectedAll (keeper_of h left) (keeper_of n rest) pid event)
-collected_all h m n left between rest pid (Ok event) absorbed none two is done =
-    record { between = keeper_of m between; absorbed = absorbed; none_left = none; collected = done; spends = omega (arith, two, is) }
-collected_all h m n left between rest pid (Err why) absorbed none two is done = tt
+pub collected_all : (h m n : HostValue) (left between rest : ℕ) (freed names : List Name) (pid : Pid) (r : Result Event HostError) → HaveAbsorbed h m left between → HasNoOrphan m → 2 ≤ between → rest ≡ left_after between 2 r →
+    IfOk r (λ event. HasCollectedKernelIn m n pid event) → IfOk r (λ event. HasCollectedAll (keeper_of h left freed) (keeper_of n rest names) pid event)
+collected_all h m n left between rest freed names pid (Ok event) absorbed none two is done =
+    record { between = keeper_of m between freed; absorbed = absorbed; none_left = none; collected = done; spends = omega (arith, two, is) }
+collected_all h m n left between rest freed names pid (Err why) absorbed none two is done = tt
 
 -- two things that are told by two calls
 pub both_on : {T E : Type 0} (P Q : Type 0) (r : Result T E) → P → OnOk r Q → OnOk r (P × Q)

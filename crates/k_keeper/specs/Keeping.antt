@@ -1,7 +1,8 @@
 -- What a keeper keeps of its host: room in the journal for the ends of all processes, and no collection open.
-use Rattle.std.specs.Prelude.{◌≡◌, ℕ, ◌+◌, ◌-◌, ◌*◌, ◌≤◌, Result, Ok, Err, IsFalse, Some, if◌then◌else◌, length, slice_get}
+use Rattle.std.specs.Prelude.{◌≡◌, ℕ, ◌+◌, ◌-◌, ◌*◌, ◌≤◌, Result, Ok, Err, IsFalse, List, Some, if◌then◌else◌, length, slice_get}
 use Rattle.k_types.specs.declared.names.CellPhase.TheVariants.{Idle}
 use Rattle.k_types.specs.declared.event.Event.{Event}
+use Rattle.k_types.specs.declared.names.Name.{Name}
 use Rattle.k_types.specs.Totals.{total}
 use Rattle.k_guests.specs.declared.guest.Guest.{Guest}
 use Rattle.k_host.specs.HostError.{HostError}
@@ -30,10 +31,12 @@ pub record IsKept (h : HostValue) (left : ℕ) : Type 0 where
   pub kernel_idle : h.kernel.value.collection ≡ Idle
   pub room : spent h + left ≤ h.basis.events
 
--- a keeper: its host, and how many events are left beside those that are kept for the ends of processes
+-- a keeper: its host, how many events are left beside those that are kept for the ends of processes, and the names of the objects that the
+-- last collection freed
 pub record KeeperValue : Type 0 where
   pub host : HostValue
   pub left : ℕ
+  pub freed : List Name
 
 -- how many events a collection of the kernel's heap asks for: its beginning and end, and an absorption of each shared heap
 abbrev pub needed_by_the_kernel : HostValue → ℕ

@@ -9,3 +9,4 @@ pub use Rattle.k_words.specs.Words
 pub use Rattle.k_limits.specs.Limits
 pub use Rattle.k_book.specs.Books
 pub use Rattle.k_shares.specs.Sharers
+pub use Rattle.k_host.specs.Whole

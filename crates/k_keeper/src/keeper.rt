@@ -1,5 +1,6 @@
 //! A host and the room that it keeps.
-ghost use Rattle.std.specs.Prelude.{◌≡◌, ◌+◌, ◌≤◌, IfErr, IfOk, OnErr, OnOk};
+ghost use Rattle.std.specs.Prelude.{◌≡◌, ◌+◌, ◌≤◌, [], IfErr, IfOk, OnErr, OnOk};
+ghost use Rattle.k_host.specs.Whole.{AreFreedLast};
 ghost use Rattle.k_host.specs.Calls.{HasAbsorbedIn, HasCollectedIn, HasExitedIn, HasOperatedIn};
 ghost use Rattle.k_keeper.specs.Keeping.{IsKept, needed_by_the_kernel, needed_to_operate};
 ghost use Rattle.k_keeper.specs.Kept.{HasCollectedAll, HasOpened, IsGone, IsNotOpened, MayRefuseCollection, MayRefuseKernel, MayRefuseOperation, MayRefuseToAbsorb};
@@ -9,26 +10,32 @@ use crate::alive::{alive, ready, spared};
 use crate::rooms::{
     fits, left_after, needed_by_the_kernel, needed_to_absorb, needed_to_collect, needed_to_operate,
 };
-use k_host::{Host, HostError, OpenError};
-use k_types::{Event, Op, Pid, SharedId, TypeId};
+use k_host::{Freed, Host, HostError, OpenError};
+use k_types::{Event, Name, Op, Pid, SharedId, TypeId};
 use std::alloc::Global;
 use std::marker::Model;
 
-/// A host, and how many events are left for operations and collections. Room for the end of each living process is kept beside these.
+/// A host, and how many events are left for operations and collections. Room for the end of each living process is kept beside these. It
+/// also has the names of the objects that its last collection freed.
 #[derive(Drop)]
 pub struct Keeper {
     pub(crate) host: Host,
     pub(crate) left: u32,
+    pub(crate) freed: Freed,
 }
 
 impl Model for Keeper {
+    ghost use Rattle.std.specs.Prelude.{◌≤◌};
     ghost use Rattle.k_keeper.specs.Keeping.{IsKept, KeeperValue};
 
     ghost Value = { KeeperValue };
 
-    ghost view = { λ k. record { host = k.host; left = k.left } };
+    ghost view = { λ k. record { host = k.host; left = k.left; freed = k.freed.names } };
 
-    ghost invariant = { λ k. IsKept k.host k.left };
+    ghost invariant = { λ k. record {
+      kept : IsKept k.host k.left;
+      room : k.host.basis.events ≤ k.freed.room;
+    } };
 }
 
 impl Keeper {
@@ -46,6 +53,7 @@ impl Keeper {
         events: u32,
     ) -> Result<Keeper, OpenError>
         ensures read { IfOk result (λ k. HasOpened text.now ty bodies events k) }
+        ensures freed { IfOk result (λ k. k.freed ≡ []) }
         ensures why { IfErr result (λ why. IsNotOpened text.now ty bodies events why) }
     {
         let host = Host::read(alloc, text, ty, bodies, events)?;
@@ -53,7 +61,8 @@ impl Keeper {
             return Err(OpenError::Terms);
         }
         let left = events - host.processes();
-        Ok(Keeper { host, left })
+        let freed = Freed::make(alloc, events)?;
+        Ok(Keeper { host, left, freed })
     }
 
     /// The host, for questions.
@@ -78,6 +87,14 @@ impl Keeper {
         self.left
     }
 
+    /// The names of the objects that the last collection freed, of a process's heap or the kernel's, each once and in any order; none before
+    /// the first. They stay until the next collection is done.
+    pub fn freed(&self) -> &[Name]
+        ensures { result.now ≡ self.now.freed }
+    {
+        self.freed.names()
+    }
+
     /// Does the operation of the process, as `Host::operate` does. Where it is done, at least two events for each process, one for each
     /// shared heap and two are left: enough for a collection of each heap.
     ///
@@ -88,6 +105,7 @@ impl Keeper {
         ensures done { IfOk result (λ event. HasOperatedIn self.old.host self.new.host pid op.now event) }
         ensures left { OnOk result (self.old.left ≡ self.new.left + 1) }
         ensures enough { OnOk result (needed_to_operate self.old.host ≤ self.new.left + 1) }
+        ensures freed { self.new.freed ≡ self.old.freed }
         ensures same { OnErr result (self.new ≡ self.old) }
         ensures why { IfErr result (λ why. MayRefuseOperation self.old pid op.now why) }
     {
@@ -98,7 +116,7 @@ impl Keeper {
         came
     }
 
-    /// Collects the process's heap whole. It answers the event of the end, with what was freed.
+    /// Collects the process's heap whole. It answers the event of the end, with what was freed; `freed` has the names.
     ///
     /// # Errors
     ///
@@ -107,30 +125,32 @@ impl Keeper {
         ensures done { IfOk result (λ event. HasCollectedIn self.old.host self.new.host pid event) }
         ensures left { OnOk result (self.old.left ≡ self.new.left + 2) }
         ensures enough { OnOk result (needed_by_the_kernel self.old.host ≤ self.new.left) }
+        ensures freed { OnOk result (AreFreedLast self.new.host.basis.trace self.new.host.book.journal.list self.new.freed) }
         ensures same { OnErr result (self.new ≡ self.old) }
         ensures why { IfErr result (λ why. MayRefuseCollection self.old pid why) }
     {
         ready(&self.host, pid, self.left, needed_to_collect(&self.host))?;
-        let came = self.host.collect(pid);
+        let came = self.host.collect(pid, &mut self.freed);
         self.left = left_after(self.left, 2, &came);
         self.host.serves();
         came
     }
 
     /// Absorbs every orphan, and collects the kernel's heap whole, as the process. It answers the event of the end of the collection, with
-    /// what was freed.
+    /// what was freed; `freed` has the names.
     ///
     /// # Errors
     ///
     /// Each changes nothing: `Unknown`, `Ended`, and `Reserved` where fewer are left than two events and one for each shared heap.
     pub fn collect_kernel(&mut self, pid: Pid) -> Result<Event, HostError>
         ensures done { IfOk result (λ event. HasCollectedAll self.old self.new pid event) }
+        ensures freed { OnOk result (AreFreedLast self.new.host.basis.trace self.new.host.book.journal.list self.new.freed) }
         ensures same { OnErr result (self.new ≡ self.old) }
         ensures why { IfErr result (λ why. MayRefuseKernel self.old pid why) }
     {
         ready(&self.host, pid, self.left, needed_by_the_kernel(&self.host))?;
         let left = absorb_all(&mut self.host, self.left);
-        let came = self.host.collect_kernel(pid);
+        let came = self.host.collect_kernel(pid, &mut self.freed);
         self.left = left_after(left, 2, &came);
         self.host.serves();
         came
@@ -144,6 +164,7 @@ impl Keeper {
     pub fn kill(&mut self, pid: Pid) -> Result<Event, HostError>
         ensures done { IfOk result (λ event. HasExitedIn self.old.host self.new.host pid event) }
         ensures left { self.new.left ≡ self.old.left }
+        ensures freed { self.new.freed ≡ self.old.freed }
         ensures same { OnErr result (self.new ≡ self.old) }
         ensures why { IfErr result (λ why. IsGone self.old.host pid why) }
     {
@@ -162,6 +183,7 @@ impl Keeper {
     pub fn absorb(&mut self, id: SharedId) -> Result<Event, HostError>
         ensures done { IfOk result (λ event. HasAbsorbedIn self.old.host self.new.host id event) }
         ensures left { OnOk result (self.old.left ≡ self.new.left + 1) }
+        ensures freed { self.new.freed ≡ self.old.freed }
         ensures same { OnErr result (self.new ≡ self.old) }
         ensures why { IfErr result (λ why. MayRefuseToAbsorb self.old id why) }
     {

@@ -9,5 +9,5 @@ ghost-begin_heap g a = g.basis.trace
 abbrev pub ghost-mark_heap : goal.ghost-mark_heap
 ghost-mark_heap g a = g.basis.trace
 
-abbrev pub ghost-end_heap : goal.ghost-end_heap
-ghost-end_heap g a = g.basis.trace
+abbrev pub ghost-end_heap_listing : goal.ghost-end_heap_listing
+ghost-end_heap_listing g a = g.basis.trace

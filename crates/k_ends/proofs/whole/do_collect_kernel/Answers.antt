@@ -1,5 +1,6 @@
+use Rattle.std.proofs.Common.{arith}
 use Rattle.k_ends.proofs.Collected.{can_begin_kernel, publishes}
-use Rattle.k_ends.proofs.Wholly.{begins_kernel, goes_on, kernel_can_end_then, kernel_can_mark_then, kernel_collected}
+use Rattle.k_ends.proofs.Wholly.{begins_kernel, goes_on, kernel_can_end_then, kernel_can_mark_then, kernel_collected, kernel_room_left, last_freed}
 use Rattle.k_ends.proofs.whole.do_collect_kernel.Goals as goal
 
 pub publish-requires : goal.publish-requires
@@ -15,13 +16,21 @@ mark_kernel-requires g c =
     kernel_can_mark_then g.basis c.args.guest.now c.args.book.now c.requires.own c.publish.new.cell c.publish.new.book c.publish.ensures c.args.kernel.now c.requires.kernel
     c.begin_kernel.new.cell c.begin_kernel.new.kernel c.begin_kernel.new.book c.begin_kernel.result c.begin_kernel.ensures
 
-pub end_kernel-requires : goal.end_kernel-requires
-end_kernel-requires g c =
+pub end_kernel_listing-requires : goal.end_kernel_listing-requires
+end_kernel_listing-requires g c =
     kernel_can_end_then g.basis c.args.guest.now c.args.book.now c.requires.own c.publish.new.cell c.publish.new.book c.publish.ensures c.args.kernel.now c.requires.kernel
     c.begin_kernel.new.cell c.begin_kernel.new.kernel c.begin_kernel.new.book c.begin_kernel.result c.begin_kernel.ensures c.mark_kernel.new.kernel c.mark_kernel.ensures.rest c.mark_kernel.ensures.marked
 
-pub returns : goal.returns
-returns g c =
+pub returns-clause-done : goal.returns-clause-done
+returns-clause-done g c =
     kernel_collected g.basis c.args.guest.now c.args.book.now c.requires.own c.publish.new.cell c.publish.new.book c.publish.ensures c.args.kernel.now c.requires.kernel
     c.begin_kernel.new.cell c.begin_kernel.new.kernel c.begin_kernel.new.book c.begin_kernel.result c.begin_kernel.ensures c.mark_kernel.new.kernel c.mark_kernel.ensures.rest c.mark_kernel.ensures.marked
-    c.end_kernel.new.kernel c.end_kernel.new.book c.end_kernel.result c.end_kernel.ensures
+    c.end_kernel_listing.new.kernel c.end_kernel_listing.new.book c.end_kernel_listing.result c.end_kernel_listing.ensures.ended
+
+pub returns-clause-freed : goal.returns-clause-freed
+returns-clause-freed g c = λ fits.
+    let left =
+    kernel_room_left g.basis c.args.guest.now c.args.book.now c.requires.own c.publish.new.cell c.publish.new.book c.publish.ensures c.args.kernel.now c.requires.kernel
+    c.begin_kernel.new.cell c.begin_kernel.new.kernel c.begin_kernel.new.book c.begin_kernel.result c.begin_kernel.ensures in
+    last_freed g.basis.trace c.begin_kernel.new.book.journal.list c.end_kernel_listing.new.book.journal.list c.end_kernel_listing.result c.end_kernel_listing.new.freed.names c.end_kernel_listing.ensures.ended.appended.journal
+    (c.end_kernel_listing.ensures.listed (omega (arith, left, fits)))

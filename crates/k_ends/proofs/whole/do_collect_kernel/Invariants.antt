@@ -9,5 +9,5 @@ ghost-begin_kernel g a = g.basis.trace
 abbrev pub ghost-mark_kernel : goal.ghost-mark_kernel
 ghost-mark_kernel g a = g.basis.trace
 
-abbrev pub ghost-end_kernel : goal.ghost-end_kernel
-ghost-end_kernel g a = g.basis.trace
+abbrev pub ghost-end_kernel_listing : goal.ghost-end_kernel_listing
+ghost-end_kernel_listing g a = g.basis.trace

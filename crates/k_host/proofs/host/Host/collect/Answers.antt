@@ -1,8 +1,9 @@
-use Rattle.std.proofs.Common.{◌≡◌, ◌∙◌, sym, ap, subst, Some, slice_get, slice_set}
+use Rattle.std.proofs.Common.{◌≡◌, ◌≤◌, ◌∙◌, sym, ap, subst, Some, slice_get, slice_set, OnOk}
 use Rattle.std.specs.Prelude.{IfErr, IfOk}
 use Rattle.k_limits.proofs.Making.{handed_on}
 use Rattle.k_host.specs.Calls.{HasCollectedIn}
-use Rattle.k_ends.specs.Whole.{CanNotCollect, HasCollected}
+use Rattle.k_ends.specs.Whole.{AreFreedLast, CanNotCollect, HasCollected}
+use Rattle.k_host.specs.Hosts.{HostValue}
 use Rattle.k_host.specs.Refusals.{MayRefuse}
 use Rattle.k_guests.specs.Serving.{basis_of}
 use Rattle.k_host.proofs.Called.{changed_event, found_here, found_there, host_of}
@@ -39,3 +40,8 @@ returns-clause-why c =
     let at : slice_get c.self.inside.guests.items c.in_ok-at.at ≡ Some c.index_mut-guest.result.now = found_there c.self.inside.guests.items c.deref.result.now c.args.pid.0 c.in_ok-at.at c.index_mut-guest.result.now c.deref.ensures.value c.in_ok-at.ensures.place c.index_mut-guest.ensures.value in
     subst (λ old. IfErr c.try_collect.result (λ why. MayRefuse old c.args.pid (CanNotCollect old.basis old.book) why)) c.self.view_is
     (refused (host_of (basis_of c.self.inside.terms) c.self.inside.guests.items c.self.inside.kernel c.self.inside.shared.items c.self.inside.book) c.args.pid c.index_mut-guest.result.now (CanNotCollect (host_of (basis_of c.self.inside.terms) c.self.inside.guests.items c.self.inside.kernel c.self.inside.shared.items c.self.inside.book).basis (host_of (basis_of c.self.inside.terms) c.self.inside.guests.items c.self.inside.kernel c.self.inside.shared.items c.self.inside.book).book) c.try_collect.result (found_here c.self.inside.guests.items c.in_ok-at.at c.args.pid.0 c.index_mut-guest.result.now c.in_ok-at.ensures.place.0 at) c.try_collect.ensures.why)
+
+pub returns-clause-freed : goal.returns-clause-freed
+returns-clause-freed c =
+    subst (λ (old : HostValue). old.basis.events ≤ c.args.freed.now.room → OnOk c.try_collect.result (AreFreedLast (basis_of c.self.inside.terms).trace c.try_collect.new.book.journal.list c.try_collect.new.freed.names)) c.self.view_is
+    c.try_collect.ensures.freed

@@ -1,24 +1,27 @@
-use Rattle.std.proofs.Common.{◌≡◌, ◌+◌, subst, arith, OnErr, OnOk}
+use Rattle.std.proofs.Common.{◌≡◌, ap, ◌+◌, subst, arith, OnErr, OnOk}
 use Rattle.std.specs.Prelude.{IfErr, IfOk}
 use Rattle.k_limits.proofs.Making.{handed_on}
 use Rattle.k_host.specs.Calls.{HasAbsorbedIn}
 use Rattle.k_keeper.specs.Keeping.{KeeperValue}
 use Rattle.k_keeper.specs.Kept.{MayRefuseToAbsorb}
 use Rattle.k_keeper.proofs.Absorbed.{absorb_kept}
-use Rattle.k_keeper.proofs.Refused.{absorption_refused, absorption_unready, keeper_of, takes, unchanged}
+use Rattle.k_keeper.proofs.Refused.{absorb_room, absorption_refused, absorption_unready, keeper_of, still, takes, unchanged}
 use Rattle.k_keeper.proofs.keeper.Keeper.absorb.Goals as goal
 
 pub returns-in_err-spared-clause-why : goal.returns-in_err-spared-clause-why
 returns-in_err-spared-clause-why c =
     handed_on (MayRefuseToAbsorb c.args.self.now c.args.id) c.from_residual.result c.in_err-spared.field-0.0 c.from_residual.ensures.1
     (subst (λ (old : KeeperValue). MayRefuseToAbsorb old c.args.id c.in_err-spared.field-0.0) c.self.view_is
-    (absorption_unready c.self.inside.host c.self.inside.left c.args.id c.needed_to_absorb.result c.needed_to_absorb.ensures c.in_err-spared.field-0.0 c.in_err-spared.ensures.why))
+    (absorption_unready c.self.inside.host c.self.inside.left c.self.inside.freed.names c.args.id c.needed_to_absorb.result c.needed_to_absorb.ensures c.in_err-spared.field-0.0 c.in_err-spared.ensures.why))
 
 pub left_after-self-inside-requires : goal.left_after-self-inside-requires
 left_after-self-inside-requires c = (let enough = c.in_ok-spared.ensures.ok in let needed = c.needed_to_absorb.ensures in omega (arith, enough, needed))
 
 pub invariant_of-self : goal.invariant_of-self
-invariant_of-self c = absorb_kept c.self.inside.host c.self.inside.left c.self.invariant c.absorb-came.new.self c.args.id c.left_after-self-inside.result c.absorb-came.result c.serves.ensures c.absorb-came.ensures.done c.absorb-came.ensures.same (let enough = c.in_ok-spared.ensures.ok in let needed = c.needed_to_absorb.ensures in omega (arith, enough, needed)) c.left_after-self-inside.ensures
+invariant_of-self c = record {
+  kept = absorb_kept c.self.inside.host c.self.inside.left c.self.invariant.kept c.absorb-came.new.self c.args.id c.left_after-self-inside.result c.absorb-came.result c.serves.ensures c.absorb-came.ensures.done c.absorb-came.ensures.same (let enough = c.in_ok-spared.ensures.ok in let needed = c.needed_to_absorb.ensures in omega (arith, enough, needed)) c.left_after-self-inside.ensures;
+  room = absorb_room c.self.inside.host c.absorb-came.new.self c.self.inside.freed.room c.self.invariant.room c.absorb-came.result c.absorb-came.ensures.same c.args.id c.absorb-came.ensures.done;
+}
 
 pub returns-clause-done : goal.returns-clause-done
 returns-clause-done c = subst (λ (old : KeeperValue). IfOk c.absorb-came.result (λ event. HasAbsorbedIn old.host c.absorb-came.new.self c.args.id event)) c.self.view_is c.absorb-came.ensures.done
@@ -30,10 +33,13 @@ returns-clause-left c =
 
 pub returns-clause-same : goal.returns-clause-same
 returns-clause-same c =
-    subst (λ (old : KeeperValue). OnErr c.absorb-came.result (keeper_of c.absorb-came.new.self c.left_after-self-inside.result ≡ old)) c.self.view_is
-    (unchanged c.self.inside.host c.absorb-came.new.self c.self.inside.left 1 c.left_after-self-inside.result c.absorb-came.result c.left_after-self-inside.ensures c.absorb-came.ensures.same)
+    subst (λ (old : KeeperValue). OnErr c.absorb-came.result (keeper_of c.absorb-came.new.self c.left_after-self-inside.result c.self.inside.freed.names ≡ old)) c.self.view_is
+    (unchanged c.self.inside.host c.absorb-came.new.self c.self.inside.left 1 c.left_after-self-inside.result c.self.inside.freed.names c.self.inside.freed.names c.absorb-came.result c.left_after-self-inside.ensures c.absorb-came.ensures.same (still c.self.inside.freed.names c.absorb-came.result))
 
 pub returns-clause-why : goal.returns-clause-why
 returns-clause-why c =
     subst (λ (old : KeeperValue). IfErr c.absorb-came.result (λ why. MayRefuseToAbsorb old c.args.id why)) c.self.view_is
-    (absorption_refused c.self.inside.host c.self.inside.left c.args.id c.absorb-came.result c.absorb-came.ensures.why)
+    (absorption_refused c.self.inside.host c.self.inside.left c.self.inside.freed.names c.args.id c.absorb-came.result c.absorb-came.ensures.why)
+
+pub returns-clause-freed : goal.returns-clause-freed
+returns-clause-freed c = ap (λ (old : KeeperValue). old.freed) c.self.view_is

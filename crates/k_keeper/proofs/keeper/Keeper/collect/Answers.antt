@@ -4,22 +4,27 @@ use Rattle.k_limits.proofs.Making.{handed_on}
 use Rattle.k_host.specs.Calls.{HasCollectedIn}
 use Rattle.k_keeper.specs.Keeping.{KeeperValue, needed_by_the_kernel}
 use Rattle.k_keeper.specs.Kept.{MayRefuseCollection}
-use Rattle.k_keeper.proofs.Refused.{collect_kept, collect_why, collection_unready, keeper_of, leaves, takes, unchanged}
+use Rattle.k_keeper.proofs.Refused.{collect_kept, collect_room, collect_why, collection_unready, keeper_of, leaves, names_kept, takes, unchanged}
 use Rattle.k_keeper.proofs.keeper.Keeper.collect.Goals as goal
 
 pub returns-in_err-ready-clause-why : goal.returns-in_err-ready-clause-why
 returns-in_err-ready-clause-why c =
     handed_on (MayRefuseCollection c.args.self.now c.args.pid) c.from_residual.result c.in_err-ready.field-0.0 c.from_residual.ensures.1
     (subst (λ (old : KeeperValue). MayRefuseCollection old c.args.pid c.in_err-ready.field-0.0) c.self.view_is
-    (collection_unready c.self.inside.host c.self.inside.left c.args.pid c.needed_to_collect.result c.needed_to_collect.ensures c.in_err-ready.field-0.0 c.in_err-ready.ensures.why))
+    (collection_unready c.self.inside.host c.self.inside.left c.self.inside.freed.names c.args.pid c.needed_to_collect.result c.needed_to_collect.ensures c.in_err-ready.field-0.0 c.in_err-ready.ensures.why))
 
 pub left_after-self-inside-requires : goal.left_after-self-inside-requires
 left_after-self-inside-requires c = (let enough = c.in_ok-ready.ensures.ok.1 in let needed = c.needed_to_collect.ensures in omega (arith, enough, needed))
 
 pub invariant_of-self : goal.invariant_of-self
-invariant_of-self c =
-    collect_kept c.self.inside.host c.self.inside.left c.self.invariant c.args.pid c.in_ok-ready.ensures.ok.0 c.collect-came.new.self c.left_after-self-inside.result c.collect-came.result c.serves.ensures c.collect-came.ensures.done c.collect-came.ensures.same
-    (let enough = c.in_ok-ready.ensures.ok.1 in let needed = c.needed_to_collect.ensures in omega (arith, enough, needed)) c.left_after-self-inside.ensures
+invariant_of-self c = record {
+  kept = collect_kept c.self.inside.host c.self.inside.left c.self.invariant.kept c.args.pid c.in_ok-ready.ensures.ok.0 c.collect-came.new.self c.left_after-self-inside.result c.collect-came.result c.serves.ensures c.collect-came.ensures.done c.collect-came.ensures.same
+      (let enough = c.in_ok-ready.ensures.ok.1 in let needed = c.needed_to_collect.ensures in omega (arith, enough, needed)) c.left_after-self-inside.ensures;
+  room =
+      let same = c.collect-came.ensures.room in
+      let fits = collect_room c.self.inside.host c.collect-came.new.self c.self.inside.freed.room c.self.invariant.room c.collect-came.result c.collect-came.ensures.same c.args.pid c.collect-came.ensures.done in
+      omega (arith, same, fits);
+}
 
 pub returns-clause-done : goal.returns-clause-done
 returns-clause-done c = subst (λ (old : KeeperValue). IfOk c.collect-came.result (λ event. HasCollectedIn old.host c.collect-came.new.self c.args.pid event)) c.self.view_is c.collect-came.ensures.done
@@ -37,8 +42,11 @@ returns-clause-enough c =
 
 pub returns-clause-same : goal.returns-clause-same
 returns-clause-same c =
-    subst (λ (old : KeeperValue). OnErr c.collect-came.result (keeper_of c.collect-came.new.self c.left_after-self-inside.result ≡ old)) c.self.view_is
-    (unchanged c.self.inside.host c.collect-came.new.self c.self.inside.left 2 c.left_after-self-inside.result c.collect-came.result c.left_after-self-inside.ensures c.collect-came.ensures.same)
+    subst (λ (old : KeeperValue). OnErr c.collect-came.result (keeper_of c.collect-came.new.self c.left_after-self-inside.result c.collect-came.new.freed.names ≡ old)) c.self.view_is
+    (unchanged c.self.inside.host c.collect-came.new.self c.self.inside.left 2 c.left_after-self-inside.result c.self.inside.freed.names c.collect-came.new.freed.names c.collect-came.result c.left_after-self-inside.ensures c.collect-came.ensures.same (names_kept c.self.inside.freed c.collect-came.new.freed c.collect-came.result c.collect-came.ensures.kept))
 
 pub returns-clause-why : goal.returns-clause-why
-returns-clause-why c = collect_why c.self.inside.host c.self.inside.left c.self.invariant c.args.pid c.in_ok-ready.ensures.ok.0 (λ why. MayRefuseCollection c.args.self.now c.args.pid why) c.collect-came.result (let enough = c.in_ok-ready.ensures.ok.1 in let needed = c.needed_to_collect.ensures in omega (arith, enough, needed)) c.collect-came.ensures.why
+returns-clause-why c = collect_why c.self.inside.host c.self.inside.left c.self.invariant.kept c.args.pid c.in_ok-ready.ensures.ok.0 (λ why. MayRefuseCollection c.args.self.now c.args.pid why) c.collect-came.result (let enough = c.in_ok-ready.ensures.ok.1 in let needed = c.needed_to_collect.ensures in omega (arith, enough, needed)) c.collect-came.ensures.why
+
+pub returns-clause-freed : goal.returns-clause-freed
+returns-clause-freed c = c.collect-came.ensures.freed c.self.invariant.room

@@ -1,7 +1,8 @@
-use Rattle.std.proofs.Common.{inl, inr, arith}
+use Rattle.std.proofs.Common.{ap, inl, inr, arith}
 use Rattle.k_limits.proofs.Making.{handed_on}
+use Rattle.k_host.specs.Listening.{FreedNames}
 use Rattle.k_keeper.specs.Kept.{IsNotOpened}
-use Rattle.k_keeper.proofs.Opened.{few_events, opened, read_kept}
+use Rattle.k_keeper.proofs.Opened.{few_events, opened, opened_room, read_kept}
 use Rattle.k_keeper.proofs.keeper.Keeper.read.Goals as goal
 
 pub returns-in_err-host-clause-why : goal.returns-in_err-host-clause-why
@@ -14,7 +15,13 @@ pub overflow_sub-left : goal.overflow_sub-left
 overflow_sub-left c = let enough = c.fits.ensures.0 c.if-not-fits.false in let counted = c.processes.ensures in omega (arith, enough, counted)
 
 pub invariant_of-result : goal.invariant_of-result
-invariant_of-result c = read_kept c.args.text.now c.args.ty c.args.bodies c.args.events c.in_ok-host.host c.in_ok-host.ensures.read (c.fits.ensures.0 c.if-not-fits.false) c.processes.result c.processes.ensures
+invariant_of-result c = record {
+  kept = read_kept c.args.text.now c.args.ty c.args.bodies c.args.events c.in_ok-host.host c.in_ok-host.ensures.read (c.fits.ensures.0 c.if-not-fits.false) c.processes.result c.processes.ensures;
+  room =
+      let made = ap (λ (f : FreedNames). f.room) c.in_ok-freed.ensures in
+      let fits = opened_room c.args.text.now c.args.ty c.args.bodies c.args.events c.in_ok-host.host c.in_ok-host.ensures.read in
+      omega (arith, made, fits);
+}
 
 pub returns-clause-read : goal.returns-clause-read
-returns-clause-read c = opened c.args.text.now c.args.ty c.args.bodies c.args.events c.in_ok-host.host c.in_ok-host.ensures.read (c.fits.ensures.0 c.if-not-fits.false) c.processes.result c.processes.ensures
+returns-clause-read c = opened c.args.text.now c.args.ty c.args.bodies c.args.events c.in_ok-host.host c.in_ok-host.ensures.read (c.fits.ensures.0 c.if-not-fits.false) c.processes.result c.processes.ensures c.in_ok-freed.freed.names
