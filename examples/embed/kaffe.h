@@ -113,8 +113,15 @@ enum kaffe_call_number {
     KAFFE_ASK_BODIES = 40,
     KAFFE_ASK_KERNEL_BYTES = 41,
     KAFFE_ASK_ORPHAN = 42,
-    KAFFE_ASK_LEFT = 43
+    KAFFE_ASK_LEFT = 43,
+    KAFFE_ASK_FREED_COUNT = 44,
+    KAFFE_ASK_FREED_NAME = 45 /* at is the place of the name, from 0 */
 };
+
+/* The name of an object, which is never used again. */
+typedef struct kaffe_name {
+    uint32_t seg, serial;
+} kaffe_name;
 
 /* The four functions that are linked. The caller gives kaffe_size() bytes, aligned as malloc aligns, and has them back after kaffe_close.
    kaffe_open always leaves something to be closed: a host, or a place without one, whose every call answers KAFFE_NO_HOST. */
@@ -220,7 +227,7 @@ static inline kaffe_answer kaffe_absorb(kaffe_host *h, uint32_t shared) {
     return kaffe_request_call(h, KAFFE_CALL_ABSORB, 0, shared, 0, 0, 0, 0);
 }
 
-/* Asks a question, KAFFE_ASK_LIVES to KAFFE_ASK_LEFT, of the process, limit or register. It changes nothing. */
+/* Asks a question, KAFFE_ASK_LIVES to KAFFE_ASK_FREED_NAME, of the process, limit or register. It changes nothing. */
 static inline kaffe_answer kaffe_ask(kaffe_host *h, uint32_t question, uint32_t pid, uint32_t at) {
     return kaffe_request_call(h, question, pid, at, 0, (uint8_t)(at < 16 ? at : 255), 0, 0);
 }
@@ -228,6 +235,18 @@ static inline kaffe_answer kaffe_ask(kaffe_host *h, uint32_t question, uint32_t 
 /* Absorbs every orphan, and collects the kernel heap whole, as the process. Answers what was freed. */
 static inline kaffe_answer kaffe_kcollect(kaffe_host *h, uint32_t pid) {
     return kaffe_request_call(h, KAFFE_CALL_KCOLLECT, pid, 0, 0, 0, 0, 0);
+}
+
+/* Writes the names of at most n of the objects that the last collection freed, kaffe_collect or kaffe_kcollect of any process, and answers
+   how many it freed. Each stands once, in any order, and they are the same until the next collection is done. */
+static inline size_t kaffe_freed(kaffe_host *h, kaffe_name *names, size_t n) {
+    size_t all = (size_t)kaffe_ask(h, KAFFE_ASK_FREED_COUNT, 0, 0).number;
+    for (size_t i = 0; i < all && i < n; i++) {
+        kaffe_answer a = kaffe_ask(h, KAFFE_ASK_FREED_NAME, 0, (uint32_t)i);
+        names[i].seg = a.seg;
+        names[i].serial = a.serial;
+    }
+    return all;
 }
 
 /* The bytes that the process is charged: its heap, and each shared heap that it shares in full. 0 once it has ended. */

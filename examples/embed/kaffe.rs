@@ -5,6 +5,7 @@
 use std::error::Error;
 use std::fmt;
 use std::marker::PhantomData;
+use std::ops::Range;
 
 /// What C has of a host.
 #[repr(C)]
@@ -82,6 +83,8 @@ mod call {
     pub const KERNEL_BYTES: u32 = 41;
     pub const ORPHAN: u32 = 42;
     pub const LEFT: u32 = 43;
+    pub const FREED_COUNT: u32 = 44;
+    pub const FREED_NAME: u32 = 45;
 }
 
 /// The number of a process, from 0 in order of declaration.
@@ -379,6 +382,13 @@ impl Host {
         self.call(Request { call: call::COLLECT, pid, ..Request::default() }).map(freed)
     }
 
+    /// The names of the objects that the last collection freed, `collect` or `kcollect` of any process: each once, in any order. They are
+    /// the same until the next collection is done.
+    pub fn freed(&mut self) -> FreedNames<'_> {
+        let count = self.number(call::FREED_COUNT, 0, 0).unwrap_or(0) as u32;
+        FreedNames { host: self, places: 0..count }
+    }
+
     /// Absorbs every orphan, and collects the kernel heap whole, as the process.
     pub fn kcollect(&mut self, Pid(pid): Pid) -> Result<Freed, Refusal> {
         self.call(Request { call: call::KCOLLECT, pid, ..Request::default() }).map(freed)
@@ -455,6 +465,27 @@ impl Host {
         self.number(call::KERNEL_BYTES, 0, 0)
     }
 }
+
+/// The names of the objects that a collection freed.
+pub struct FreedNames<'a> {
+    host: &'a mut Host,
+    places: Range<u32>,
+}
+
+impl Iterator for FreedNames<'_> {
+    type Item = Name;
+
+    fn next(&mut self) -> Option<Name> {
+        let at = self.places.next()?;
+        Some(name(self.host.send(Request { call: call::FREED_NAME, at, ..Request::default() })))
+    }
+
+    fn size_hint(&self) -> (usize, Option<usize>) {
+        self.places.size_hint()
+    }
+}
+
+impl ExactSizeIterator for FreedNames<'_> {}
 
 impl Drop for Host {
     fn drop(&mut self) {

@@ -51,6 +51,11 @@ abbrev pub of_target : Option Name → Answer
 of_target (Some x) = of_name x
 of_target None = record { status = 0; fault = 0; at = 0; what = 1; seg = 0; serial = 0; number = 0 }
 
+-- an object, where there is one
+abbrev pub of_listed : Option Name → Answer
+of_listed (Some x) = of_name x
+of_listed None = plain 1 0 0
+
 -- what a register holds, where there is one
 abbrev pub of_held : Option (Option Name) → Answer
 of_held (Some held) = of_target held

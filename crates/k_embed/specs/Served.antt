@@ -1,5 +1,5 @@
 -- What a call of a host is answered, in numbers.
-use Rattle.std.specs.Prelude.{◌≡◌, ℕ, ◌==◌, nat_lt, if◌then◌else◌, Option, Some, None, MatchOption, length, option_map, slice_get, Result, IfErr, IfOk, OnErr}
+use Rattle.std.specs.Prelude.{◌≡◌, ℕ, ◌==◌, nat_lt, if◌then◌else◌, Option, Some, None, MatchOption, length, option_map, slice_get, Result, IfErr, IfOk, OnErr, OnOk}
 use Rattle.k_types.specs.declared.event.Event.{Event}
 use Rattle.k_types.specs.declared.names.Pid.{Pid}
 use Rattle.k_types.specs.declared.names.TypeId.{TypeId}
@@ -17,6 +17,7 @@ use Rattle.k_keeper.specs.Books.{book_limits}
 use Rattle.k_keeper.specs.Sharers.{lowest_orphan}
 use Rattle.k_keeper.specs.Asked.{charge_told, done_by, has_ended_of, heap_bytes_of, held_by}
 use Rattle.k_keeper.specs.Calls.{HasAbsorbedIn, HasCollectedIn, HasExitedIn, HasOperatedIn}
+use Rattle.k_keeper.specs.Whole.{AreFreedLast}
 use Rattle.k_keeper.specs.Keeping.{KeeperValue}
 use Rattle.k_keeper.specs.Kept.{HasCollectedAll, HasOpened, IsGone, IsNotOpened, MayRefuseCollection, MayRefuseKernel, MayRefuseOperation, MayRefuseToAbsorb}
 use Rattle.k_embed.specs.declared.doing.Whole.{Whole}
@@ -25,13 +26,14 @@ use Rattle.k_embed.specs.declared.messages.Answer.{Answer}
 use Rattle.k_embed.specs.declared.messages.Request.{Request}
 use Rattle.k_embed.specs.declared.serving.Slot.{Slot}
 use Rattle.k_embed.specs.Asked.{operation_of, pid_of, whole_of}
-use Rattle.k_embed.specs.Codes.{line_of, of_found, of_held, of_no_host, of_number, of_result, of_told, reason_of}
+use Rattle.k_embed.specs.Codes.{line_of, of_found, of_held, of_listed, of_no_host, of_number, of_result, of_told, reason_of}
 
 -- the answer is that of the machine's event, with its reply, or of what is lacking; and then nothing has changed
 pub record IsActed (old new : KeeperValue) (pid : Pid) (op : Op) (answer : Answer) : Type 0 where
   pub came : Result Event HostError
   pub shown : answer ≡ of_result came
   pub done : IfOk came (λ event. HasOperatedIn old.host new.host pid op event)
+  pub freed : new.freed ≡ old.freed
   pub same : OnErr came (new ≡ old)
   pub why : IfErr came (λ e. MayRefuseOperation old pid op e)
 
@@ -41,6 +43,13 @@ HasDoneWhole old new pid Collect event = HasCollectedIn old.host new.host pid ev
 HasDoneWhole old new pid CollectKernel event = HasCollectedAll old new pid event
 HasDoneWhole old new pid Kill event = HasExitedIn old.host new.host pid event
 HasDoneWhole old new pid (Absorb s) event = HasAbsorbedIn old.host new.host s event
+
+-- what the whole call leaves of the names of what was freed: after a collection they are those of what it freed, and else they stay
+abbrev pub LeavesNames : KeeperValue → KeeperValue → Whole → Type 0
+LeavesNames old new Collect = AreFreedLast new.host.basis.trace new.host.book.journal.list new.freed
+LeavesNames old new CollectKernel = AreFreedLast new.host.basis.trace new.host.book.journal.list new.freed
+LeavesNames old new Kill = new.freed ≡ old.freed
+LeavesNames old new (Absorb s) = new.freed ≡ old.freed
 
 -- why it is refused: an end for no other reason than that there is no such process or that it has ended
 abbrev pub MayRefuseWhole : KeeperValue → Pid → Whole → HostError → Type 0
@@ -52,6 +61,7 @@ MayRefuseWhole old pid (Absorb s) e = MayRefuseToAbsorb old s e
 -- what came of a whole call: it is done, or nothing has changed and what is lacking is named
 pub record HasCome (old new : KeeperValue) (pid : Pid) (whole : Whole) (came : Result Event HostError) : Type 0 where
   pub done : IfOk came (λ event. HasDoneWhole old new pid whole event)
+  pub freed : OnOk came (LeavesNames old new whole)
   pub same : OnErr came (new ≡ old)
   pub why : IfErr came (λ e. MayRefuseWhole old pid whole e)
 
@@ -79,7 +89,8 @@ told_of_register k p r = of_held (if nat_lt r register_count then option_map (he
 
 -- what is told to each question, and none to what is no question. Of a process: whether it lives, the bytes of its heap, what it is
 -- charged, what a register holds, how many operations are done, and how many bodies are left. Of a limit: its use and its maximum. And how
--- many events there are, the bytes of the kernel's heap, the first orphan, and how many events are left
+-- many events there are, the bytes of the kernel's heap, the first orphan, and how many events are left. And of the
+-- names of what the last collection freed: how many there are, and the one at that place, counted from 0
 abbrev pub told_of : KeeperValue → Request → Option Answer
 told_of k q =
     if q.call == 32 then Some (told_of_process k q.pid lives_of)
@@ -94,6 +105,8 @@ told_of k q =
     else if q.call == 41 then Some (of_number (total object_bytes k.host.kernel.value.objects))
     else if q.call == 42 then Some (of_found (lowest_orphan k.host.book.value.phases k.host.book.value.shares))
     else if q.call == 43 then Some (of_number k.left)
+    else if q.call == 44 then Some (of_number (length k.freed))
+    else if q.call == 45 then Some (of_listed (slice_get k.freed q.at))
     else None
 
 -- nothing has changed, and the answer is what is told, or that there is no such call

@@ -9,7 +9,7 @@ ghost use Rattle.k_keeper.specs.Sharers.{lowest_orphan};
 ghost use Rattle.k_embed.specs.Codes.{of_found};
 ghost use Rattle.k_embed.specs.Served.{lives_of, told_of};
 
-use crate::codes::{number, of_held, of_number, unknown};
+use crate::codes::{number, of_held, of_listed, of_number, unknown};
 use crate::messages::{Answer, Request};
 use k_keeper::{Host, Keeper};
 use k_types::{LimitId, Name, Pid, Reg};
@@ -65,6 +65,20 @@ fn orphan(host: &Host) -> Answer
     }
 }
 
+/// How many objects the last collection freed.
+fn freed_count(keeper: &Keeper) -> u64
+    ensures { result ≡ length keeper.now.freed }
+{
+    keeper.freed().len() as u64
+}
+
+/// The name of the object at that place of those that the last collection freed.
+fn freed_name(keeper: &Keeper, at: u32) -> Option<Name>
+    ensures { result ≡ slice_get keeper.now.freed at }
+{
+    keeper.freed().get(at as usize).copied()
+}
+
 /// The answer to a question; none where the request asks none.
 pub(crate) fn ask(keeper: &Keeper, request: &Request) -> Option<Answer>
     ensures { result ≡ told_of keeper.now request.now }
@@ -85,6 +99,8 @@ pub(crate) fn ask(keeper: &Keeper, request: &Request) -> Option<Answer>
         41 => Some(number(host.kernel_bytes())),
         42 => Some(orphan(host)),
         43 => Some(number(u64::from(keeper.left()))),
+        44 => Some(number(freed_count(keeper))),
+        45 => Some(of_listed(freed_name(keeper, request.at))),
         _ => None,
     }
 }

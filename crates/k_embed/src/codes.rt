@@ -1,6 +1,6 @@
 //! The numbers of errors, faults and replies.
 ghost use Rattle.std.specs.Prelude.{◌≡◌};
-ghost use Rattle.k_embed.specs.Codes.{of_error, of_event, of_fault, of_found, of_held, of_name, of_no_host, of_number, of_reply, of_result, of_target, plain};
+ghost use Rattle.k_embed.specs.Codes.{of_error, of_event, of_fault, of_found, of_held, of_listed, of_name, of_no_host, of_number, of_reply, of_result, of_target, plain};
 
 use crate::messages::Answer;
 use k_keeper::HostError;
@@ -102,6 +102,16 @@ pub(crate) fn referred(target: Option<Name>) -> Answer
             serial: 0,
             number: 0,
         },
+    }
+}
+
+/// The object of that name, where there is one.
+pub(crate) fn of_listed(found: Option<Name>) -> Answer
+    ensures { result ≡ of_listed found }
+{
+    match found {
+        Some(name) => named(name),
+        None => unknown(),
     }
 }
 

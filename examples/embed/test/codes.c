@@ -75,6 +75,8 @@ static void lacks(void) {
     STATUS(kaffe_ask(h, KAFFE_ASK_CHARGE, PROCESSES, 0), KAFFE_UNKNOWN);
     STATUS(kaffe_ask(h, KAFFE_ASK_REGISTER, GUEST, 16), KAFFE_UNKNOWN);
     STATUS(kaffe_ask(h, KAFFE_ASK_ORPHAN, 0, 0), KAFFE_UNKNOWN);
+    STATUS(kaffe_ask(h, KAFFE_ASK_FREED_NAME, 0, 0), KAFFE_UNKNOWN);
+    due("names before any collection", kaffe_freed(h, NULL, 0), 0);
     STATUS(kaffe_collect(h, PROCESSES), KAFFE_UNKNOWN);
     STATUS(kaffe_kill(h, PROCESSES), KAFFE_UNKNOWN);
     FAULT(kaffe_new(h, GUEST, 0, LEAF), KAFFE_DONE); /* not of the supply's type */
@@ -146,6 +148,18 @@ static void faults(void) {
     kaffe_answer freed = kaffe_collect(h, POOR);
     due("freed objects", freed.seg, 1);
     due("freed bytes", freed.number, 40);
+    kaffe_name name = {0, 0};
+    due("names of what was freed, none written", kaffe_freed(h, &name, 0), 1);
+    due("the name not written", name.seg, 0);
+    STATUS(kaffe_kill(h, OTHER), KAFFE_OK); /* which frees nothing, so that the names stay */
+    due("names of what was freed", kaffe_freed(h, &name, 1), 1);
+    due("the segment of the first", name.seg, POOR + 1);
+    due("its serial", name.serial, 1);
+    STATUS(kaffe_ask(h, KAFFE_ASK_FREED_NAME, 0, 1), KAFFE_UNKNOWN);
+    STATUS(kaffe_collect(h, OTHER), KAFFE_ENDED);
+    due("names after a refusal", kaffe_freed(h, &name, 1), 1);
+    due("what another collection frees", kaffe_collect(h, POOR).seg, 0);
+    due("names after it", kaffe_freed(h, &name, 1), 0);
     kaffe_free(h);
 }
 

@@ -3,7 +3,7 @@
     model.py SEED CALLS > calls.bin
 
 It shares no code with the library. Everything is summed up afresh from the objects; nothing is counted as it changes. `replay.c` reads
-what this prints, does each call through the C functions, and compares each answer.
+what this prints, does each call through the C functions, and compares each answer, and the names of what the last collection freed.
 """
 import random
 import struct
@@ -16,12 +16,13 @@ FAULTS = ("Done Null Foreign NotSharer NoField WrongKind Frozen Segv NotPopulati
 FAULT = {name: number for number, name in enumerate(FAULTS)}
 (NEW, KNEW, SNEW, STORE, LOAD, MOVE, CLEAR, DIR, PUT, GET, SHARE, FREEZE, ATTACH, KILL_BY, RESIZE) = range(15)
 COLLECT, KCOLLECT, KILL, ABSORB = 16, 17, 18, 19
-LIVES, BYTES, CHARGE, USE, MAX, REGISTER, DONE, EVENTS, BODIES, KERNEL_BYTES, FIRST_ORPHAN, LEFT = range(32, 44)
+LIVES, BYTES, CHARGE, USE, MAX, REGISTER, DONE, EVENTS, BODIES, KERNEL_BYTES, FIRST_ORPHAN, LEFT, FREED_COUNT, FREED_NAME = range(32, 46)
 KERNEL = ("kernel", 0)
 REGISTERS = 16
 MAXIMUM_BELOW = 1 << 40
 CALLS_OF_A_HOST = [200, 600, 2000]
 AIMED = 0.6
+NAMES_COMPARED = 0.1
 
 
 class Refused(Exception):
@@ -45,6 +46,7 @@ class Host:
         self.exits = set()
         self.shares = set()
         self.phases = [("unmade",)] * shared
+        self.freed = []
 
     # Owners, bytes, charges and limits.
     def owner(self, name):
@@ -147,6 +149,7 @@ class Host:
         freed = sum(16 + 8 * len(self.objects[name]) for name in gone)
         for name in gone:
             del self.objects[name], self.kinds[name]
+        self.freed = sorted(gone)
         left = set()
         for name in reached:
             for kind, value in zip(self.kinds[name], self.objects[name]):
@@ -369,6 +372,10 @@ class Host:
             return answer(what=NUMBER, number=self.bytes_of(KERNEL))
         if q.call == LEFT:
             return answer(what=NUMBER, number=self.left)
+        if q.call == FREED_COUNT:
+            return answer(what=NUMBER, number=len(self.freed))
+        if q.call == FREED_NAME:
+            return answer(status=UNKNOWN)
         if q.call == FIRST_ORPHAN:
             s = self.orphan()
             return answer(status=UNKNOWN) if s is None else answer(what=NUMBER, number=s)
@@ -386,7 +393,7 @@ class Host:
             return self.serve_operation(q)
         if COLLECT <= q.call <= ABSORB:
             return self.serve_whole(q)
-        if LIVES <= q.call <= LEFT and q.call != EVENTS:
+        if LIVES <= q.call <= FREED_NAME and q.call != EVENTS:
             return self.ask(q)
         return answer(status=NO_CALL)
 
@@ -444,9 +451,9 @@ def some_call(rng, host):
         [NEW, KNEW, SNEW, STORE, LOAD, MOVE, CLEAR, DIR, PUT, GET, SHARE, FREEZE, ATTACH, KILL_BY, RESIZE, COLLECT, KCOLLECT, KILL, ABSORB, None],
         [60, 12, 25, 110, 70, 20, 15, 15, 30, 30, 6, 6, 14, 1, 14, 6, 4, 0.5, 2, 60])[0]
     if call is None:
-        call = rng.choice([c for c in range(LIVES, LEFT + 1) if c != EVENTS])
+        call = rng.choice([c for c in range(LIVES, FREED_NAME + 1) if c != EVENTS])
     if odd and rng.random() < 0.2:
-        call = rng.choice([15, 20, 31, 44, 1 << 31])
+        call = rng.choice([15, 20, 31, 46, 1 << 31])
     pid = rng.randrange(len(host.procs) + odd)
     at = rng.randrange(4) if rng.random() < 0.9 else rng.choice([0, 5, 16, (1 << 32) - 1])
     if call in (NEW, KNEW):
@@ -456,6 +463,9 @@ def some_call(rng, host):
     to = rng.randrange(len(host.types)) if rng.random() < 0.97 else 3
     reg, base = (rng.randrange(6) if not odd else rng.choice([15, 16, 255]) for _ in range(2))
     number = rng.getrandbits(64)
+    # Names come in any order, so that one alone is asked for where there is none; all of them are compared otherwise.
+    if call == FREED_NAME:
+        at = len(host.freed) + rng.choice([0, 1, 1 << 31])
     if call == KILL_BY and not odd:
         at = rng.randrange(len(host.procs))
     if call == RESIZE and not odd:
@@ -502,6 +512,8 @@ def main():
                 q = aimed(rng, host, q)
             due = host.serve(q)
             out.write(b"C" + q.packed() + due)
+            if q.call in (COLLECT, KCOLLECT) or rng.random() < NAMES_COMPARED:
+                out.write(b"F" + struct.pack("<I", len(host.freed)) + b"".join(struct.pack("<2I", *name) for name in host.freed))
         calls -= each
         out.write(b"E")
 

@@ -1,4 +1,5 @@
-/* Does the calls that model.py made, and compares each answer with the one that the model gave. It reads them on standard input. */
+/* Does the calls that model.py made, and compares each answer with the one that the model gave, and the names of
+   what was freed with the model's. It reads them on standard input. */
 #include "../kaffe.h"
 #include <inttypes.h>
 #include <stdio.h>
@@ -25,6 +26,26 @@ static kaffe_host *open_next(void) {
     return h;
 }
 
+static int by_name(const void *one, const void *other) {
+    const kaffe_name *a = (const kaffe_name *)one, *b = (const kaffe_name *)other;
+    return a->seg != b->seg ? (a->seg > b->seg) - (a->seg < b->seg) : (a->serial > b->serial) - (a->serial < b->serial);
+}
+
+/* Whether the names of what the last collection freed are those that the model gave, in any order. */
+static int same_freed(kaffe_host *h) {
+    uint32_t count;
+    need(&count, sizeof count);
+    kaffe_name *due = (kaffe_name *)malloc((count + 1) * sizeof *due), *said = (kaffe_name *)malloc((count + 1) * sizeof *said);
+    if (!due || !said) exit(2);
+    need(due, count * sizeof *due);
+    int same = kaffe_freed(h, said, count) == count;
+    qsort(said, same ? count : 0, sizeof *said, by_name);
+    same = same && memcmp(said, due, count * sizeof *due) == 0;
+    free(due);
+    free(said);
+    return same;
+}
+
 static void print(const char *who, kaffe_answer a) {
     fprintf(stderr, "  %-8s status %" PRIu32 " fault %" PRIu32 " at %" PRIu32 " what %" PRIu32 " seg %" PRIu32 " serial %" PRIu32 " number %" PRIu64 "\n", who,
             a.status, a.fault, a.at, a.what, a.seg, a.serial, a.number);
@@ -32,7 +53,7 @@ static void print(const char *who, kaffe_answer a) {
 
 int main(void) {
     kaffe_host *h = NULL;
-    unsigned long calls = 0, hosts = 0, lacks = 0, faults = 0;
+    unsigned long calls = 0, hosts = 0, lacks = 0, faults = 0, lists = 0;
     for (int tag; (tag = getchar()) != EOF;) {
         if (tag == 'O') {
             h = open_next();
@@ -40,6 +61,12 @@ int main(void) {
         } else if (tag == 'E') {
             kaffe_free(h);
             h = NULL;
+        } else if (tag == 'F') {
+            lists++;
+            if (!same_freed(h)) {
+                fprintf(stderr, "replay: after call %lu the names of what was freed differ\n", calls);
+                return 1;
+            }
         } else {
             kaffe_request q;
             kaffe_answer due, said;
@@ -58,6 +85,6 @@ int main(void) {
             }
         }
     }
-    printf("%lu calls in %lu hosts, %lu lacking and %lu refused: each answer is the model's\n", calls, hosts, lacks, faults);
+    printf("%lu calls in %lu hosts, %lu lacking and %lu refused, and %lu lists of freed names: each answer is the model's\n", calls, hosts, lacks, faults, lists);
     return calls == 0;
 }
