@@ -27,7 +27,6 @@ pub(crate) fn do_inside(terms: &Terms, guest: &mut Guest, op: &Op) -> Option<Rep
     ensures outside { IfNone result (IsFalse (is_local_in (idle_part guest.old.cell.value) guest.old.cell.pid.0 op.now)) }
     ensures told { is_some result ≡ is_local_in (idle_part guest.old.cell.value) guest.old.cell.pid.0 op.now }
 {
-    let _setup = &terms.setup;
     local(&mut guest.cell, op)
 }
 
@@ -39,7 +38,6 @@ pub(crate) fn publish_all(terms: &Terms, guest: &mut Guest, book: &mut Book)
     requires room { HasRoomToPublish basis guest.old book.old }
     ensures { HasPublishedAll basis guest.old guest.new book.old book.new }
 {
-    let _setup = &terms.setup;
     publish(&mut guest.cell, book);
 }
 
@@ -49,7 +47,6 @@ pub fn reached(terms: &Terms, guest: &Guest, book: &Book, op: &Op) -> Reach
     requires { CanReach basis.trace guest.now.cell book.now op.now }
     ensures { cells_of result ≡ other_cells_in basis.trace (book_shown_by book.now.value) (idle_part guest.now.cell.value) guest.now.cell.pid.0 op.now }
 {
-    let _setup = &terms.setup;
     reach(&guest.cell, book, op)
 }
 
@@ -66,7 +63,6 @@ pub fn do_alone(terms: &Terms, guest: &mut Guest, book: &mut Book, op: &Op) -> E
     requires { IsDueWith basis guest.old book.old op.now [] }
     ensures { HasDoneAlone basis op.now guest.old guest.new book.old book.new result }
 {
-    let _setup = &terms.setup;
     publish(&mut guest.cell, book);
     know_entries(book);
     step_own(&mut guest.cell, book, op)
@@ -84,7 +80,6 @@ pub(crate) fn do_with_kernel(
     requires { CanDoWithKernel basis guest.old kernel.old book.old op.now }
     ensures { HasDoneWithKernel basis op.now guest.old guest.new kernel.new book.old book.new result }
 {
-    let _setup = &terms.setup;
     publish(&mut guest.cell, book);
     know_entries(book);
     step_kernel(&mut guest.cell, kernel, book, op)
@@ -102,7 +97,6 @@ pub(crate) fn do_with_shared(
     requires { CanDoWithShared basis guest.old shared.old book.old op.now }
     ensures { HasDoneWithShared basis op.now guest.old guest.new shared.old shared.new book.old book.new result }
 {
-    let _setup = &terms.setup;
     publish(&mut guest.cell, book);
     know_entries(book);
     step_shared(&mut guest.cell, shared, book, op)

@@ -22,7 +22,6 @@ pub(crate) fn do_begin(terms: &Terms, guest: &mut Guest, book: &mut Book) -> Eve
     requires { CanBegin basis guest.old book.old }
     ensures { HasBegun basis guest.old guest.new book.old book.new result }
 {
-    let _setup = &terms.setup;
     publish(&mut guest.cell, book);
     begin_heap(&mut guest.cell, book)
 }
@@ -33,7 +32,6 @@ pub(crate) fn do_mark(terms: &Terms, guest: &mut Guest)
     requires { CanMarkGuest basis guest.old }
     ensures { HasMarkedGuest basis guest.old guest.new }
 {
-    let _setup = &terms.setup;
     mark_heap(&mut guest.cell);
 }
 
@@ -43,7 +41,6 @@ pub(crate) fn do_end(terms: &Terms, guest: &mut Guest, book: &mut Book) -> Event
     requires { CanEnd basis guest.old book.old }
     ensures { HasEnded basis guest.old guest.new book.old book.new result }
 {
-    let _setup = &terms.setup;
     publish(&mut guest.cell, book);
     end_heap(&mut guest.cell, book)
 }
@@ -54,7 +51,6 @@ pub(crate) fn do_settle(terms: &Terms, guest: &mut Guest, book: &mut Book)
     requires { CanGoOn basis guest.old book.old }
     ensures { HasSettled basis guest.old guest.new book.old book.new }
 {
-    let _setup = &terms.setup;
     settle_heap(&mut guest.cell, book);
 }
 
@@ -69,7 +65,6 @@ pub(crate) fn do_begin_kernel(
     requires { CanBeginKernel basis guest.old kernel.old book.old }
     ensures { HasBegunKernel basis guest.old guest.new kernel.new book.old book.new result }
 {
-    let _setup = &terms.setup;
     publish(&mut guest.cell, book);
     begin_kernel(&mut guest.cell, kernel, book)
 }
@@ -80,7 +75,6 @@ pub(crate) fn do_mark_kernel(terms: &Terms, kernel: &mut KernelCell)
     requires { CanMarkKernel basis kernel.old }
     ensures { HasMarkedKernel basis kernel.old kernel.new }
 {
-    let _setup = &terms.setup;
     mark_kernel(kernel);
 }
 
@@ -90,7 +84,6 @@ pub(crate) fn do_end_kernel(terms: &Terms, kernel: &mut KernelCell, book: &mut B
     requires { KernelCanGoOn basis kernel.old book.old Marked }
     ensures { KernelHasEnded basis kernel.new book.old book.new result }
 {
-    let _setup = &terms.setup;
     end_kernel(kernel, book)
 }
 
@@ -102,7 +95,6 @@ pub(crate) fn do_settle_kernel(terms: &Terms, kernel: &mut KernelCell, book: &mu
     requires room { length book.old.journal.list < basis.events }
     ensures { HasSettledKernel basis kernel.old kernel.new book.old book.new }
 {
-    let _setup = &terms.setup;
     settle_kernel(kernel, book);
 }
 
@@ -117,7 +109,6 @@ pub(crate) fn do_exit(
     requires { CanExitNow basis guest.old kernel.old book.old }
     ensures { HasExitedNow basis guest.old guest.new kernel.new book.old book.new result }
 {
-    let _setup = &terms.setup;
     publish(&mut guest.cell, book);
     know_exits(&guest.cell);
     know_kernel_exits(kernel);
@@ -135,6 +126,5 @@ pub(crate) fn do_absorb(
     requires { CanAbsorbNow basis shared.old kernel.old book.old }
     ensures { HasAbsorbedNow basis shared.old shared.new kernel.new book.old book.new result }
 {
-    let _setup = &terms.setup;
     absorb(shared, kernel, book)
 }

@@ -55,7 +55,6 @@ fn do_kill(
     requires { CanKillNow basis guest.old target.old kernel.old book.old op.now }
     ensures { HasKilledNow basis op.now guest.old guest.new target.old target.new kernel.new book.old book.new result }
 {
-    let _setup = &terms.setup;
     publish(&mut guest.cell, book);
     publish(&mut target.cell, book);
     know_exits(&target.cell);

@@ -26,7 +26,6 @@ fn do_collect(terms: &Terms, guest: &mut Guest, book: &mut Book, freed: &mut Fre
     ensures freed { basis.events ≤ freed.old.room → AreFreedLast basis.trace book.new.journal.list freed.new.names }
     ensures room { freed.new.room ≡ freed.old.room }
 {
-    let _setup = &terms.setup;
     publish(&mut guest.cell, book);
     begin_heap(&mut guest.cell, book);
     mark_heap(&mut guest.cell);
@@ -71,7 +70,6 @@ fn do_collect_kernel(
     ensures freed { basis.events ≤ freed.old.room → AreFreedLast basis.trace book.new.journal.list freed.new.names }
     ensures room { freed.new.room ≡ freed.old.room }
 {
-    let _setup = &terms.setup;
     publish(&mut guest.cell, book);
     begin_kernel(&mut guest.cell, kernel, book);
     mark_kernel(kernel);
