@@ -41,3 +41,4 @@ mod Rising
 mod Stilled
 pub mod Sayable
 pub mod FoundSound
+pub mod Rests

@@ -81,12 +81,25 @@ fn object_there(lists: &PlainLists, object: &PlainObject) -> bool
     true
 }
 
-/// Whether what the objects' fields lead to is there.
+/// Whether what these objects' fields lead to is there.
+fn all_there(lists: &PlainLists, objects: &[PlainObject]) -> bool
+    ensures { result ≡ list_all (object_there lists.now.state.objects) objects.now }
+{
+    for object in objects {
+        if !object_there(lists, object) {
+            return false;
+        }
+    }
+    true
+}
+
+/// Whether what the objects' fields lead to is there, segment by segment.
 fn objects_there(lists: &PlainLists) -> bool
     ensures { result ≡ list_all (object_there lists.now.state.objects) lists.now.state.objects }
 {
-    for object in lists.objects() {
-        if !object_there(lists, object) {
+    let _shape = lists.setup();
+    for s in 0..lists.segment_count() {
+        if !all_there(lists, lists.objects_in(Seg(s))) {
             return false;
         }
     }
@@ -213,13 +226,27 @@ fn object_guarded(lists: &PlainLists, object: &PlainObject) -> bool
     true
 }
 
-/// The same of all objects.
+/// The same of these objects.
+fn all_guarded(lists: &PlainLists, objects: &[PlainObject]) -> bool
+    requires { AreExitsFrom lists.now.setup 0 None lists.now.state.exits }
+    ensures { result ≡ list_all (object_guarded (owner_of lists.now.setup lists.now.state) lists.now.state.exits) objects.now }
+{
+    for object in objects {
+        if !object_guarded(lists, object) {
+            return false;
+        }
+    }
+    true
+}
+
+/// The same of all objects, segment by segment.
 fn objects_guarded(lists: &PlainLists) -> bool
     requires { AreExitsFrom lists.now.setup 0 None lists.now.state.exits }
     ensures { result ≡ list_all (object_guarded (owner_of lists.now.setup lists.now.state) lists.now.state.exits) lists.now.state.objects }
 {
-    for object in lists.objects() {
-        if !object_guarded(lists, object) {
+    let _shape = lists.setup();
+    for s in 0..lists.segment_count() {
+        if !all_guarded(lists, lists.objects_in(Seg(s))) {
             return false;
         }
     }

@@ -6,8 +6,8 @@ ghost use Rattle.k_types.specs.Sound.{AreGone, ArePhases};
 ghost use Rattle.k_types.specs.Trace.{process_count};
 ghost use Rattle.k_audit.specs.Tests.{all_phases_fit, all_registers_gone, exits_stay, heap_stays, is_null, nothing_left, object_fits, owner_made, phase_fits, phases_agree, registers_gone, share_fits, share_stays, sharer_fits};
 
-use k_state::{PlainLists, Share, is_same_heap};
-use k_types::{Heap, Name, Phase, Pid, SharedId};
+use k_state::{PlainLists, PlainObject, Share, is_same_heap};
+use k_types::{Heap, Name, Phase, Pid, Seg, SharedId};
 
 /// Whether the registers are null.
 fn are_null(registers: &[Option<Name>]) -> bool
@@ -141,12 +141,25 @@ fn owner_made(lists: &PlainLists, owner: Heap) -> bool
     }
 }
 
-/// Whether the owners of all objects were made.
+/// Whether the owners of these objects were made.
+fn all_fit(lists: &PlainLists, objects: &[PlainObject]) -> bool
+    ensures { result ≡ list_all (object_fits (owner_of lists.now.setup lists.now.state) lists.now.state.phases) objects.now }
+{
+    for object in objects {
+        if !owner_made(lists, lists.owner(object.name().seg)) {
+            return false;
+        }
+    }
+    true
+}
+
+/// Whether the owners of all objects were made, segment by segment.
 fn objects_fit(lists: &PlainLists) -> bool
     ensures { result ≡ list_all (object_fits (owner_of lists.now.setup lists.now.state) lists.now.state.phases) lists.now.state.objects }
 {
-    for object in lists.objects() {
-        if !owner_made(lists, lists.owner(object.name().seg)) {
+    let _shape = lists.setup();
+    for s in 0..lists.segment_count() {
+        if !all_fit(lists, lists.objects_in(Seg(s))) {
             return false;
         }
     }

@@ -2,6 +2,7 @@
 ghost use Rattle.std.specs.Prelude.{◌≡◌, ◌<◌, ◌==◌, ◌↔◌, IsTrue, length};
 ghost use Rattle.std.specs.List.{list_all};
 ghost use Rattle.k_types.specs.Limits.{use_of};
+ghost use Rattle.k_types.specs.Names.{heap_eq};
 ghost use Rattle.k_types.specs.Numbers.{numbers_below};
 ghost use Rattle.k_types.specs.Owners.{charge_of, owner_of};
 ghost use Rattle.k_types.specs.Trace.{process_count};
@@ -13,7 +14,7 @@ ghost use Rattle.k_audit.specs.Tests.{use_fits};
 
 use crate::claims::Claimed;
 use k_state::{PlainLists, is_same_heap};
-use k_types::{Heap, LimitId, Pid, SharedId};
+use k_types::{Heap, LimitId, Pid, Seg, SharedId};
 
 /// Whether the use of the limit is at most its maximum.
 fn use_fits(lists: &PlainLists, limit: LimitId) -> bool
@@ -43,17 +44,32 @@ pub fn uses_fit(lists: &PlainLists) -> bool
     all_uses_fit(lists)
 }
 
-/// Whether the claimed owners are those of the objects' segments.
-#[tactic(auto, using(crate::proofs::Owners::owners_next, crate::proofs::Owners::owners_last))]
+/// Whether each of the claimed owners is that heap.
+fn are_all(owners: &[Heap], owner: Heap) -> bool
+    ensures { result ≡ list_all (λ h. heap_eq h owner) owners.now }
+{
+    for claimed in owners {
+        if !is_same_heap(*claimed, owner) {
+            return false;
+        }
+    }
+    true
+}
+
+/// Whether the claimed owners are those of the objects' segments, segment by segment.
 fn owners_agree(lists: &PlainLists, owners: &[Heap]) -> bool
     requires { length owners.now ≡ length lists.now.state.objects }
     ensures { result ≡ owners_agree (owner_of lists.now.setup lists.now.state) owners.now lists.now.state.objects }
 {
-    let objects = lists.objects();
-    for i in 0..owners.len() {
-        if !is_same_heap(owners[i], lists.owner(objects[i].name().seg)) {
+    let _shape = lists.setup();
+    let mut rest = owners;
+    for s in 0..lists.segment_count() {
+        let seg = Seg(s);
+        let (own, later) = rest.split_at(lists.objects_in(seg).len());
+        if !are_all(own, lists.owner(seg)) {
             return false;
         }
+        rest = later;
     }
     true
 }

@@ -1,11 +1,11 @@
 //! How much a heap owns.
-ghost use Rattle.std.specs.Prelude.{◌≡◌, ◌≤◌, length};
+ghost use Rattle.std.specs.Prelude.{◌≡◌, ◌<◌, ◌≤◌, ◌*◌, ◌^◌, length};
 ghost use Rattle.k_types.specs.Totals.{total};
 ghost use Rattle.k_plain.specs.Owned.{is_reference, objects_owned, references_in};
 ghost use Rattle.k_state.specs.Contents.{content};
 
 use k_state::{FieldValue, PlainLists, PlainObject, is_same_heap};
-use k_types::Heap;
+use k_types::{Heap, Seg};
 
 // Whether the field is a reference.
 fn is_reference(value: FieldValue) -> bool
@@ -32,30 +32,43 @@ fn references_in(object: &PlainObject) -> u32
 }
 
 // How many objects the heap owns.
-#[tactic(auto, using(crate::proofs::Owned::kept_left, crate::proofs::Owned::kept_over))]
 pub(crate) fn objects_of(lists: &PlainLists, heap: Heap) -> u32
     ensures { result ≡ length (objects_owned lists.now.setup lists.now.state heap) }
 {
     let _shape = lists.setup();
     let mut count = 0;
-    for object in lists.objects() {
-        if is_same_heap(lists.owner(object.name().seg), heap) {
-            count += 1;
+    for s in 0..lists.segment_count() {
+        let seg = Seg(s);
+        if is_same_heap(lists.owner(seg), heap) {
+            count += lists.objects_in(seg).len() as u32;
         }
     }
     count
 }
 
-// How many reference fields these have.
-#[tactic(auto, using(k_state::proofs::Sums::sum_left, k_state::proofs::Sums::sum_over))]
+// How many reference fields these objects have.
+fn references_of(objects: &[PlainObject]) -> u64
+    requires { length objects.now < 2 ^ 32 }
+    ensures exact { result ≡ total references_in objects.now }
+    ensures few { result ≤ 16 * length objects.now }
+{
+    let mut count = 0;
+    for object in objects {
+        count += u64::from(references_in(object));
+    }
+    count
+}
+
+// How many reference fields the objects of the heap have.
 pub(crate) fn refs_of(lists: &PlainLists, heap: Heap) -> u64
     ensures { result ≡ total references_in (objects_owned lists.now.setup lists.now.state heap) }
 {
     let _shape = lists.setup();
     let mut count = 0;
-    for object in lists.objects() {
-        if is_same_heap(lists.owner(object.name().seg), heap) {
-            count += u64::from(references_in(object));
+    for s in 0..lists.segment_count() {
+        let seg = Seg(s);
+        if is_same_heap(lists.owner(seg), heap) {
+            count += references_of(lists.objects_in(seg));
         }
     }
     count

@@ -99,22 +99,22 @@ impl PlainState {
         take_step(alloc, &mut self.lists, event)
     }
 
-    /// How many objects the heap owns. Walks over all objects.
+    /// How many objects the heap owns. Walks over all segments.
     pub fn objects_of(&self, heap: Heap) -> u32
         ensures { result ≡ length (objects_owned self.now.setup self.now.state heap) }
     {
         objects_of(&self.lists, heap)
     }
 
-    /// How many reference fields these have. Walks over all objects.
+    /// How many reference fields these have. Walks over all segments and the objects of the heap.
     pub fn refs_of(&self, heap: Heap) -> u64
         ensures { result ≡ total references_in (objects_owned self.now.setup self.now.state heap) }
     {
         refs_of(&self.lists, heap)
     }
 
-    /// The event with which the heap's open collection ends now. Walks over all objects, exit items and shares. `NoMemory`
-    /// comes where the marks find no memory.
+    /// The event with which the heap's open collection ends now. Walks over the objects of the heap, all exit items and shares.
+    /// `NoMemory` comes where the marks find no memory.
     pub fn end_of(&self, alloc: Global, heap: Heap) -> Result<Event, NoMemory>
         requires { HasRoom 1 self.now.state }
         ensures { IfOk result (λ event. event ≡ end_of self.now.setup self.now.state heap) }
@@ -126,8 +126,8 @@ impl PlainState {
 /// Takes the step of the event, if the machine has it now, and says whether it has. An operation with another reply, or the end
 /// of a collection with other numbers, is no step of the machine.
 ///
-/// An end of a collection walks over all objects, exit items and shares; the other events cost what they change and the sums
-/// that they test. `NoMemory` comes where what is made or marked finds no memory, and leaves the state as it was.
+/// An end of a collection walks over the objects of the heap, all exit items and shares; the other events cost what they change
+/// and the sums that they test. `NoMemory` comes where what is made or marked finds no memory, and leaves the state as it was.
 pub fn plain_step(alloc: Global, state: &mut PlainState, event: &Event) -> Result<bool, NoMemory>
     requires { HasRoom 1 state.old.state }
     ensures setup { state.new.setup ≡ state.old.setup }

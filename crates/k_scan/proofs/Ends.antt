@@ -4,7 +4,7 @@ use Rattle.std.proofs.lemmas.List.{length-map}
 use Rattle.k_types.specs.declared.names.Name.{Name}
 use Rattle.k_types.specs.declared.names.Heap.{Heap}
 use Rattle.k_types.specs.Effects.{after_end_of, after_ended, exit_after, exit_stays, share_stays, survives}
-use Rattle.k_types.specs.State.{ExitItem, Object, Sharing, State}
+use Rattle.k_types.specs.State.{ExitItem, Sharing, State}
 use Rattle.k_types.specs.Trace.{Trace}
 use Rattle.k_types.specs.Updates.{clear_registers, close_scan, end_process, keep_exits, keep_objects, keep_shares, turn_exits}
 use Rattle.k_state.specs.Marks.{turned_items}
@@ -17,16 +17,13 @@ pub same_shares : (passes : Name → Bool) (keeps : ExitItem → Bool) (st betwe
 unfolding keep_objects keep_exits
 same_shares passes keeps st between now first then = ap (λ (s : State). s.shares) then ∙ ap (λ (s : State). s.shares) first
 
-module _ (trace : Trace) (h : Heap) (st first second third last : State) (objects exits shares : List Bool) (marks : objects ≡ map (λ (o : Object). survives trace st h o.name) st.objects)
+module _ (trace : Trace) (h : Heap) (st first second third last : State) (exits shares : List Bool)
     (items : exits ≡ map (exit_stays trace st h) st.exits) (those : shares ≡ map (share_stays trace st h) st.shares)
-    (kept : (passes : Name → Bool) → objects ≡ map (λ (o : Object). passes o.name) st.objects → first ≡ keep_objects passes st) where
+    (first_is : first ≡ keep_objects (survives trace st h) st) where
   pub exits_fit : length exits ≡ length first.exits
-  exits_fit = ap length items ∙ length-map st.exits (exit_stays trace st h) ∙ ap (λ (xs : List ExitItem). length xs) (sym (same_exits (survives trace st h) st first (kept (survives trace st h) marks)))
+  exits_fit = ap length items ∙ length-map st.exits (exit_stays trace st h) ∙ ap (λ (xs : List ExitItem). length xs) (sym (same_exits (survives trace st h) st first first_is))
 
   module _ (held : (passes : ExitItem → Bool) → exits ≡ map passes first.exits → second ≡ keep_exits passes first) where
-    first_is : first ≡ keep_objects (survives trace st h) st
-    first_is = kept (survives trace st h) marks
-
     second_is : second ≡ keep_exits (exit_stays trace st h) first
     second_is = held (exit_stays trace st h) (items ∙ ap (map (exit_stays trace st h)) (sym (same_exits (survives trace st h) st first first_is)))
 

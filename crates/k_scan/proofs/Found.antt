@@ -1,8 +1,8 @@
 -- What marking finds: the objects of a pool that pass a test.
-use Rattle.std.proofs.Common.{◌≡◌, ℕ, ◌+◌, ◌<◌, ◌&&◌, ◌||◌, not, Bool, true, false, refl, sym, ap, ap₂, ◌∙◌, List, [], ◌∷◌, ◌++◌, map, take, get_or, length, replicate, Option, arith, suc}
+use Rattle.std.proofs.Common.{◌≡◌, ℕ, ◌+◌, ◌<◌, ◌&&◌, ◌||◌, not, Bool, true, false, refl, sym, ap, ap₂, ◌∙◌, List, [], ◌∷◌, ◌++◌, map, take, get_or, length, replicate, Option, Some, None, arith, suc}
 use Rattle.std.specs.List.{list_any}
 use Rattle.std.proofs.lemmas.Bool.{false≢true, or_parts}
-use Rattle.std.proofs.lemmas.List.{get_or-map, length-replicate}
+use Rattle.std.proofs.lemmas.List.{get_or-map, length-map}
 use Rattle.std.proofs.lemmas.List.Folds.{list_any-append, list_any_more}
 use Rattle.k_types.specs.declared.names.Name.{Name}
 use Rattle.k_types.specs.declared.names.Heap.{Heap}
@@ -13,24 +13,24 @@ use Rattle.k_types.specs.Effects.{exit_stays, open_roots}
 use Rattle.k_types.specs.Reach.{has_entry, is_entered, is_held, is_pinned, is_root, reach_in}
 use Rattle.k_types.specs.Sound.{IsOrdered}
 use Rattle.k_types.specs.State.{ExitItem, Object, State, has, in_registers, refers}
-use Rattle.k_types.specs.Trace.{Trace, process_count}
+use Rattle.k_types.specs.Trace.{Trace, process_count, segment_count}
 use Rattle.k_base.proofs.Lists.{numbers_push}
 use Rattle.k_base.proofs.NameTests.{heap_eq-true, name_eq-true}
 use Rattle.k_base.proofs.Objects.{has-kept}
-use Rattle.k_scan.specs.Marks.{is_marked, IsMarked, HasFound}
+use Rattle.k_scan.specs.Marks.{AreMarks, HasFound, IsMarked, is_marked, lengths, sizes_of}
+use Rattle.k_state.specs.Segments.{objects_in}
 use Rattle.k_state.specs.Places.{IsNamedAt}
 use Rattle.k_scan.proofs.Looks.{no_object, or_more, ours_named, visit_other}
-use Rattle.k_scan.proofs.Marks.{marks_are, none_marked}
+use Rattle.k_scan.proofs.Marks.{lists_are}
 use Rattle.k_scan.proofs.Reaches.{pool_of}
-use Rattle.k_scan.proofs.Referred.{reach_any}
 
 module _ (xs : List Object) (own : ℕ → Heap) (h : Heap) where
   -- the name of an object that isn't the heap's
-  pub found_other : (name : Name) (marks : List Bool) → heap_eq (own name.seg.0) h ≡ false → HasFound xs (objects_of own h xs) (λ n. name_eq name n) marks marks
+  pub found_other : (name : Name) (marks : List (List Bool)) → heap_eq (own name.seg.0) h ≡ false → HasFound xs (objects_of own h xs) (λ n. name_eq name n) marks marks
   found_other name marks other = let looked = visit_other xs own h name marks [] other in record { size = looked.size; marks = looked.marks }
 
   -- and of one that is
-  pub found_own : (name : Name) (old new : List Bool) (fresh : Bool) → heap_eq (own name.seg.0) h ≡ true → IsMarked xs name old new fresh →
+  pub found_own : (name : Name) (old new : List (List Bool)) (fresh : Bool) → heap_eq (own name.seg.0) h ≡ true → IsMarked xs name old new fresh →
       HasFound xs (objects_of own h xs) (λ n. name_eq name n) old new
   found_own name old new fresh ours marked = record {
     size = marked.size;
@@ -38,12 +38,12 @@ module _ (xs : List Object) (own : ℕ → Heap) (h : Heap) where
   }
 
 -- a name among all objects
-pub found_marked : (xs : List Object) (name : Name) (old new : List Bool) (fresh : Bool) → IsMarked xs name old new fresh → HasFound xs xs (λ n. name_eq name n) old new
+pub found_marked : (xs : List Object) (name : Name) (old new : List (List Bool)) (fresh : Bool) → IsMarked xs name old new fresh → HasFound xs xs (λ n. name_eq name n) old new
 found_marked xs name old new fresh marked = record { size = marked.size; marks = marked.marks }
 
 module _ (xs pool : List Object) where
   -- nothing was looked for
-  pub found_none : (test : Name → Bool) (marks : List Bool) → ((n : Name) → test n ≡ false) → HasFound xs pool test marks marks
+  pub found_none : (test : Name → Bool) (marks : List (List Bool)) → ((n : Name) → test n ≡ false) → HasFound xs pool test marks marks
   found_none test marks none = record {
     size = refl;
     marks = λ n. or_more (is_marked xs marks n) (has pool n) (test n) (λ there t. absurd (false≢true (sym (none n) ∙ t)));
@@ -55,7 +55,7 @@ module _ (xs pool : List Object) where
   both false false s t = refl
 
   -- one test after another
-  pub found_more : (first then all : Name → Bool) (old now new : List Bool) → ((n : Name) → all n ≡ (first n || then n)) →
+  pub found_more : (first then all : Name → Bool) (old now new : List (List Bool)) → ((n : Name) → all n ≡ (first n || then n)) →
       HasFound xs pool first old now → HasFound xs pool then now new → HasFound xs pool all old new
   found_more first then all old now new is a b = record {
     size = b.size ∙ a.size;
@@ -67,7 +67,7 @@ module _ (xs pool : List Object) where
   }
 
   -- the tests alone matter
-  pub found_same : (test other : Name → Bool) (old new : List Bool) → ((n : Name) → other n ≡ test n) → HasFound xs pool test old new → HasFound xs pool other old new
+  pub found_same : (test other : Name → Bool) (old new : List (List Bool)) → ((n : Name) → other n ≡ test n) → HasFound xs pool test old new → HasFound xs pool other old new
   found_same test other old new same found = record {
     size = found.size;
     marks = λ n. found.marks n ∙ ap (λ b. is_marked xs old n || (has pool n && b)) (sym (same n));
@@ -125,34 +125,39 @@ module _ (trace : Trace) (st : State) (h : Heap) where
   three true e i d = refl
   three false e i d = refl
 
-  gated : (p a b : Bool) → (p ≡ true → a ≡ b) → (p && a) ≡ (p && b)
-  gated true a b same = same refl
-  gated false a b same = refl
-
   -- what the three tests have marked are the roots
-  pub roots_marked : (first second third fourth : List Bool) → IsOrdered st.objects → first ≡ replicate (length st.objects) false →
+  pub roots_marked : (first second third fourth : List (List Bool)) → IsOrdered st.objects → lengths first ≡ sizes_of trace st (Some h) →
+      ((n : Name) → is_marked st.objects first n ≡ false) →
       HasFound st.objects (pool_of trace st h) entered first second → HasFound st.objects (pool_of trace st h) pinned second third → HasFound st.objects (pool_of trace st h) held third fourth →
-      fourth ≡ map (λ (o : Object). heap_eq (owner_of trace st o.name.seg.0) h && is_root trace st h o.name) st.objects
-  roots_marked first second third fourth ordered unmarked a b c =
-      let clear : (n : Name) → is_marked st.objects first n ≡ false = λ n. ap (λ ms. is_marked st.objects ms n) unmarked ∙ none_marked st.objects (length st.objects) n in
-      let size : length fourth ≡ length st.objects = c.size ∙ b.size ∙ a.size ∙ ap length unmarked ∙ length-replicate (length st.objects) false in
-      marks_are st.objects fourth (λ n. heap_eq (owner_of trace st n.seg.0) h && is_root trace st h n) ordered size
-      (λ n there.
-      let ours : has (pool_of trace st h) n ≡ heap_eq (owner_of trace st n.seg.0) h
-      = has-kept (λ m. heap_eq (owner_of trace st m.seg.0) h) st.objects n ∙ ap (λ b. b && heap_eq (owner_of trace st n.seg.0) h) there in
+      AreMarks trace st (Some h) fourth (is_root trace st h)
+  roots_marked first second third fourth ordered sized clear a b c =
+      lists_are trace st (Some h) fourth (is_root trace st h) ordered (c.size ∙ b.size ∙ a.size ∙ sized)
+      (λ n own there.
+      let ours : has (pool_of trace st h) n ≡ true
+      = has-kept (λ m. heap_eq (owner_of trace st m.seg.0) h) st.objects n ∙ ap₂ (λ a b. a && b) there own in
       c.marks n
       ∙ ap (λ m. m || (has (pool_of trace st h) n && held n)) (b.marks n ∙ ap (λ m. m || (has (pool_of trace st h) n && pinned n)) (a.marks n ∙ ap (λ m. m || (has (pool_of trace st h) n && entered n)) (clear n)))
       ∙ three (has (pool_of trace st h) n) (entered n) (pinned n) (held n)
       ∙ ap (λ p. p && ((entered n || pinned n) || held n)) ours
-      ∙ gated (heap_eq (owner_of trace st n.seg.0) h) _ _ (root_is n))
+      ∙ root_is n own)
 
 -- the mark at the place of a name is what is said of the name
-pub mark_named : (f : Name → Bool) (xs : List Object) (marks : List Bool) (k : ℕ) (n : Name) → marks ≡ map (λ (o : Object). f o.name) xs → IsNamedAt xs k n → get_or marks k false ≡ f n
-mark_named f xs marks k n are named =
+pub mark_named : (trace : Trace) (st : State) (f : Name → Bool) (marks : List (List Bool)) (k : ℕ) (n : Name) → AreMarks trace st None marks f → n.seg.0 < segment_count trace →
+    IsNamedAt (objects_in st.objects n.seg.0) k n → get_or (get_or marks n.seg.0 []) k false ≡ f n
+mark_named trace st f marks k n are low named =
     let d = no_object n in
-    ap (λ ms. get_or ms k false) are
+    let xs = objects_in st.objects n.seg.0 in
+    ap (λ (ms : List Bool). get_or ms k false) (are n.seg.0 low refl)
     ∙ get_or-map (λ (o : Object). f o.name) xs k d false named.0
     ∙ ap f (name_eq-true (get_or xs k d).name n (named.1 d))
+
+-- and there is such a mark
+pub mark_there : (trace : Trace) (st : State) (f : Name → Bool) (marks : List (List Bool)) (k : ℕ) (n : Name) → AreMarks trace st None marks f → n.seg.0 < segment_count trace →
+    IsNamedAt (objects_in st.objects n.seg.0) k n → k < length (get_or marks n.seg.0 [])
+mark_there trace st f marks k n are low named =
+    let xs = objects_in st.objects n.seg.0 in
+    let long = ap (λ (ms : List Bool). length ms) (are n.seg.0 low refl) ∙ length-map xs (λ (o : Object). f o.name) in
+    omega (arith, long, named.0)
 
 -- where no exit item is the heap's all stay
 pub all_stay : (trace : Trace) (st : State) (h : Heap) (exits : List ExitItem) → list_any (λ (x : ExitItem). heap_eq x.heap h) exits ≡ false →
@@ -163,19 +168,18 @@ all_stay trace st h (e ∷ exits) none =
     let parts = or_parts (heap_eq e.heap h) (list_any (λ (x : ExitItem). heap_eq x.heap h) exits) none in
     ap₂ (λ b bs. b ∷ bs) (sym (ap (λ b. not b || list_any (λ (x : Object). refers x e.target) (reach_in trace st h (open_roots st h))) parts.0)) (all_stay trace st h exits parts.1)
 
--- what some object refers to that is reached, by the marks of the reached objects
-pub referred_marked : (trace : Trace) (st : State) (h : Heap) (roots : List Name) (none marks : List Bool) → IsOrdered st.objects → none ≡ replicate (length st.objects) false →
-    HasFound st.objects st.objects (λ n. list_any (λ (o : Object). has (reach_in trace st h roots) o.name && refers o n) st.objects) none marks →
-    marks ≡ map (λ (o : Object). list_any (λ (x : Object). refers x o.name) (reach_in trace st h roots)) st.objects
-referred_marked trace st h roots none marks ordered unmarked found =
-    let clear : (n : Name) → is_marked st.objects none n ≡ false = λ n. ap (λ ms. is_marked st.objects ms n) unmarked ∙ none_marked st.objects (length st.objects) n in
-    let test : Name → Bool = λ n. list_any (λ (o : Object). has (reach_in trace st h roots) o.name && refers o n) st.objects in
-    marks_are st.objects marks (λ n. list_any (λ (x : Object). refers x n) (reach_in trace st h roots)) ordered (found.size ∙ ap length unmarked ∙ length-replicate (length st.objects) false)
-    (λ n there.
+-- what some reached object refers to, where all that they refer to is marked
+pub referred_marked : (trace : Trace) (st : State) (h : Heap) (roots : List Name) (none marks : List (List Bool)) → IsOrdered st.objects → lengths none ≡ sizes_of trace st None →
+    ((n : Name) → is_marked st.objects none n ≡ false) →
+    HasFound st.objects st.objects (λ n. list_any (λ (x : Object). refers x n) (reach_in trace st h roots)) none marks →
+    AreMarks trace st None marks (λ n. list_any (λ (x : Object). refers x n) (reach_in trace st h roots))
+referred_marked trace st h roots none marks ordered sized clear found =
+    let test : Name → Bool = λ n. list_any (λ (x : Object). refers x n) (reach_in trace st h roots) in
+    lists_are trace st None marks test ordered (found.size ∙ sized)
+    (λ n own there.
     found.marks n
     ∙ ap (λ b. b || (has st.objects n && test n)) (clear n)
-    ∙ ap (λ b. b && test n) there
-    ∙ sym (reach_any trace st h roots (λ x. refers x n)))
+    ∙ ap (λ b. b && test n) there)
 
 -- whether an exit item stays
 pub other_stays : (trace : Trace) (st : State) (h : Heap) (e : ExitItem) → heap_eq e.heap h ≡ false → exit_stays trace st h e ≡ true

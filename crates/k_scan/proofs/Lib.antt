@@ -4,6 +4,8 @@ pub mod References
 pub mod Reaches
 pub mod Numbers
 pub mod Chosen
+pub mod Kept
+pub mod Going
 pub mod Counts
 pub mod Turning
 pub mod Referred

@@ -1,9 +1,8 @@
 -- What marking has reached, and that it is the machine's reach in the end.
-use Rattle.std.proofs.Common.{◌≡◌, ℕ, zero, suc, ◌⊎◌, ◌&&◌, ◌||◌, Bool, true, false, sym, ap, ◌∙◌, inl, inr, List, [], ◌∷◌, ◌++◌, map, length, replicate, Some, None, is_some}
+use Rattle.std.proofs.Common.{◌≡◌, ℕ, zero, suc, ◌⊎◌, ◌&&◌, ◌||◌, Bool, true, false, sym, ap, ◌∙◌, inl, inr, List, [], ◌∷◌, ◌++◌, length, Some, None, is_some}
 use Rattle.std.specs.Prelude.{IsTrue}
 use Rattle.std.specs.List.{list_any}
 use Rattle.std.proofs.lemmas.Bool.{and_parts, and_from, or_left, or_right, or_cases, false≢true}
-use Rattle.std.proofs.lemmas.List.{length-replicate}
 use Rattle.std.proofs.lemmas.List.Folds.{list_any-append}
 use Rattle.k_types.specs.declared.names.Name.{Name}
 use Rattle.k_types.specs.declared.names.Heap.{Heap}
@@ -17,8 +16,8 @@ use Rattle.k_base.proofs.NameTests.{name_eq-true, name_eq_refl}
 use Rattle.k_base.proofs.Objects.{has-kept, is_some-object_at, referrer, refers_found, refers_in-kept, refers_in_has}
 use Rattle.k_base.proofs.Tests.{same_test}
 use Rattle.k_laws.proofs.Closure.{set, in_set, set_has, set_refers, closed_refers, start_in}
-use Rattle.k_scan.specs.Marks.{is_marked, HasLooked}
-use Rattle.k_scan.proofs.Marks.{marked_has, marks_are, none_marked}
+use Rattle.k_scan.specs.Marks.{AreMarks, HasLooked, is_marked, lengths, sizes_of}
+use Rattle.k_scan.proofs.Marks.{lists_are, marks_has}
 use Rattle.k_scan.proofs.References.{refers_only}
 use Rattle.k_base.proofs.Lists.{length-kept}
 
@@ -28,8 +27,8 @@ pool_of trace st h = objects_of (owner_of trace st) h st.objects
 
 -- what is marked is reached, the roots are marked, and what a marked object refers to in the heap is marked, unless the object waits
 -- on the list of work
-pub record IsReaching (trace : Trace) (st : State) (h : Heap) (roots : List Name) (marks : List Bool) (work : List Name) : Type 0 where
-  pub size : length marks ≡ length st.objects
+pub record IsReaching (trace : Trace) (st : State) (h : Heap) (roots : List Name) (marks : List (List Bool)) (work : List Name) : Type 0 where
+  pub size : lengths marks ≡ sizes_of trace st (Some h)
   pub sound : (n : Name) → IsTrue (is_marked st.objects marks n) → IsTrue (has (reach_in trace st h roots) n)
   pub begun : (n : Name) → IsTrue (has (pool_of trace st h) n) → IsTrue (name_among n roots) → IsTrue (is_marked st.objects marks n)
   pub waits : (n : Name) → IsTrue (name_among n work) → IsTrue (is_marked st.objects marks n)
@@ -54,12 +53,12 @@ module _ (trace : Trace) (st : State) (h : Heap) (roots : List Name) where
   reach_more a b ha r hb = closed_refers (pool_of trace st h) start (length st.objects) a b (length-kept _ st.objects) ha r hb
 
   -- before the first turn
-  pub reaching_begins : (none marks : List Bool) (empty work : List Name) → none ≡ replicate (length st.objects) false → empty ≡ [] →
+  pub reaching_begins : (none marks : List (List Bool)) (empty work : List Name) → lengths none ≡ sizes_of trace st (Some h) →
+      ((n : Name) → is_marked st.objects none n ≡ false) → empty ≡ [] →
       HasLooked st.objects (pool_of trace st h) (λ n. name_among n roots) none marks empty work → IsReaching trace st h roots marks work
-  reaching_begins none marks empty work unmarked nothing looked =
-      let clear : (n : Name) → is_marked st.objects none n ≡ false = λ n. ap (λ ms. is_marked st.objects ms n) unmarked ∙ none_marked st.objects (length st.objects) n in
+  reaching_begins none marks empty work sized clear nothing looked =
       record {
-        size = looked.size ∙ ap length unmarked ∙ length-replicate (length st.objects) false;
+        size = looked.size ∙ sized;
         sound = λ n t.
             elim (or_cases (is_marked st.objects none n) (has (pool_of trace st h) n && name_among n roots) (sym (looked.marks n) ∙ t)) [
               | inl was ↦ absurd (false≢true (sym (clear n) ∙ was))
@@ -96,7 +95,7 @@ module _ (trace : Trace) (st : State) (h : Heap) (roots : List Name) where
       refers_in-kept (λ m. heap_eq (owner_of trace st m.seg.0) h) st.objects a b ∙ and_from _ _ r ours.1
 
   -- a name of which there is no object
-  pub reaching_skips : (marks : List Bool) (work : List Name) (name : Name) → object_at st.objects name ≡ None → IsReaching trace st h roots marks (work ++ name ∷ []) → IsReaching trace st h roots marks work
+  pub reaching_skips : (marks : List (List Bool)) (work : List Name) (name : Name) → object_at st.objects name ≡ None → IsReaching trace st h roots marks (work ++ name ∷ []) → IsReaching trace st h roots marks work
   reaching_skips marks work name none r =
       let missing = missing_name name none in
       record {
@@ -109,7 +108,7 @@ module _ (trace : Trace) (st : State) (h : Heap) (roots : List Name) where
               | inl marked ↦ inl marked
               | inr waits ↦ elim (pop_cases a name work waits) [
                 | inl rest ↦ inr rest
-                | inr same ↦ absurd (false≢true (sym missing ∙ marked_has st.objects marks name (r.waits name (last name work))))
+                | inr same ↦ absurd (false≢true (sym missing ∙ marks_has st.objects marks name (r.waits name (last name work))))
               ]
             ];
       }
@@ -118,7 +117,7 @@ module _ (trace : Trace) (st : State) (h : Heap) (roots : List Name) where
       missing_name name none = sym (is_some-object_at st.objects name) ∙ ap is_some none
 
   -- a name whose object's fields were looked at
-  pub reaching_follows : (old new : List Bool) (work after : List Name) (name : Name) (o : Object) → IsOrdered st.objects → object_at st.objects name ≡ Some o →
+  pub reaching_follows : (old new : List (List Bool)) (work after : List Name) (name : Name) (o : Object) → IsOrdered st.objects → object_at st.objects name ≡ Some o →
       HasLooked st.objects (pool_of trace st h) (refers o) old new work after → IsReaching trace st h roots old (work ++ name ∷ []) → IsReaching trace st h roots new after
   reaching_follows old new work after name o ordered found looked r =
       let reached = r.sound name (r.waits name (last name work)) in
@@ -150,7 +149,7 @@ module _ (trace : Trace) (st : State) (h : Heap) (roots : List Name) where
             ];
       }
 
-  reached_marked : (marks : List Bool) → IsReaching trace st h roots marks [] → (k : ℕ) (n : Name) → has (set (pool_of trace st h) start k) n ≡ true → is_marked st.objects marks n ≡ true
+  reached_marked : (marks : List (List Bool)) → IsReaching trace st h roots marks [] → (k : ℕ) (n : Name) → has (set (pool_of trace st h) start k) n ≡ true → is_marked st.objects marks n ≡ true
   unfolding in_set start
   reached_marked marks r zero n t =
       let parts = and_parts (has (pool_of trace st h) n) (in_set (pool_of trace st h) start zero n) (sym (set_has (pool_of trace st h) start zero n) ∙ t) in
@@ -168,12 +167,12 @@ module _ (trace : Trace) (st : State) (h : Heap) (roots : List Name) where
             ]
       ]
 
-  all_reached : (marks : List Bool) → IsReaching trace st h roots marks [] → (n : Name) → has (reach_in trace st h roots) n ≡ true → is_marked st.objects marks n ≡ true
+  all_reached : (marks : List (List Bool)) → IsReaching trace st h roots marks [] → (n : Name) → has (reach_in trace st h roots) n ≡ true → is_marked st.objects marks n ≡ true
   unfolding reach_in set start
   all_reached marks r n t = reached_marked marks r (length st.objects) n t
 
   -- after the last turn
-  pub reaching_ends : (marks : List Bool) → IsOrdered st.objects → IsReaching trace st h roots marks [] → marks ≡ map (λ o. has (reach_in trace st h roots) o.name) st.objects
+  pub reaching_ends : (marks : List (List Bool)) → IsOrdered st.objects → IsReaching trace st h roots marks [] → AreMarks trace st (Some h) marks (has (reach_in trace st h roots))
   reaching_ends marks ordered r =
-      marks_are st.objects marks (has (reach_in trace st h roots)) ordered r.size
-      (λ n there. same_test (is_marked st.objects marks n) (has (reach_in trace st h roots) n) (r.sound n) (all_reached marks r n))
+      lists_are trace st (Some h) marks (has (reach_in trace st h roots)) ordered r.size
+      (λ n own there. same_test (is_marked st.objects marks n) (has (reach_in trace st h roots) n) (r.sound n) (all_reached marks r n))

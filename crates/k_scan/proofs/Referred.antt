@@ -1,6 +1,6 @@
--- What some reached object refers to, told by marks of the objects.
-use Rattle.std.proofs.Common.{◌≡◌, ◌&&◌, ◌||◌, Bool, true, false, refl, sym, ap, ap₂, ◌∙◌, List, [], ◌∷◌, filter, length, arith}
-use Rattle.std.specs.List.{list_any, AllByRecursion}
+-- The reached objects, as those of a heap that pass a test.
+use Rattle.std.proofs.Common.{◌≡◌, ◌&&◌, Bool, true, false, refl, sym, ap, ◌∙◌, List, [], ◌∷◌, filter, length, arith}
+use Rattle.std.specs.List.{AllByRecursion}
 use Rattle.k_types.specs.declared.names.Name.{Name}
 use Rattle.k_types.specs.declared.names.Heap.{Heap}
 use Rattle.k_types.specs.Names.{heap_eq, name_among}
@@ -10,27 +10,11 @@ use Rattle.k_types.specs.State.{Object, State, has}
 use Rattle.k_types.specs.Trace.{Trace}
 use Rattle.k_base.proofs.Objects.{has-kept}
 use Rattle.k_laws.proofs.Closure.{all_there, in_set, set, set_is}
-
-any_kept_step : (p q : Object → Bool) (x : Object) (xs : List Object) → list_any q (filter p xs) ≡ list_any (λ y. p y && q y) xs →
-    list_any q (filter p (x ∷ xs)) ≡ list_any (λ y. p y && q y) (x ∷ xs)
-any_kept_step p q x xs ih = grind (arith, ih)
-
-any_kept : (p q : Object → Bool) (xs : List Object) → list_any q (filter p xs) ≡ list_any (λ x. p x && q x) xs
-any_kept p q [] = refl
-any_kept p q (x ∷ xs) = any_kept_step p q x xs (any_kept p q xs)
-
-any_same_all : (p q : Object → Bool) (xs : List Object) → AllByRecursion (λ x. p x ≡ q x) xs → list_any p xs ≡ list_any q xs
-any_same_all p q [] all = refl
-any_same_all p q (x ∷ xs) all = ap₂ (λ a b. a || b) all.0 (any_same_all p q xs all.1)
+use Rattle.k_scan.proofs.Chosen.{is_chosen, kept_alike_all}
 
 all_weaker : (P Q : Object → Type 0) → ((x : Object) → P x → Q x) → (xs : List Object) → AllByRecursion P xs → AllByRecursion Q xs
 all_weaker P Q weaker [] all = tt
 all_weaker P Q weaker (x ∷ xs) all = (weaker x all.0, all_weaker P Q weaker xs all.1)
-
-both_kept : (a b q : Bool) → (b && (a && q)) ≡ ((b && a) && q)
-both_kept true true q = refl
-both_kept false true q = refl
-both_kept a false q = refl
 
 module _ (trace : Trace) (st : State) (h : Heap) (roots : List Name) where
   inside : Name → Bool
@@ -53,11 +37,18 @@ module _ (trace : Trace) (st : State) (h : Heap) (roots : List Name) where
   reach_has : (n : Name) → has st.objects n ≡ true → has (reach_in trace st h roots) n ≡ inside n
   reach_has n there = ap (λ xs. has xs n) reach_is_kept ∙ has-kept inside st.objects n ∙ ap (λ b. b && inside n) there
 
-  -- some reached object passes exactly where some object passes that is reached
-  pub reach_any : (q : Object → Bool) → list_any q (reach_in trace st h roots) ≡ list_any (λ o. has (reach_in trace st h roots) o.name && q o) st.objects
-  reach_any q =
-      ap (list_any q) reach_is_kept
-      ∙ any_kept (λ o. inside o.name) q st.objects
-      ∙ any_same_all (λ o. inside o.name && q o) (λ o. has (reach_in trace st h roots) o.name && q o) st.objects
-      (all_weaker (λ o. has st.objects o.name ≡ true) (λ o. (inside o.name && q o) ≡ (has (reach_in trace st h roots) o.name && q o))
-      (λ o there. ap (λ b. b && q o) (sym (reach_has o.name there))) st.objects (all_there st.objects))
+  inside_own : (n : Name) → (heap_eq (owner_of trace st n.seg.0) h && inside n) ≡ inside n
+  unfolding inside
+  inside_own n = own_twice (heap_eq (owner_of trace st n.seg.0) h) _
+    where
+      own_twice : (a b : Bool) → (a && (a && b)) ≡ (a && b)
+      own_twice true b = refl
+      own_twice false b = refl
+
+  -- the reached objects are those of the heap of which that is so
+  pub chosen_reached : filter (is_chosen (owner_of trace st) h (has (reach_in trace st h roots))) st.objects ≡ reach_in trace st h roots
+  chosen_reached =
+      kept_alike_all (is_chosen (owner_of trace st) h (has (reach_in trace st h roots))) (λ o. inside o.name) st.objects
+      (all_weaker (λ o. has st.objects o.name ≡ true) (λ o. is_chosen (owner_of trace st) h (has (reach_in trace st h roots)) o ≡ inside o.name)
+      (λ o there. ap (λ b. heap_eq (owner_of trace st o.name.seg.0) h && b) (reach_has o.name there) ∙ inside_own o.name) st.objects (all_there st.objects))
+      ∙ sym reach_is_kept

@@ -1,11 +1,10 @@
 //! Marks of the objects that are held from outside their heap, or by the heap's own process.
-ghost use Rattle.std.specs.Prelude.{◌≡◌, ◌&&◌, length, map, IfOk};
+ghost use Rattle.std.specs.Prelude.{◌≡◌, IfOk, Some};
 ghost use Rattle.std.specs.List.{list_any};
-ghost use Rattle.k_scan.specs.Marks.{HasFound};
-ghost use Rattle.k_types.specs.Names.{heap_eq, leads_to, name_eq};
+ghost use Rattle.k_scan.specs.Marks.{AreMarks, HasFound, lengths, sizes_of};
+ghost use Rattle.k_types.specs.Names.{leads_to, name_eq};
 ghost use Rattle.k_types.specs.Owners.{objects_of, owner_of};
 ghost use Rattle.k_types.specs.Reach.{has_entry, is_held, is_pinned, is_root};
-ghost use Rattle.k_types.specs.State.{Object};
 ghost use Rattle.k_types.specs.Trace.{process_count};
 
 use crate::marking::Marks;
@@ -22,7 +21,7 @@ const DIRECTORY: Name = Name {
 
 // Marks the object of that name, where it is the heap's.
 fn find(lists: &PlainLists, heap: Heap, marks: &mut Marks, name: Name)
-    requires { length marks.old ≡ length lists.now.state.objects }
+    requires { lengths marks.old ≡ sizes_of lists.now.setup lists.now.state (Some heap) }
     ensures { HasFound lists.now.state.objects (objects_of (owner_of lists.now.setup lists.now.state) heap lists.now.state.objects)
         (λ n. name_eq name n) marks.old marks.new }
 {
@@ -33,7 +32,7 @@ fn find(lists: &PlainLists, heap: Heap, marks: &mut Marks, name: Name)
 
 // Marks those of the heap's objects to which another heap has an exit item.
 fn find_entered(lists: &PlainLists, heap: Heap, marks: &mut Marks)
-    requires { length marks.old ≡ length lists.now.state.objects }
+    requires { lengths marks.old ≡ sizes_of lists.now.setup lists.now.state (Some heap) }
     ensures { HasFound lists.now.state.objects (objects_of (owner_of lists.now.setup lists.now.state) heap lists.now.state.objects)
         (λ n. has_entry (λ seg. heap) lists.now.state.exits n) marks.old marks.new }
 {
@@ -46,7 +45,7 @@ fn find_entered(lists: &PlainLists, heap: Heap, marks: &mut Marks)
 
 // Marks those of the heap's objects that one of the registers holds.
 fn find_in_registers(lists: &PlainLists, heap: Heap, marks: &mut Marks, registers: &[Option<Name>])
-    requires { length marks.old ≡ length lists.now.state.objects }
+    requires { lengths marks.old ≡ sizes_of lists.now.setup lists.now.state (Some heap) }
     ensures { HasFound lists.now.state.objects (objects_of (owner_of lists.now.setup lists.now.state) heap lists.now.state.objects)
         (λ n. list_any (λ r. leads_to r n) registers.now) marks.old marks.new }
 {
@@ -59,7 +58,7 @@ fn find_in_registers(lists: &PlainLists, heap: Heap, marks: &mut Marks, register
 
 // Marks those of the heap's objects that a process of another heap holds in a register.
 fn find_pinned(lists: &PlainLists, heap: Heap, marks: &mut Marks)
-    requires { length marks.old ≡ length lists.now.state.objects }
+    requires { lengths marks.old ≡ sizes_of lists.now.setup lists.now.state (Some heap) }
     ensures { HasFound lists.now.state.objects (objects_of (owner_of lists.now.setup lists.now.state) heap lists.now.state.objects)
         (λ n. is_pinned (process_count lists.now.setup) (λ seg. heap) lists.now.state.registers n) marks.old marks.new }
 {
@@ -74,7 +73,7 @@ fn find_pinned(lists: &PlainLists, heap: Heap, marks: &mut Marks)
 // Marks those of the heap's objects that its own process holds in a register, or the directory in the kernel's heap.
 #[tactic(auto, unfolding(k_types::specs::Reach::is_held))]
 fn find_held(lists: &PlainLists, heap: Heap, marks: &mut Marks)
-    requires { length marks.old ≡ length lists.now.state.objects }
+    requires { lengths marks.old ≡ sizes_of lists.now.setup lists.now.state (Some heap) }
     ensures { HasFound lists.now.state.objects (objects_of (owner_of lists.now.setup lists.now.state) heap lists.now.state.objects)
         (λ n. is_held lists.now.state heap n) marks.old marks.new }
 {
@@ -90,19 +89,13 @@ fn find_held(lists: &PlainLists, heap: Heap, marks: &mut Marks)
 
 // Marks the objects of the heap with which a collection begins. Walks over all exit items and registers, and finds each object
 // by halving.
-pub(crate) fn mark_roots(
-    alloc: Global,
-    lists: &PlainLists,
-    heap: Heap,
-) -> Result<Vec<bool>, NoMemory>
-    ensures { IfOk result (λ marks. marks.items ≡ map
-        (λ (o : Object). heap_eq (owner_of lists.now.setup lists.now.state o.name.seg.0) heap && is_root lists.now.setup lists.now.state heap o.name)
-        lists.now.state.objects) }
+pub(crate) fn mark_roots(alloc: Global, lists: &PlainLists, heap: Heap) -> Result<Marks, NoMemory>
+    ensures { IfOk result (λ marks. AreMarks lists.now.setup lists.now.state (Some heap) marks (is_root lists.now.setup lists.now.state heap)) }
 {
     let _shape = lists.setup();
-    let mut marks = Marks::none(alloc, lists)?;
+    let mut marks = Marks::none(alloc, lists, Some(heap))?;
     find_entered(lists, heap, &mut marks);
     find_pinned(lists, heap, &mut marks);
     find_held(lists, heap, &mut marks);
-    Ok(marks.into_list())
+    Ok(marks)
 }

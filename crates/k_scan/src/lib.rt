@@ -1,7 +1,6 @@
 //! Collections, absorptions and ends of processes on the plain machine.
 //!
-//! The readers say what a collection of a heap begins with ([`roots`]), what it reaches ([`reached`]), and the numbers with
-//! which it ends ([`ending`]); the changes leave what the machine's definitions say, or nothing where memory is wanting: all
+//! The readers say what a collection of a heap begins with ([`roots`]) and the numbers with which it ends ([`ending`]); the changes leave what the machine's definitions say, or nothing where memory is wanting: all
 //! memory is taken before the first change. Roots are marked from the exit items and registers that lead to them, and so are
 //! the objects to which reached ones refer. What is reached is found by a list of work over the objects, and is the machine's
 //! closure. [`ending`] and [`end_collection_by`] ask for room for one step, [`absorb`] and [`end_of_process`] for a heap and a
@@ -13,11 +12,11 @@ mod collecting;
 mod holding;
 mod marking;
 mod reaching;
+mod referring;
 mod rooting;
 mod surviving;
 mod waiting;
 
 pub use changes::{absorb, begin, close, end_of_process};
 pub use collecting::{end_collection, end_collection_by, ending};
-pub use reaching::reached;
 pub use rooting::roots;

@@ -1,10 +1,10 @@
 //! What roots reach inside a heap.
-ghost use Rattle.std.specs.Prelude.{◌≡◌, IfOk, OnOk, length, map};
-ghost use Rattle.k_scan.specs.Marks.{HasLooked};
+ghost use Rattle.std.specs.Prelude.{◌≡◌, IfOk, OnOk, Some};
+ghost use Rattle.k_scan.specs.Marks.{AreMarks, HasLooked, lengths, sizes_of};
 ghost use Rattle.k_types.specs.Names.{name_among, name_eq};
 ghost use Rattle.k_types.specs.Owners.{objects_of, owner_of};
 ghost use Rattle.k_types.specs.Reach.{reach_in};
-ghost use Rattle.k_types.specs.State.{Object, has, refers};
+ghost use Rattle.k_types.specs.State.{has, refers};
 
 use crate::marking::Marks;
 use crate::waiting::Waiting;
@@ -21,7 +21,7 @@ fn visit(
     work: &mut Vec<Waiting>,
     name: Name,
 ) -> Result<(), NoMemory>
-    requires { length marks.old ≡ length lists.now.state.objects }
+    requires { lengths marks.old ≡ sizes_of lists.now.setup lists.now.state (Some heap) }
     ensures { OnOk result (HasLooked lists.now.state.objects (objects_of (owner_of lists.now.setup lists.now.state) heap lists.now.state.objects)
         (λ n. name_eq name n) marks.old marks.new work.old.items work.new.items) }
 {
@@ -43,7 +43,7 @@ fn follow(
     work: &mut Vec<Waiting>,
     object: &PlainObject,
 ) -> Result<(), NoMemory>
-    requires { length marks.old ≡ length lists.now.state.objects }
+    requires { lengths marks.old ≡ sizes_of lists.now.setup lists.now.state (Some heap) }
     ensures { OnOk result (HasLooked lists.now.state.objects (objects_of (owner_of lists.now.setup lists.now.state) heap lists.now.state.objects)
         (refers object.now) marks.old marks.new work.old.items work.new.items) }
 {
@@ -63,7 +63,7 @@ fn begin(
     work: &mut Vec<Waiting>,
     roots: &[Name],
 ) -> Result<(), NoMemory>
-    requires { length marks.old ≡ length lists.now.state.objects }
+    requires { lengths marks.old ≡ sizes_of lists.now.setup lists.now.state (Some heap) }
     ensures { OnOk result (HasLooked lists.now.state.objects (objects_of (owner_of lists.now.setup lists.now.state) heap lists.now.state.objects)
         (λ n. name_among n roots.now) marks.old marks.new work.old.items work.new.items) }
 {
@@ -73,21 +73,21 @@ fn begin(
     Ok(())
 }
 
-/// Marks what the roots reach by references inside the heap: one mark for each object, in the order of the objects.
-///
-/// It looks once at each reached object and its fields, and finds by halving each object to which one refers. `NoMemory` comes where the marks
-/// or the list of work find no memory.
-pub fn reached(
+// Marks those of the heap's objects that the roots reach by references inside the heap.
+//
+// It looks once at each reached object and its fields, and finds by halving each object to which one refers. `NoMemory` comes where the marks
+// or the list of work find no memory.
+pub(crate) fn reached(
     alloc: Global,
     lists: &PlainLists,
     heap: Heap,
     roots: &[Name],
-) -> Result<Vec<bool>, NoMemory>
-    ensures { IfOk result (λ marks. marks.items ≡ map (λ (o : Object). has (reach_in lists.now.setup lists.now.state heap roots.now) o.name) lists.now.state.objects) }
+) -> Result<Marks, NoMemory>
+    ensures { IfOk result (λ marks. AreMarks lists.now.setup lists.now.state (Some heap) marks (has (reach_in lists.now.setup lists.now.state heap roots.now))) }
 {
     // The shape of the lists: the objects stand in order.
     let _setup = lists.setup();
-    let mut marks = Marks::none(alloc, lists)?;
+    let mut marks = Marks::none(alloc, lists, Some(heap))?;
     let mut work = Vec::new(alloc);
     begin(lists, heap, &mut marks, &mut work, roots)?;
     while let Some(waiting) = work.pop() {
@@ -95,5 +95,5 @@ pub fn reached(
             follow(lists, heap, &mut marks, &mut work, object)?;
         }
     }
-    Ok(marks.into_list())
+    Ok(marks)
 }

@@ -1,18 +1,17 @@
-//! What the end of a heap's collection keeps: a mark for each object, exit item and share.
-ghost use Rattle.std.specs.Prelude.{◌≡◌, ◌&&◌, IfOk, length, map};
+//! What the end of a heap's collection keeps: a mark for each object of the heap, each exit item and each share.
+ghost use Rattle.std.specs.Prelude.{◌≡◌, ◌&&◌, IfOk, Some, map};
 ghost use Rattle.std.specs.List.{list_any};
-ghost use Rattle.k_scan.specs.Marks.{HasFound};
-ghost use Rattle.k_types.specs.Effects.{exit_stays, lies_in, open_roots, register_lies_in, registers_of, share_stays, survives};
+ghost use Rattle.k_scan.specs.Marks.{AreMarks, is_reached};
+ghost use Rattle.k_types.specs.Effects.{exit_stays, lies_in, register_lies_in, registers_of, share_stays};
 ghost use Rattle.k_types.specs.Names.{heap_eq};
-ghost use Rattle.k_types.specs.Owners.{shared};
-ghost use Rattle.k_types.specs.Reach.{reach_in};
 ghost use Rattle.k_types.specs.Replies.{is_populating};
-ghost use Rattle.k_types.specs.State.{ExitItem as Item, Object, Sharing, has, refers};
+ghost use Rattle.k_types.specs.State.{ExitItem as Item, Sharing};
 
 use crate::marking::Marks;
 use crate::reaching::reached;
+use crate::referring::{is_target_referred, mark_referred};
 use k_io::NoMemory;
-use k_state::{FieldValue, PlainLists, PlainObject, Share, is_same_heap};
+use k_state::{PlainLists, Share, is_same_heap};
 use k_types::{Heap, Name, Phase, Pid, SharedId};
 use std::alloc::Global;
 
@@ -21,102 +20,12 @@ pub(crate) fn reached_of_scan(
     alloc: Global,
     lists: &PlainLists,
     heap: Heap,
-) -> Result<Vec<bool>, NoMemory>
-    ensures { IfOk result (λ marks. marks.items ≡ map
-        (λ (o : Object). has (reach_in lists.now.setup lists.now.state heap (open_roots lists.now.state heap)) o.name) lists.now.state.objects) }
+) -> Result<Marks, NoMemory>
+    ensures { IfOk result (λ marks. AreMarks lists.now.setup lists.now.state (Some heap) marks (is_reached lists.now.setup lists.now.state heap)) }
 {
     match lists.scan_roots(heap) {
         Some(roots) => reached(alloc, lists, heap, roots),
         None => reached(alloc, lists, heap, &[]),
-    }
-}
-
-// The objects that stay.
-#[tactic(auto, using(crate::proofs::Marks::mark_is), unfolding(k_types::specs::Effects::survives))]
-pub(crate) fn surviving_objects(
-    alloc: Global,
-    lists: &PlainLists,
-    heap: Heap,
-    reached: &[bool],
-) -> Result<Vec<bool>, NoMemory>
-    requires { reached.now ≡ map
-        (λ (o : Object). has (reach_in lists.now.setup lists.now.state heap (open_roots lists.now.state heap)) o.name) lists.now.state.objects }
-    ensures { IfOk result (λ stays. stays.items ≡ map (λ (o : Object). survives lists.now.setup lists.now.state heap o.name) lists.now.state.objects) }
-{
-    let mut stays = Vec::new(alloc);
-    for (at, object) in lists.objects().iter().enumerate() {
-        let name = object.name();
-        stays.push(!is_same_heap(lists.owner(name.seg), heap) || reached[at])?;
-    }
-    Ok(stays)
-}
-
-// Whether a reached object refers to the name.
-#[tactic(auto, using(crate::proofs::Marks::mark_is, crate::proofs::Referred::reach_any))]
-fn is_referred(lists: &PlainLists, heap: Heap, reached: &[bool], name: Name) -> bool
-    requires { reached.now ≡ map
-        (λ (o : Object). has (reach_in lists.now.setup lists.now.state heap (open_roots lists.now.state heap)) o.name) lists.now.state.objects }
-    ensures { result ≡ list_any (λ (x : Object). refers x name) (reach_in lists.now.setup lists.now.state heap (open_roots lists.now.state heap)) }
-{
-    for (at, object) in lists.objects().iter().enumerate() {
-        if reached[at] && object.refers(name) {
-            return true;
-        }
-    }
-    false
-}
-
-// Marks what the object refers to.
-fn mark_references(lists: &PlainLists, marks: &mut Marks, object: &PlainObject)
-    requires { length marks.old ≡ length lists.now.state.objects }
-    ensures { HasFound lists.now.state.objects lists.now.state.objects (refers object.now) marks.old marks.new }
-{
-    for value in object.fields() {
-        if let FieldValue::Reference(Some(target)) = *value {
-            let _fresh = marks.mark(lists, target);
-        }
-    }
-}
-
-// Marks what the reached objects refer to.
-fn mark_referred(
-    alloc: Global,
-    lists: &PlainLists,
-    heap: Heap,
-    reached: &[bool],
-) -> Result<Vec<bool>, NoMemory>
-    requires { reached.now ≡ map
-        (λ (o : Object). has (reach_in lists.now.setup lists.now.state heap (open_roots lists.now.state heap)) o.name) lists.now.state.objects }
-    ensures { IfOk result (λ marks. marks.items ≡ map
-        (λ (o : Object). list_any (λ (x : Object). refers x o.name) (reach_in lists.now.setup lists.now.state heap (open_roots lists.now.state heap))) lists.now.state.objects) }
-{
-    let _shape = lists.setup();
-    let mut marks = Marks::none(alloc, lists)?;
-    for (at, object) in lists.objects().iter().enumerate() {
-        if reached[at] {
-            mark_references(lists, &mut marks, object);
-        }
-    }
-    Ok(marks.into_list())
-}
-
-// Whether a reached object refers to the target of an exit item. Where there is no such object each reached one is looked at.
-fn is_target_referred(
-    lists: &PlainLists,
-    heap: Heap,
-    reached: &[bool],
-    referred: &[bool],
-    target: Name,
-) -> bool
-    requires reached { reached.now ≡ map
-        (λ (o : Object). has (reach_in lists.now.setup lists.now.state heap (open_roots lists.now.state heap)) o.name) lists.now.state.objects }
-    requires referred { referred.now ≡ map
-        (λ (o : Object). list_any (λ (x : Object). refers x o.name) (reach_in lists.now.setup lists.now.state heap (open_roots lists.now.state heap))) lists.now.state.objects }
-    ensures { result ≡ list_any (λ (x : Object). refers x target) (reach_in lists.now.setup lists.now.state heap (open_roots lists.now.state heap)) }
-{
-    match lists.index_of(target) {
-        Some(at) => referred[at],
-        None => is_referred(lists, heap, reached, target),
     }
 }
 
@@ -137,10 +46,9 @@ fn surviving_among(
     alloc: Global,
     lists: &PlainLists,
     heap: Heap,
-    reached: &[bool],
+    reached: &Marks,
 ) -> Result<Vec<bool>, NoMemory>
-    requires { reached.now ≡ map
-        (λ (o : Object). has (reach_in lists.now.setup lists.now.state heap (open_roots lists.now.state heap)) o.name) lists.now.state.objects }
+    requires { AreMarks lists.now.setup lists.now.state (Some heap) reached.now (is_reached lists.now.setup lists.now.state heap) }
     ensures { IfOk result (λ stays. stays.items ≡ map (exit_stays lists.now.setup lists.now.state heap) lists.now.state.exits) }
 {
     let referred = mark_referred(alloc, lists, heap, reached)?;
@@ -159,10 +67,9 @@ pub(crate) fn surviving_exits(
     alloc: Global,
     lists: &PlainLists,
     heap: Heap,
-    reached: &[bool],
+    reached: &Marks,
 ) -> Result<Vec<bool>, NoMemory>
-    requires { reached.now ≡ map
-        (λ (o : Object). has (reach_in lists.now.setup lists.now.state heap (open_roots lists.now.state heap)) o.name) lists.now.state.objects }
+    requires { AreMarks lists.now.setup lists.now.state (Some heap) reached.now (is_reached lists.now.setup lists.now.state heap) }
     ensures { IfOk result (λ stays. stays.items ≡ map (exit_stays lists.now.setup lists.now.state heap) lists.now.state.exits) }
 {
     if has_exits(lists, heap) {

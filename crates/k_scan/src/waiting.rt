@@ -6,7 +6,7 @@ use k_state::{PlainLists, PlainObject, is_same_name};
 use k_types::Name;
 use std::marker::Model;
 
-// The name of an object, with the place where the object was found among all objects.
+// The name of an object, with the place where the object was found in its segment.
 #[derive(Drop)]
 pub(crate) struct Waiting {
     name: Name,
@@ -33,7 +33,7 @@ impl Waiting {
         ensures { option_copied result ≡ object_at lists.now.state.objects self.now }
     {
         let _shape = lists.setup();
-        match lists.objects().get(self.at) {
+        match lists.objects_in(self.name.seg).get(self.at) {
             Some(object) if is_same_name(object.name(), self.name) => Some(object),
             _ => lists.object(self.name),
         }

@@ -1,12 +1,12 @@
 //! What a view asks of the lists, beside what the operations ask.
-ghost use Rattle.std.specs.Prelude.{◌≡◌, option_map, slice_get};
+ghost use Rattle.std.specs.Prelude.{◌≡◌, find, option_map};
 ghost use Rattle.k_types.specs.State.{Object};
-ghost use Rattle.k_solo.specs.Places.{IsPlaceAfter};
+ghost use Rattle.k_solo.specs.Places.{IsPlaceAfter, is_from};
 ghost use Rattle.k_text.specs.Shown.{next_name_after, type_at};
 ghost use Rattle.k_types.specs.Sound.{IsOrdered};
 
 use k_state::{PlainLists, PlainObject, is_before};
-use k_types::{Name, TypeId};
+use k_types::{Name, Seg, TypeId};
 
 // How many of the objects in order do not come after the name, found by halving.
 fn place_after(objects: &[PlainObject], name: Name) -> usize
@@ -26,27 +26,34 @@ fn place_after(objects: &[PlainObject], name: Name) -> usize
     low
 }
 
-// The place of the next object by segment and serial, or of the first of all.
-#[tactic(auto, using(crate::proofs::NextObjects::next_at, crate::proofs::NextObjects::next_first))]
-fn place_of_next(objects: &[PlainObject], after: Option<Name>) -> usize
-    requires { IsOrdered objects.now }
-    ensures { next_name_after after objects.now ≡ option_map (λ (o : Object). o.name) (slice_get objects.now result) }
+// The first object of the segments from that one on.
+fn first_from(lists: &PlainLists, seg: u32) -> Option<Name>
+    ensures { result ≡ option_map (λ (o : Object). o.name) (find (is_from seg) lists.now.state.objects) }
 {
-    match after {
-        Some(name) => place_after(objects, name),
-        None => 0,
+    let _shape = lists.setup();
+    for s in seg..lists.segment_count() {
+        if let Some(object) = lists.objects_in(Seg(s)).first() {
+            return Some(object.name());
+        }
     }
+    None
 }
 
-// The next object by segment and serial, or the first of all, found by halving.
+// The next object by segment and serial, or the first of all, found by halving in its segment, or as the first of those after it.
 pub(crate) fn next_object(lists: &PlainLists, after: Option<Name>) -> Option<Name>
     ensures { result ≡ next_name_after after lists.now.state.objects }
 {
     let _shape = lists.setup();
-    let objects = lists.objects();
-    match objects.get(place_of_next(objects, after)) {
+    let Some(name) = after else {
+        return first_from(lists, 0);
+    };
+    if name.seg.0 >= lists.segment_count() {
+        return None;
+    }
+    let objects = lists.objects_in(name.seg);
+    match objects.get(place_after(objects, name)) {
         Some(object) => Some(object.name()),
-        None => None,
+        None => first_from(lists, name.seg.0 + 1),
     }
 }
 

@@ -46,7 +46,7 @@ impl View for PlainEnd {
         &self.events[i as usize]
     }
 
-    /// Finds the object by halving. A walk over the objects where the name is no object's.
+    /// Finds the object by halving in its segment, or as the first of the segments after it.
     fn next_object(&self, after: Option<Name>) -> Option<Name> {
         next_object(&self.lists, after)
     }

@@ -1,5 +1,6 @@
 pub mod Above
 pub mod Added
+pub mod Borders
 pub mod Changes
 pub mod Fields
 pub mod Heaps
@@ -8,9 +9,11 @@ pub mod Marked
 pub mod Openings
 pub mod Paths
 pub mod Placed
+pub mod Pools
 pub mod RoomLaws
 pub mod Rows
 pub mod Shapes
+pub mod Split
 pub mod Sums
 pub mod Totals
 pub mod Uses

@@ -1,6 +1,6 @@
 -- The opening state has its shape.
-use Rattle.std.proofs.Common.{◌≡◌, cond, ne_eqb, ℕ, zero, suc, ◌+◌, ◌<◌, lit<, ap, length, map, replicate, Option, None, List, [], ◌∷◌, arith, ◌∙◌, sym, false, inl, inr}
-use Rattle.std.proofs.lemmas.List.{length-replicate, get_or-replicate}
+use Rattle.std.proofs.Common.{◌≡◌, refl, ℕ, zero, suc, ◌<◌, lit<, length, map, replicate, Option, None, List, [], ◌∷◌, arith, false, inl, inr}
+use Rattle.std.proofs.lemmas.List.{length-replicate}
 use Rattle.std.specs.List.{AllByRecursion}
 use Rattle.std.proofs.lemmas.Bool.{false≢true, or_cases}
 use Rattle.k_types.specs.Names.{directory, name_eq}
@@ -13,13 +13,10 @@ use Rattle.k_types.specs.Bounds.{maximum_below}
 use Rattle.k_types.specs.Known.{IsKnownPhase}
 use Rattle.k_types.specs.Limits.{max_of}
 use Rattle.k_types.specs.State.{Content, ExitItem, Object, Refers, Scan, Sharing, opening}
-use Rattle.k_types.specs.Owners.{object_bytes}
 use Rattle.k_types.specs.Sound.{AreNumbered}
 use Rattle.k_frame.proofs.Sizes.{opening_sized}
-use Rattle.k_types.specs.Trace.{Trace}
-use Rattle.k_types.specs.Types.{object_size}
-use Rattle.k_state.proofs.Totals.{segment_first, segment_none, share_of}
-use Rattle.k_state.specs.Machines.{AreSetupRules, AreTotals, IsKept, IsPlain, segment_bytes}
+use Rattle.k_types.specs.Trace.{Trace, segment_count}
+use Rattle.k_state.specs.Machines.{AreSetupRules, AreTotals, IsKept, IsPlain, Machine}
 
 unmade_known : (setup : Trace) (n : ℕ) → AllByRecursion (IsKnownPhase setup) (replicate n Unmade)
 unmade_known setup zero = tt
@@ -49,36 +46,17 @@ opening_is_plain setup rules = record {
   maxima = small_maxima setup.limits rules.limits.small;
 }
 
-opening_totals : (setup : Trace) → AreTotals (opening setup).objects (object_size setup.dir_fields ∷ replicate (length setup.procs + setup.shared_heaps) 0)
-opening_totals setup zero inside =
-    let o : Object = record { name = directory; ty = None; fields = replicate setup.dir_fields (Refers None) } in
-    let first = segment_first o [] 0 in
-    let long = length-replicate {A = Content} setup.dir_fields (Refers None) in
-    omega (arith, first, segment_none 0, long)
-opening_totals setup (suc seg) inside =
-    let o : Object = record { name = directory; ty = None; fields = replicate setup.dir_fields (Refers None) } in
-    let n = length setup.procs + setup.shared_heaps in
-    let first = segment_first o [] (suc seg) in
-    let low : seg < n = omega (arith, inside, length-replicate {A = ℕ} n 0) in
-    let out : share_of o (suc seg) ≡ 0 = ap (λ b. cond b (object_bytes o) 0) (ne_eqb 0 (suc seg) (λ e. absurd (omega (arith, e)))) in
-    let nothing : segment_bytes (o ∷ []) (suc seg) ≡ 0 = omega (arith, first, out, segment_none (suc seg)) in
-    get_or-replicate {A = ℕ} n seg 0 0 low ∙ sym nothing
-
--- with the total of the directory beside
-pub opening_is_kept : (setup : Trace) → AreSetupRules setup →
-    IsKept (record { setup = setup; state = opening setup }) (object_size setup.dir_fields ∷ replicate (length setup.procs + setup.shared_heaps) 0)
-opening_is_kept setup rules = record {
-  plain = opening_is_plain setup rules;
-  counted = omega (arith, length-replicate {A = ℕ} (length setup.procs + setup.shared_heaps) 0);
-  bytes = opening_totals setup;
-}
+-- with the bytes of each segment beside
+opening_is_kept : (setup : Trace) (totals : List ℕ) → AreSetupRules setup → length totals ≡ segment_count setup → AreTotals (opening setup).objects totals →
+    IsKept (record { setup = setup; state = opening setup }) totals
+opening_is_kept setup totals rules counted are = record { plain = opening_is_plain setup rules; counted = counted; bytes = are }
 
 -- what has the lists of the opening state has its shape
 pub opening_from : (setup setup' : Trace) (objects : List Object) (made : List ℕ) (registers : List (List (Option Name))) (done : List ℕ)
     (exits : List ExitItem) (shares : List Sharing) (phases : List Phase) (ended : List ℕ) (scans : List Scan) (maxima totals : List ℕ) → AreSetupRules setup' →
     setup ≡ setup' → objects ≡ (opening setup').objects → made ≡ (opening setup').made → registers ≡ (opening setup').registers → done ≡ (opening setup').done →
     exits ≡ [] → shares ≡ [] → phases ≡ (opening setup').phases → ended ≡ [] → scans ≡ [] → maxima ≡ (opening setup').maxima →
-    totals ≡ object_size setup'.dir_fields ∷ replicate (length setup'.procs + setup'.shared_heaps) 0 →
+    length totals ≡ segment_count setup' → AreTotals (opening setup').objects totals →
     IsKept (record {
       setup = setup;
       state = record {
@@ -95,5 +73,28 @@ pub opening_from : (setup setup' : Trace) (objects : List Object) (made : List �
         maxima = maxima;
       };
     }) totals
-opening_from setup setup' objects made registers done exits shares phases ended scans maxima totals rules a b d e f g h i j k l m =
-    rw (a, b, d, e, f, g, h, i, j, k, l, m) (opening_is_kept setup' rules)
+opening_from setup setup' objects made registers done exits shares phases ended scans maxima totals rules a b d e f g h i j k l counted are =
+    rw (a, b, d, e, f, g, h, i, j, k, l) (opening_is_kept setup' totals rules counted are)
+
+-- and is that state
+pub opening_shown : (setup setup' : Trace) (objects : List Object) (made : List ℕ) (registers : List (List (Option Name))) (done : List ℕ)
+    (exits : List ExitItem) (shares : List Sharing) (phases : List Phase) (ended : List ℕ) (scans : List Scan) (maxima : List ℕ) →
+    setup ≡ setup' → objects ≡ (opening setup').objects → made ≡ (opening setup').made → registers ≡ (opening setup').registers → done ≡ (opening setup').done →
+    exits ≡ [] → shares ≡ [] → phases ≡ (opening setup').phases → ended ≡ [] → scans ≡ [] → maxima ≡ (opening setup').maxima →
+    ◌≡◌ {A = Machine} (record {
+      setup = setup;
+      state = record {
+        objects = objects;
+        made = made;
+        registers = registers;
+        done = done;
+        exits = exits;
+        shares = shares;
+        phases = phases;
+        ended = ended;
+        scans = scans;
+        closed = false;
+        maxima = maxima;
+      };
+    }) (record { setup = setup'; state = opening setup' })
+opening_shown setup setup' objects made registers done exits shares phases ended scans maxima a b d e f g h i j k l = rw (a, b, d, e, f, g, h, i, j, k, l) refl

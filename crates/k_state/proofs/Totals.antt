@@ -1,5 +1,5 @@
 -- The bytes of segments, and of heaps by their segments.
-use Rattle.std.proofs.Common.{◌≡◌, ℕ, zero, suc, ◌+◌, ◌*◌, ◌<◌, ◌≤◌, ◌==◌, ◌&&◌, nat_lt, Bool, true, false, cond, refl, ap, ap₂, sym, ◌∙◌, inl, inr, List, [], ◌∷◌, ◌++◌, length, map, filter, take, drop, get_or, set, arith, eq-eqb, ne_eqb, length-set, get_or-set_same, get_or-set_other}
+use Rattle.std.proofs.Common.{◌≡◌, ◌≢◌, ℕ, zero, suc, ◌+◌, ◌*◌, ◌<◌, ◌≤◌, ◌==◌, ◌&&◌, nat_lt, Bool, true, false, cond, refl, ap, ap₂, sym, ◌∙◌, inl, inr, List, [], ◌∷◌, ◌++◌, length, map, filter, take, drop, get_or, set, arith, eq-eqb, ne_eqb, length-set, get_or-set_same, get_or-set_other}
 use Rattle.std.proofs.lemmas.Bool.{cases_eq}
 use Rattle.std.specs.List.{AllByRecursion}
 use Rattle.k_types.specs.Totals.{total}
@@ -14,6 +14,7 @@ use Rattle.std.proofs.Math.Seq.{take-append_seam}
 use Rattle.k_base.proofs.Lists.{get_or-set_cases}
 use Rattle.k_base.proofs.Objects.{written_name}
 use Rattle.k_state.specs.Machines.{AreTotals, IsDeclared, segment_bytes}
+use Rattle.k_state.specs.Segments.{objects_in}
 use Rattle.k_state.proofs.Sums.{total_filter}
 use Rattle.k_frame.proofs.Bytes.{object_bytes-written}
 
@@ -221,6 +222,21 @@ small_after totals s n bytes bound small is there few seg inside =
     elim (get_or-set_cases totals s seg (n + bytes) 0) [
       | inl same ↦ let was = small seg (omega (arith, inside, length-set totals s (n + bytes))) in omega (arith, was, same)
       | inr here ↦ let was = small s there in omega (arith, was, here.1, is, few)
+    ]
+
+-- and after a segment keeps some of its objects
+pub totals_kept : (old new : List Object) (totals : List ℕ) (s : ℕ) → AreTotals old totals → ((k : ℕ) → k ≢ s → objects_in new k ≡ objects_in old k) →
+    AreTotals new (set totals s (total object_bytes (objects_in new s)))
+unfolding segment_bytes
+totals_kept old new totals s are others seg inside =
+    let v = total object_bytes (objects_in new s) in
+    let long = length-set totals s v in
+    elim (cases_eq seg s) [
+      | inl e ↦
+          ap (λ k. get_or (set totals s v) k 0) e
+          ∙ get_or-set_same totals s v 0 (omega (arith, inside, long, e))
+          ∙ ap (λ k. total object_bytes (objects_in new k)) (sym e)
+      | inr ne ↦ get_or-set_other totals s seg v 0 ne ∙ are seg (omega (arith, inside, long)) ∙ ap (total object_bytes) (sym (others seg ne))
     ]
 
 pub written_back : (xs ys : List ℕ) (n : ℕ) → n ≡ length ys → length xs ≡ length ys → take n (xs ++ drop (length xs) ys) ≡ xs

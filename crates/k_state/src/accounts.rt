@@ -39,9 +39,9 @@ impl PlainLists {
         ensures small { result ≤ 2 ^ 40 }
     {
         let mut sum = 0;
-        for seg in 0..self.totals.len() {
+        for seg in 0..self.segments.count() {
             if is_same_heap(self.owner(Seg(seg as u32)), heap) {
-                sum += self.totals[seg];
+                sum += self.segments.bytes(seg);
             }
         }
         sum
@@ -54,8 +54,8 @@ impl PlainLists {
         ensures sum { result ≡ bytes_of self.now.setup self.now.state heap }
         ensures small { result ≤ 2 ^ 40 }
     {
-        if seg < self.totals.len() && is_same_heap(self.owner(Seg(seg as u32)), heap) {
-            self.totals[seg]
+        if seg < self.segments.count() && is_same_heap(self.owner(Seg(seg as u32)), heap) {
+            self.segments.bytes(seg)
         } else {
             0
         }

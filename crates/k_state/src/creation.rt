@@ -9,7 +9,6 @@ ghost use Rattle.k_types.specs.Updates.{create, next_name};
 
 use crate::lists::PlainLists;
 use crate::objects::{FieldValue, PlainObject};
-use crate::ordered::place_of;
 use k_io::NoMemory;
 use k_types::{Field, MOST_FIELDS, Name, Seg, Serial, TypeId, TypeTable};
 use std::alloc::Global;
@@ -42,7 +41,7 @@ fn fresh_fields(alloc: Global, types: &TypeTable, ty: TypeId) -> Result<Vec<Fiel
 }
 
 impl PlainLists {
-    /// Makes the segment's next object, of the type, and gives its name. Moves the objects that come after it. `NoMemory` comes
+    /// Makes the segment's next object, of the type, and gives its name. It is put at the end of its segment. `NoMemory` comes
     /// where the object finds no memory, and leaves the state as it was.
     pub fn create(&mut self, alloc: Global, seg: Seg, ty: TypeId) -> Result<Name, NoMemory>
         requires seg { seg.0 < segment_count self.old.setup }
@@ -54,21 +53,19 @@ impl PlainLists {
         ensures err { OnErr result (self.new ≡ self.old) }
     {
         let made = self.made[seg.0 as usize];
+        let next = made + 1;
         let fields = fresh_fields(alloc, &self.setup.types, ty)?;
         let name = Name {
             seg,
-            serial: Serial(made + 1),
+            serial: Serial(next),
         };
         let object = PlainObject {
             name,
             ty: Some(ty),
             fields,
         };
-        let size = object.size();
-        let at = place_of(&self.objects, name);
-        self.objects.insert(at, object)?;
-        self.made[seg.0 as usize] = made + 1;
-        self.totals[seg.0 as usize] += size;
+        self.segments.push(object)?;
+        self.made[seg.0 as usize] = next;
         Ok(name)
     }
 }

@@ -21,6 +21,7 @@ mod owners;
 mod readers;
 mod registers;
 mod rooms;
+mod segments;
 mod stills;
 mod turning;
 mod updates;

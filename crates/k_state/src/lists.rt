@@ -1,18 +1,19 @@
 //! The lists of a state, and the shape that they keep.
 
 use crate::items::{ExitItem, Scan, Share};
-use crate::objects::PlainObject;
 use crate::registers::Registers;
+use crate::segments::Segments;
 use k_types::{Phase, Setup};
 use std::marker::Model;
 
 /// A state of the machine over plain lists, with the setup of its trace.
 ///
 /// Contracts see the setup, as the trace that has it and no operations, and the machine's state. Objects stand in the order of
-/// their names. The invariant is the shape of the lists alone.
+/// their names, each in the list of its segment. The invariant is the shape of the lists alone.
 pub struct PlainLists {
     pub(crate) setup: Setup,
-    pub(crate) objects: Vec<PlainObject>,
+    // The objects of each segment, with their bytes.
+    pub(crate) segments: Segments,
     pub(crate) made: Vec<u32>,
     pub(crate) registers: Vec<Registers>,
     pub(crate) done: Vec<u32>,
@@ -23,15 +24,13 @@ pub struct PlainLists {
     pub(crate) scans: Vec<Scan>,
     pub(crate) closed: bool,
     pub(crate) maxima: Vec<u64>,
-    // The bytes of the objects of each segment.
-    pub(crate) totals: Vec<u64>,
 }
 
 impl Drop for PlainLists {
     fn drop(self) {
         let PlainLists {
             setup: _,
-            objects: _,
+            segments: _,
             made: _,
             registers: _,
             done: _,
@@ -42,7 +41,6 @@ impl Drop for PlainLists {
             scans: _,
             closed: _,
             maxima: _,
-            totals: _,
         } = self;
     }
 }
@@ -57,7 +55,7 @@ impl Model for PlainLists {
     ghost view = { λ s. record {
       setup = trace_of s.setup [] [];
       state = record {
-        objects = s.objects.items;
+        objects = s.segments.objects;
         made = s.made.items;
         registers = s.registers.items;
         done = s.done.items;
@@ -74,7 +72,7 @@ impl Model for PlainLists {
     ghost invariant = { λ s. IsKept (record {
       setup = trace_of s.setup [] [];
       state = record {
-        objects = s.objects.items;
+        objects = s.segments.objects;
         made = s.made.items;
         registers = s.registers.items;
         done = s.done.items;
@@ -86,5 +84,5 @@ impl Model for PlainLists {
         closed = s.closed;
         maxima = s.maxima.items;
       };
-    }) s.totals.items };
+    }) s.segments.totals };
 }

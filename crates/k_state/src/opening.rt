@@ -4,27 +4,27 @@ ghost use Rattle.k_state.specs.Machines.{AreSetupRules, Machine};
 ghost use Rattle.k_types.specs.Names.{directory};
 ghost use Rattle.k_types.specs.State.{opening, Refers};
 ghost use Rattle.k_types.specs.Trace.{trace_of};
-ghost use Rattle.k_types.specs.Types.{object_size};
 
 use crate::lists::PlainLists;
 use crate::objects::{FieldValue, PlainObject};
 use crate::registers::Registers;
+use crate::segments::Segments;
 use k_io::NoMemory;
-use k_types::{LimitRow, Name, Phase, Seg, Serial, Setup, object_size};
+use k_types::{LimitRow, Name, Phase, Seg, Serial, Setup};
 use std::alloc::Global;
 
 impl PlainLists {
     /// The machine's opening state, with a copy of the setup. `NoMemory` comes where the lists find no memory.
-    #[tactic(auto, using(crate::proofs::Openings::opening_is_kept))]
     pub fn opening(alloc: Global, setup: &Setup) -> Result<PlainLists, NoMemory>
         requires { AreSetupRules (trace_of setup.now [] []) }
         ensures { IfOk result (λ s. s ≡ record { setup = trace_of setup.now [] []; state = opening (trace_of setup.now [] []) }) }
     {
         let procs = setup.procs.len();
         let shared = setup.shared as usize;
+        let objects = first_objects(alloc, setup.dir_fields as usize)?;
         Ok(PlainLists {
             setup: copy_of(alloc, setup)?,
-            objects: first_objects(alloc, setup.dir_fields as usize)?,
+            segments: Segments::of(alloc, 1 + procs + shared, objects)?,
             made: first_counts(alloc, procs + shared)?,
             registers: null_registers(alloc, procs)?,
             done: vec![in alloc; 0; procs]?,
@@ -35,7 +35,6 @@ impl PlainLists {
             scans: Vec::new(alloc),
             closed: false,
             maxima: maxima_of(alloc, &setup.limits)?,
-            totals: first_totals(alloc, setup.dir_fields, procs + shared)?,
         })
     }
 }
@@ -80,16 +79,6 @@ fn first_counts(alloc: Global, others: usize) -> Result<Vec<u32>, NoMemory>
     let mut made = vec![in alloc; 0; others + 1]?;
     made[0] = 1;
     Ok(made)
-}
-
-// The bytes of the directory in the kernel's segment, and none in the others.
-fn first_totals(alloc: Global, fields: u32, others: usize) -> Result<Vec<u64>, NoMemory>
-    requires { others ≤ 128 }
-    ensures { IfOk result (λ v. v.items ≡ object_size fields ∷ replicate others 0) }
-{
-    let mut totals = vec![in alloc; 0; others + 1]?;
-    totals[0] = object_size(fields);
-    Ok(totals)
 }
 
 pub(crate) fn null_registers(alloc: Global, procs: usize) -> Result<Vec<Registers>, NoMemory>

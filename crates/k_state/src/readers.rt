@@ -2,6 +2,7 @@
 ghost use Rattle.std.specs.Prelude.{◌≡◌, ◌<◌, ◌-◌, ◌^◌, [], not, option_copied, option_map, slice_index_or, length, IfSome, IfNone, IsFalse};
 ghost use Rattle.k_state.specs.Machines.{IsPlain};
 ghost use Rattle.k_state.specs.Places.{IsNamedAt};
+ghost use Rattle.k_state.specs.Segments.{objects_in};
 ghost use Rattle.k_types.specs.Known.{IsKnownPhase};
 ghost use Rattle.k_types.specs.Names.{among};
 ghost use Rattle.k_types.specs.Owners.{phase_of};
@@ -12,7 +13,6 @@ ghost use Rattle.k_types.specs.Updates.{next_name};
 use crate::items::{ExitItem, Scan, Share, has_exit, has_share, is_among};
 use crate::lists::PlainLists;
 use crate::objects::PlainObject;
-use crate::ordered::{find, index_of};
 use k_types::{Heap, LimitId, Name, Phase, Pid, Reg, Seg, Serial, Setup, SharedId, TypeId};
 
 impl PlainLists {
@@ -109,26 +109,35 @@ impl PlainLists {
         }
     }
 
-    /// The objects, in the order of their names.
-    pub fn objects(&self) -> &[PlainObject]
-        ensures { result.now ≡ self.now.state.objects }
+    /// How many segments there are: the kernel's, one for each process and one for each shared heap.
+    pub fn segment_count(&self) -> u32
+        ensures { result ≡ segment_count self.now.setup }
     {
-        &self.objects
+        1 + self.setup.procs.len() as u32 + self.setup.shared
     }
 
-    /// The object of that name, found by halving.
+    /// The objects of the segment, in the order of their names; none where there is no such segment. The segments' objects one
+    /// after another are all objects.
+    pub fn objects_in(&self, seg: Seg) -> &[PlainObject]
+        ensures { result.now ≡ objects_in self.now.state.objects seg.0 }
+    {
+        self.segments.all_in(seg)
+    }
+
+    /// The object of that name, found by halving in its segment.
     pub fn object(&self, name: Name) -> Option<&PlainObject>
         ensures { option_copied result ≡ object_at self.now.state.objects name }
     {
-        find(&self.objects, name)
+        self.segments.find(name)
     }
 
-    /// The index of the object of that name, found by halving.
+    /// The place of the object of that name among those of its segment, found by halving.
     pub fn index_of(&self, name: Name) -> Option<usize>
-        ensures some { IfSome result (λ k. IsNamedAt self.now.state.objects k name) }
+        ensures some { IfSome result (λ k. IsNamedAt (objects_in self.now.state.objects name.seg.0) k name) }
+        ensures known { IfSome result (λ k. name.seg.0 < segment_count self.now.setup) }
         ensures none { IfNone result (IsFalse (has self.now.state.objects name)) }
     {
-        index_of(&self.objects, name)
+        self.segments.index_of(name)
     }
 
     /// Whether the process has not ended.

@@ -6,11 +6,11 @@ ghost use Rattle.k_types.specs.Trace.{process_count, trace_of};
 ghost use Rattle.k_types.specs.Updates.{set_register};
 
 use crate::items::{ExitItem, Share};
-use crate::keeping::recount;
 use crate::lists::PlainLists;
 use crate::objects::PlainObject;
 use crate::opening::{copy_of, null_registers};
 use crate::registers::Registers;
+use crate::segments::Segments;
 use k_io::{NoMemory, push};
 use k_types::{Name, Phase, Pid, Reg, Setup};
 use std::alloc::Global;
@@ -155,18 +155,17 @@ impl StillState {
 }
 
 impl PlainLists {
-    /// The machine with a copy of the setup, in the state that was given. `NoMemory` comes where the copy or the totals find no
-    /// memory.
+    /// The machine with a copy of the setup, in the state that was given. `NoMemory` comes where the copy or the lists of the segments
+    /// find no memory.
     pub fn of(alloc: Global, setup: &Setup, state: StillState) -> Result<PlainLists, NoMemory>
         requires { IsPlain (record { setup = trace_of setup.now [] []; state = state }) }
         ensures { IfOk result (λ s. s ≡ record { setup = trace_of setup.now [] []; state = state }) }
     {
         let setup = copy_of(alloc, setup)?;
-        let mut totals = vec![in alloc; 0; 1 + setup.procs.len() + setup.shared as usize]?;
-        recount(&state.objects, &mut totals);
+        let count = 1 + setup.procs.len() + setup.shared as usize;
         Ok(PlainLists {
             setup,
-            objects: state.objects,
+            segments: Segments::of(alloc, count, state.objects)?,
             made: state.made,
             registers: state.registers,
             done: state.done,
@@ -177,7 +176,6 @@ impl PlainLists {
             scans: Vec::new(alloc),
             closed: false,
             maxima: state.maxima,
-            totals,
         })
     }
 }

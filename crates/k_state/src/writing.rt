@@ -7,7 +7,6 @@ ghost use Rattle.k_types.specs.Updates.{add_exit, write};
 use crate::items::{ExitItem, has_exit};
 use crate::lists::PlainLists;
 use crate::objects::FieldValue;
-use crate::ordered::index_of;
 use k_io::NoMemory;
 use k_types::{Heap, Name};
 
@@ -17,10 +16,7 @@ impl PlainLists {
         ensures setup { self.new.setup ≡ self.old.setup }
         ensures state { self.new.state ≡ write x field (content value) self.old.state }
     {
-        if let Some(k) = index_of(&self.objects, x) {
-            let object = &mut self.objects[k];
-            object.write(x, field as usize, value);
-        }
+        self.segments.write(x, field, value);
     }
 
     /// The heap has the exit item. `NoMemory` comes where it finds no memory, and leaves the state as it was.

@@ -1,11 +1,7 @@
-use Rattle.std.proofs.Common.{◌≡◌, ◌+◌, ◌≤◌, drop, filter, length}
-use Rattle.k_types.specs.Names.{heap_eq}
+use Rattle.std.proofs.Common.{◌≡◌, length}
 use Rattle.k_types.specs.Owners.{owner_of}
-use Rattle.k_plain.specs.Owned.{objects_owned}
+use Rattle.k_state.proofs.Pools.{pool_below}
 use Rattle.k_plain.proofs.counting.objects_of.Given as goal
 
-abbrev pub invariant-loop-object : goal.invariant-loop-object
-invariant-loop-object l = record {
-  few : l.count ≤ l.object-index;
-  counted : l.count + length (filter (λ o. heap_eq (owner_of l.lists.setup l.lists.state o.name.seg.0) l.heap) (drop l.object-index l.object-items)) ≡ length (objects_owned l.lists.setup l.lists.state l.heap);
-}
+abbrev pub invariant-loop-s : goal.invariant-loop-s
+invariant-loop-s l = l.count ≡ length (pool_below (owner_of l.lists.setup l.lists.state) l.heap l.lists.state.objects l.s)

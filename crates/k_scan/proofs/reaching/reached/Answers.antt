@@ -8,7 +8,7 @@ pub loop-waiting-init : goal.loop-waiting-init
 loop-waiting-init c =
     let m = c.args.lists.now in
     reaching_begins m.setup m.state c.args.heap c.args.roots.now c.in_ok-marks.marks c.begin.new.marks c.new-work.result.items c.begin.new.work.items
-    c.in_ok-marks.ensures c.new-work.ensures.items c.in_ok-begin.ensures
+    c.in_ok-marks.ensures.size c.in_ok-marks.ensures.none c.new-work.ensures.items c.in_ok-begin.ensures
 
 pub loop-waiting-preserved-in-Continue-branch-3 : goal.loop-waiting-preserved-in-Continue-branch-3
 loop-waiting-preserved-in-Continue-branch-3 c =
@@ -30,4 +30,4 @@ returns c =
     let m = c.args.lists.now in
     let reaching = λ (work : List Name). IsReaching m.setup m.state c.args.heap c.args.roots.now c.loop-waiting.marks work in
     let empty : c.loop-waiting.work.items ≡ [] = search rules in
-    c.into_list.ensures ∙ reaching_ends m.setup m.state c.args.heap c.args.roots.now c.loop-waiting.marks c.setup-setup.ensures.shape.names.ordered (subst reaching empty c.loop-waiting.invariant)
+    reaching_ends m.setup m.state c.args.heap c.args.roots.now c.loop-waiting.marks c.setup-setup.ensures.shape.names.ordered (subst reaching empty c.loop-waiting.invariant)

@@ -1,5 +1,4 @@
 use Rattle.std.proofs.Common.{◌≡◌, ◌+◌, ◌<◌, cond, true, ap, sym, ◌∙◌, subst, length, get_or, arith}
-use Rattle.std.proofs.lemmas.List.{get_or_read}
 use Rattle.k_types.specs.declared.names.Heap.{Heap}
 use Rattle.k_types.specs.Names.{heap_eq}
 use Rattle.k_types.specs.Owners.{owner_of}
@@ -16,10 +15,10 @@ overflow_add-sum c =
     let m = c.args.self.now in
     let h = c.args.heap in
     let seg = c.loop-seg.seg in
-    let totals = c.self.inside.totals.items in
+    let totals = c.self.inside.segments.totals in
     let kept : IsKept m totals = subst (λ (n : Machine). IsKept n totals) c.self.view_is c.self.invariant in
-    let inside : seg < length totals = omega (arith, c.loop-seg-test.true, c.len-seg-end.ensures) in
-    let given : c.index.result.now ≡ get_or totals seg 0 = get_or_read totals seg c.index.result.now inside c.index.ensures 0 in
+    let inside : seg < length totals = omega (arith, c.loop-seg-test.true, c.count-seg-end.ensures) in
+    let given : c.bytes-sum.result ≡ get_or totals seg 0 = c.bytes-sum.ensures in
     let owned : heap_eq (owner_of m.setup m.state seg) h ≡ true
     = ap (λ (g : Heap). heap_eq g h) (sym c.owner.ensures) ∙ sym c.is_same_heap.ensures ∙ c.if-is_same_heap.true in
     let next : bytes_below m h (seg + 1) ≡ bytes_below m h seg + get_or totals seg 0
@@ -32,15 +31,15 @@ loop-seg-preserved c =
     let m = c.args.self.now in
     let h = c.args.heap in
     let seg = c.loop-seg.seg in
-    let totals = c.self.inside.totals.items in
+    let totals = c.self.inside.segments.totals in
     let kept : IsKept m totals = subst (λ (n : Machine). IsKept n totals) c.self.view_is c.self.invariant in
-    let inside : seg < length totals = omega (arith, c.loop-seg-test.true, c.len-seg-end.ensures) in
+    let inside : seg < length totals = omega (arith, c.loop-seg-test.true, c.count-seg-end.ensures) in
     let next = bytes_next m totals h seg kept inside in
     let tested : heap_eq (owner_of m.setup m.state seg) h ≡ c.is_same_heap.result
     = ap (λ (g : Heap). heap_eq g h) (sym c.owner.ensures) ∙ sym c.is_same_heap.ensures in
     elim c.if-is_same_heap.branch [
       | then-is_same_heap w ↦
-          let given : w.index.result.now ≡ get_or totals seg 0 = get_or_read totals seg w.index.result.now inside w.index.ensures 0 in
+          let given : w.bytes-sum.result ≡ get_or totals seg 0 = w.bytes-sum.ensures in
           let add : cond (heap_eq (owner_of m.setup m.state seg) h) (get_or totals seg 0) 0 ≡ get_or totals seg 0
           = ap (λ b. cond b (get_or totals seg 0) 0) (tested ∙ w.if-is_same_heap.true) in
           omega (arith, next, given, add, w.sum-is, c.loop-seg.invariant)
@@ -53,15 +52,15 @@ loop-seg-preserved c =
 pub returns-clause-sum : goal.returns-clause-sum
 returns-clause-sum c =
     let m = c.args.self.now in
-    let totals = c.self.inside.totals.items in
+    let totals = c.self.inside.segments.totals in
     let kept : IsKept m totals = subst (λ (n : Machine). IsKept n totals) c.self.view_is c.self.invariant in
-    let end : c.loop-seg.seg ≡ length totals = omega (arith, c.loop-seg-test.false, c.loop-seg.auto.seg-end, c.len-seg-end.ensures) in
+    let end : c.loop-seg.seg ≡ length totals = omega (arith, c.loop-seg-test.false, c.loop-seg.auto.seg-end, c.count-seg-end.ensures) in
     c.loop-seg.invariant ∙ bytes_end m totals c.args.heap c.loop-seg.seg kept end
 
 pub returns-clause-small : goal.returns-clause-small
 returns-clause-small c =
     let m = c.args.self.now in
-    let totals = c.self.inside.totals.items in
+    let totals = c.self.inside.segments.totals in
     let kept : IsKept m totals = subst (λ (n : Machine). IsKept n totals) c.self.view_is c.self.invariant in
     let small = bytes_small m totals c.args.heap c.loop-seg.seg kept in
     omega (arith, small, c.loop-seg.invariant)

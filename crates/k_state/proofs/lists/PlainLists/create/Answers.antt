@@ -1,88 +1,91 @@
-use Rattle.std.proofs.Common.{◌≡◌, ℕ, ◌+◌, ◌<◌, ◌≤◌, ◌^◌, List, [], Some, map, ap, ap₂, subst, sym, ◌∙◌, length, get_or, set, insert, arith}
+use Rattle.std.proofs.Common.{◌≡◌, ℕ, ◌+◌, ◌<◌, ◌≤◌, ◌^◌, List, Some, map, ap, ap₂, subst, sym, ◌∙◌, length, get_or, set, refl, arith}
+use Rattle.std.specs.Prelude.{IsTrue}
+use Rattle.std.specs.List.{AllByRecursion}
+use Rattle.k_types.specs.Names.{name_lt}
+use Rattle.k_state.specs.Segments.{objects_in}
 use Rattle.std.proofs.lemmas.List.{get_or_read, length-map}
+use Rattle.k_types.specs.declared.names.Seg.{Seg}
+use Rattle.k_types.specs.declared.names.TypeId.{TypeId}
 use Rattle.k_types.specs.Owners.{object_bytes}
-use Rattle.k_types.specs.State.{Content, Object, State, fresh}
-use Rattle.k_types.specs.Trace.{kinds_of, segment_count, trace_of}
+use Rattle.k_types.specs.State.{Content, Object, fresh}
+use Rattle.k_types.specs.Trace.{kinds_of, segment_count}
 use Rattle.k_types.specs.Updates.{create, with_object}
 use Rattle.k_state.specs.Contents.{content}
-use Rattle.k_state.specs.Machines.{IsDeclared, Machine}
+use Rattle.k_state.specs.Machines.{IsDeclared, IsKept, Machine}
 use Rattle.k_state.proofs.Kept.{kept_placed}
-use Rattle.k_state.proofs.Placed.{placed_at}
+use Rattle.k_state.proofs.Split.{newest}
 use Rattle.k_state.proofs.Totals.{segment_small}
 use Rattle.k_state.proofs.lists.PlainLists.create.Goals as goal
 
-pub overflow_add-index_mut : goal.overflow_add-index_mut
-overflow_add-index_mut c =
+-- the object that is made
+abbrev made_object : Seg → TypeId → ℕ → List Content → Object
+made_object seg ty given fields = record { name = record { seg = seg; serial = record { 0 = given + 1 } }; ty = Some ty; fields = fields }
+
+module _ (m : Machine) (totals : List ℕ) (kept : IsKept m totals) (seg : Seg) (ty : TypeId) (given : ℕ) (fields : List Content)
+    (known : seg.0 < segment_count m.setup) (typed : ty.0 < length m.setup.types)
+    (read : given ≡ get_or m.state.made seg.0 given) (made : fields ≡ map fresh (kinds_of m.setup ty)) where
+  count : given ≡ get_or m.state.made seg.0 0
+  count = get_or_read m.state.made seg.0 given (omega (arith, kept.plain.sized.made, known)) read 0
+
+  few : length fields ≤ 16
+  few = omega (arith, ap (λ (cs : List Content). length cs) made, length-map (kinds_of m.setup ty) fresh, kept.plain.setup.fields ty)
+
+  is : IsDeclared m.setup (made_object seg ty given fields)
+  is = record { ty = typed; fields = few; seg = known }
+
+  last_of : AllByRecursion (λ (x : Object). IsTrue (name_lt x.name (made_object seg ty given fields).name)) (objects_in m.state.objects seg.0)
+  last_of = newest (made_object seg ty given fields) m.state.objects m.state.made kept.plain.names.numbered (omega (arith, count))
+
+  room_of : 1 + length m.state.objects < 2 ^ 32 → get_or totals seg.0 0 + object_bytes (made_object seg ty given fields) < 2 ^ 64
+  room_of room =
+      let sum = kept.bytes seg.0 (omega (arith, kept.counted, known)) in
+      let small = segment_small m.setup m.state.objects seg.0 kept.plain.declared in
+      omega (arith, sum, small, few, room)
+
+  kept_of : (objects : List Object) (totals' : List ℕ) → 1 + length m.state.objects < 2 ^ 32 → objects ≡ with_object (made_object seg ty given fields) m.state.objects →
+      totals' ≡ set totals seg.0 (get_or totals seg.0 0 + object_bytes (made_object seg ty given fields)) →
+      IsKept (record m { state = record m.state { objects = objects; made = set m.state.made seg.0 (given + 1) } }) totals'
+  kept_of objects totals' room placed counted =
+      let next : given + 1 ≡ get_or m.state.made seg.0 0 + 1 = ap (λ k. k + 1) count in
+      kept_placed m totals totals' (made_object seg ty given fields) objects (set m.state.made seg.0 (given + 1)) (get_or totals seg.0 0) kept room is next refl placed
+      (ap (set m.state.made seg.0) next) counted
+
+  state_of : (objects : List Object) → objects ≡ with_object (made_object seg ty given fields) m.state.objects →
+      record m.state { objects = objects; made = set m.state.made seg.0 (given + 1) } ≡ create seg.0 ty (kinds_of m.setup ty) m.state
+  unfolding create
+  state_of objects placed =
+      ap₂ (λ xs n. record m.state { objects = xs; made = set m.state.made seg.0 (n + 1) })
+      (placed ∙ ap₂ (λ n fs. with_object (made_object seg ty n fs) m.state.objects) count made) count
+
+pub push-requires-clause-last : goal.push-requires-clause-last
+push-requires-clause-last c =
     let i = c.self.inside in
-    let seg = c.args.seg.0 in
-    let n = c.index_mut-2.result.now in
-    let known : seg < segment_count (trace_of i.setup [] []) = subst (λ (m : Machine). seg < segment_count m.setup) (sym c.self.view_is) c.requires.seg in
-    let inside : seg < length i.totals.items = omega (arith, c.self.invariant.counted, known) in
-    let total : n ≡ get_or i.totals.items seg 0 = get_or_read i.totals.items seg n inside c.index_mut-2.ensures.value 0 in
-    let sum = c.self.invariant.bytes seg inside in
-    let small = segment_small (trace_of i.setup [] []) i.objects.items seg c.self.invariant.plain.declared in
-    omega (arith, total, sum, small, c.self.invariant.plain.few, c.size-size.ensures.small)
+    let known = subst (λ (m : Machine). c.args.seg.0 < segment_count m.setup) (sym c.self.view_is) c.requires.seg in
+    let typed = subst (λ (m : Machine). c.args.ty.0 < length m.setup.types) (sym c.self.view_is) c.requires.ty in
+    last_of _ i.segments.totals c.self.invariant c.args.seg c.args.ty c.index-made.result.now (map content c.in_ok-fields.fields.items) known typed c.index-made.ensures c.in_ok-fields.ensures
+
+pub push-requires-clause-room : goal.push-requires-clause-room
+push-requires-clause-room c =
+    let i = c.self.inside in
+    let known = subst (λ (m : Machine). c.args.seg.0 < segment_count m.setup) (sym c.self.view_is) c.requires.seg in
+    let typed = subst (λ (m : Machine). c.args.ty.0 < length m.setup.types) (sym c.self.view_is) c.requires.ty in
+    let room : 1 + length i.segments.objects < 2 ^ 32 = subst (λ (m : Machine). 1 + length m.state.objects < 2 ^ 32) (sym c.self.view_is) c.requires.room.objects in
+    room_of _ i.segments.totals c.self.invariant c.args.seg c.args.ty c.index-made.result.now (map content c.in_ok-fields.fields.items) known typed c.index-made.ensures c.in_ok-fields.ensures room
 
 pub invariant_of-self-2 : goal.invariant_of-self-2
 invariant_of-self-2 c =
     let i = c.self.inside in
-    let seg = c.args.seg.0 in
-    let setup = trace_of i.setup [] [] in
-    let objects = i.objects.items in
-    let made = i.made.items in
-    let totals = i.totals.items in
-    let n = c.index_mut-2.result.now in
-    let given = c.index-made.result.now in
-    let o : Object = record { name = record { seg = c.args.seg; serial = record { 0 = given + 1 } }; ty = Some c.args.ty; fields = map content c.in_ok-fields.fields.items } in
-    let known : seg < segment_count setup = subst (λ (m : Machine). seg < segment_count m.setup) (sym c.self.view_is) c.requires.seg in
-    let ty : c.args.ty.0 < length setup.types = subst (λ (m : Machine). c.args.ty.0 < length m.setup.types) (sym c.self.view_is) c.requires.ty in
-    let room : 1 + length objects < 2 ^ 32 = subst (λ (m : Machine). 1 + length m.state.objects < 2 ^ 32) (sym c.self.view_is) c.requires.room.objects in
-    let count : given ≡ get_or made seg 0 = get_or_read made seg given (omega (arith, c.self.invariant.plain.sized.made, known)) c.index-made.ensures 0 in
-    let total : n ≡ get_or totals seg 0 = get_or_read totals seg n (omega (arith, c.self.invariant.counted, known)) c.index_mut-2.ensures.value 0 in
-    let fields : map content c.in_ok-fields.fields.items ≡ map fresh (kinds_of setup c.args.ty) = c.in_ok-fields.ensures in
-    let few : length o.fields ≤ 16
-    = omega (arith, ap (λ (cs : List Content). length cs) fields, length-map (kinds_of setup c.args.ty) fresh, c.self.invariant.plain.setup.fields c.args.ty) in
-    let is : IsDeclared setup o = record { ty = ty; fields = few; seg = known } in
-    let placed : c.insert.new.self.items ≡ with_object o objects
-    = c.in_ok-insert.ensures.items
-    ∙ ap (λ xs. insert xs c.place_of-at.result o) (sym c.deref.ensures.value)
-    ∙ sym (placed_at o c.deref.result.now c.place_of-at.result c.place_of-at.ensures)
-    ∙ ap (with_object o) c.deref.ensures.value in
-    let next : given + 1 ≡ get_or made seg 0 + 1 = ap (λ k. k + 1) count in
-    let size : c.size-size.result ≡ object_bytes o = c.size-size.ensures.size in
-    kept_placed _ totals (set totals seg (n + c.size-size.result)) o c.insert.new.self.items (set made seg (given + 1)) n c.self.invariant
-    room is next total placed (ap (set made seg) next) (ap (λ k. set totals seg (n + k)) size)
+    let known = subst (λ (m : Machine). c.args.seg.0 < segment_count m.setup) (sym c.self.view_is) c.requires.seg in
+    let typed = subst (λ (m : Machine). c.args.ty.0 < length m.setup.types) (sym c.self.view_is) c.requires.ty in
+    let room : 1 + length i.segments.objects < 2 ^ 32 = subst (λ (m : Machine). 1 + length m.state.objects < 2 ^ 32) (sym c.self.view_is) c.requires.room.objects in
+    kept_of _ i.segments.totals c.self.invariant c.args.seg c.args.ty c.index-made.result.now (map content c.in_ok-fields.fields.items) known typed c.index-made.ensures c.in_ok-fields.ensures
+    c.push.new.self.objects c.push.new.self.totals room c.in_ok-push.ensures.objects c.in_ok-push.ensures.totals
 
 pub returns-clause-ok : goal.returns-clause-ok
-unfolding create
 returns-clause-ok c =
     let i = c.self.inside in
-    let seg = c.args.seg.0 in
-    let objects = i.objects.items in
-    let known : seg < segment_count (trace_of i.setup [] []) = subst (λ (m : Machine). seg < segment_count m.setup) (sym c.self.view_is) c.requires.seg in
-    let inside : seg < length i.made.items = omega (arith, c.self.invariant.plain.sized.made, known) in
-    let given : c.index-made.result.now ≡ get_or i.made.items seg 0 = get_or_read i.made.items seg _ inside c.index-made.ensures 0 in
-    let fields : map content c.in_ok-fields.fields.items ≡ map fresh (kinds_of (trace_of i.setup [] []) c.args.ty) = c.in_ok-fields.ensures in
-    let object : ℕ → List Content → Object = λ n fs. record { name = record { seg = c.args.seg; serial = record { 0 = n + 1 } }; ty = Some c.args.ty; fields = fs } in
-    let o : Object = object c.index-made.result.now (map content c.in_ok-fields.fields.items) in
-    let placed : c.insert.new.self.items ≡ with_object o objects
-    = c.in_ok-insert.ensures.items
-    ∙ ap (λ xs. insert xs c.place_of-at.result o) (sym c.deref.ensures.value)
-    ∙ sym (placed_at o c.deref.result.now c.place_of-at.result c.place_of-at.ensures)
-    ∙ ap (with_object o) c.deref.ensures.value in
-    let there : c.insert.new.self.items ≡ with_object (object (get_or i.made.items seg 0) (map fresh (kinds_of (trace_of i.setup [] []) c.args.ty))) objects
-    = placed ∙ ap₂ (λ n fs. with_object (object n fs) objects) given fields in
-    let after : List Object → ℕ → State = λ xs n. record {
-      objects = xs;
-      made = set i.made.items seg (n + 1);
-      registers = i.registers.items;
-      done = i.done.items;
-      exits = i.exits.items;
-      shares = i.shares.items;
-      phases = i.phases.items;
-      ended = i.ended.items;
-      scans = i.scans.items;
-      closed = i.closed;
-      maxima = i.maxima.items;
-    } in
-    rw (← c.self.view_is) (ap₂ after there given)
+    let known = subst (λ (m : Machine). c.args.seg.0 < segment_count m.setup) (sym c.self.view_is) c.requires.seg in
+    let typed = subst (λ (m : Machine). c.args.ty.0 < length m.setup.types) (sym c.self.view_is) c.requires.ty in
+    rw (← c.self.view_is)
+    (state_of _ i.segments.totals c.self.invariant c.args.seg c.args.ty c.index-made.result.now (map content c.in_ok-fields.fields.items) known typed c.index-made.ensures c.in_ok-fields.ensures
+    c.push.new.self.objects c.in_ok-push.ensures.objects)

@@ -1,0 +1,30 @@
+use Rattle.std.proofs.Common.{◌≤◌, ap, sym, ◌∙◌, arith}
+use Rattle.std.specs.List.{list_all}
+use Rattle.k_types.specs.Trace.{segment_count}
+use Rattle.k_types.specs.Owners.{owner_of}
+use Rattle.k_audit.specs.Tests.{object_fits}
+use Rattle.k_audit.proofs.Rests.{rest_fails, rest_first, rest_last, rest_passes}
+use Rattle.k_audit.proofs.remains.objects_fit.Goals as goal
+
+pub loop-s-init : goal.loop-s-init
+loop-s-init c = let m = c.args.lists.now in rest_first (object_fits (owner_of m.setup m.state) m.state.phases) m.state.objects
+
+pub returns-then-not-all_fit : goal.returns-then-not-all_fit
+returns-then-not-all_fit c =
+    let m = c.args.lists.now in
+    let p = object_fits (owner_of m.setup m.state) m.state.phases in
+    sym (c.loop-s.invariant
+    ∙ rest_fails p m.state.objects c.loop-s.s c.all_fit.result c.setup-shape.ensures.shape.names.ordered (c.all_fit.ensures ∙ ap (list_all p) c.objects_in.ensures) c.if-not-all_fit.true)
+
+pub loop-s-preserved : goal.loop-s-preserved
+loop-s-preserved c =
+    let m = c.args.lists.now in
+    let p = object_fits (owner_of m.setup m.state) m.state.phases in
+    c.loop-s.invariant
+    ∙ rest_passes p m.state.objects c.loop-s.s c.all_fit.result c.setup-shape.ensures.shape.names.ordered (c.all_fit.ensures ∙ ap (list_all p) c.objects_in.ensures) c.if-not-all_fit.false
+
+pub returns : goal.returns
+returns c =
+    let m = c.args.lists.now in
+    let past : segment_count m.setup ≤ c.loop-s.s = omega (arith, c.loop-s-test.false, c.segment_count-s-end.ensures) in
+    sym (c.loop-s.invariant ∙ rest_last (object_fits (owner_of m.setup m.state) m.state.phases) m.state.objects m.setup c.loop-s.s past c.setup-shape.ensures.shape.declared)
