@@ -5,6 +5,7 @@ pub mod Lists
 pub mod Seen
 pub mod Marks
 pub mod Moved
+pub mod Keeps
 pub mod Carried
 pub mod Rooted
 pub use Rattle.k_agree.proofs.Openings

@@ -305,6 +305,12 @@ swept_seen bound bytes Begun a new e note kept marked is = absurd (cc)
 swept_seen bound bytes Marked a new e note kept marked is =
     same_holdings note bound (swept_value bound bytes a new e.items kept is) (ap (λ (x : AreaValue). x.room) is) (rooms_swept bound bytes a new e.items kept is) refl
 
+-- an exit item added
+pub added_kept : (bound bytes : ℕ) (phase : CellPhase) (a : AreaValue) (items others : List ExitRow) → AreHoldings bound bytes phase a items → phase ≡ Idle → AreHoldings bound bytes phase a others
+added_kept bound bytes Idle a items others kept idle = record { numbered = kept.numbered; begun = kept.begun; weighed = kept.weighed; marks = tt }
+added_kept bound bytes Begun a items others kept idle = absurd (cc)
+added_kept bound bytes Marked a items others kept idle = absurd (cc)
+
 -- an exit item taken
 module _ (bound : ℕ) (a : AreaValue) (e after : ExitList) (link : Link) (row : ExitRow) (taken : IsTaken e after link row) where
   named_left : (m : Name) → name_among m (targets after.items) ≡ (name_among m (targets e.items) && not (name_eq (name_of link) m))

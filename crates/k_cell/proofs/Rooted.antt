@@ -1,21 +1,24 @@
 -- Roots that are noted, and made gray later.
-use Rattle.std.proofs.Common.{◌≡◌, ◌⊎◌, ◌↔◌, ◌&&◌, ◌<◌, ℕ, zero, suc, nat_lt, true, false, refl, sym, ap, subst, ◌∙◌, inl, inr, not, List, [], ◌∷◌, ◌++◌, length, slice_get, Option, Some, None, is_some, option_map, lt-ltb}
+use Rattle.std.proofs.Common.{◌≡◌, ◌⊎◌, ◌↔◌, ◌&&◌, ◌<◌, ℕ, zero, suc, true, false, refl, sym, ap, subst, ◌∙◌, inl, inr, List, [], ◌∷◌, ◌++◌, length, slice_get, Option, Some, None, is_some}
 use Rattle.std.proofs.lemmas.Bool.{and_from, and_parts, false≢true, or_cases, or_left, or_right}
 use Rattle.std.proofs.lemmas.Option.{slice_get_within}
 use Rattle.k_types.specs.declared.names.Name.{Name}
 use Rattle.k_types.specs.Names.{name_among, name_eq}
 use Rattle.k_base.proofs.Lists.{some_one}
 use Rattle.k_base.proofs.NameTests.{name_eq-same, name_eq-true}
-use Rattle.k_space.specs.Segments.{Row, SegmentValue, unmarked_row, unmarked_segment}
-use Rattle.k_space.specs.Areas.{AreaValue, HasDistinct, black_at, fields_at, gray_at, grayed, is_foreign, row_of_name, segment_at, unmarked}
+use Rattle.k_space.specs.declared.bound.Bound.{Bound}
+use Rattle.k_space.specs.Bounds.{is_covered}
+use Rattle.k_space.specs.Segments.{Row, unmarked_row}
+use Rattle.k_space.specs.Areas.{AreaValue, HasDistinct, black_at, fields_at, gray_at, grayed, row_of_name, unmarked}
 use Rattle.k_mark.specs.Kept.{IsBeginning, IsExitFrom, IsKept, IsReachedFrom, old_at}
 use Rattle.k_mark.specs.Marking.{IsExit, IsReachedIn, lives_at, refers_at, some_lead_to}
 use Rattle.k_mark.specs.Reached.{IsReached}
-use Rattle.k_areas.proofs.Found.{at_map, same_distinct, unmarked_numbers}
+use Rattle.k_areas.proofs.Found.{same_distinct, unmarked_numbers}
 use Rattle.k_areas.proofs.Looked.{black_same, gray_one, row_unmarked}
 use Rattle.k_cell.specs.Looks.{row_fields, row_type}
 use Rattle.k_cell.specs.Rooted.{AreGrayBut, grayed_all}
-use Rattle.k_cell.proofs.Carried.{any_name, kept_from, marks_kept, old_lives, reached_same, unmarked_fields}
+use Rattle.k_cell.proofs.Carried.{any_name, foreign_alike, marks_kept, old_lives, unmarked_fields}
+use Rattle.k_cell.proofs.Keeps.{kept_from, reached_same}
 use Rattle.k_cell.proofs.Marks.{grayed_same}
 
 pub alike_distinct : (a b : AreaValue) → unmarked b ≡ unmarked a → HasDistinct a.segments → HasDistinct b.segments
@@ -82,16 +85,6 @@ fields_alike a b n same = sym (unmarked_fields b n) ∙ ap (λ (x : AreaValue). 
 pub refers_alike : (a b : AreaValue) (n m : Name) → unmarked b ≡ unmarked a → refers_at b n m ≡ refers_at a n m
 refers_alike a b n m same = ap (λ o. some_lead_to o m) (fields_alike a b n same)
 
-pub foreign_alike : (a b : AreaValue) (n : Name) → unmarked b ≡ unmarked a → is_foreign b n ≡ is_foreign a n
-foreign_alike a b n same = sym (plain b) ∙ ap (λ (x : AreaValue). is_foreign x n) same ∙ plain a
-  where
-    there : (o : Option SegmentValue) → not (is_some (option_map unmarked_segment o)) ≡ not (is_some o)
-    there None = refl
-    there (Some s) = refl
-
-    plain : (x : AreaValue) → is_foreign (unmarked x) n ≡ is_foreign x n
-    plain x = ap (λ (o : Option SegmentValue). not (is_some o)) (at_map unmarked_segment (λ s. refl) x.segments n.seg.0) ∙ there (segment_at x.segments n.seg.0)
-
 -- the colors of roots
 pub black_all : (a : AreaValue) (ns : List Name) (n : Name) → black_at (grayed_all a ns) n ≡ black_at a n
 black_all a [] n = refl
@@ -147,7 +140,7 @@ gray_noted a ns n clean none e =
     ]
 
 -- one more of the noted
-module _ (a now : AreaValue) (ns roots : List Name) (below : ℕ) (x : Name) (clean : (k : Name) → black_at a k ≡ false) (was : AreGrayBut a ns roots below now) where
+module _ (a now : AreaValue) (ns roots : List Name) (below : Bound) (x : Name) (clean : (k : Name) → black_at a k ≡ false) (was : AreGrayBut a ns roots below now) where
   clean_x : black_at (grayed_all a ns) x ≡ false
   clean_x = black_all a ns x ∙ clean x
 
@@ -178,7 +171,7 @@ module _ (a now : AreaValue) (ns roots : List Name) (below : ℕ) (x : Name) (cl
         ];
   }
 
-  pub one_known : name_among x roots ≡ true → x.serial.0 < below → AreGrayBut a (ns ++ x ∷ []) roots below now
+  pub one_known : name_among x roots ≡ true → is_covered below x ≡ true → AreGrayBut a (ns ++ x ∷ []) roots below now
   one_known among low = record {
     same = was.same;
     black = was.black;
@@ -186,7 +179,7 @@ module _ (a now : AreaValue) (ns roots : List Name) (below : ℕ) (x : Name) (cl
     rest = λ n e.
         elim (gray_parts (grayed_all a ns) x n clean_x (sym (pushed n) ∙ e)) [
           | inl h ↦ was.rest n h
-          | inr h ↦ inr (subst (λ (k : Name). (name_among k roots ≡ true) × (k.serial.0 < below)) (name_eq-true x n h.0) (among, low))
+          | inr h ↦ inr (subst (λ (k : Name). (name_among k roots ≡ true) × (is_covered below k ≡ true)) (name_eq-true x n h.0) (among, low))
         ];
   }
 
@@ -201,21 +194,21 @@ pub all_noted : (noted roots : List Name) → ((k : ℕ) (r : Name) → k < leng
 all_noted noted roots each n among = let at = any_name n roots among in each at.0 n (slice_get_within roots at.0 n at.1) at.1
 
 -- what marking begins with, where the roots of the last collection are all noted
-pub known_beginning : (a now : AreaValue) (noted roots : List Name) (below : ℕ) → ((k : Name) → black_at a k ≡ false) → AreGrayBut a noted roots below now →
+pub known_beginning : (a now : AreaValue) (noted roots : List Name) (below : Bound) → ((k : Name) → black_at a k ≡ false) → AreGrayBut a noted roots below now →
     ((n : Name) → name_among n roots ≡ true → name_among n noted ≡ true) → IsKept (old_at a below) (refers_at a) (λ n. name_among n roots) below → IsBeginning now below (gray_at (grayed_all a noted))
 known_beginning a now noted roots below clean but all kept = record {
   gray = but.gray;
   known = λ n s live.
       elim (but.rest n s) [
         | inl g ↦ inl g
-        | inr h ↦ inr (and_from (lives_at now n) (nat_lt n.serial.0 below) live (lt-ltb n.serial.0 below h.1))
+        | inr h ↦ inr (and_from (lives_at now n) (is_covered below n) live h.1)
       ];
   kept =
       marks_kept a now (gray_at (grayed_all a noted)) below but.same
       (kept_from (old_at a below) (refers_at a) (λ n. name_among n roots) (gray_at (grayed_all a noted)) below (λ n r o. noted_gray a noted n clean (all n r) (old_lives a below n o)) kept);
 }
 
-pub gray_beginning : (now seen : AreaValue) (below : ℕ) → now ≡ seen → IsKept (old_at now below) (refers_at now) (gray_at now) below → IsBeginning now below (gray_at seen)
+pub gray_beginning : (now seen : AreaValue) (below : Bound) → now ≡ seen → IsKept (old_at now below) (refers_at now) (gray_at now) below → IsBeginning now below (gray_at seen)
 gray_beginning now seen below is kept = subst (λ (x : AreaValue). IsBeginning now below (gray_at x)) is (record { gray = λ n e. e; known = λ n s live. inl s; kept = kept })
 
 -- the same is reached

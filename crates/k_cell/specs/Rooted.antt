@@ -1,7 +1,9 @@
 -- Roots that are noted before they are gray.
-use Rattle.std.specs.Prelude.{◌≡◌, ◌⊎◌, ◌<◌, ℕ, IsTrue, IsFalse, List, [], ◌∷◌}
+use Rattle.std.specs.Prelude.{◌≡◌, ◌⊎◌, IsTrue, IsFalse, List, [], ◌∷◌}
 use Rattle.k_types.specs.declared.names.Name.{Name}
 use Rattle.k_types.specs.Names.{name_among}
+use Rattle.k_space.specs.declared.bound.Bound.{Bound}
+use Rattle.k_space.specs.Bounds.{is_covered}
 use Rattle.k_space.specs.Areas.{AreaValue, black_at, gray_at, grayed, unmarked}
 
 -- the area where each of these objects is gray, if it was white
@@ -9,9 +11,9 @@ abbrev pub grayed_all : AreaValue → List Name → AreaValue
 grayed_all a [] = a
 grayed_all a (n ∷ ns) = grayed_all (grayed a n) ns
 
--- of these objects those are gray that are no roots with a lower serial, and nothing else has become gray
-pub record AreGrayBut (old : AreaValue) (noted roots : List Name) (below : ℕ) (new : AreaValue) : Type 0 where
+-- of these objects those are gray that are no roots which the bound covers, and nothing else has become gray
+pub record AreGrayBut (old : AreaValue) (noted roots : List Name) (b : Bound) (new : AreaValue) : Type 0 where
   pub same : unmarked new ≡ unmarked old
   pub black : (n : Name) → IsFalse (black_at new n)
   pub gray : (n : Name) → IsTrue (gray_at new n) → IsTrue (gray_at (grayed_all old noted) n)
-  pub rest : (n : Name) → IsTrue (gray_at (grayed_all old noted) n) → IsTrue (gray_at new n) ⊎ (IsTrue (name_among n roots) × (n.serial.0 < below))
+  pub rest : (n : Name) → IsTrue (gray_at (grayed_all old noted) n) → IsTrue (gray_at new n) ⊎ (IsTrue (name_among n roots) × (IsTrue (is_covered b n)))

@@ -28,7 +28,7 @@ use crate::rooting::RootedArea;
 use k_exit::ExitTable;
 use k_io::NoMemory;
 use k_mark::{Listener, Nobody, Swept};
-use k_space::{Body, Segment, Stored};
+use k_space::{Body, Bound, Segment, Stored};
 use k_tie::Note;
 use k_types::{CellPhase, Link, Name, Seg, TypeId};
 use std::alloc::Global;
@@ -75,7 +75,7 @@ impl Model for Holdings {
 
     ghost invariant = { λ h. record {
       tables : AreHoldings h.bound h.bytes h.phase h.area h.exits.items;
-      carried : IsCarried h.phase h.area h.carried.whole h.carried.noted h.carried.below h.carried.next h.carried.roots.items h.carried.pending.items;
+      carried : IsCarried h.phase h.area h.exits.items h.carried;
     } };
 }
 
@@ -100,10 +100,12 @@ impl Holdings {
         let exits = ExitTable::make(alloc, rooms.exits)?;
         let carried = Carried {
             whole: false,
-            below: 0,
+            swept: false,
+            bound: Bound::nothing(seg),
+            first: 0,
             roots: Vec::with_capacity(alloc, rooms.objects as usize)?,
             noted: false,
-            next: 0,
+            next: Bound::nothing(seg),
             pending: Vec::with_capacity(alloc, rooms.objects as usize)?,
         };
         Ok(Holdings {
@@ -208,7 +210,7 @@ impl Holdings {
     {
         self.bytes += body.bytes();
         let link = self.area.place_in(seg, body);
-        self.carried.whole = still_whole(self.carried.whole, self.carried.below, link.serial.0);
+        self.carried.whole = still_whole(self.carried.whole, self.carried.bound, link.name());
         link
     }
 
@@ -220,7 +222,7 @@ impl Holdings {
         ensures { self.new ≡ record self.old { value = with_field at field (Refers (option_map name_of value)) self.old.value } }
     {
         self.area.write_ref_in(at, field, value);
-        self.carried.whole = still_whole(self.carried.whole, self.carried.below, at.serial.0);
+        self.carried.whole = still_whole(self.carried.whole, self.carried.bound, at);
     }
 
     /// Writes a number into the field of the object. Constant time, and no memory.
@@ -283,8 +285,8 @@ impl Holdings {
     }
 
     /// Marks what the gray objects reach inside the heap, and the exit items to which that refers. The cost is in proportion to
-    /// the marked objects, their fields and the segments. What the last collection kept is not traced again, where no
-    /// reference of it was written since, its roots are roots still, and there is no exit item.
+    /// the marked objects, their fields, the exit items and the segments. What the last collection kept is not traced again, where
+    /// no reference of it was written since, no exit item of it is gone, and its roots are roots still.
     pub fn mark(&mut self)
         requires begun { self.old.value.collection ≡ Begun }
         requires exits { HasItsExits self.old.value }
@@ -294,10 +296,12 @@ impl Holdings {
         (self.carried.noted, self.carried.next) = self.area.mark_kept(
             &mut self.exits,
             self.carried.whole,
-            self.carried.below,
+            self.carried.bound,
+            self.carried.first,
             &self.carried.roots,
             &mut self.carried.pending,
         );
+        self.carried.swept = false;
         self.phase = CellPhase::Marked;
     }
 
@@ -329,10 +333,11 @@ impl Holdings {
         let before = into.bytes;
         self.area.sweep_telling(into, listener);
         self.bytes -= into.bytes - before;
-        // What is left is what this collection kept.
+        // What is left is what this collection kept. Of the exit items some are still to go.
         swap(&mut self.carried.roots, &mut self.carried.pending);
-        self.carried.whole = self.carried.noted;
-        self.carried.below = self.carried.next;
+        self.carried.whole = false;
+        self.carried.swept = self.carried.noted;
+        self.carried.bound = self.carried.next;
         self.carried.noted = false;
     }
 
@@ -352,8 +357,15 @@ impl Holdings {
         ensures kept { IfNone result (self.new ≡ self.old) }
     {
         match self.exits.take_unmarked() {
-            Some(link) => Some(link.name()),
-            None => None,
+            Some(link) => {
+                // Another item has its place.
+                self.carried.whole = false;
+                Some(link.name())
+            }
+            None => {
+                self.carried.settle(self.exits.len());
+                None
+            }
         }
     }
 
@@ -365,7 +377,10 @@ impl Holdings {
         ensures kept { IfNone result (self.new ≡ self.old) }
     {
         match self.exits.take_into(seg) {
-            Some(link) => Some(link.name()),
+            Some(link) => {
+                self.carried.forget();
+                Some(link.name())
+            }
             None => None,
         }
     }
@@ -378,7 +393,10 @@ impl Holdings {
         ensures kept { IfNone result (self.new ≡ self.old) }
     {
         match self.exits.take_first() {
-            Some(link) => Some(link.name()),
+            Some(link) => {
+                self.carried.forget();
+                Some(link.name())
+            }
             None => None,
         }
     }

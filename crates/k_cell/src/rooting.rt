@@ -10,17 +10,18 @@ ghost use Rattle.k_mark.specs.Kept.{IsBeginning, IsKept, old_at};
 ghost use Rattle.k_mark.specs.Listening.{AreTold, dead_at};
 ghost use Rattle.k_mark.specs.Marking.{IsExit, IsReachedIn, refers_at};
 ghost use Rattle.k_mark.specs.Sweeping.{dead_bytes, dead_objects, swept};
+ghost use Rattle.k_cell.specs.Carried.{IsWhole, known_bound};
 ghost use Rattle.k_cell.specs.Looks.{row_fields, row_type};
 ghost use Rattle.k_cell.specs.Placed.{CanPlace, IsIntAt, IsPlacedIn, IsRefAt, IsWrittenIn};
 ghost use Rattle.k_cell.specs.Rooted.{AreGrayBut, grayed_all};
 
-use crate::carrying::{kept_below, marked_below};
+use crate::carrying::{is_reached_still, known_bound, known_first, marked_below};
 use crate::looking::{count_at, field_at, lives_at, type_at};
 use crate::writing::{place_in, write_int_in, write_ref_in};
 use k_exit::ExitTable;
 use k_io::NoMemory;
 use k_mark::{Listener, Swept, clear, mark_kept, root, sweep_telling};
-use k_space::{Area, Body, Segment, Stored};
+use k_space::{Area, Body, Bound, Segment, Stored};
 use k_types::{Link, Name, Seg, TypeId};
 use std::alloc::Global;
 use std::marker::Model;
@@ -111,16 +112,16 @@ fn are_noted(noted: &[Name], roots: &[Name]) -> bool
     met == roots.len()
 }
 
-// Makes those gray that are noted, but for roots with a lower serial, as far as these stand in their order.
+// Makes those gray that are noted, but for roots that the bound covers, as far as these stand in their order.
 #[tactic(auto, using(crate::proofs::Rooted::distinct_grayed))]
-fn gray_others(area: &mut Area, noted: &[Name], roots: &[Name], below: u64)
+fn gray_others(area: &mut Area, noted: &[Name], roots: &[Name], bound: Bound)
     requires distinct { HasDistinct area.old.segments }
     requires clean { (n : Named) → IsFalse (black_at area.old n) }
-    ensures { AreGrayBut area.old noted.now roots.now below area.new }
+    ensures { AreGrayBut area.old noted.now roots.now bound area.new }
 {
     let mut met = 0;
     for target in noted {
-        if u64::from(target.serial.0) < below && stands_at(roots, met, *target) {
+        if bound.covers(*target) && stands_at(roots, met, *target) {
             met += 1;
         } else {
             area.make_gray(*target);
@@ -128,42 +129,31 @@ fn gray_others(area: &mut Area, noted: &[Name], roots: &[Name], below: u64)
     }
 }
 
-// Whether all roots are noted, and what was kept is as it was and leads nowhere else.
-fn is_known(noted: &[Name], exits: &ExitTable, whole: bool, roots: &[Name]) -> bool
+// Whether all roots are noted, and what was kept is as it was.
+fn is_known(noted: &[Name], whole: bool, roots: &[Name]) -> bool
     ensures whole { IsTrue result → IsTrue whole }
-    ensures alone { IsTrue result → exits.now.items ≡ [] }
     ensures noted { IsTrue result → (n : Named) → IsTrue (name_among n roots.now) → IsTrue (name_among n noted.now) }
 {
-    if whole && exits.len() == 0 {
-        return are_noted(noted, roots);
-    }
-    false
+    whole && are_noted(noted, roots)
 }
 
-// Makes gray what is noted and not known to be reached, and tells the serial below which what was kept is known to be reached
-// from the noted ones; 0 where that is not known.
-fn gray_unknown(
-    area: &mut Area,
-    noted: &[Name],
-    exits: &ExitTable,
-    whole: bool,
-    below: u64,
-    roots: &[Name],
-) -> u64
+// Makes gray what is noted and not known to be reached, and tells whether what was kept is known to be reached from the noted
+// ones.
+fn gray_unknown(area: &mut Area, noted: &[Name], whole: bool, bound: Bound, roots: &[Name]) -> bool
     requires distinct { HasDistinct area.old.segments }
     requires clean { (n : Named) → IsFalse (black_at area.old n) }
-    requires carried { IsTrue whole → IsKept (old_at area.old below) (refers_at area.old) (λ n. name_among n roots.now) below }
+    requires carried { IsTrue whole → IsKept (old_at area.old bound) (refers_at area.old) (λ n. name_among n roots.now) bound }
     ensures same { unmarked area.new ≡ unmarked area.old }
     ensures black { (n : Named) → IsFalse (black_at area.new n) }
-    ensures alone { 0 < result → exits.now.items ≡ [] }
-    ensures beginning { IsBeginning area.new result (gray_at (grayed_all area.old noted.now)) }
+    ensures whole { IsTrue result → IsTrue whole }
+    ensures beginning { IsBeginning area.new (known_bound result bound) (gray_at (grayed_all area.old noted.now)) }
 {
-    if is_known(noted, exits, whole, roots) {
-        gray_others(area, noted, roots, below);
-        return below;
+    if is_known(noted, whole, roots) {
+        gray_others(area, noted, roots, bound);
+        return true;
     }
     gray_all(area, noted);
-    kept_below(area, exits, whole, below, roots)
+    is_reached_still(area, whole, bound, roots)
 }
 
 impl RootedArea {
@@ -308,22 +298,23 @@ impl RootedArea {
         self.noted = roots;
     }
 
-    /// Marks as [`k_mark::mark_kept`] does, with what is known of the last collection: where it is whole, what that one kept has
-    /// serials below this one and is reached from these roots. The roots of this collection come into the last row, and it tells
-    /// whether they are all, and the serial below which what they reach is.
+    /// Marks as [`k_mark::mark_kept`] does, with what is known of the last collection: where it is whole, the bound covers
+    /// what that one kept, which refers to the first so many exit items, and is reached from these roots. The roots of this collection
+    /// come into the last row, and it tells whether they are all, and a bound that covers what they reach.
     pub(crate) fn mark_kept(
         &mut self,
         exits: &mut ExitTable,
         whole: bool,
-        below: u64,
+        bound: Bound,
+        first: u32,
         roots: &[Name],
         pending: &mut Vec<Name>,
-    ) -> (bool, u64)
+    ) -> (bool, Bound)
         requires distinct { HasDistinct self.old.segments }
         requires exits { (a n : Named) → IsTrue (refers_at self.old a n) → IsTrue (is_foreign self.old n) → IsTrue (has_target exits.old.items n) }
         requires clean { (n : Named) → IsFalse (black_at self.old n) }
         requires unmarked { (n : Named) → IsFalse (target_marked exits.old.items n) }
-        requires carried { IsTrue whole → IsKept (old_at self.old below) (refers_at self.old) (λ n. name_among n roots.now) below }
+        requires carried { IsTrue whole → IsWhole self.old exits.old.items bound first roots.now }
         ensures kept { unmarked self.new ≡ unmarked self.old }
         ensures targets { targets exits.new.items ≡ targets exits.old.items }
         ensures room { exits.new.room ≡ exits.old.room }
@@ -334,9 +325,11 @@ impl RootedArea {
     {
         swap(&mut self.noted, pending);
         self.noted.clear();
-        let kept = gray_unknown(&mut self.area, pending, exits, whole, below, roots);
-        let next = mark_kept(&mut self.area, exits, kept);
-        marked_below(self.all_noted, next)
+        let known = gray_unknown(&mut self.area, pending, whole, bound, roots);
+        let covered = known_bound(known, bound);
+        let first = known_first(known, first);
+        let next = mark_kept(&mut self.area, exits, covered, first);
+        marked_below(self.all_noted, next, covered)
     }
 
     /// Frees the objects that are not marked, adds their number and bytes, and tells their names.

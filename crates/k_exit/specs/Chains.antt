@@ -103,3 +103,7 @@ rows_without rows i = take (length rows - 1) (slice_set rows i (slice_index_or r
 -- the item with no mark
 abbrev pub unmarked_item : Item → Item
 unmarked_item item = record item { marked = false }
+
+-- the item with a mark
+abbrev pub marked_item : Item → Item
+marked_item item = record item { marked = true }

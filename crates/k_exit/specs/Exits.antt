@@ -1,5 +1,5 @@
 -- What a contract sees of the exit items of a heap.
-use Rattle.std.specs.Prelude.{◌≡◌, ℕ, ◌+◌, ◌≤◌, ◌==◌, ◌&&◌, ◌||◌, not, Bool, false, List, [], ◌∷◌, ◌++◌, length, map, slice_get, count_by, Some, if◌then◌else◌, IsTrue}
+use Rattle.std.specs.Prelude.{◌≡◌, ℕ, ◌+◌, ◌≤◌, ◌==◌, ◌&&◌, ◌||◌, not, Bool, true, false, List, [], ◌∷◌, ◌++◌, length, map, take, drop, slice_get, count_by, Some, if◌then◌else◌, IsTrue}
 use Rattle.std.specs.List.{list_any}
 use Rattle.std.specs.List.Sorted.{IsPermutation}
 use Rattle.k_types.specs.declared.names.Name.{Name}
@@ -43,6 +43,18 @@ marked_if t e = record { target = e.target; marked = e.marked || name_eq e.targe
 -- the list where that target is marked
 abbrev pub with_marked : ExitList → Name → ExitList
 with_marked e t = record e { items = map (marked_if t) e.items }
+
+-- the item with a mark
+abbrev pub marked_row : ExitRow → ExitRow
+marked_row e = record e { marked = true }
+
+-- the items, of which so many at the front are marked
+abbrev pub marked_first : ℕ → List ExitRow → List ExitRow
+marked_first count items = map marked_row (take count items) ++ drop count items
+
+-- the list where so many items at the front are marked
+abbrev pub with_first_marked : ExitList → ℕ → ExitList
+with_first_marked e count = record e { items = marked_first count e.items }
 
 -- the item with no mark
 abbrev pub unmarked_row : ExitRow → ExitRow

@@ -1,12 +1,12 @@
 //! The table of the exit items of one heap.
-ghost use Rattle.std.specs.Prelude.{◌≡◌, ◌<◌, ◌≤◌, ◌⊎◌, not, [], ℕ, IsTrue, IsFalse, Some, None, IfOk, IfSome, IfNone, length, map, slice_get, vec_capacity, ◌==◌};
+ghost use Rattle.std.specs.Prelude.{◌≡◌, ◌<◌, ◌≤◌, ◌⊎◌, ◌++◌, not, [], ℕ, IsTrue, IsFalse, Some, None, IfOk, IfSome, IfNone, length, map, take, drop, slice_get, vec_capacity, ◌==◌};
 ghost use Rattle.std.specs.List.{list_any};
 ghost use Rattle.std.specs.List.Sorted.{IsPermutation};
 ghost use Rattle.k_types.specs.declared.names.Name.{Name};
 ghost use Rattle.k_types.specs.Names.{name_of};
-ghost use Rattle.k_exit.specs.Exits.{ExitRow, ExitList, AreDistinct, AreInOrder, IsTaken, has_target, target_marked, with_target, with_marked, unmarked, unmarked_row, leads_into};
+ghost use Rattle.k_exit.specs.Exits.{ExitRow, ExitList, AreDistinct, AreInOrder, IsTaken, has_target, target_marked, with_first_marked, with_target, with_marked, unmarked, unmarked_row, leads_into};
 ghost use Rattle.k_hash.specs.Hash.{bucket};
-ghost use Rattle.k_exit.specs.Chains.{row_of, is_wanted, unmarked_item, IsLastWanted, HasNoneWanted, HasPassed};
+ghost use Rattle.k_exit.specs.Chains.{row_of, is_wanted, marked_item, unmarked_item, IsLastWanted, HasNoneWanted, HasPassed};
 
 use crate::chains::{Item, empty_heads, find, find_in, link_in, relink, remove};
 use k_hash::chain_of;
@@ -72,6 +72,17 @@ fn unmark(items: &mut Vec<Item>)
 {
     for i in 0..items.len() {
         items[i].marked = false;
+    }
+}
+
+/// Marks so many items from the first one on.
+fn mark_front(items: &mut Vec<Item>, count: usize)
+    requires { count ≤ length items.old.items }
+    ensures items { items.new.items ≡ map marked_item (take count items.old.items) ++ drop count items.old.items }
+    ensures capacity { vec_capacity items.new ≡ vec_capacity items.old }
+{
+    for i in 0..count {
+        items[i].marked = true;
     }
 }
 
@@ -203,6 +214,15 @@ impl ExitTable {
             unreachable!()
         };
         self.items[i].marked = true;
+    }
+
+    /// Marks so many targets from the first one on. It passes these items.
+    pub fn mark_first(&mut self, count: u32)
+        requires { count ≤ length self.old.items }
+        ensures { self.new ≡ with_first_marked self.old count }
+    {
+        mark_front(&mut self.items, count as usize);
+        self.from = self.items.len();
     }
 
     /// Takes all marks away. It passes each item.

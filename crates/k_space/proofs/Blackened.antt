@@ -263,11 +263,9 @@ segments_plain segments distinct none i s at serial =
     ap (λ (o : Option SegmentValue). some_gray (row_in_segment o serial)) (sym (found_at segments distinct i s at)) ∙ none (record { seg = record { 0 = s.number }; serial = record { 0 = serial } })
 
 -- no object has a serial past the rows of its segment
-pub below_next : (segments : List SegmentValue) (next : ℕ) → ((k : ℕ) (s : SegmentValue) → k < length segments → slice_get segments k ≡ Some s → length s.rows ≤ next) → (n : Name) (row : Row) → row_of_name segments n ≡ Some row → n.serial.0 < next
-below_next segments next most n row e = by_segment (segment_at segments n.seg.0) refl e
+pub below_next : (segments : List SegmentValue) (number next : ℕ) → ((s : SegmentValue) → segment_at segments number ≡ Some s → length s.rows ≤ next) → (n : Name) (row : Row) → n.seg.0 ≡ number → row_of_name segments n ≡ Some row → n.serial.0 < next
+below_next segments number next most n row same e = by_segment (segment_at segments n.seg.0) refl e
   where
     by_segment : (o : Option SegmentValue) → segment_at segments n.seg.0 ≡ o → row_in_segment o n.serial.0 ≡ Some row → n.serial.0 < next
     by_segment None is e = absurd (cc)
-    by_segment (Some s) is e =
-        let most_here = most (place_of segments n.seg.0) s (slice_get_within segments (place_of segments n.seg.0) s is) is in
-        omega (arith, some_inside s.rows n.serial.0 row e, most_here)
+    by_segment (Some s) is e = let most_here = most s (ap (segment_at segments) (sym same) ∙ is) in omega (arith, some_inside s.rows n.serial.0 row e, most_here)

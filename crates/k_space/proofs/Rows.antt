@@ -11,7 +11,9 @@ use Rattle.k_space.specs.declared.marks.Place.{Place}
 use Rattle.k_space.specs.declared.marks.Place.TheVariants.{Empty, At}
 use Rattle.k_space.specs.declared.marks.Mark.{Mark}
 use Rattle.k_space.specs.declared.marks.Mark.TheVariants.{White as MarkWhite, Gray as MarkGray, Black as MarkBlack}
+use Rattle.k_space.specs.Bounds.{is_covered}
 use Rattle.k_space.specs.declared.body.Stored.{Stored}
+use Rattle.k_space.specs.declared.bound.Bound.{Bound}
 use Rattle.k_space.specs.declared.segment.Cell.{Cell}
 use Rattle.k_space.specs.Segments.{Gray, Row, SegmentValue, LiesAt, row_at, with_row, some_gray, unmarked_row}
 use Rattle.k_space.specs.Places.{row_of, row_in, color_of, IsSound, IsPlaced, IsKept, IsGrayList, is_gray_place, white_place}
@@ -236,10 +238,10 @@ pub read_at : (places : List Place) (i : ℕ) (p q : Place) → i < length place
 read_at places i p q within read is = get_or_default places i Empty p within ∙ sym read ∙ is
 
 -- the first gray object, made black
-pub visited : (below number room : ℕ) (places : List Place) (cells : Slab Cell) (s : SegmentValue) (i slot next : ℕ) (cell : Cell) (count : ℕ) (list : List Stored) →
-    record { number = number; room = room; rows = map (row_of cells) places } ≡ s → get_or places i Empty ≡ At slot (MarkGray next) → get cells slot ≡ Some cell → count ≤ 16 → (below ≤ i → AreHeld cell.body.fields count list) →
-    IsVisitedFromIn below s (record { number = number; room = room; rows = map (row_of cells) (set places i (At slot MarkBlack)) }) (record { name = record { seg = record { 0 = number }; serial = record { 0 = i } }; fields = count }) list
-visited below number room places cells s i slot next cell count list is here found most held =
+pub visited : (b : Bound) (number room : ℕ) (places : List Place) (cells : Slab Cell) (s : SegmentValue) (i slot next : ℕ) (cell : Cell) (count : ℕ) (list : List Stored) →
+    record { number = number; room = room; rows = map (row_of cells) places } ≡ s → get_or places i Empty ≡ At slot (MarkGray next) → get cells slot ≡ Some cell → count ≤ 16 → (is_covered b (record { seg = record { 0 = number }; serial = record { 0 = i } }) ≡ false → AreHeld cell.body.fields count list) →
+    IsVisitedFromIn b s (record { number = number; room = room; rows = map (row_of cells) (set places i (At slot MarkBlack)) }) (record { name = record { seg = record { 0 = number }; serial = record { 0 = i } }; fields = count }) list
+visited b number room places cells s i slot next cell count list is here found most held =
     let row : Row = record { slot = slot; color = Gray; ty = cell.body.ty; fields = cell.body.fields } in
     let at : row_at s i ≡ Some row = row_there number room places cells s i slot (MarkGray next) (Some cell) is here found in
     record {

@@ -1,12 +1,15 @@
 -- A segment that is put back as it was.
-use Rattle.std.proofs.Common.{◌≡◌, ℕ, Option, Some, None, List, ◌<◌, ◌≤◌, cond, ltb, false, arith, refl, sym, ap, ap₂, ◌∙◌, get_or, set, slice_get, length, [], ◌∷◌, map}
+use Rattle.std.proofs.Common.{◌≡◌, ℕ, Option, Some, None, List, ◌==◌, ◌<◌, ◌≤◌, Bool, true, false, cond, ltb, nat_lt, arith, refl, sym, ap, ap₂, ◌∙◌, get_or, set, slice_get, length, [], ◌∷◌, map}
 use Rattle.std.specs.Option.{IfNone, IfSome}
+use Rattle.std.proofs.lemmas.Bool.{le-ltb}
 use Rattle.std.proofs.lemmas.Bool.Decides.{nat_tests}
 use Rattle.std.proofs.lemmas.List.{set-get_or}
 use Rattle.std.proofs.lemmas.Option.{get_or_from_slice_get}
 use Rattle.std.proofs.lemmas.Option.{slice_get_within}
 use Rattle.k_types.specs.declared.names.Name.{Name}
+use Rattle.k_space.specs.Bounds.{is_covered, nothing}
 use Rattle.k_space.specs.declared.body.Stored.{Stored}
+use Rattle.k_space.specs.declared.bound.Bound.{Bound}
 use Rattle.k_space.specs.declared.segment.Visited.{Visited}
 use Rattle.k_space.specs.Segments.{SegmentValue, Row, Black, row_at, with_row, gray_or_black, some_gray, White, unmarked_row, unmarked_segment}
 use Rattle.k_space.specs.Areas.{AreaValue, place_of, segment_at, with_segment, row_in_segment, row_of_name, with_row_in, HasDistinct, grayed, grayed_row, unmarked}
@@ -45,9 +48,9 @@ grayed_at segments room at a n s t is place there some none =
     ∙ grayed_in a n s t (sym there ∙ ap₂ (λ (ss : List SegmentValue) p. slice_get ss p) (ap (λ (x : AreaValue). x.segments) is) place) some none
 
 -- a segment of an area in which an object was visited
-pub visited_at : (below : ℕ) (segments : List SegmentValue) (room at : ℕ) (a : AreaValue) (s t : SegmentValue) (found : Visited) (list : List Stored) → record { segments = segments; room = room } ≡ a → HasDistinct a.segments → slice_get segments at ≡ Some s →
-    IsVisitedFromIn below s t found list → IsVisitedFrom below a (record { segments = set segments at t; room = room }) found list
-visited_at below segments room at a s t found list is distinct there visited =
+pub visited_at : (b : Bound) (segments : List SegmentValue) (room at : ℕ) (a : AreaValue) (s t : SegmentValue) (found : Visited) (list : List Stored) → record { segments = segments; room = room } ≡ a → HasDistinct a.segments → slice_get segments at ≡ Some s →
+    IsVisitedFromIn b s t found list → IsVisitedFrom b a (record { segments = set segments at t; room = room }) found list
+visited_at b segments room at a s t found list is distinct there visited =
     record {
       black = record {
         row = visited.row;
@@ -94,12 +97,20 @@ pub if_some_more : {A : Type 0} (P Q : A → Type 0) (o : Option A) → ((a : A)
 if_some_more P Q None f p = p
 if_some_more P Q (Some a) f p = f a p
 
--- nothing is lower than 0
-pub visited_all : (old new : AreaValue) (found : Visited) (list : List Stored) → IsVisitedFrom 0 old new found list → IsVisited old new found list
-visited_all old new found list v = record { black = v.black; held = v.held (omega arith) }
+-- nothing is covered
+pub uncovered : (own : ℕ) (n : Name) → is_covered (nothing own) n ≡ false
+uncovered own n = by_segment (n.seg.0 == own)
+  where
+    by_segment : (b : Bool) → cond b (nat_lt n.serial.0 0) false ≡ false
+    by_segment true = le-ltb n.serial.0 0 (omega arith)
+    by_segment false = refl
 
-pub visited_all_in : (old new : SegmentValue) (found : Visited) (list : List Stored) → IsVisitedFromIn 0 old new found list → IsVisitedIn old new found list
-visited_all_in old new found list v = record { row = v.row; number = v.number; there = v.there; was = v.was; now = v.now; held = v.held (omega arith) }
+pub visited_all : (b : Bound) (own : ℕ) (old new : AreaValue) (found : Visited) (list : List Stored) → b ≡ nothing own → IsVisitedFrom b old new found list → IsVisited old new found list
+visited_all b own old new found list none v = record { black = v.black; held = v.held (ap (λ (x : Bound). is_covered x found.name) none ∙ uncovered own found.name) }
+
+pub visited_all_in : (b : Bound) (own : ℕ) (old new : SegmentValue) (found : Visited) (list : List Stored) → b ≡ nothing own → IsVisitedFromIn b old new found list → IsVisitedIn old new found list
+visited_all_in b own old new found list none v =
+    record { row = v.row; number = v.number; there = v.there; was = v.was; now = v.now; held = v.held (ap (λ (x : Bound). is_covered x found.name) none ∙ uncovered own found.name) }
 
 -- marks are taken away once
 pub unmarked_rows_twice : (rows : List (Option Row)) → map unmarked_row (map unmarked_row rows) ≡ map unmarked_row rows

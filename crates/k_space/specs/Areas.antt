@@ -1,8 +1,10 @@
 -- What a contract sees of an area.
-use Rattle.std.specs.Prelude.{◌≡◌, ℕ, ◌==◌, not, Bool, false, List, map, slice_get, slice_set, Option, Some, None, is_some, option_map}
+use Rattle.std.specs.Prelude.{◌≡◌, ℕ, ◌==◌, not, Bool, false, List, length, map, slice_get, slice_set, Option, Some, None, is_some, option_map}
 use Rattle.std.specs.List.{position_or_len, sum_by}
 use Rattle.k_types.specs.declared.names.Name.{Name}
 use Rattle.k_types.specs.State.{Content}
+use Rattle.k_space.specs.declared.bound.Bound.{Bound}
+use Rattle.k_space.specs.Bounds.{bound_in}
 use Rattle.k_space.specs.Segments.{SegmentValue, Row, Black, Gray, row_at, with_row, some_gray, some_black, some_marked, unmarked_segment, blackened_segment, gray_or_black}
 
 -- the segments, and how many there can be
@@ -73,9 +75,13 @@ marked_at a n = some_marked (row_of_name a.segments n)
 abbrev pub unmarked : AreaValue → AreaValue
 unmarked a = record a { segments = map unmarked_segment a.segments }
 
--- the area where the objects with a lower serial are black
-abbrev pub blackened : ℕ → AreaValue → AreaValue
-blackened below a = record a { segments = map (blackened_segment below) a.segments }
+-- the segment where the objects that the bound covers are black
+abbrev pub blackened_in : Bound → SegmentValue → SegmentValue
+blackened_in b s = blackened_segment (bound_in b s.number (length s.rows)) s
+
+-- the area where the objects that the bound covers are black
+abbrev pub blackened : Bound → AreaValue → AreaValue
+blackened b a = record a { segments = map (blackened_in b) a.segments }
 
 -- the area where that row, if there is one, is gray in place of white
 abbrev pub grayed_row : AreaValue → Name → Option Row → AreaValue

@@ -4,6 +4,7 @@ pub mod Sweeping
 pub mod Places
 pub mod Stamps
 pub mod Listed
+pub mod Bounds
 pub mod Areas
 pub mod Hints
 pub mod AreaLends

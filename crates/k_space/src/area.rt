@@ -3,13 +3,14 @@ ghost use Rattle.std.specs.Prelude.{◌≡◌, ◌≢◌, ◌<◌, ◌≤◌, �
 ghost use Rattle.std.specs.Option.{option_copied_mut};
 ghost use Rattle.std.specs.Borrow.{sem};
 ghost use Rattle.std.specs.List.{position_or_len};
-ghost use Rattle.k_space.specs.Segments.{Row, SegmentValue, row_at, some_gray, unmarked_segment, blackened_segment};
+ghost use Rattle.k_space.specs.Segments.{Row, SegmentValue, row_at, some_gray, unmarked_segment};
 ghost use Rattle.k_space.specs.Hints.{AreExact, numbers};
 ghost use Rattle.k_space.specs.Visiting.{IsVisited, IsVisitedFrom};
 ghost use Rattle.k_types.specs.declared.names.Name.{Name as Named};
-ghost use Rattle.k_space.specs.Areas.{place_of, row_of_name, segment_at, HasDistinct, is_foreign, gray_at, grayed, has_number, unmarked, blackened};
+ghost use Rattle.k_space.specs.Areas.{place_of, row_of_name, segment_at, HasDistinct, is_foreign, gray_at, grayed, has_number, unmarked, blackened, blackened_in};
 
 use crate::body::Stored;
+use crate::bound::Bound;
 use crate::segment::{Segment, Visited};
 use k_io::NoMemory;
 use k_types::{Name, Seg};
@@ -119,12 +120,13 @@ fn unmark(segments: &mut [Segment])
     }
 }
 
-/// Makes the objects with a lower serial black.
-fn blacken(segments: &mut [Segment], below: u64)
+/// Makes the objects black that the bound covers.
+fn blacken(segments: &mut [Segment], bound: Bound)
     requires { (i : ℕ) (s : SegmentValue) → slice_get segments.old i ≡ Some s → (serial : ℕ) → IsFalse (some_gray (row_at s serial)) }
-    ensures { segments.new ≡ map (blackened_segment below) segments.old }
+    ensures { segments.new ≡ map (blackened_in bound) segments.old }
 {
     for segment in segments.iter_mut() {
+        let below = bound.below_in(segment.number(), segment.made());
         segment.blacken_below(below);
     }
 }
@@ -261,24 +263,24 @@ impl Area {
         ensures kept { IfNone result (self.new ≡ self.old) }
         ensures len { length into.new ≡ length into.old }
     {
-        self.visit_gray_from(0, into)
+        self.visit_gray_from(Bound::nothing(Seg(0)), into)
     }
 
-    /// The same, but an object with a lower serial than that is not read, and nothing is said of the list.
-    pub fn visit_gray_from(&mut self, below: u64, into: &mut [Stored]) -> Option<Visited>
+    /// The same, but an object that the bound covers is not read, and nothing is said of the list.
+    pub fn visit_gray_from(&mut self, bound: Bound, into: &mut [Stored]) -> Option<Visited>
         requires distinct { HasDistinct self.old.segments }
         requires list { 16 ≤ length into.old }
-        ensures some { IfSome result (λ found. IsVisitedFrom below self.old self.new found into.new) }
+        ensures some { IfSome result (λ found. IsVisitedFrom bound self.old self.new found into.new) }
         ensures none { IfNone result ((n : Name) → IsFalse (gray_at self.old n)) }
         ensures kept { IfNone result (self.new ≡ self.old) }
         ensures len { length into.new ≡ length into.old }
     {
         let len = self.segments.len();
         let from = self.hints.gray.min(len);
-        if let Some(found) = self.visit_gray_between(from, len, below, into) {
+        if let Some(found) = self.visit_gray_between(from, len, bound, into) {
             return Some(found);
         }
-        self.visit_gray_between(0, from, below, into)
+        self.visit_gray_between(0, from, bound, into)
     }
 
     /// Visits a gray object of the segments from the one place up to below the other.
@@ -286,18 +288,18 @@ impl Area {
         &mut self,
         from: usize,
         to: usize,
-        below: u64,
+        bound: Bound,
         into: &mut [Stored],
     ) -> Option<Visited>
         requires distinct { HasDistinct self.old.segments }
         requires list { 16 ≤ length into.old }
-        ensures some { IfSome result (λ found. IsVisitedFrom below self.old self.new found into.new) }
+        ensures some { IfSome result (λ found. IsVisitedFrom bound self.old self.new found into.new) }
         ensures none { IfNone result ((i : ℕ) (s : SegmentValue) (serial : ℕ) → from ≤ i → i < to → slice_get self.old.segments i ≡ Some s → IsFalse (some_gray (row_at s serial))) }
         ensures kept { IfNone result (self.new ≡ self.old) }
         ensures len { length into.new ≡ length into.old }
     {
         for i in from..to {
-            if let Some(found) = self.visit_gray_at(i, below, into) {
+            if let Some(found) = self.visit_gray_at(i, bound, into) {
                 self.hints.gray = i;
                 return Some(found);
             }
@@ -307,10 +309,10 @@ impl Area {
 
     /// Visits a gray object of the segment at that place.
     #[tactic(auto, using(crate::proofs::Segs::as_before))]
-    fn visit_gray_at(&mut self, at: usize, below: u64, into: &mut [Stored]) -> Option<Visited>
+    fn visit_gray_at(&mut self, at: usize, bound: Bound, into: &mut [Stored]) -> Option<Visited>
         requires distinct { HasDistinct self.old.segments }
         requires list { 16 ≤ length into.old }
-        ensures some { IfSome result (λ found. IsVisitedFrom below self.old self.new found into.new) }
+        ensures some { IfSome result (λ found. IsVisitedFrom bound self.old self.new found into.new) }
         ensures none { IfNone result ((s : SegmentValue) (serial : ℕ) → slice_get self.old.segments at ≡ Some s → IsFalse (some_gray (row_at s serial))) }
         ensures kept { IfNone result (self.new ≡ self.old) }
         ensures len { length into.new ≡ length into.old }
@@ -318,7 +320,7 @@ impl Area {
         if at >= self.segments.len() {
             return None;
         }
-        let found = self.segments[at].visit_gray_from(below, into)?;
+        let found = self.segments[at].visit_gray_from(bound, into)?;
         Some(found)
     }
 
@@ -333,25 +335,25 @@ impl Area {
         }
     }
 
-    /// A number above the serials of all objects. It passes the segments.
-    pub fn next_serial(&self) -> u64
-        ensures { (n : Named) (row : Row) → row_of_name self.now.segments n ≡ Some row → n.serial.0 < result }
+    /// A number above the serials of all objects of that segment. It costs as much as `get`.
+    pub fn next_serial(&self, seg: Seg) -> u64
+        requires { HasDistinct self.now.segments }
+        ensures { (n : Named) (row : Row) → n.seg.0 ≡ seg.0 → row_of_name self.now.segments n ≡ Some row → n.serial.0 < result }
     {
-        let mut next = 0;
-        for segment in self.segments.iter() {
-            next = next.max(u64::from(segment.made()) + 1);
+        match self.get(seg) {
+            Some(segment) => u64::from(segment.made()) + 1,
+            None => 0,
         }
-        next
     }
 
-    /// Makes the objects with a lower serial black, where none is gray. It looks once at each live object.
-    pub fn blacken_below(&mut self, below: u64)
+    /// Makes the objects black that the bound covers, where none is gray. It looks once at each live object.
+    pub fn blacken_covered(&mut self, bound: Bound)
         requires distinct { HasDistinct self.old.segments }
         requires none { (n : Named) → IsFalse (gray_at self.old n) }
-        ensures { self.new ≡ blackened below self.old }
+        ensures { self.new ≡ blackened bound self.old }
     {
         self.hints.exact = false;
-        blacken(&mut self.segments, below);
+        blacken(&mut self.segments, bound);
     }
 
     /// Takes the marks of all objects away. It passes the segments, each in constant time as

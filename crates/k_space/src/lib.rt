@@ -15,10 +15,12 @@
 
 mod area;
 mod body;
+mod bound;
 mod live;
 mod marks;
 mod segment;
 
 pub use area::Area;
 pub use body::{Body, Stored};
+pub use bound::Bound;
 pub use segment::{Gone, Segment, Visited};

@@ -11,6 +11,7 @@ ghost use Rattle.slab.specs.Slab.{get};
 ghost use Rattle.k_space.specs.declared.segment.Cell.{Cell as SlabCell};
 
 use crate::body::{Body, Stored};
+use crate::bound::Bound;
 use crate::live::{Pass, blacken, next_white, passed};
 use crate::marks::{Mark, Place, Places};
 use k_io::NoMemory;
@@ -334,13 +335,13 @@ impl Segment {
         ensures number { self.new.number ≡ self.old.number }
         ensures len { length into.new ≡ length into.old }
     {
-        self.visit_gray_from(0, into)
+        self.visit_gray_from(Bound::nothing(Seg(0)), into)
     }
 
-    /// The same, but an object with a lower serial than that is not read, and nothing is said of the list. Constant time, and no memory.
-    pub fn visit_gray_from(&mut self, below: u64, into: &mut [Stored]) -> Option<Visited>
+    /// The same, but an object that the bound covers is not read, and nothing is said of the list. Constant time, and no memory.
+    pub fn visit_gray_from(&mut self, bound: Bound, into: &mut [Stored]) -> Option<Visited>
         requires { 16 ≤ length into.old }
-        ensures some { IfSome result (λ found. IsVisitedFromIn below self.old self.new found into.new) }
+        ensures some { IfSome result (λ found. IsVisitedFromIn bound self.old self.new found into.new) }
         ensures none { IfNone result ((serial : ℕ) → IsFalse (some_gray (row_at self.old serial))) }
         ensures kept { IfNone result (self.new ≡ self.old) }
         ensures number { self.new.number ≡ self.old.number }
@@ -355,17 +356,14 @@ impl Segment {
         match place {
             Place::At(slot, mark) => match mark {
                 Mark::Gray(next) => {
-                    let skip = u64::from(serial) < below;
-                    let fields = copy_unless(&self.cells, slot, skip, into);
+                    let name = Name {
+                        seg: self.number,
+                        serial: Serial(serial),
+                    };
+                    let fields = copy_unless(&self.cells, slot, bound.covers(name), into);
                     self.places.set(at, Place::At(slot, Mark::Black));
                     self.gray = next;
-                    Some(Visited {
-                        name: Name {
-                            seg: self.number,
-                            serial: Serial(serial),
-                        },
-                        fields,
-                    })
+                    Some(Visited { name, fields })
                 }
                 Mark::White => unreachable!(),
                 Mark::Black => unreachable!(),

@@ -8,13 +8,13 @@ use Rattle.k_cell.proofs.Carried.{all_gray}
 use Rattle.k_cell.proofs.carrying.are_gray.Goals as goal
 
 pub returns : goal.returns
-returns c = λ t. all_gray c.args.area.now c.args.below c.args.roots.now (λ k r within at. c.loop-root.invariant k r (omega (arith, within, c.loop-root-test.false)) at)
+returns c = λ t. all_gray c.args.area.now c.args.bound c.args.roots.now (λ k r within at. c.loop-root.invariant k r (omega (arith, within, c.loop-root-test.false)) at)
 
 pub loop-root-preserved : goal.loop-root-preserved
 loop-root-preserved c = λ k r low at.
     elim (cases_eq k c.loop-root.root-index) [
       | inl same ↦
-          subst (λ (x : Name). old_at c.args.area.now c.args.below x ≡ true → gray_at c.args.area.now x ≡ true) (get_or_from_slice_get c.args.roots.now c.loop-root.root-index r _ (ap (slice_get c.args.roots.now) (sym same) ∙ at))
+          subst (λ (x : Name). old_at c.args.area.now c.args.bound x ≡ true → gray_at c.args.area.now x ≡ true) (get_or_from_slice_get c.args.roots.now c.loop-root.root-index r _ (ap (slice_get c.args.roots.now) (sym same) ∙ at))
           (c.is_gray_still.ensures c.if-not-is_gray_still.false)
       | inr differs ↦ c.loop-root.invariant k r (omega (arith, low, differs)) at
     ]

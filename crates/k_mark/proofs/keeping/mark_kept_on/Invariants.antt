@@ -7,8 +7,8 @@ use Rattle.k_mark.proofs.keeping.mark_kept_on.Given as goal
 
 abbrev pub invariant-loop-found : goal.invariant-loop-found
 invariant-loop-found g l = record {
-  marking : IsMarking (old_at l.fn.area l.fn.below) l.fn.area l.area l.fn.exits.items l.exits.items;
-  lower : l.lower ≡ true → AreTracedLower l.fn.area l.fn.below l.area l.next;
+  marking : IsMarking (old_at l.fn.area l.fn.bound) l.fn.area l.area l.fn.exits.items l.exits.items;
+  lower : l.lower ≡ true → AreTracedLower l.fn.area l.fn.bound l.area l.next;
   room : l.exits.room ≡ l.fn.exits.room;
 }
 

@@ -5,6 +5,8 @@ use Rattle.k_types.specs.Names.{name_of, name_among}
 use Rattle.k_exit.specs.Exits.{ExitList, ExitRow}
 use Rattle.k_areas.proofs.Named.{targets_named}
 use Rattle.k_cell.specs.Holdings.{HoldingsValue, holdings_seen}
+use Rattle.k_cell.proofs.Carried.{added_carried}
+use Rattle.k_cell.proofs.Marks.{added_kept}
 use Rattle.k_cell.proofs.Seen.{added_seen}
 use Rattle.k_cell.proofs.holding.Holdings.add_exit.Goals as goal
 
@@ -27,3 +29,11 @@ returns-clause-added c =
     rw (← c.self.view_is)
     (ap (λ (e : ExitList). holdings_seen c.self.inside.bound c.self.inside.phase c.self.inside.area e c.self.inside.note) c.add.ensures.added
     ∙ added_seen c.self.inside.bound c.self.inside.phase c.self.inside.area c.self.inside.exits c.self.inside.note (name_of c.args.target) idle)
+
+pub invariant_of-self : goal.invariant_of-self
+invariant_of-self c =
+    let idle : c.self.inside.phase ≡ Idle = ap (λ (h : HoldingsValue). h.value.collection) c.self.view_is ∙ c.requires.idle in
+    record {
+      tables = added_kept c.self.inside.bound c.self.inside.bytes c.self.inside.phase c.self.inside.area c.self.inside.exits.items c.add.new.self.items c.self.invariant.tables idle;
+      carried = added_carried c.self.inside.phase c.self.inside.area c.self.inside.exits c.add.new.self c.self.inside.carried (name_of c.args.target) c.self.invariant.carried idle c.add.ensures.added;
+    }

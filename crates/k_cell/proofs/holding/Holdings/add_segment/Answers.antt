@@ -1,4 +1,5 @@
-use Rattle.std.proofs.Common.{◌≡◌, ◌<◌, None, get_or, ap, ◌∙◌, arith}
+use Rattle.std.proofs.Common.{false, ◌≡◌, ◌<◌, None, get_or, ap, ◌∙◌, arith}
+use Rattle.std.proofs.lemmas.Bool.{false≢true}
 use Rattle.k_types.specs.declared.names.CellPhase.TheVariants.{Idle}
 use Rattle.k_types.specs.Owners.{object_bytes}
 use Rattle.k_types.specs.Totals.{total}
@@ -37,7 +38,7 @@ invariant_of-self c =
           rw c.bytes.ensures.value
           (joined_kept c.self.inside.bound c.self.inside.bytes c.self.inside.phase c.self.inside.area c.add.new.self c.self.inside.exits.items c.args.segment c.self.invariant.tables idle none below c.add.ensures.added c.add.ensures.distinct (omega (arith, c.bytes.ensures.sound.begun)));
       carried =
-          idle_carried c.self.inside.phase c.add.new.self c.self.inside.carried.noted c.self.inside.carried.below c.self.inside.carried.next c.self.inside.carried.roots.items c.self.inside.carried.pending.items idle;
+          idle_carried c.self.inside.phase c.add.new.self c.self.inside.exits.items (record c.self.inside.carried { whole = false }) idle (λ t. absurd (false≢true t));
     }
 
 pub returns-clause-added : goal.returns-clause-added

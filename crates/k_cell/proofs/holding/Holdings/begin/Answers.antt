@@ -1,4 +1,3 @@
-use Rattle.std.proofs.Common.{◌∙◌}
 use Rattle.k_cell.proofs.Marks.{begun_kept, begun_seen}
 use Rattle.k_cell.proofs.Carried.{begun_carried}
 use Rattle.k_cell.proofs.holding.Holdings.begin.Goals as goal
@@ -9,7 +8,7 @@ invariant_of-self c =
       tables =
           begun_kept c.self.inside.bound c.self.inside.phase c.self.inside.area c.clear.new.self c.self.inside.exits c.clear.new.exits c.clear.ensures.area c.clear.ensures.exits c.self.inside.bytes c.self.invariant.tables;
       carried =
-          begun_carried c.self.inside.phase c.self.inside.area c.clear.new.self c.self.inside.carried.whole c.self.inside.carried.noted c.self.inside.carried.below c.self.inside.carried.next c.self.inside.carried.roots.items c.self.inside.carried.pending.items c.self.invariant.carried c.clear.ensures.area;
+          begun_carried c.self.inside.phase c.self.inside.area c.clear.new.self c.self.inside.exits c.clear.new.exits c.self.inside.carried c.self.invariant.carried c.clear.ensures.area c.clear.ensures.exits;
     }
 
 pub returns : goal.returns

@@ -1,4 +1,5 @@
-use Rattle.std.proofs.Common.{◌≡◌, [], ◌∷◌, ◌++◌, None, false, refl, ap, ◌∙◌}
+use Rattle.std.proofs.Common.{◌≡◌, [], ◌∷◌, ◌++◌, None, refl, ap, ◌∙◌}
+use Rattle.std.proofs.lemmas.Bool.{false≢true}
 use Rattle.k_types.specs.declared.names.CellPhase.TheVariants.{Idle}
 use Rattle.k_space.specs.Areas.{AreaValue}
 use Rattle.k_cell.proofs.Moved.{fresh_kept, fresh_seen}
@@ -14,7 +15,7 @@ invariant_of-result c =
       tables =
           fresh_kept c.args.seg.0 c.args.rooms c.in_ok-segment.segment is c.requires.seg c.add.new.self c.in_ok-exits.exits.items area c.add.ensures.distinct;
       carried =
-          idle_carried Idle c.add.new.self false 0 0 _ _ refl;
+          idle_carried Idle c.add.new.self c.in_ok-exits.exits.items _ refl (λ t. absurd (false≢true t));
     }
 
 pub returns : goal.returns

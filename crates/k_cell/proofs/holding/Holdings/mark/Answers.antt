@@ -1,9 +1,7 @@
 use Rattle.std.proofs.Common.{◌≡◌, IsTrue, List, ap, sym, subst, ◌∙◌}
 use Rattle.k_types.specs.declared.names.CellPhase.TheVariants.{Begun}
 use Rattle.k_types.specs.declared.names.Name.{Name}
-use Rattle.k_types.specs.Names.{name_among}
-use Rattle.k_mark.specs.Kept.{IsKept, old_at}
-use Rattle.k_mark.specs.Marking.{refers_at}
+use Rattle.k_cell.specs.Carried.{IsWhole}
 use Rattle.k_cell.specs.Changes.{HasItsExits}
 use Rattle.k_cell.specs.Holdings.{HoldingsValue}
 use Rattle.k_cell.proofs.Marks.{exits_there, marked_kept, marked_rest, marked_seen, marks_clean}
@@ -34,7 +32,8 @@ invariant_of-self c =
           marked_kept c.self.inside.bound c.self.inside.bytes c.self.inside.phase c.self.inside.area c.mark_kept.new.self c.self.inside.exits c.mark_kept.new.exits c.self.invariant.tables begun
           (record { kept = e.kept; targets = e.targets; room = e.room; black = e.black; reached = e.reached; exits = e.exits });
       carried =
-          marked_carried c.self.inside.phase c.self.inside.area c.mark_kept.new.self c.self.inside.carried.whole c.self.inside.carried.noted _ c.self.inside.carried.below c.self.inside.carried.next _ c.self.inside.carried.roots.items c.self.inside.carried.pending.items c.mark_kept.new.pending.items c.self.invariant.carried begun e.kept e.next;
+          marked_carried c.self.inside.phase c.self.inside.area c.mark_kept.new.self c.self.inside.exits c.mark_kept.new.exits c.self.inside.carried _ _ c.mark_kept.new.pending c.self.invariant.carried begun
+          (record { kept = e.kept; targets = e.targets; room = e.room; black = e.black; reached = e.reached; exits = e.exits }) e.next;
     }
 
 pub returns-clause-rest : goal.returns-clause-rest
@@ -54,5 +53,4 @@ returns-clause-marked c =
 
 pub mark_kept-requires-clause-carried : goal.mark_kept-requires-clause-carried
 mark_kept-requires-clause-carried c =
-    subst (λ (rs : List Name). IsTrue c.self.inside.carried.whole → IsKept (old_at c.self.inside.area c.self.inside.carried.below) (refers_at c.self.inside.area) (λ n. name_among n rs) c.self.inside.carried.below) (sym c.deref.ensures.value)
-    c.self.invariant.carried.kept
+    subst (λ (rs : List Name). IsTrue c.self.inside.carried.whole → IsWhole c.self.inside.area c.self.inside.exits.items c.self.inside.carried.bound c.self.inside.carried.first rs) (sym c.deref.ensures.value) c.self.invariant.carried.whole

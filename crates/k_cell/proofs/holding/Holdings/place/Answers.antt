@@ -1,5 +1,6 @@
 use Rattle.std.proofs.Common.{◌≡◌, sym, ap, subst, ◌∙◌}
 use Rattle.k_types.specs.declared.names.CellPhase.TheVariants.{Idle}
+use Rattle.k_space.specs.Bounds.{is_covered}
 use Rattle.k_cell.specs.Holdings.{HoldingsValue, HasSerialLeft}
 use Rattle.k_cell.proofs.Seen.{can_place, placed_kept, placed_name, placed_seen}
 use Rattle.k_cell.proofs.Carried.{placed_carried}
@@ -18,7 +19,8 @@ invariant_of-self c =
           rw c.bytes.ensures.size
           (placed_kept c.self.inside.bound c.self.inside.area c.place_in-link.new.self c.self.inside.exits.items c.args.seg.0 c.args.body c.place_in-link.result c.self.invariant.tables.numbered c.place_in-link.ensures c.self.inside.bytes c.self.inside.phase c.self.invariant.tables idle);
       carried =
-          placed_carried c.self.inside.phase c.self.inside.area c.place_in-link.new.self c.self.inside.carried.whole _ c.self.inside.carried.noted c.args.seg.0 c.self.inside.carried.below c.self.inside.carried.next c.self.inside.carried.roots.items c.self.inside.carried.pending.items c.args.body c.place_in-link.result c.self.invariant.carried idle c.place_in-link.ensures c.still_whole-self-inside.ensures;
+          placed_carried c.self.inside.phase c.self.inside.area c.place_in-link.new.self c.self.inside.exits.items c.self.inside.carried _ c.args.seg.0 c.args.body c.place_in-link.result c.self.invariant.carried idle c.place_in-link.ensures
+          (λ t. let s = c.still_whole-self-inside.ensures t in (s.0, sym (ap (is_covered c.self.inside.carried.bound) c.name.ensures) ∙ s.1));
     }
 
 pub returns-clause-name : goal.returns-clause-name

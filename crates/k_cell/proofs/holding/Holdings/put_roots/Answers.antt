@@ -15,7 +15,7 @@ invariant_of-self c =
       tables =
           put_kept c.self.inside.bound c.self.inside.bytes c.self.inside.phase c.self.inside.area c.put_roots.new.self c.self.inside.exits.items c.args.roots.items c.self.invariant.tables begun c.put_roots.ensures;
       carried =
-          rooted_carried c.self.inside.phase c.self.inside.area c.put_roots.new.self c.self.inside.carried.whole c.self.inside.carried.noted c.self.inside.carried.below c.self.inside.carried.next c.self.inside.carried.roots.items c.self.inside.carried.pending.items c.self.invariant.carried begun
+          rooted_carried c.self.inside.phase c.self.inside.area c.put_roots.new.self c.self.inside.exits.items c.self.inside.carried c.self.invariant.carried begun
           (ap unmarked c.put_roots.ensures ∙ all_same c.self.inside.area c.args.roots.items);
     }
 

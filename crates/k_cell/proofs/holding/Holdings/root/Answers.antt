@@ -14,7 +14,7 @@ invariant_of-self c =
       tables =
           rooted_kept c.self.inside.bound c.self.inside.bytes c.self.inside.phase c.self.inside.area c.root.new.self c.self.inside.exits.items (name_of c.args.target) c.self.invariant.tables begun c.root.ensures;
       carried =
-          rooted_carried c.self.inside.phase c.self.inside.area c.root.new.self c.self.inside.carried.whole c.self.inside.carried.noted c.self.inside.carried.below c.self.inside.carried.next c.self.inside.carried.roots.items c.self.inside.carried.pending.items c.self.invariant.carried begun
+          rooted_carried c.self.inside.phase c.self.inside.area c.root.new.self c.self.inside.exits.items c.self.inside.carried c.self.invariant.carried begun
           (ap unmarked c.root.ensures ∙ grayed_same c.self.inside.area (name_of c.args.target));
     }
 

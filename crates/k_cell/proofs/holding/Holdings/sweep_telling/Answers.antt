@@ -52,7 +52,7 @@ invariant_of-self g c =
       tables =
           swept_kept c.self.inside.bound c.self.inside.bytes _ c.self.inside.phase c.self.inside.area c.sweep_telling.new.self c.self.inside.exits.items c.self.invariant.tables marked c.sweep_telling.ensures.area (omega (arith, s.most, c.sweep_telling.ensures.bytes));
       carried =
-          swept_carried c.self.inside.phase c.self.inside.area c.sweep_telling.new.self c.self.inside.carried.whole c.self.inside.carried.noted c.self.inside.carried.below c.self.inside.carried.next _ c.self.inside.carried.roots.items c.self.inside.carried.pending.items _ c.self.inside.bound c.self.inside.bytes c.self.inside.exits.items c.self.invariant.carried marked c.self.invariant.tables c.sweep_telling.ensures.area;
+          swept_carried c.self.inside.phase c.self.inside.area c.sweep_telling.new.self c.self.inside.exits.items c.self.inside.carried c.self.inside.bound c.self.inside.bytes c.self.invariant.carried marked c.self.invariant.tables c.sweep_telling.ensures.area;
     })
 
 pub returns-clause-swept : goal.returns-clause-swept

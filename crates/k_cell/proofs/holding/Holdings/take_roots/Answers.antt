@@ -15,7 +15,7 @@ invariant_of-self c =
       tables =
           taken_kept c.self.inside.bound c.self.inside.bytes c.self.inside.phase c.self.inside.area c.take_roots.new.self c.self.inside.exits.items c.take_roots.result.items c.self.invariant.tables begun c.take_roots.ensures;
       carried =
-          rooted_carried c.self.inside.phase c.self.inside.area c.take_roots.new.self c.self.inside.carried.whole c.self.inside.carried.noted c.self.inside.carried.below c.self.inside.carried.next c.self.inside.carried.roots.items c.self.inside.carried.pending.items c.self.invariant.carried begun
+          rooted_carried c.self.inside.phase c.self.inside.area c.take_roots.new.self c.self.inside.exits.items c.self.inside.carried c.self.invariant.carried begun
           (sym (ap unmarked c.take_roots.ensures ∙ all_same c.take_roots.new.self c.take_roots.result.items));
     }
 

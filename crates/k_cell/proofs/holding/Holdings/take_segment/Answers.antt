@@ -1,4 +1,5 @@
-use Rattle.std.proofs.Common.{◌≡◌, None, option_map, sym, ap, subst, ◌∙◌, arith}
+use Rattle.std.proofs.Common.{false, ◌≡◌, None, option_map, sym, ap, subst, ◌∙◌, arith}
+use Rattle.std.proofs.lemmas.Bool.{false≢true}
 use Rattle.k_types.specs.declared.names.CellPhase.TheVariants.{Idle}
 use Rattle.k_space.specs.Segments.{made}
 use Rattle.k_space.specs.Areas.{AreaValue, segment_at}
@@ -15,7 +16,7 @@ invariant_of-self c =
       tables =
           subst (λ (x : AreaValue). AreHoldings c.self.inside.bound c.self.inside.bytes c.self.inside.phase x c.self.inside.exits.items) (sym c.in_err-segment.ensures.kept) c.self.invariant.tables;
       carried =
-          subst (λ (x : AreaValue). IsCarried c.self.inside.phase x c.self.inside.carried.whole c.self.inside.carried.noted c.self.inside.carried.below c.self.inside.carried.next c.self.inside.carried.roots.items c.self.inside.carried.pending.items) (sym c.in_err-segment.ensures.kept) c.self.invariant.carried;
+          subst (λ (x : AreaValue). IsCarried c.self.inside.phase x c.self.inside.exits.items c.self.inside.carried) (sym c.in_err-segment.ensures.kept) c.self.invariant.carried;
     }
 
 pub returns-in_err-segment-clause-none : goal.returns-in_err-segment-clause-none
@@ -42,7 +43,7 @@ invariant_of-self-2 c =
       tables =
           left_kept c.self.inside.bound c.self.inside.bytes c.self.inside.phase c.self.inside.area c.take.new.self c.self.inside.exits c.args.seg.0 c.in_ok-segment.segment c.self.invariant.tables idle t _ (omega (arith, most, c.bytes.ensures.value));
       carried =
-          idle_carried c.self.inside.phase c.take.new.self c.self.inside.carried.noted c.self.inside.carried.below c.self.inside.carried.next c.self.inside.carried.roots.items c.self.inside.carried.pending.items idle;
+          idle_carried c.self.inside.phase c.take.new.self c.self.inside.exits.items (record c.self.inside.carried { whole = false }) idle (λ t. absurd (false≢true t));
     }
 
 pub returns-clause-some : goal.returns-clause-some

@@ -22,7 +22,7 @@ invariant_of-self c =
       tables =
           written_kept c.self.inside.bound c.self.inside.area c.write_int_in.new.self c.args.at c.args.field (Holds c.args.value) c.self.invariant.tables.numbered c.write_int_in.ensures c.self.inside.bytes c.self.inside.phase c.self.inside.exits.items c.self.invariant.tables idle;
       carried =
-          number_carried c.self.inside.phase c.self.inside.area c.write_int_in.new.self c.self.inside.carried.whole c.self.inside.carried.noted c.args.field c.self.inside.carried.below c.self.inside.carried.next c.self.inside.carried.roots.items c.self.inside.carried.pending.items c.args.at c.args.value c.self.invariant.carried idle c.write_int_in.ensures
+          number_carried c.self.inside.phase c.self.inside.area c.write_int_in.new.self c.self.inside.exits.items c.self.inside.carried c.args.field c.args.at c.args.value c.self.invariant.carried idle c.write_int_in.ensures
           (int_there c.self.inside.bound c.self.inside.area c.args.at c.args.field c.self.invariant.tables.numbered.none (omega (arith, few, c.requires.there))
           (ap (λ (h : HoldingsValue). is_ref (field_among h.value.objects c.args.at c.args.field)) c.self.view_is ∙ c.requires.kind));
     }

@@ -21,7 +21,7 @@ invariant_of-self c =
       tables =
           written_kept c.self.inside.bound c.self.inside.area c.write_ref_in.new.self c.args.at c.args.field (Refers (option_map name_of c.args.value)) c.self.invariant.tables.numbered c.write_ref_in.ensures c.self.inside.bytes c.self.inside.phase c.self.inside.exits.items c.self.invariant.tables idle;
       carried =
-          written_carried c.self.inside.phase c.self.inside.area c.write_ref_in.new.self c.self.inside.carried.whole _ c.self.inside.carried.noted c.args.field c.self.inside.carried.below c.self.inside.carried.next c.self.inside.carried.roots.items c.self.inside.carried.pending.items c.args.at (Refers (option_map name_of c.args.value)) c.self.invariant.carried idle c.write_ref_in.ensures c.still_whole-self-inside.ensures;
+          written_carried c.self.inside.phase c.self.inside.area c.write_ref_in.new.self c.self.inside.exits.items c.self.inside.carried _ c.args.field c.args.at (Refers (option_map name_of c.args.value)) c.self.invariant.carried idle c.write_ref_in.ensures c.still_whole-self-inside.ensures;
     }
 
 pub returns : goal.returns

@@ -5,5 +5,5 @@ use Rattle.k_space.proofs.area.Area.visit_gray.Goals as goal
 
 pub returns-clause-some : goal.returns-clause-some
 returns-clause-some c =
-    if_some_more (λ (found : Visited). IsVisitedFrom 0 c.args.self.now c.visit_gray_from.new.self found c.visit_gray_from.new.into) (λ (found : Visited). IsVisited c.args.self.now c.visit_gray_from.new.self found c.visit_gray_from.new.into) c.visit_gray_from.result
-    (λ found v. visited_all c.args.self.now c.visit_gray_from.new.self found c.visit_gray_from.new.into v) c.visit_gray_from.ensures.some
+    if_some_more (λ (found : Visited). IsVisitedFrom c.nothing.result c.args.self.now c.visit_gray_from.new.self found c.visit_gray_from.new.into) (λ (found : Visited). IsVisited c.args.self.now c.visit_gray_from.new.self found c.visit_gray_from.new.into) c.visit_gray_from.result
+    (λ found v. visited_all c.nothing.result _ c.args.self.now c.visit_gray_from.new.self found c.visit_gray_from.new.into c.nothing.ensures v) c.visit_gray_from.ensures.some

@@ -1,5 +1,4 @@
-use Rattle.std.proofs.Common.{◌≡◌, ℕ, refl, sym, ap, subst, ◌∙◌, get_or, count_by, is_some, arith}
-use Rattle.std.proofs.lemmas.Bool.{le-ltb}
+use Rattle.std.proofs.Common.{◌≡◌, ℕ, refl, sym, ap, subst, ◌∙◌, get_or, count_by, is_some}
 use Rattle.k_space.specs.declared.marks.Place.TheVariants.{Empty, At}
 use Rattle.k_space.specs.declared.marks.Mark.TheVariants.{White as MarkWhite, Gray as MarkGray, Black as MarkBlack}
 use Rattle.k_space.specs.Segments.{SegmentValue, row_at, some_gray}
@@ -68,5 +67,5 @@ returns-clause-some c =
     let here = sym c.at-place.ensures ∙ (c.in-At.is ∙ ap (At c.in-At.slot) c.in-Gray.is) in
     let placed = c.self.invariant.sound.placed c.self.inside.gray c.in-At.slot (MarkGray c.in-Gray.next) here in
     rw c.set.ensures
-    (visited c.args.below _ _ c.self.inside.places.items c.self.inside.cells c.args.self.now c.self.inside.gray c.in-At.slot c.in-Gray.next placed.cell c.copy_unless-fields.result c.copy_unless-fields.new.into c.self.view_is here placed.there c.copy_unless-fields.ensures.most
-    (λ high. c.copy_unless-fields.ensures.held (le-ltb _ c.args.below (omega (arith, high, c.from.ensures))) placed.cell placed.there))
+    (visited c.args.bound _ _ c.self.inside.places.items c.self.inside.cells c.args.self.now c.self.inside.gray c.in-At.slot c.in-Gray.next placed.cell c.copy_unless-fields.result c.copy_unless-fields.new.into c.self.view_is here placed.there c.copy_unless-fields.ensures.most
+    (λ plain. c.copy_unless-fields.ensures.held (c.covers.ensures ∙ plain) placed.cell placed.there))
