@@ -5,6 +5,7 @@ pub mod Changes
 pub mod Fields
 pub mod Heaps
 pub mod Kept
+pub mod Linked
 pub mod Marked
 pub mod Openings
 pub mod Paths

@@ -1,5 +1,6 @@
 pub mod Machines
 pub mod Contents
+pub mod Links
 pub mod Marks
 pub mod Places
 pub mod Rooms

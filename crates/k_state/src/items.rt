@@ -1,7 +1,7 @@
 //! Exit items, shares and open collections.
 ghost use Rattle.std.specs.Prelude.{◌≡◌, ◌==◌, ◌&&◌};
 ghost use Rattle.k_types.specs.Names.{heap_eq, name_eq, among};
-ghost use Rattle.k_types.specs.State.{has_exit, has_share};
+ghost use Rattle.k_types.specs.State.{has_share};
 
 use crate::names::{is_same_heap, is_same_name};
 use k_types::{Heap, Name, Pid, SharedId};
@@ -153,17 +153,6 @@ pub(crate) fn is_among(numbers: &[u32], n: u32) -> bool
 {
     for m in numbers {
         if *m == n {
-            return true;
-        }
-    }
-    false
-}
-
-pub(crate) fn has_exit(exits: &[ExitItem], heap: Heap, target: Name) -> bool
-    ensures { result ≡ has_exit exits.now heap target }
-{
-    for e in exits {
-        if e.is(heap, target) {
             return true;
         }
     }

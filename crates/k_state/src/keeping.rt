@@ -78,7 +78,7 @@ impl PlainLists {
         ensures state { (passes : Item → Bool) → stays.now ≡ map passes self.old.state.exits →
             self.new.state ≡ keep_exits passes self.old.state }
     {
-        keep_marked(&mut self.exits, stays);
+        self.exits.keep(stays);
     }
 
     /// The marked shares stay, the others go. There is a mark for each share, in the order in which they stand.

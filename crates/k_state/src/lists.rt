@@ -1,6 +1,7 @@
 //! The lists of a state, and the shape that they keep.
 
-use crate::items::{ExitItem, Scan, Share};
+use crate::exits::Exits;
+use crate::items::{Scan, Share};
 use crate::registers::Registers;
 use crate::segments::Segments;
 use k_types::{Phase, Setup};
@@ -17,7 +18,8 @@ pub struct PlainLists {
     pub(crate) made: Vec<u32>,
     pub(crate) registers: Vec<Registers>,
     pub(crate) done: Vec<u32>,
-    pub(crate) exits: Vec<ExitItem>,
+    // The exit items, with what finds one of them.
+    pub(crate) exits: Exits,
     pub(crate) shares: Vec<Share>,
     pub(crate) phases: Vec<Phase>,
     pub(crate) ended: Vec<u32>,
@@ -59,7 +61,7 @@ impl Model for PlainLists {
         made = s.made.items;
         registers = s.registers.items;
         done = s.done.items;
-        exits = s.exits.items;
+        exits = s.exits;
         shares = s.shares.items;
         phases = s.phases.items;
         ended = s.ended.items;
@@ -76,7 +78,7 @@ impl Model for PlainLists {
         made = s.made.items;
         registers = s.registers.items;
         done = s.done.items;
-        exits = s.exits.items;
+        exits = s.exits;
         shares = s.shares.items;
         phases = s.phases.items;
         ended = s.ended.items;

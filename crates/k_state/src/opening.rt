@@ -5,6 +5,7 @@ ghost use Rattle.k_types.specs.Names.{directory};
 ghost use Rattle.k_types.specs.State.{opening, Refers};
 ghost use Rattle.k_types.specs.Trace.{trace_of};
 
+use crate::exits::Exits;
 use crate::lists::PlainLists;
 use crate::objects::{FieldValue, PlainObject};
 use crate::registers::Registers;
@@ -28,7 +29,7 @@ impl PlainLists {
             made: first_counts(alloc, procs + shared)?,
             registers: null_registers(alloc, procs)?,
             done: vec![in alloc; 0; procs]?,
-            exits: Vec::new(alloc),
+            exits: Exits::none(alloc),
             shares: Vec::new(alloc),
             phases: vec![in alloc; Phase::Unmade; shared]?,
             ended: Vec::new(alloc),

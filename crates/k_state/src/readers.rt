@@ -1,5 +1,6 @@
 //! What a state and its setup say, read.
 ghost use Rattle.std.specs.Prelude.{◌≡◌, ◌<◌, ◌-◌, ◌^◌, [], not, option_copied, option_map, slice_index_or, length, IfSome, IfNone, IsFalse};
+ghost use Rattle.k_state.specs.Links.{IsExitAt};
 ghost use Rattle.k_state.specs.Machines.{IsPlain};
 ghost use Rattle.k_state.specs.Places.{IsNamedAt};
 ghost use Rattle.k_state.specs.Segments.{objects_in};
@@ -10,7 +11,7 @@ ghost use Rattle.k_types.specs.State.{Scan as Opened, has, has_exit, has_share, 
 ghost use Rattle.k_types.specs.Trace.{limit_of, process_count, segment_count, size_of_type, trace_of};
 ghost use Rattle.k_types.specs.Updates.{next_name};
 
-use crate::items::{ExitItem, Scan, Share, has_exit, has_share, is_among};
+use crate::items::{ExitItem, Scan, Share, has_share, is_among};
 use crate::lists::PlainLists;
 use crate::objects::PlainObject;
 use k_types::{Heap, LimitId, Name, Phase, Pid, Reg, Seg, Serial, Setup, SharedId, TypeId};
@@ -163,14 +164,22 @@ impl PlainLists {
     pub fn exits(&self) -> &[ExitItem]
         ensures { result.now ≡ self.now.state.exits }
     {
-        &self.exits
+        self.exits.all()
     }
 
-    /// Whether the heap has an exit item to that target. Walks over all exit items.
+    /// The place of the heap's last exit item to that target, found by the hash of the target.
+    pub fn exit_at(&self, heap: Heap, target: Name) -> Option<usize>
+        ensures some { IfSome result (λ at. IsExitAt self.now.state.exits heap target at) }
+        ensures none { IfNone result (IsFalse (has_exit self.now.state.exits heap target)) }
+    {
+        self.exits.find(heap, target)
+    }
+
+    /// Whether the heap has an exit item to that target, found by the hash of the target.
     pub fn has_exit(&self, heap: Heap, target: Name) -> bool
         ensures { result ≡ has_exit self.now.state.exits heap target }
     {
-        has_exit(&self.exits, heap, target)
+        self.exits.has(heap, target)
     }
 
     /// The shares, in the order in which they stand.

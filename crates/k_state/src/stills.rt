@@ -5,6 +5,7 @@ ghost use Rattle.k_state.specs.Stills.{blank};
 ghost use Rattle.k_types.specs.Trace.{process_count, trace_of};
 ghost use Rattle.k_types.specs.Updates.{set_register};
 
+use crate::exits::Exits;
 use crate::items::{ExitItem, Share};
 use crate::lists::PlainLists;
 use crate::objects::PlainObject;
@@ -155,8 +156,8 @@ impl StillState {
 }
 
 impl PlainLists {
-    /// The machine with a copy of the setup, in the state that was given. `NoMemory` comes where the copy or the lists of the segments
-    /// find no memory.
+    /// The machine with a copy of the setup, in the state that was given. `NoMemory` comes where the copy, the lists of the segments
+    /// or the chains of the exit items find no memory.
     pub fn of(alloc: Global, setup: &Setup, state: StillState) -> Result<PlainLists, NoMemory>
         requires { IsPlain (record { setup = trace_of setup.now [] []; state = state }) }
         ensures { IfOk result (λ s. s ≡ record { setup = trace_of setup.now [] []; state = state }) }
@@ -169,7 +170,7 @@ impl PlainLists {
             made: state.made,
             registers: state.registers,
             done: state.done,
-            exits: state.exits,
+            exits: Exits::of(alloc, state.exits)?,
             shares: state.shares,
             phases: state.phases,
             ended: state.ended,

@@ -9,7 +9,7 @@ use crate::lists::PlainLists;
 use k_types::Heap;
 
 // Each item is of the heap that is given for it, or goes where none is given.
-fn turn(exits: &mut Vec<ExitItem>, heaps: &[Option<Heap>])
+pub(crate) fn turn(exits: &mut Vec<ExitItem>, heaps: &[Option<Heap>])
     requires { length heaps.now ≡ length exits.old.items }
     ensures { exits.new.items ≡ staying_items heaps.now exits.old.items }
 {
@@ -35,6 +35,6 @@ impl PlainLists {
         ensures state { (turned : Item → Option Item) → turned_items heaps.now self.old.state.exits ≡ map turned self.old.state.exits →
             self.new.state ≡ turn_exits turned self.old.state }
     {
-        turn(&mut self.exits, heaps);
+        self.exits.turn(heaps);
     }
 }

@@ -4,7 +4,7 @@ ghost use Rattle.k_state.specs.Contents.{content};
 ghost use Rattle.k_state.specs.Rooms.{HasRoom};
 ghost use Rattle.k_types.specs.Updates.{add_exit, write};
 
-use crate::items::{ExitItem, has_exit};
+use crate::items::ExitItem;
 use crate::lists::PlainLists;
 use crate::objects::FieldValue;
 use k_io::NoMemory;
@@ -27,7 +27,7 @@ impl PlainLists {
         ensures ok { OnOk result (self.new.state ≡ add_exit heap target self.old.state) }
         ensures err { OnErr result (self.new ≡ self.old) }
     {
-        if !has_exit(&self.exits, heap, target) {
+        if !self.exits.has(heap, target) {
             self.exits.push(ExitItem::of(heap, target))?;
         }
         Ok(())

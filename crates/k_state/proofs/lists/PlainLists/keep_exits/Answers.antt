@@ -10,16 +10,16 @@ use Rattle.k_state.proofs.lists.PlainLists.keep_exits.Goals as goal
 
 pub invariant_of-self : goal.invariant_of-self
 invariant_of-self c =
-    let exits = c.self.inside.exits.items in
-    let fewer : length c.keep_marked.new.items.items ≤ length exits
-    = subst (λ (es : List ExitItem). length es ≤ length exits) (sym c.keep_marked.ensures) (length_marked c.args.stays.now exits) in
-    kept_exits _ _ c.keep_marked.new.items.items c.self.invariant fewer
+    let exits : List ExitItem = c.self.inside.exits in
+    let fewer : length c.keep.new.self ≤ length exits
+    = subst (λ (es : List ExitItem). length es ≤ length exits) (sym c.keep.ensures) (length_marked c.args.stays.now exits) in
+    kept_exits _ _ c.keep.new.self c.self.invariant fewer
 
 pub returns-clause-state : goal.returns-clause-state
 unfolding keep_exits
 returns-clause-state c = λ passes say.
     let m = c.args.self.now in
-    let same : c.self.inside.exits.items ≡ m.state.exits = ap (λ (n : Machine). n.state.exits) c.self.view_is in
-    let kept : c.keep_marked.new.items.items ≡ filter passes m.state.exits
-    = c.keep_marked.ensures ∙ ap (marked c.args.stays.now) same ∙ marked_passing passes c.args.stays.now m.state.exits say in
-    exits_are _ m c.keep_marked.new.items.items (filter passes m.state.exits) c.self.view_is kept
+    let same : c.self.inside.exits ≡ m.state.exits = ap (λ (n : Machine). n.state.exits) c.self.view_is in
+    let kept : c.keep.new.self ≡ filter passes m.state.exits
+    = c.keep.ensures ∙ ap (marked c.args.stays.now) same ∙ marked_passing passes c.args.stays.now m.state.exits say in
+    exits_are _ m c.keep.new.self (filter passes m.state.exits) c.self.view_is kept

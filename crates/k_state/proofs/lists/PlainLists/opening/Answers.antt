@@ -26,7 +26,7 @@ invariant_of-result c =
     let segments = c.in_ok-of.field-0 in
     let counted : length segments.totals ≡ segment_count t = omega (arith, c.in_ok-of.ensures.count, n) in
     opening_from _ t _ _ _ _ _ _ _ _ _ _ _ c.requires c.in_ok-copy_of.ensures (c.in_ok-of.ensures.objects ∙ objects) made registers done
-    c.new.ensures.items c.new-2.ensures.items phases c.new-3.ensures.items c.new-4.ensures.items maxima counted
+    c.none.ensures c.new.ensures.items phases c.new-2.ensures.items c.new-3.ensures.items maxima counted
     (subst (λ (xs : List Object). AreTotals xs segments.totals) objects c.in_ok-of.ensures.totals)
 
 pub returns : goal.returns
@@ -45,4 +45,4 @@ returns c =
     let maxima : c.in_ok-maxima_of.field-0.items ≡ (opening t).maxima
     = c.in_ok-maxima_of.ensures ∙ ap (map (λ (row : LimitRow). row.max)) c.deref.ensures.value in
     opening_shown _ t _ _ _ _ _ _ _ _ _ _ c.in_ok-copy_of.ensures (c.in_ok-of.ensures.objects ∙ c.in_ok-objects.ensures) made registers done
-    c.new.ensures.items c.new-2.ensures.items phases c.new-3.ensures.items c.new-4.ensures.items maxima
+    c.none.ensures c.new.ensures.items phases c.new-2.ensures.items c.new-3.ensures.items maxima

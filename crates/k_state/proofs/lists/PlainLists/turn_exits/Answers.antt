@@ -10,16 +10,16 @@ use Rattle.k_state.proofs.lists.PlainLists.turn_exits.Goals as goal
 
 pub invariant_of-self : goal.invariant_of-self
 invariant_of-self c =
-    let exits = c.self.inside.exits.items in
-    let fewer : length c.turn.new.exits.items ≤ length exits
+    let exits : List ExitItem = c.self.inside.exits in
+    let fewer : length c.turn.new.self ≤ length exits
     = subst (λ (es : List ExitItem). length es ≤ length exits) (sym c.turn.ensures) (length_staying c.args.heaps.now exits) in
-    kept_exits _ _ c.turn.new.exits.items c.self.invariant fewer
+    kept_exits _ _ c.turn.new.self c.self.invariant fewer
 
 pub returns-clause-state : goal.returns-clause-state
 unfolding turn_exits
 returns-clause-state c = λ turned say.
     let m = c.args.self.now in
-    let same : c.self.inside.exits.items ≡ m.state.exits = ap (λ (n : Machine). n.state.exits) c.self.view_is in
-    let kept : c.turn.new.exits.items ≡ filter_map turned m.state.exits
+    let same : c.self.inside.exits ≡ m.state.exits = ap (λ (n : Machine). n.state.exits) c.self.view_is in
+    let kept : c.turn.new.self ≡ filter_map turned m.state.exits
     = c.turn.ensures ∙ ap (staying_items c.args.heaps.now) same ∙ ap (filter_map (λ e. e)) say ∙ staying_turned turned m.state.exits in
-    exits_are _ m c.turn.new.exits.items (filter_map turned m.state.exits) c.self.view_is kept
+    exits_are _ m c.turn.new.self (filter_map turned m.state.exits) c.self.view_is kept
