@@ -1,8 +1,7 @@
 -- What marking finds: the objects of a pool that pass a test.
-use Rattle.std.proofs.Common.{◌≡◌, ℕ, ◌+◌, ◌<◌, ◌&&◌, ◌||◌, not, Bool, true, false, refl, sym, ap, ap₂, ◌∙◌, List, [], ◌∷◌, ◌++◌, map, take, get_or, length, replicate, Option, Some, None, arith, suc}
+use Rattle.std.proofs.Common.{◌≡◌, ℕ, ◌+◌, ◌<◌, ◌&&◌, ◌||◌, not, Bool, true, false, refl, sym, ap, ap₂, ◌∙◌, List, [], ◌∷◌, ◌++◌, map, take, get_or, length, replicate, Option, Some, arith, suc}
 use Rattle.std.specs.List.{list_any}
 use Rattle.std.proofs.lemmas.Bool.{false≢true, or_parts}
-use Rattle.std.proofs.lemmas.List.{get_or-map, length-map}
 use Rattle.std.proofs.lemmas.List.Folds.{list_any-append, list_any_more}
 use Rattle.k_types.specs.declared.names.Name.{Name}
 use Rattle.k_types.specs.declared.names.Heap.{Heap}
@@ -13,14 +12,12 @@ use Rattle.k_types.specs.Effects.{exit_stays, open_roots}
 use Rattle.k_types.specs.Reach.{has_entry, is_entered, is_held, is_pinned, is_root, reach_in}
 use Rattle.k_types.specs.Sound.{IsOrdered}
 use Rattle.k_types.specs.State.{ExitItem, Object, State, has, in_registers, refers}
-use Rattle.k_types.specs.Trace.{Trace, process_count, segment_count}
+use Rattle.k_types.specs.Trace.{Trace, process_count}
 use Rattle.k_base.proofs.Lists.{numbers_push}
-use Rattle.k_base.proofs.NameTests.{heap_eq-true, name_eq-true}
+use Rattle.k_base.proofs.NameTests.{heap_eq-true}
 use Rattle.k_base.proofs.Objects.{has-kept}
 use Rattle.k_scan.specs.Marks.{AreMarks, HasFound, IsMarked, is_marked, lengths, sizes_of}
-use Rattle.k_state.specs.Segments.{objects_in}
-use Rattle.k_state.specs.Places.{IsNamedAt}
-use Rattle.k_scan.proofs.Looks.{no_object, or_more, ours_named, visit_other}
+use Rattle.k_scan.proofs.Looks.{or_more, ours_named, visit_other}
 use Rattle.k_scan.proofs.Marks.{lists_are}
 use Rattle.k_scan.proofs.Reaches.{pool_of}
 
@@ -36,10 +33,6 @@ module _ (xs : List Object) (own : ℕ → Heap) (h : Heap) where
     size = marked.size;
     marks = λ n. marked.marks n ∙ ap (λ b. is_marked xs old n || b) (ours_named xs own h name ours n);
   }
-
--- a name among all objects
-pub found_marked : (xs : List Object) (name : Name) (old new : List (List Bool)) (fresh : Bool) → IsMarked xs name old new fresh → HasFound xs xs (λ n. name_eq name n) old new
-found_marked xs name old new fresh marked = record { size = marked.size; marks = marked.marks }
 
 module _ (xs pool : List Object) where
   -- nothing was looked for
@@ -141,24 +134,6 @@ module _ (trace : Trace) (st : State) (h : Heap) where
       ∙ ap (λ p. p && ((entered n || pinned n) || held n)) ours
       ∙ root_is n own)
 
--- the mark at the place of a name is what is said of the name
-pub mark_named : (trace : Trace) (st : State) (f : Name → Bool) (marks : List (List Bool)) (k : ℕ) (n : Name) → AreMarks trace st None marks f → n.seg.0 < segment_count trace →
-    IsNamedAt (objects_in st.objects n.seg.0) k n → get_or (get_or marks n.seg.0 []) k false ≡ f n
-mark_named trace st f marks k n are low named =
-    let d = no_object n in
-    let xs = objects_in st.objects n.seg.0 in
-    ap (λ (ms : List Bool). get_or ms k false) (are n.seg.0 low refl)
-    ∙ get_or-map (λ (o : Object). f o.name) xs k d false named.0
-    ∙ ap f (name_eq-true (get_or xs k d).name n (named.1 d))
-
--- and there is such a mark
-pub mark_there : (trace : Trace) (st : State) (f : Name → Bool) (marks : List (List Bool)) (k : ℕ) (n : Name) → AreMarks trace st None marks f → n.seg.0 < segment_count trace →
-    IsNamedAt (objects_in st.objects n.seg.0) k n → k < length (get_or marks n.seg.0 [])
-mark_there trace st f marks k n are low named =
-    let xs = objects_in st.objects n.seg.0 in
-    let long = ap (λ (ms : List Bool). length ms) (are n.seg.0 low refl) ∙ length-map xs (λ (o : Object). f o.name) in
-    omega (arith, long, named.0)
-
 -- where no exit item is the heap's all stay
 pub all_stay : (trace : Trace) (st : State) (h : Heap) (exits : List ExitItem) → list_any (λ (x : ExitItem). heap_eq x.heap h) exits ≡ false →
     replicate (length exits) true ≡ map (exit_stays trace st h) exits
@@ -167,19 +142,6 @@ all_stay trace st h [] none = refl
 all_stay trace st h (e ∷ exits) none =
     let parts = or_parts (heap_eq e.heap h) (list_any (λ (x : ExitItem). heap_eq x.heap h) exits) none in
     ap₂ (λ b bs. b ∷ bs) (sym (ap (λ b. not b || list_any (λ (x : Object). refers x e.target) (reach_in trace st h (open_roots st h))) parts.0)) (all_stay trace st h exits parts.1)
-
--- what some reached object refers to, where all that they refer to is marked
-pub referred_marked : (trace : Trace) (st : State) (h : Heap) (roots : List Name) (none marks : List (List Bool)) → IsOrdered st.objects → lengths none ≡ sizes_of trace st None →
-    ((n : Name) → is_marked st.objects none n ≡ false) →
-    HasFound st.objects st.objects (λ n. list_any (λ (x : Object). refers x n) (reach_in trace st h roots)) none marks →
-    AreMarks trace st None marks (λ n. list_any (λ (x : Object). refers x n) (reach_in trace st h roots))
-referred_marked trace st h roots none marks ordered sized clear found =
-    let test : Name → Bool = λ n. list_any (λ (x : Object). refers x n) (reach_in trace st h roots) in
-    lists_are trace st None marks test ordered (found.size ∙ sized)
-    (λ n own there.
-    found.marks n
-    ∙ ap (λ b. b || (has st.objects n && test n)) (clear n)
-    ∙ ap (λ b. b && test n) there)
 
 -- whether an exit item stays
 pub other_stays : (trace : Trace) (st : State) (h : Heap) (e : ExitItem) → heap_eq e.heap h ≡ false → exit_stays trace st h e ≡ true

@@ -10,4 +10,5 @@ pub mod Counts
 pub mod Turning
 pub mod Referred
 pub mod Found
+pub mod Noted
 pub mod Ends

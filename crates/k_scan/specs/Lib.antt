@@ -1,1 +1,3 @@
 pub mod Marks
+pub mod Notes
+pub mod Leading

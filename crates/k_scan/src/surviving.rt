@@ -1,18 +1,20 @@
 //! What the end of a heap's collection keeps: a mark for each object of the heap, each exit item and each share.
-ghost use Rattle.std.specs.Prelude.{◌≡◌, ◌&&◌, IfOk, Some, map};
+ghost use Rattle.std.specs.Prelude.{◌≡◌, IfOk, Some, map};
 ghost use Rattle.std.specs.List.{list_any};
+ghost use Rattle.k_scan.specs.Leading.{AreLed};
 ghost use Rattle.k_scan.specs.Marks.{AreMarks, is_reached};
 ghost use Rattle.k_types.specs.Effects.{exit_stays, lies_in, register_lies_in, registers_of, share_stays};
 ghost use Rattle.k_types.specs.Names.{heap_eq};
 ghost use Rattle.k_types.specs.Replies.{is_populating};
 ghost use Rattle.k_types.specs.State.{ExitItem as Item, Sharing};
 
+use crate::leading::{is_led_into, led_into};
 use crate::marking::Marks;
 use crate::reaching::reached;
-use crate::referring::{is_target_referred, mark_referred};
+use crate::referring::{is_noted, note_referred};
 use k_io::NoMemory;
 use k_state::{PlainLists, Share, is_same_heap};
-use k_types::{Heap, Name, Phase, Pid, SharedId};
+use k_types::{Heap, MOST_SHARED_HEAPS, Name, Phase, Pid, SharedId};
 use std::alloc::Global;
 
 // What the roots of the heap's open collection reach.
@@ -51,12 +53,10 @@ fn surviving_among(
     requires { AreMarks lists.now.setup lists.now.state (Some heap) reached.now (is_reached lists.now.setup lists.now.state heap) }
     ensures { IfOk result (λ stays. stays.items ≡ map (exit_stays lists.now.setup lists.now.state heap) lists.now.state.exits) }
 {
-    let referred = mark_referred(alloc, lists, heap, reached)?;
+    let noted = note_referred(alloc, lists, heap, reached)?;
     let mut stays = Vec::new(alloc);
     for item in lists.exits() {
-        stays.push(
-            !item.is_of(heap) || is_target_referred(lists, heap, reached, &referred, item.target()),
-        )?;
+        stays.push(!item.is_of(heap) || is_noted(lists, heap, &noted, item.target()))?;
     }
     Ok(stays)
 }
@@ -113,21 +113,6 @@ fn is_populating(phase: Phase, pid: Pid) -> bool
     }
 }
 
-// Whether an exit item of the heap that stays leads into the shared heap.
-#[tactic(auto, using(crate::proofs::Marks::mark_is))]
-fn some_exit_leads_in(lists: &PlainLists, heap: Heap, exits: &[bool], shared: SharedId) -> bool
-    requires { exits.now ≡ map (exit_stays lists.now.setup lists.now.state heap) lists.now.state.exits }
-    ensures { result ≡ list_any
-        (λ (x : Item). heap_eq x.heap heap && lies_in lists.now.setup lists.now.state shared.0 x.target && exit_stays lists.now.setup lists.now.state heap x) lists.now.state.exits }
-{
-    for (at, item) in lists.exits().iter().enumerate() {
-        if item.is_of(heap) && lies_in(lists, shared, item.target()) && exits[at] {
-            return true;
-        }
-    }
-    false
-}
-
 // Whether some register of the process leads into the shared heap.
 #[tactic(auto, using(crate::proofs::Numbers::none_leads_past))]
 fn some_register_leads_in(lists: &PlainLists, pid: Pid, shared: SharedId) -> bool
@@ -142,15 +127,22 @@ fn some_register_leads_in(lists: &PlainLists, pid: Pid, shared: SharedId) -> boo
 }
 
 #[tactic(auto, unfolding(k_types::specs::Effects::share_stays))]
-fn share_stays(lists: &PlainLists, heap: Heap, exits: &[bool], share: &Share) -> bool
-    requires { exits.now ≡ map (exit_stays lists.now.setup lists.now.state heap) lists.now.state.exits }
+fn share_stays(
+    lists: &PlainLists,
+    heap: Heap,
+    exits: &[bool],
+    led: &[bool; MOST_SHARED_HEAPS],
+    share: &Share,
+) -> bool
+    requires exits { exits.now ≡ map (exit_stays lists.now.setup lists.now.state heap) lists.now.state.exits }
+    requires led { AreLed lists.now.setup lists.now.state heap lists.now.state.exits led.now }
     ensures { result ≡ share_stays lists.now.setup lists.now.state heap share.now }
 {
     let process = share.process();
     let shared = share.heap();
     !is_same_heap(heap, Heap::User(process))
         || some_register_leads_in(lists, process, shared)
-        || some_exit_leads_in(lists, heap, exits, shared)
+        || is_led_into(lists, heap, exits, led, shared)
         || is_populating(lists.phase(shared), process)
 }
 
@@ -164,9 +156,10 @@ pub(crate) fn surviving_shares(
     requires { exits.now ≡ map (exit_stays lists.now.setup lists.now.state heap) lists.now.state.exits }
     ensures { IfOk result (λ stays. stays.items ≡ map (share_stays lists.now.setup lists.now.state heap) lists.now.state.shares) }
 {
+    let led = led_into(lists, heap, exits);
     let mut stays = Vec::new(alloc);
     for share in lists.shares() {
-        stays.push(share_stays(lists, heap, exits, share))?;
+        stays.push(share_stays(lists, heap, exits, &led, share))?;
     }
     Ok(stays)
 }

@@ -1,4 +1,4 @@
-use Rattle.std.proofs.Common.{◌≡◌, ◌+◌, ◌<◌, ◌++◌, [], true, List, ap, ap₂, sym, ◌∙◌, get_or, map, arith}
+use Rattle.std.proofs.Common.{◌≡◌, ◌<◌, ◌++◌, [], true, List, ap, ap₂, sym, ◌∙◌, get_or, map, arith}
 use Rattle.std.proofs.lemmas.List.{map-append}
 use Rattle.k_types.specs.declared.names.Heap.{Heap}
 use Rattle.k_types.specs.declared.names.Name.{Name}

@@ -1,11 +1,12 @@
-use Rattle.std.proofs.Common.{◌≡◌, ◌+◌, ◌++◌, [], ◌∷◌, not, true, false, ap, ap₂, sym, ◌∙◌, map, take}
+use Rattle.std.proofs.Common.{◌≡◌, ◌+◌, ◌++◌, [], ◌∷◌, not, true, false, List, ap, ap₂, sym, ◌∙◌, map, take}
 use Rattle.std.specs.List.{list_any}
 use Rattle.std.proofs.lemmas.List.{map_push, take_more}
 use Rattle.k_types.specs.Effects.{exit_stays, open_roots}
 use Rattle.k_types.specs.Names.{heap_eq}
 use Rattle.k_types.specs.Reach.{reach_in}
-use Rattle.k_types.specs.State.{Object, refers}
+use Rattle.k_types.specs.State.{ExitItem, Object, has_exit, refers}
 use Rattle.k_scan.proofs.Found.{other_stays, own_stays}
+use Rattle.k_scan.proofs.Noted.{own_there}
 use Rattle.k_scan.proofs.surviving.surviving_among.Goals as goal
 use Rattle.k_scan.proofs.surviving.surviving_among.Goals.{then-not-is_of, else-not-is_of}
 
@@ -26,7 +27,7 @@ loop-item-preserved c =
       | else-not-is_of w ↦
           let own : heap_eq e.heap h ≡ true = sym c.is_of.ensures ∙ w.if-not-is_of.false in
           w.push-is
-          ∙ w.is_target_referred.ensures
+          ∙ w.is_noted.ensures
           ∙ ap (λ n. list_any (λ (x : Object). refers x n) (reach_in m.setup m.state h (open_roots m.state h))) w.target.ensures
           ∙ sym (own_stays m.setup m.state h e own)
     ] in
@@ -34,3 +35,12 @@ loop-item-preserved c =
     ∙ ap₂ (λ ys b. ys ++ b ∷ []) c.loop-item.invariant is
     ∙ sym (map_push stays (take i exits) e)
     ∙ ap (map stays) (sym more)
+
+pub is_noted-requires-clause-there : goal.is_noted-requires-clause-there
+is_noted-requires-clause-there c =
+    let h = c.args.heap in
+    let e : ExitItem = c.item-item.result in
+    let exits = c.exits-item-items.result.now in
+    let there : has_exit exits h e.target ≡ true
+    = own_there exits h c.loop-item.item-index e c.loop-item-test.true c.item-item.is (sym c.is_of.ensures ∙ c.if-not-is_of.false) in
+    ap₂ (λ (xs : List ExitItem) n. has_exit xs h n) (sym c.exits-item-items.ensures) c.target.ensures ∙ there

@@ -1,4 +1,4 @@
-use Rattle.std.proofs.Common.{◌≡◌, ◌+◌, ◌++◌, ◌∷◌, [], Bool, List, ap, ap₂, sym, ◌∙◌, get_or, map, false, replicate, arith}
+use Rattle.std.proofs.Common.{◌≡◌, ◌++◌, ◌∷◌, [], Bool, List, ap, ap₂, sym, ◌∙◌, get_or, map, false, replicate, arith}
 use Rattle.k_types.specs.Numbers.{numbers_below}
 use Rattle.k_types.specs.Trace.{segment_count}
 use Rattle.k_state.specs.Segments.{objects_in}

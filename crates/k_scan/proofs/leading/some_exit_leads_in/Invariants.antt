@@ -3,7 +3,7 @@ use Rattle.std.specs.List.{list_any}
 use Rattle.k_types.specs.Effects.{exit_stays, lies_in}
 use Rattle.k_types.specs.Names.{heap_eq}
 use Rattle.k_types.specs.State.{ExitItem}
-use Rattle.k_scan.proofs.surviving.some_exit_leads_in.Given as goal
+use Rattle.k_scan.proofs.leading.some_exit_leads_in.Given as goal
 
 abbrev pub invariant-loop-at : goal.invariant-loop-at
 invariant-loop-at l =
