@@ -156,8 +156,11 @@ pub(crate) fn surviving_shares(
     requires { exits.now ≡ map (exit_stays lists.now.setup lists.now.state heap) lists.now.state.exits }
     ensures { IfOk result (λ stays. stays.items ≡ map (share_stays lists.now.setup lists.now.state heap) lists.now.state.shares) }
 {
-    let led = led_into(lists, heap, exits);
     let mut stays = Vec::new(alloc);
+    if lists.shares().is_empty() {
+        return Ok(stays);
+    }
+    let led = led_into(lists, heap, exits);
     for share in lists.shares() {
         stays.push(share_stays(lists, heap, exits, &led, share))?;
     }
