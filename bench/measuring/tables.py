@@ -223,11 +223,18 @@ def overlapped(report):
     return count
 
 
+def gap_rounds(objects):
+    """How many rounds of three operations the sibling does: as many as a trace has room for beside so long a list."""
+    left = MOST_OPERATIONS - GAP_COLLECTIONS - 2 * objects
+    # A list that no trace has room for is run by a build that allows more operations.
+    return (left if left > 0 else MOST_OPERATIONS // 2) // 3
+
+
 def gaps(given):
     """The longest time that a sibling waits which needs the book, while its neighbour's heap is collected."""
     rows = []
     for objects in [2_000] if given.quick else given.objects:
-        rounds = 2_000 if given.quick else max(MOST_OPERATIONS - GAP_COLLECTIONS - 2 * objects, MOST_OPERATIONS // 2) // 3
+        rounds = 2_000 if given.quick else gap_rounds(objects)
         source = given.file("gaps.kaffe", traces.beside(objects, GAP_COLLECTIONS, rounds))
         report = given.folder / "report"
         longest, both = [], 0
