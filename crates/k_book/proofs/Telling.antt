@@ -123,11 +123,11 @@ module _ (trace : Trace) (st : State) (b : BookRecord) (shows : BookShows trace 
   }
 
 -- a book that was just made is of its trace
-pub opened_of : (setup : Setup) (operations : List (List Op)) (order : List ℕ) (exits events : ℕ) (table : TableId) →
-    IsBookOf (trace_of setup operations order) (opened setup exits events (empty_journal table))
-opened_of setup operations order exits events table = record { rows = refl; procs = refl; ceiling = refl; maxima = maxima_count setup.limits.items }
+pub opened_of : (setup : Setup) (operations : List (List Op)) (order : List ℕ) (exits events kept : ℕ) (table : TableId) →
+    IsBookOf (trace_of setup operations order) (opened setup exits events kept (empty_journal table))
+opened_of setup operations order exits events kept table = record { rows = refl; procs = refl; ceiling = refl; maxima = maxima_count setup.limits.items }
 
 -- and agrees with the empty journal
-pub opened_agrees : (setup : Setup) (operations : List (List Op)) (order : List ℕ) (exits events : ℕ) (table : TableId) →
-    BookAgrees (trace_of setup operations order) (empty_journal table) (opened setup exits events (empty_journal table)).value
-opened_agrees setup operations order exits events table = opened_book (trace_of setup operations order) table
+pub opened_agrees : (setup : Setup) (operations : List (List Op)) (order : List ℕ) (exits events kept : ℕ) (table : TableId) →
+    BookAgrees (trace_of setup operations order) (empty_journal table) (opened setup exits events kept (empty_journal table)).value
+opened_agrees setup operations order exits events kept table = opened_book (trace_of setup operations order) table

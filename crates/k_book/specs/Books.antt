@@ -20,7 +20,8 @@ abbrev pub without_maxima : List LimitRow → List LimitRow
 without_maxima rows = with_maxima rows (replicate (length rows) 0)
 
 -- what is seen of the state, the journal, and what a step has to know beside: the limits without the maxima, which are of the state,
--- the limit of each process, the kernel's ceiling, and for how many entry items, pins and events there is room
+-- the limit of each process, the kernel's ceiling, for how many entry items, pins and events there is room, and how many of the last
+-- events can be read
 pub record BookRecord : Type 0 where
   pub value : BookValue
   pub journal : JournalValue
@@ -30,6 +31,7 @@ pub record BookRecord : Type 0 where
   pub entry_room : ℕ
   pub pin_room : ℕ
   pub event_room : ℕ
+  pub kept : ℕ
 
 -- the limits with their maxima and what is charged directly at each
 abbrev pub book_limits : BookRecord → ChargedLimits
@@ -65,6 +67,7 @@ book_by limits entered table kept procs ceiling closed = record {
   entry_room = entered.entry_room;
   pin_room = entered.pin_room;
   event_room = kept.room;
+  kept = kept.kept;
 }
 
 -- room for the pins of all registers and for one more, since a step takes the new pin before it lets the old one go
@@ -75,9 +78,9 @@ pin_room_of procs = register_count * procs + 1
 abbrev pub HasFewSegments : Setup → Type 0
 HasFewSegments setup = length setup.procs.items + setup.shared < 2 ^ 27
 
--- the book of that setup before the first event, with room for so many exit items and events
-abbrev pub opened : Setup → ℕ → ℕ → JournalValue → BookRecord
-opened setup exits events journal = record {
+-- the book of that setup before the first event, with room for so many exit items and events, of which so many of the last can be read
+abbrev pub opened : Setup → ℕ → ℕ → ℕ → JournalValue → BookRecord
+opened setup exits events kept journal = record {
   value = opening_book (trace_of setup [] []);
   journal = journal;
   rows = without_maxima setup.limits.items;
@@ -86,4 +89,5 @@ opened setup exits events journal = record {
   entry_room = exits;
   pin_room = pin_room_of (length setup.procs.items);
   event_room = events;
+  kept = kept;
 }

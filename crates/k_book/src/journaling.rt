@@ -9,7 +9,7 @@ use k_tie::Note;
 use k_types::Event;
 
 impl Book {
-    /// The number of events of the journal.
+    /// The number of events of the journal, those that are not kept among them.
     pub fn len(&self) -> u32
         ensures length { result ≡ length self.now.journal.list }
         ensures room { length self.now.journal.list ≤ self.now.event_room }
@@ -17,15 +17,17 @@ impl Book {
         self.journal.len()
     }
 
-    /// The event of that number, from 0.
+    /// The event of that number, from 0, which is among the last that are kept.
     pub fn event(&self, number: u32) -> &Event
-        requires { number < length self.now.journal.list }
+        requires there { number < length self.now.journal.list }
+        requires kept { length self.now.journal.list ≤ number + self.now.kept }
         ensures { slice_get self.now.journal.list number ≡ Some result.now }
     {
         self.journal.event(number)
     }
 
-    /// Adds an event at the end of the journal. Which cells it touches is said by `touch`.
+    /// Adds an event at the end of the journal. Where no more are kept, the first of those that are is forgotten. Which cells it touches
+    /// is said by `touch`.
     pub fn append(&mut self, event: Event)
         requires { length self.old.journal.list < self.old.event_room }
         ensures { self.new ≡ record self.old { journal = with_event event self.old.journal } }

@@ -23,8 +23,8 @@ pub fn the_books_limits_are_the_machines()
 
 /// A book that was just made is of the trace of its setup, whatever the operations, and agrees with the empty journal.
 pub fn opened_books_agree()
-    ensures trace { (setup : Setup) (operations : List (List Op)) (order : List ℕ) (exits events : ℕ) (table : TableId) →
-        IsBookOf (trace_of setup operations order) (opened setup exits events (empty_journal table)) }
-    ensures agrees { (setup : Setup) (operations : List (List Op)) (order : List ℕ) (exits events : ℕ) (table : TableId) →
-        BookAgrees (trace_of setup operations order) (empty_journal table) (opened setup exits events (empty_journal table)).value }
+    ensures trace { (setup : Setup) (operations : List (List Op)) (order : List ℕ) (exits events kept : ℕ) (table : TableId) →
+        IsBookOf (trace_of setup operations order) (opened setup exits events kept (empty_journal table)) }
+    ensures agrees { (setup : Setup) (operations : List (List Op)) (order : List ℕ) (exits events kept : ℕ) (table : TableId) →
+        BookAgrees (trace_of setup operations order) (empty_journal table) (opened setup exits events kept (empty_journal table)).value }
 {}

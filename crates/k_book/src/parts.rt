@@ -55,13 +55,15 @@ impl Model for Book {
 }
 
 impl Book {
-    /// The book of that setup before the first event, with room for so many exit items and so many events. The error is that of
-    /// the tree of limits: `ReserveFull` names the first hard row whose maximum doesn't fit on its parent's path.
+    /// The book of that setup before the first event, with room for so many exit items and so many events, of which the last ones are
+    /// kept. The error is that of the tree of limits: `ReserveFull` names the first hard row whose maximum doesn't fit on its parent's
+    /// path.
     pub fn make(
         alloc: Global,
         setup: &Setup,
         exits: u32,
         events: u32,
+        kept: u32,
         tie: Tie,
         seat: JournalSeat,
     ) -> Result<Book, MakeError>
@@ -70,14 +72,14 @@ impl Book {
         requires few_segments { HasFewSegments setup.now }
         requires table { seat.table ≡ tie }
         requires empty { seat.list ≡ [] }
-        ensures made { IfOk result (λ b. (b ≡ opened setup.now exits events seat) × (first_refused setup.now.limits.items ≡ None)) }
+        ensures made { IfOk result (λ b. (b ≡ opened setup.now exits events kept seat) × (first_refused setup.now.limits.items ≡ None)) }
         ensures refused { IfErr result (λ why. Explains setup.now.limits.items why) }
     {
         let limits = LimitTree::make(alloc, &setup.limits)?;
         let entered = first_tables(alloc, setup, exits)?;
         let table = ShareTable::make(alloc, setup.procs.len() as u32, setup.shared)?;
         let of_process = first_limits(alloc, setup)?;
-        let journal = Journal::make(alloc, tie, seat, events)?;
+        let journal = Journal::make(alloc, tie, seat, events, kept)?;
         Ok(Book {
             limits,
             entered,

@@ -67,6 +67,7 @@ module _ (basis : Basis) where
       pins = subst (λ (x : BookRecord). pin_room_of (process_count basis.trace) ≤ x.pin_room) (sym is) serves.stands.pins;
     };
     events = ap (λ (x : BookRecord). x.event_room) is ∙ serves.events;
+    kept = ap (λ (x : BookRecord). x.kept) is ∙ serves.kept;
     entries = subst (λ (x : BookRecord). basis.events ≤ x.entry_room) (sym is) serves.entries;
   }
 

@@ -37,7 +37,7 @@ fn may_be_handed_on<T: Send>(_value: &T) {}
 fn a_book_is_charged_and_finds_an_orphan(rt: HostRuntime) -> Result<(), Fail> {
     let setup = small_setup(rt.alloc())?;
     let (tie, seat, _notes) = Tie::make(rt.alloc(), 4)?;
-    let mut book = Book::make(rt.alloc(), &setup, 2, 2, tie, seat)?;
+    let mut book = Book::make(rt.alloc(), &setup, 2, 2, 2, tie, seat)?;
     assert_eq!(rt;
         (book.procs(), book.shared_heaps(), book.ceiling()),
         (2, 1, 50)
@@ -58,7 +58,7 @@ fn a_book_is_charged_and_finds_an_orphan(rt: HostRuntime) -> Result<(), Fail> {
 fn events_come_back(rt: HostRuntime) -> Result<(), Fail> {
     let setup = small_setup(rt.alloc())?;
     let (tie, seat, _notes) = Tie::make(rt.alloc(), 4)?;
-    let mut book = Book::make(rt.alloc(), &setup, 2, 2, tie, seat)?;
+    let mut book = Book::make(rt.alloc(), &setup, 2, 2, 2, tie, seat)?;
     may_be_handed_on(&book);
     book.append(Event::Closing);
     book.close();

@@ -23,7 +23,7 @@ fn small_book(alloc: Global, events: u32) -> Result<Book, Fail>
 {
     let setup = small_setup(alloc)?;
     let (tie, seat, _notes) = Tie::make(alloc, 4)?;
-    let book = Book::make(alloc, &setup, 2, events, tie, seat)?;
+    let book = Book::make(alloc, &setup, 2, events, events, tie, seat)?;
     Ok(book)
 }
 

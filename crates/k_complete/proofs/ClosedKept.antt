@@ -61,7 +61,7 @@ module _ (trace : Trace) (b : BookRecord) (stands : BookStands trace b) where
 
 -- a book that keeps what its lock asks stands at the end
 pub ends_as : (world : WorldValue) (b : BookRecord) → BookKeeps world.trace world.table b → BookEnds world b
-ends_as world b k = record { stands = k.stands; table = k.table; first = k.follows.operations }
+ends_as world b k = record { stands = k.stands; table = k.table; first = k.follows.operations; kept = k.kept }
 
 module _ (world : WorldValue) (k : HoldingsValue) (b : BookRecord) (can : CanCollectLast world k b) where
   abbrev now : State
@@ -105,6 +105,9 @@ module _ (world : WorldValue) (k : HoldingsValue) (b : BookRecord) (can : CanCol
     room_closed : event_room world.trace ≤ l.event_room
     room_closed = subst (λ (y : BookRecord). event_room world.trace ≤ y.event_room) (sym appended.book_is) can.book.events
 
+    kept_closed : event_room world.trace ≤ l.kept
+    kept_closed = subst (λ (y : BookRecord). event_room world.trace ≤ y.kept) (sym appended.book_is) can.book.kept
+
     table_closed : l.journal.table ≡ world.table
     table_closed = appended.same_table ∙ can.book.table
 
@@ -147,6 +150,7 @@ module _ (world : WorldValue) (k : HoldingsValue) (b : BookRecord) (can : CanCol
           table = ended.same_table ∙ table_closed;
           first = subst (AreFirst world.trace) (sym ended.journal)
               (room_after world.trace l.journal.list the_end stands_closed.keeps stands_closed.agrees.legal first_closed ended.possible tt).first;
+          kept = subst (λ (y : BookRecord). event_room world.trace ≤ y.kept) (sym ended.book_is) kept_closed;
         }
 
         kernel_ended : KernelKeeps world.trace world.table z

@@ -78,10 +78,11 @@ pub record SharedServes (basis : Basis) (tie : TableId) (s : SharedRecord) : Typ
   pub exits : basis.events ≤ s.exit_room
   pub serials : IsFalse (is_absorbed_in s.value.phase) → GivesSerials basis.events s.serial_rooms s.seg.0
 
--- the book stands, with room for so many events and for as many entry items
+-- the book stands, with room for so many events, which can all be read, and for as many entry items
 pub record BookServes (basis : Basis) (b : BookRecord) : Type 0 where
   pub stands : BookStands basis.trace b
   pub events : b.event_room ≡ basis.events
+  pub kept : b.kept ≡ basis.events
   pub entries : basis.events ≤ b.entry_room
 
 -- process and book serve still, with the same table, and the process is the same one with as many bodies

@@ -150,7 +150,8 @@ fn make_book(alloc: Global, terms: &Terms, tie: Tie, seat: JournalSeat) -> Resul
     requires empty { seat ≡ empty_journal tie }
     ensures { IfOk result (λ b. HasMadeBook terms.now seat b) }
 {
-    match Book::make(alloc, &terms.setup, terms.events, terms.events, tie, seat) {
+    let events = terms.events;
+    match Book::make(alloc, &terms.setup, events, events, events, tie, seat) {
         Ok(book) => Ok(book),
         Err(MakeError::ReserveFull(_)) => unreachable!(),
         Err(MakeError::NoMemory(refused)) => Err(refused),

@@ -1,13 +1,15 @@
 -- What contracts see of the journal that the book keeps.
-use Rattle.std.specs.Prelude.{◌≡◌, ℕ, ◌<◌, ◌^◌, List, [], ◌∷◌, ◌++◌}
+use Rattle.std.specs.Prelude.{◌≡◌, ℕ, ◌<◌, ◌≤◌, ◌^◌, [], ◌∷◌, ◌++◌, length}
 use Rattle.atomic_table.specs.Seated.{TableId}
+use Rattle.circular_buffer.specs.Buffer.{Buffer, keep_last}
 use Rattle.k_types.specs.declared.event.Event.{Event}
 use Rattle.k_tie.specs.Values.{JournalValue}
 
--- the journal as its seat knows it, and for how many events there is room
+-- the journal as its seat knows it, for how many events there is room, and how many of the last ones can be read
 pub record KeptJournal : Type 0 where
   pub journal : JournalValue
   pub room : ℕ
+  pub kept : ℕ
 
 -- one event more
 abbrev pub with_event : Event → JournalValue → JournalValue
@@ -17,8 +19,11 @@ with_event event journal = record journal { list = journal.list ++ event ∷ [] 
 abbrev pub with_touch : ℕ → JournalValue → JournalValue
 with_touch cell journal = record journal { touches = cell ∷ journal.touches }
 
--- the seat is of that table, the events are those that it knows, and their numbers fit 32 bits
-pub record AreKept (table : TableId) (journal : JournalValue) (events : List Event) (room : ℕ) : Type 0 where
+-- the seat is of that table, the count is that of the events that it knows, for which there is room and whose numbers fit 32 bits, and
+-- the last of them are kept
+pub record AreKept (table : TableId) (journal : JournalValue) (count room : ℕ) (last : Buffer Event) : Type 0 where
   pub same : journal.table ≡ table
-  pub kept : events ≡ journal.list
+  pub counted : count ≡ length journal.list
+  pub within : length journal.list ≤ room
   pub few : room < 2 ^ 32
+  pub kept : last.items ≡ keep_last last.capacity journal.list

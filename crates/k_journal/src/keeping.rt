@@ -1,20 +1,24 @@
 //! The events with their seat.
-ghost use Rattle.std.specs.Prelude.{◌≡◌, ◌≢◌, ◌+◌, ◌<◌, ◌≤◌, ◌^◌, [], Some, IfOk, length, slice_get, vec_capacity};
+ghost use Rattle.std.specs.Prelude.{◌≡◌, ◌≢◌, ◌+◌, ◌<◌, ◌≤◌, ◌^◌, [], Some, IfOk, length, slice_get};
 ghost use Rattle.k_types.specs.Complete.{IsPrefixOf};
 ghost use Rattle.k_tie.specs.Rule.{total_of};
 ghost use Rattle.k_journal.specs.Kept.{with_event, with_touch};
 
+use circular_buffer::HeapCircularBuffer;
 use k_io::NoMemory;
 use k_tie::{JournalSeat, Note, Tie};
 use k_types::Event;
 use std::alloc::Global;
 use std::marker::Model;
 
-/// The events of the run in order, and for each cell how many of them touch it. A note belongs to it that is of its table.
+/// The events of the run in order, of which the last ones can be read, and for each cell how many of them touch it. A note belongs to
+/// it that is of its table.
 pub struct Journal {
     tie: Tie,
     seat: JournalSeat,
-    events: Vec<Event>,
+    count: u32,
+    room: u32,
+    last: HeapCircularBuffer<Event>,
 }
 
 impl Drop for Journal {
@@ -22,7 +26,9 @@ impl Drop for Journal {
         let Journal {
             tie: _,
             seat: _,
-            events: _,
+            count: _,
+            room: _,
+            last: _,
         } = self;
     }
 }
@@ -32,49 +38,69 @@ impl Model for Journal {
 
     ghost Value = { KeptJournal };
 
-    ghost use Rattle.std.specs.Prelude.{vec_capacity};
     ghost use Rattle.k_journal.specs.Kept.{AreKept};
 
-    ghost view = { λ j. record { journal = j.seat; room = vec_capacity j.events } };
+    ghost view = { λ j. record { journal = j.seat; room = j.room; kept = j.last.capacity } };
 
-    ghost invariant = { λ j. AreKept j.tie j.seat j.events.items (vec_capacity j.events) };
+    ghost invariant = { λ j. AreKept j.tie j.seat j.count j.room j.last };
 }
 
 impl Journal {
-    /// The journal of that seat, which has no event yet, with room for so many. `NoMemory` comes where there is no memory
-    /// for the room.
-    pub fn make(alloc: Global, tie: Tie, seat: JournalSeat, room: u32) -> Result<Journal, NoMemory>
+    /// The journal of that seat, which has no event yet, with room for so many, of which the last ones are kept. `NoMemory` comes where
+    /// there is no memory for these.
+    pub fn make(
+        alloc: Global,
+        tie: Tie,
+        seat: JournalSeat,
+        room: u32,
+        kept: u32,
+    ) -> Result<Journal, NoMemory>
         requires table { seat.table ≡ tie }
         requires empty { seat.list ≡ [] }
-        ensures { IfOk result (λ made. made ≡ record { journal = seat; room = room }) }
+        ensures { IfOk result (λ made. made ≡ record { journal = seat; room = room; kept = kept }) }
     {
-        let events = Vec::with_capacity(alloc, room as usize)?;
-        Ok(Journal { tie, seat, events })
+        let last = HeapCircularBuffer::with_capacity(alloc, kept as usize)?;
+        Ok(Journal {
+            tie,
+            seat,
+            count: 0,
+            room,
+            last,
+        })
     }
 
-    /// The number of events.
+    /// The number of events, those that are not kept among them.
     pub fn len(&self) -> u32
         ensures length { result ≡ length self.now.journal.list }
         ensures room { length self.now.journal.list ≤ self.now.room }
     {
-        self.events.len() as u32
+        self.count
     }
 
-    /// The event of that number, from 0.
+    /// The event of that number, from 0, which is among the last that are kept.
+    #[tactic(auto, using(crate::proofs::Lasting::kept_at))]
     pub fn event(&self, number: u32) -> &Event
-        requires { number < length self.now.journal.list }
+        requires there { number < length self.now.journal.list }
+        requires kept { length self.now.journal.list ≤ number + self.now.kept }
         ensures { slice_get self.now.journal.list number ≡ Some result.now }
     {
-        &self.events[number as usize]
+        let gone = self.count as usize - self.last.len();
+        let Some(event) = self.last.get(number as usize - gone) else {
+            unreachable!()
+        };
+        event
     }
 
-    /// Adds an event at the end. Which cells it touches is said by `touch_in_place`.
+    /// Adds an event at the end. Where no more are kept, the first of those that are is forgotten. Which cells it touches is said by
+    /// `touch_in_place`.
+    #[tactic(auto, using(crate::proofs::Lasting::kept_on))]
     pub fn append(&mut self, event: Event)
         requires { length self.old.journal.list < self.old.room }
         ensures { self.new ≡ record self.old { journal = with_event event self.old.journal } }
     {
         self.seat.append(&self.tie, &event);
-        self.events.push_reserved(event);
+        self.last.push_back(event);
+        self.count += 1;
     }
 
     /// Tells that the note's list is a prefix of the journal and that its share is its cell's total, so that no event has

@@ -104,6 +104,7 @@ module _ (trace : Trace) (table : TableId) (c w : HeapRecord) (b l : BookRecord)
     table = s.same_table ∙ k.table;
     follows = follows_now;
     events = subst (λ n. event_room trace ≤ n) (sym (ap (λ (x : BookRecord). x.event_room) s.book_is)) k.events;
+    kept = subst (λ n. event_room trace ≤ n) (sym (ap (λ (x : BookRecord). x.kept) s.book_is)) k.kept;
     entries = subst (λ n. exit_room trace ≤ n) (sym (ap (λ (x : BookRecord). x.entry_room) s.book_is)) k.entries;
   }
 

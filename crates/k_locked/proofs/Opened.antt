@@ -82,11 +82,12 @@ module _ (setup : Setup) (operations : List (List Op)) (order : List ℕ) (table
     serials = λ stands. begins_with (segment_of trace (Shared id)) objects (omega (arith, known)) serials;
   }
 
-  pub opened_book_keeps : (exits events : ℕ) → exit_room trace ≤ exits → event_room trace ≤ events → BookKeeps trace table (opened setup exits events (empty_journal table))
+  pub opened_book_keeps : (exits events : ℕ) → exit_room trace ≤ exits → event_room trace ≤ events → BookKeeps trace table (opened setup exits events events (empty_journal table))
   opened_book_keeps exits events entries enough = record {
-    stands = record { keeps = rules; of_trace = opened_of setup operations order exits events table; agrees = opened_agrees setup operations order exits events table; pins = omega arith };
+    stands = record { keeps = rules; of_trace = opened_of setup operations order exits events events table; agrees = opened_agrees setup operations order exits events events table; pins = omega arith };
     table = refl;
     follows = record { operations = λ p known. (operations_of trace p, refl); not_closing = refl };
     events = enough;
+    kept = enough;
     entries = entries;
   }

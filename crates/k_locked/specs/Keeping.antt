@@ -76,11 +76,12 @@ pub record SharedKeeps (trace : Trace) (tie : TableId) (s : SharedRecord) : Type
   pub exits : shared_exit_room trace s.id.0 ≤ s.exit_room
   pub serials : IsFalse (is_absorbed_in s.value.phase) → CanGive trace s.serial_rooms s.seg.0
 
--- the book stands and its journal is of the table; the journal has of each process the first operations of the trace, and no closing; and its
--- tables have room
+-- the book stands and its journal is of the table; the journal has of each process the first operations of the trace, and no closing; its
+-- tables have room, and all events of a run of the trace can be read
 pub record BookKeeps (trace : Trace) (tie : TableId) (b : BookRecord) : Type 0 where
   pub stands : BookStands trace b
   pub table : b.journal.table ≡ tie
   pub follows : FollowsTrace trace b.journal.list
   pub events : event_room trace ≤ b.event_room
+  pub kept : event_room trace ≤ b.kept
   pub entries : exit_room trace ≤ b.entry_room

@@ -61,6 +61,7 @@ book_keeps_on trace tie b l event k s turn goes_on = record {
   table = s.same_table ∙ k.table;
   follows = subst (FollowsTrace trace) (sym s.journal) (follows_after trace b.journal.list event k.follows turn goes_on);
   events = subst (λ n. event_room trace ≤ n) (sym (ap (λ (x : BookRecord). x.event_room) s.book_is)) k.events;
+  kept = subst (λ n. event_room trace ≤ n) (sym (ap (λ (x : BookRecord). x.kept) s.book_is)) k.kept;
   entries = subst (λ n. exit_room trace ≤ n) (sym (ap (λ (x : BookRecord). x.entry_room) s.book_is)) k.entries;
 }
 

@@ -44,6 +44,7 @@ module _ (trace : Trace) (tie : TableId) (c w : HeapRecord) (b l : BookRecord) (
     table = s.same_table ∙ k.table;
     follows = subst (FollowsTrace trace) (sym s.journal) (tail_follows trace tie c b h k s.fits);
     events = subst (λ (x : BookRecord). event_room trace ≤ x.event_room) (sym s.book_is) k.events;
+    kept = subst (λ (x : BookRecord). event_room trace ≤ x.kept) (sym s.book_is) k.kept;
     entries = subst (λ (x : BookRecord). exit_room trace ≤ x.entry_room) (sym s.book_is) k.entries;
   }
 

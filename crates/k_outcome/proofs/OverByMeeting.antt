@@ -16,6 +16,7 @@ met_ends world setup heaps met same = record {
   same_setup = same;
   outcome = outcome world heaps met;
   of_trace = met.ended.processes.book.stands.of_trace;
+  kept = met.ended.processes.book.kept;
   processes = length-map heaps.processes (λ (p : Process). p.cell) ∙ met.ended.processes.processes.count;
   shared = met.ended.shared.count;
 }

@@ -61,6 +61,13 @@ not_long : (trace : Trace) (history : List Event) → KeepsRules trace → IsLeg
 not_long trace history rules legal first =
     omega (arith, (fits_rooms trace history rules legal first).events, all_ordered trace rules.operations, rules.operations.room, rules.shared)
 
+-- of a run that is over all events can be read
+all_kept : (trace setup : Trace) (o : OutcomeValue) → EndsRun trace setup o → length o.book.journal.list ≤ o.book.kept
+all_kept trace setup o r =
+    let fits = (fits_rooms trace o.book.journal.list r.rules r.outcome.legal r.outcome.complete.in_order).events in
+    let kept = r.kept in
+    omega (arith, fits, kept)
+
 module _ (trace : Trace) (o : OutcomeValue) (r : EndsRun trace (setup_of trace) o) where
   abbrev history : List Event
   history = o.book.journal.list
@@ -98,6 +105,7 @@ module _ (trace : Trace) (o : OutcomeValue) (r : EndsRun trace (setup_of trace) 
     rules = setup_rules trace r.rules;
     legal = legal_unread trace (opening trace) history r.outcome.legal;
     few = not_long trace history r.rules r.outcome.legal r.outcome.complete.in_order;
+    kept = all_kept trace (setup_of trace) o r;
     there = there;
     shows = shown;
     book = book_unread trace last o.book.value (subst (λ (st : State). BookShows trace st o.book.value) (same_state trace history) r.outcome.book);
@@ -128,19 +136,20 @@ module _ (trace : Trace) (o : OutcomeValue) (r : EndsRun trace (setup_of trace) 
 pub rooms_enough : (trace setup : Trace) (o : OutcomeValue) (rooms : List ℕ) → EndsRun trace setup o → AreRoomsFor trace rooms → HaveRoom setup o rooms
 rooms_enough trace setup o rooms r have =
     subst (λ (s : Trace). HaveRoom s o rooms) (sym r.same_setup)
-    (rooms_of_setup trace o (record { rules = r.rules; same_setup = refl; outcome = r.outcome; of_trace = r.of_trace; processes = r.processes; shared = r.shared }) rooms have)
+    (rooms_of_setup trace o (record { rules = r.rules; same_setup = refl; outcome = r.outcome; of_trace = r.of_trace; kept = r.kept; processes = r.processes; shared = r.shared }) rooms have)
 
 -- the events of the run can be counted over its trace
-pub counts : (trace setup : Trace) (o : OutcomeValue) (made : List ℕ) → EndsRun trace setup o → made ≡ replicate (segment_count trace) 0 → CanCount trace made o.book.journal.list
+pub counts : (trace setup : Trace) (o : OutcomeValue) (made : List ℕ) → EndsRun trace setup o → made ≡ replicate (segment_count trace) 0 → CanCount trace made o.book.journal.list o.book.kept
 counts trace setup o made r zeros = record {
   legal = r.outcome.legal;
   known = events_are_known trace o.book.journal.list r.rules.limits r.outcome.legal;
   zeros = zeros;
   few = not_long trace o.book.journal.list r.rules r.outcome.legal r.outcome.complete.in_order;
+  all = all_kept trace setup o r;
 }
 
 -- a run that is over has an end
 pub is_end : (names : DeclaredNames) (trace setup : Trace) (o : OutcomeValue) → EndsRun trace setup o → IsEnd (record { names = names; setup = setup; cells = o })
 is_end names trace setup o r =
     subst (λ (s : Trace). IsEnd (record { names = names; setup = s; cells = o })) (sym r.same_setup)
-    (is_end_of_setup trace o (record { rules = r.rules; same_setup = refl; outcome = r.outcome; of_trace = r.of_trace; processes = r.processes; shared = r.shared }) names)
+    (is_end_of_setup trace o (record { rules = r.rules; same_setup = refl; outcome = r.outcome; of_trace = r.of_trace; kept = r.kept; processes = r.processes; shared = r.shared }) names)

@@ -43,12 +43,14 @@ abbrev pub with_given : Option Name → List ℕ → List ℕ
 with_given None made = made
 with_given (Some n) made = slice_set made n.seg.0 (slice_index_or made n.seg.0 0 + 1)
 
--- the journal is a legal history of the trace that is not long, and there is a zero for each segment
-pub record CanCount (trace : Trace) (made : List ℕ) (journal : List Event) : Type 0 where
+-- the journal is a legal history of the trace that is not long, so many of its last events can be read, which are all, and there is a
+-- zero for each segment
+pub record CanCount (trace : Trace) (made : List ℕ) (journal : List Event) (kept : ℕ) : Type 0 where
   pub legal : IsLegalHistory trace journal
   pub known : AllByRecursion (IsKnownEvent trace) journal
   pub zeros : made ≡ replicate (segment_count trace) 0
   pub few : length journal < 2 ^ 31
+  pub all : length journal ≤ kept
 
 -- how many exit items the heap can come to have in a run of the trace
 abbrev pub most_exits : Trace → Heap → ℕ

@@ -39,7 +39,7 @@ fn count_one(made: &mut [u32], name: Option<Name>)
 /// It passes the journal once.
 pub(crate) fn count_made(made: &mut [u32], book: &Book)
     ghost trace: { Trace }
-    requires { CanCount trace made.old book.now.journal.list }
+    requires { CanCount trace made.old book.now.journal.list book.now.kept }
     ensures { made.new ≡ (state_after trace book.now.journal.list).made }
 {
     made[0] = 1;

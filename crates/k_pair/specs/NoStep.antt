@@ -23,6 +23,7 @@ no_step = record {
       entry_room = 0;
       pin_room = 0;
       event_room = 0;
+      kept = 0;
     };
   };
   other = of_kernel (record { value = fresh_cell 0 0; note = no_note; bound = 0; segment_room = 0; serial_rooms = []; exit_room = 0 });

@@ -1,12 +1,12 @@
 -- Runs that are over, and what they leave.
-use Rattle.std.specs.Prelude.{◌≡◌, ℕ, ◌<◌, IsTrue, List, Some, map, slice_get}
+use Rattle.std.specs.Prelude.{◌≡◌, ℕ, ◌<◌, ◌≤◌, IsTrue, List, Some, map, slice_get}
 use Rattle.k_types.specs.declared.names.Heap.TheVariants.{Kernel, Shared, User}
 use Rattle.k_types.specs.Complete.{EndsWithClosing, IsComplete}
 use Rattle.k_types.specs.Sound.{IsSound}
 use Rattle.k_types.specs.Steps.{IsLegalHistory, state_after}
 use Rattle.k_types.specs.Trace.{Trace, process_count}
 use Rattle.k_agree.specs.Agreement.{BookShows, Shows}
-use Rattle.k_agree.specs.Rooms.{AreFirst}
+use Rattle.k_agree.specs.Rooms.{AreFirst, event_room}
 use Rattle.k_agree.specs.Settled.{all_ended_in, no_orphan_in}
 use Rattle.k_book.specs.Books.{BookRecord}
 use Rattle.k_heap.specs.Holdings.{HoldingsValue}
@@ -19,11 +19,13 @@ use Rattle.k_process.specs.Heaps.{HeapsValue}
 use Rattle.k_process.specs.Standing.{HeapsStand, IsThroughWith, ProcessesStand}
 use Rattle.k_process.specs.Worlds.{WorldValue}
 
--- the book stands and is of the table, and its journal has of each process the first operations of the trace
+-- the book stands and is of the table, its journal has of each process the first operations of the trace, and all events of a run of it
+-- can be read
 pub record BookEnds (world : WorldValue) (b : BookRecord) : Type 0 where
   pub stands : BookStands world.trace b
   pub table : b.journal.table ≡ world.table
   pub first : AreFirst world.trace b.journal.list
+  pub kept : event_room world.trace ≤ b.kept
 
 -- all processes stand and are through, and the book stands
 pub record ProcessesThrough (world : WorldValue) (ps : List Process) (b : BookRecord) : Type 0 where

@@ -56,10 +56,10 @@ module _ (world : WorldValue) (setup : Setup) (w : IsSetupOf setup world) where
       (opened_shared_keeps setup world.trace.operations world.trace.order world.table rules_made id objects exits (subst (λ (t : Trace). id.0 < t.shared_heaps) w.is known) (subst (λ t. shared_exit_room t id.0 ≤ exits) w.is enough)
       (subst (λ t. serial_room t (segment_of t (Shared id)) ≤ objects) w.is serials)))
 
-  pub book_stands : (exits events : ℕ) (seat : JournalValue) → seat ≡ empty_journal world.table → exit_room world.trace ≤ exits → event_room world.trace ≤ events → BookKeeps world.trace world.table (opened setup exits events seat)
+  pub book_stands : (exits events : ℕ) (seat : JournalValue) → seat ≡ empty_journal world.table → exit_room world.trace ≤ exits → event_room world.trace ≤ events → BookKeeps world.trace world.table (opened setup exits events events seat)
   book_stands exits events seat is entries enough =
-      subst (λ s. BookKeeps world.trace world.table (opened setup exits events s)) (sym is)
-      (subst (λ t. BookKeeps t world.table (opened setup exits events (empty_journal world.table))) (sym w.is)
+      subst (λ s. BookKeeps world.trace world.table (opened setup exits events events s)) (sym is)
+      (subst (λ t. BookKeeps t world.table (opened setup exits events events (empty_journal world.table))) (sym w.is)
       (opened_book_keeps setup world.trace.operations world.trace.order world.table rules_made exits events (subst (λ t. exit_room t ≤ exits) w.is entries) (subst (λ t. event_room t ≤ events) w.is enough)))
 
   pub setup_procs : length setup.procs.items ≡ process_count world.trace

@@ -30,7 +30,7 @@ pub struct FirstCells {
     pub heaps: Heaps,
 }
 
-/// The book before the first event. What the trace reserves fits, so memory alone can fail it.
+/// The book before the first event, which keeps all events. What the trace reserves fits, so memory alone can fail it.
 fn open_book(
     alloc: Global,
     setup: &Setup,
@@ -43,7 +43,7 @@ fn open_book(
     requires { CanOpenBook world setup.now exits events tie seat }
     ensures { IfOk result (λ made. BookKeeps world.trace world.table made × (made.journal ≡ seat)) }
 {
-    match Book::make(alloc, setup, exits, events, tie, seat) {
+    match Book::make(alloc, setup, exits, events, events, tie, seat) {
         Ok(book) => Ok(book),
         Err(MakeError::ReserveFull(_)) => unreachable!(),
         Err(MakeError::NoMemory(refused)) => Err(refused),

@@ -16,7 +16,7 @@ pub count_made-requires : goal.count_made-requires
 count_made-requires g c =
     let rows = c.rooms.inside.targets.items in
     let sized : length rows ≡ segment_count g.trace = sym (length-map rows (λ (row : Vec Name Global). vec_capacity row)) ∙ ap (λ (ns : List ℕ). length ns) c.rooms.view_is ∙ c.requires.room.sized in
-    subst (λ (b : BookRecord). CanCount g.trace c.deref_mut.result.now b.journal.list) (sym c.book.ensures)
+    subst (λ (b : BookRecord). CanCount g.trace c.deref_mut.result.now b.journal.list b.kept) (sym c.book.ensures)
     (counts g.trace (trace_of c.args.setup [] []) (cells_of (value_of c.args.heaps)) c.deref_mut.result.now c.requires.over
     (c.deref_mut.ensures.value ∙ c.rooms.invariant.counts ∙ ap (λ n. replicate n 0) sized))
 
