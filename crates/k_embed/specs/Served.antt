@@ -144,11 +144,11 @@ empty_for why = record { host = None; line = line_of why; reason = reason_of why
 -- no host of what the bytes declare is made, and line and reason are those of the cause
 pub record HasNoHost (bytes : Text) (ty : TypeId) (bodies events line reason : ℕ) : Type 0 where
   pub why : OpenError
-  pub cause : IsNotOpened bytes ty bodies events why
+  pub cause : IsNotOpened bytes ty bodies events events why
   pub line_is : line ≡ line_of why
   pub reason_is : reason ≡ reason_of why
 
--- in the place there is a host of what the bytes declare, before its first event, or the line and the reason why there is none
+-- in the place there is a host of what the bytes declare, before its first event, which keeps all events, or the line and the reason why there is none
 abbrev pub IsOpened : Text → ℕ → ℕ → ℕ → Slot → Type 0
 IsOpened bytes ty bodies events place =
-    MatchOption place.host (HasNoHost bytes (record { 0 = ty }) bodies events place.line place.reason) (λ h. HasOpened bytes (record { 0 = ty }) bodies events h)
+    MatchOption place.host (HasNoHost bytes (record { 0 = ty }) bodies events place.line place.reason) (λ h. HasOpened bytes (record { 0 = ty }) bodies events events h)

@@ -36,11 +36,11 @@ fn empty(why: OpenError) -> Slot
     }
 }
 
-/// A host of what the text declares, if it can be made; else the line and the reason why not.
+/// A host of what the text declares, which keeps all events, if it can be made; else the line and the reason why not.
 pub fn opened(alloc: Global, text: &[u8], ty: u32, bodies: u32, events: u32) -> Slot
     ensures { IsOpened text.now ty bodies events result }
 {
-    match Keeper::read(alloc, text, TypeId(ty), bodies, events) {
+    match Keeper::read(alloc, text, TypeId(ty), bodies, events, events) {
         Ok(host) => Slot {
             host: Some(host),
             line: 0,

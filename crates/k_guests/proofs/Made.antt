@@ -135,17 +135,17 @@ module _ (terms : Terms) (can : CanMake terms) where
     ap (λ (x : SharedRecord). x.id) is,
   )
 
-  pub book_made : (b : BookRecord) (seat : JournalValue) (table : TableId) → seat ≡ empty_journal table → b ≡ opened terms.setup terms.events terms.events terms.events seat → HasMadeBook terms seat b
+  pub book_made : (b : BookRecord) (seat : JournalValue) (table : TableId) → seat ≡ empty_journal table → b ≡ opened terms.setup terms.events terms.events terms.kept seat → HasMadeBook terms seat b
   book_made b seat table empty is = record {
     can = can;
     serves =
         subst (λ (x : BookRecord). BookServes basis x) (sym is)
-        (subst (λ (j : JournalValue). BookServes basis (opened terms.setup terms.events terms.events terms.events j)) (sym empty)
+        (subst (λ (j : JournalValue). BookServes basis (opened terms.setup terms.events terms.events terms.kept j)) (sym empty)
         (record {
           stands = record {
             keeps = can.rules;
-            of_trace = opened_of terms.setup trace.operations trace.order terms.events terms.events terms.events table;
-            agrees = opened_agrees terms.setup trace.operations trace.order terms.events terms.events terms.events table;
+            of_trace = opened_of terms.setup trace.operations trace.order terms.events terms.events terms.kept table;
+            agrees = opened_agrees terms.setup trace.operations trace.order terms.events terms.events terms.kept table;
             pins = omega arith;
           };
           events = refl;

@@ -23,15 +23,16 @@ abbrev pub open_trace : Setup → Trace
 open_trace setup = trace_of setup (replicate (length setup.procs.items) []) []
 
 -- what all parts of a host have in common: the trace with which they agree, the type of the objects for which there is a supply of
--- bodies, and how many events there can be
+-- bodies, how many events there can be, and how many of the last ones can be read
 pub record Basis : Type 0 where
   pub trace : Trace
   pub ty : TypeId
   pub events : ℕ
+  pub kept : ℕ
 
 -- the basis of a host that is made for these terms
 abbrev pub basis_of : Terms → Basis
-basis_of terms = record { trace = open_trace terms.setup; ty = terms.ty; events = terms.events }
+basis_of terms = record { trace = open_trace terms.setup; ty = terms.ty; events = terms.events; kept = terms.kept }
 
 -- by these rooms the segment is there, and can give more serials than there can be events
 pub record GivesSerials (events : ℕ) (rooms : List (Option ℕ)) (seg : ℕ) : Type 0 where
@@ -78,11 +79,11 @@ pub record SharedServes (basis : Basis) (tie : TableId) (s : SharedRecord) : Typ
   pub exits : basis.events ≤ s.exit_room
   pub serials : IsFalse (is_absorbed_in s.value.phase) → GivesSerials basis.events s.serial_rooms s.seg.0
 
--- the book stands, with room for so many events, which can all be read, and for as many entry items
+-- the book stands, with room for so many events, of which so many of the last can be read, and for as many entry items as events
 pub record BookServes (basis : Basis) (b : BookRecord) : Type 0 where
   pub stands : BookStands basis.trace b
   pub events : b.event_room ≡ basis.events
-  pub kept : b.kept ≡ basis.events
+  pub kept : b.kept ≡ basis.kept
   pub entries : basis.events ≤ b.entry_room
 
 -- process and book serve still, with the same table, and the process is the same one with as many bodies

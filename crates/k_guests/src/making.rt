@@ -150,8 +150,8 @@ fn make_book(alloc: Global, terms: &Terms, tie: Tie, seat: JournalSeat) -> Resul
     requires empty { seat ≡ empty_journal tie }
     ensures { IfOk result (λ b. HasMadeBook terms.now seat b) }
 {
-    let events = terms.events;
-    match Book::make(alloc, &terms.setup, events, events, events, tie, seat) {
+    let (events, kept) = (terms.events, terms.kept);
+    match Book::make(alloc, &terms.setup, events, events, kept, tie, seat) {
         Ok(book) => Ok(book),
         Err(MakeError::ReserveFull(_)) => unreachable!(),
         Err(MakeError::NoMemory(refused)) => Err(refused),
@@ -159,7 +159,8 @@ fn make_book(alloc: Global, terms: &Terms, tie: Tie, seat: JournalSeat) -> Resul
 }
 
 /// The parts of a host for these terms, before the first event. It takes all memory that the calls on them will need, but for objects
-/// beside a supply: for each process its bodies, and for each heap and the book tables with room for all events.
+/// beside a supply: for each process its bodies, for each heap and the book tables with room for all events, and room for the last events,
+/// as many as can be read.
 ///
 /// # Errors
 ///

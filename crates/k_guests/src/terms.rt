@@ -11,4 +11,6 @@ pub struct Terms {
     pub bodies: u32,
     /// How many events the journal can have.
     pub events: u32,
+    /// How many of the last events can be read.
+    pub kept: u32,
 }

@@ -8,4 +8,5 @@ pub mod Split
 pub mod KilledIn
 pub mod InsideCharges
 pub mod Charged
+pub mod Looked
 pub use Rattle.k_ends.proofs.AbsorbKept

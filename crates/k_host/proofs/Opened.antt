@@ -63,16 +63,16 @@ module _ (setup : Setup) where
   }
 
 -- the terms for which a host is read
-abbrev pub terms_of : ReadTrace → TypeId → ℕ → ℕ → Terms
-terms_of t ty bodies events = record { setup = t.setup; ty = ty; bodies = bodies; events = events }
+abbrev pub terms_of : ReadTrace → TypeId → ℕ → ℕ → ℕ → Terms
+terms_of t ty bodies events kept = record { setup = t.setup; ty = ty; bodies = bodies; events = events; kept = kept }
 
-module _ (bytes : Text) (t : ReadTrace) (ty : TypeId) (bodies events : ℕ) (spelled : Spells bytes (meaning_of t)) where
-  pub read_made : (r : Result HostValue OpenError) → IfOk r (λ host. IsFresh (basis_of (terms_of t ty bodies events)) bodies host) → OnOk r (AreFit t.setup.types ty events) →
-      IfOk r (λ host. HasRead bytes ty bodies events host)
+module _ (bytes : Text) (t : ReadTrace) (ty : TypeId) (bodies events kept : ℕ) (spelled : Spells bytes (meaning_of t)) where
+  pub read_made : (r : Result HostValue OpenError) → IfOk r (λ host. IsFresh (basis_of (terms_of t ty bodies events kept)) bodies host) → OnOk r (AreFit t.setup.types ty events) →
+      IfOk r (λ host. HasRead bytes ty bodies events kept host)
   read_made (Ok host) fresh fit = record { said = meaning_of t; spelled = spelled; fit = fit; fresh = fresh }
   read_made (Err why) fresh fit = tt
 
-  pub read_refused : (r : Result HostValue OpenError) → IfErr r (λ why. IsNotMade (terms_of t ty bodies events) why) → IfErr r (λ why. IsNotRead bytes ty events why)
+  pub read_refused : (r : Result HostValue OpenError) → IfErr r (λ why. IsNotMade (terms_of t ty bodies events kept) why) → IfErr r (λ why. IsNotRead bytes ty events why)
   read_refused (Ok host) why = tt
   read_refused (Err (NoMemory refused)) why = tt
   read_refused (Err (Bad line reason)) why = absurd why

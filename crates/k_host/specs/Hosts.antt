@@ -1,5 +1,6 @@
 -- What is seen of a host, and what it keeps.
-use Rattle.std.specs.Prelude.{◌≡◌, ℕ, List, Some, [], length, slice_get}
+use Rattle.std.specs.Prelude.{◌≡◌, ℕ, ◌+◌, nat_lt, if◌then◌else◌, List, Option, Some, None, [], length, slice_get}
+use Rattle.k_types.specs.declared.event.Event.{Event}
 use Rattle.k_types.specs.declared.names.CellPhase.{CellPhase}
 use Rattle.k_types.specs.declared.names.CellPhase.TheVariants.{Idle}
 use Rattle.k_book.specs.Books.{BookRecord}
@@ -21,6 +22,10 @@ pub record HostValue : Type 0 where
 pub record HostServes (h : HostValue) : Type 0 where
   pub all : GuestsServe h.basis h.book.journal.table h.guests
   pub rest : RestServes h.basis h.kernel h.shared h.book
+
+-- the event of that number, where it is among the last that can be read
+abbrev pub event_of : HostValue → ℕ → Option Event
+event_of h number = if nat_lt (number + h.basis.kept) (length h.book.journal.list) then None else slice_get h.book.journal.list number
 
 -- how many events of the process the journal lacks
 abbrev pub unpublished_of : Guest → ℕ

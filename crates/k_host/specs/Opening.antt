@@ -23,11 +23,11 @@ abbrev pub idle_trace : Trace → Trace
 idle_trace trace = record trace { operations = replicate (process_count trace) []; order = [] }
 
 -- the bytes spell a trace that declares the type, and the host is one of what it declares, in which nothing has happened
-pub record HasRead (bytes : Text) (ty : TypeId) (bodies events : ℕ) (h : HostValue) : Type 0 where
+pub record HasRead (bytes : Text) (ty : TypeId) (bodies events kept : ℕ) (h : HostValue) : Type 0 where
   pub said : NamedTrace
   pub spelled : Spells bytes said
   pub fit : AreFit said.trace.types ty events
-  pub fresh : IsFresh (record { trace = idle_trace said.trace; ty = ty; events = events }) bodies h
+  pub fresh : IsFresh (record { trace = idle_trace said.trace; ty = ty; events = events; kept = kept }) bodies h
 
 -- the bytes spell a trace that does not declare the type, or the events are too many
 pub record SpellsUnfit (bytes : Text) (ty : TypeId) (events : ℕ) : Type 0 where

@@ -44,7 +44,7 @@ impl Model for Host {
 
 impl Host {
     /// A host for these terms, before the first event. It takes all memory that its calls will need, but for objects of which the supply of
-    /// their process has no body: time and memory are in proportion to the bodies, and to the events for each heap.
+    /// their process has no body: time and memory are in proportion to the bodies, to the events for each heap, and to those that are kept.
     ///
     /// # Errors
     ///
@@ -68,7 +68,8 @@ impl Host {
         })
     }
 
-    /// A host of the setup that the text of a trace declares. Operations that stand there are left out.
+    /// A host of the setup that the text of a trace declares, with room for so many events, of which so many of the last can be read.
+    /// Operations that stand in the text are left out.
     ///
     /// # Errors
     ///
@@ -80,8 +81,9 @@ impl Host {
         ty: TypeId,
         bodies: u32,
         events: u32,
+        kept: u32,
     ) -> Result<Host, OpenError>
-        ensures read { IfOk result (λ host. HasRead text.now ty bodies events host) }
+        ensures read { IfOk result (λ host. HasRead text.now ty bodies events kept host) }
         ensures why { IfErr result (λ why. IsNotRead text.now ty events why) }
     {
         match read_trace(alloc, text) {
@@ -99,6 +101,7 @@ impl Host {
                         ty,
                         bodies,
                         events,
+                        kept,
                     },
                 )
             }

@@ -1,6 +1,6 @@
 //! The write barrier, with no read barrier.
 use crate::driving::operate;
-use crate::usual::{P1, P2, dir, let_go, load, name, new, store, usual};
+use crate::usual::{EVENTS, NODE, P1, P2, USUAL, dir, let_go, load, name, new, store, usual};
 use k_host::Host;
 use k_types::{Event, Fault, Op, Pid, Reply};
 use std::process::Abort;
@@ -49,10 +49,35 @@ fn hold<R: Abort>(rt: &R, host: &mut Host) -> Result<(), Fail> {
     Ok(())
 }
 
+/// Of the eight steps a host that keeps three events has the last three, and counts all.
+fn forget<R: Abort>(rt: &R, host: &mut Host) -> Result<(), Fail> {
+    answered(rt, host)?;
+    assert_eq!(rt; host.len(), 8);
+    let steps = steps();
+    for number in 0..8u32 {
+        let (pid, op, reply) = steps[number as usize];
+        let kept = if number < 5 {
+            None
+        } else {
+            Some(Event::Done { pid, op, reply })
+        };
+        assert_eq!(rt; host.event(number), kept);
+    }
+    Ok(())
+}
+
 #[test]
 fn a_foreign_object_is_held_and_not_stored(rt: HostRuntime) -> Result<(), Fail> {
     let mut host = usual(rt.alloc())?;
     let end = hold(&rt, &mut host);
+    let_go(host);
+    end
+}
+
+#[test]
+fn the_last_events_are_kept(rt: HostRuntime) -> Result<(), Fail> {
+    let mut host = Host::read(rt.alloc(), USUAL, NODE, 100, EVENTS, 3)?;
+    let end = forget(&rt, &mut host);
     let_go(host);
     end
 }

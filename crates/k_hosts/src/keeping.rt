@@ -11,7 +11,7 @@ use std::test::Fail;
 const FEWEST: u32 = 10;
 
 fn opened(alloc: Global, events: u32) -> Result<Keeper, OpenError> {
-    Keeper::read(alloc, USUAL, NODE, 100, events)
+    Keeper::read(alloc, USUAL, NODE, 100, events, 0)
 }
 
 /// Drops the keeper, which tests only lend.

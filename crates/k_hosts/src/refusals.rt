@@ -69,7 +69,7 @@ fn run_out<R: Abort>(rt: &R, host: &mut Host) -> Result<(), Fail> {
 
 #[test]
 fn what_runs_out_is_told(rt: HostRuntime) -> Result<(), Fail> {
-    let mut host = Host::read(rt.alloc(), USUAL, NODE, 1, 3)?;
+    let mut host = Host::read(rt.alloc(), USUAL, NODE, 1, 3, 3)?;
     let end = run_out(&rt, &mut host);
     let_go(host);
     end

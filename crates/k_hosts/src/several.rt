@@ -52,7 +52,7 @@ fn make_several<R: Abort>(rt: &R, host: &mut Host) -> Result<(), Fail> {
 
 #[test]
 fn objects_are_of_several_types(rt: HostRuntime) -> Result<(), Fail> {
-    let mut host = Host::read(rt.alloc(), SEVERAL, NODE, 1, 100)?;
+    let mut host = Host::read(rt.alloc(), SEVERAL, NODE, 1, 100, 100)?;
     let end = make_several(&rt, &mut host);
     let_go(host);
     end

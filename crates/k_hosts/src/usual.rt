@@ -20,7 +20,7 @@ pub(crate) const EVENTS: u32 = 2000;
 
 /// A host of the usual setup.
 pub(crate) fn usual(alloc: Global) -> Result<Host, OpenError> {
-    Host::read(alloc, USUAL, NODE, 100, EVENTS)
+    Host::read(alloc, USUAL, NODE, 100, EVENTS, EVENTS)
 }
 
 /// Drops the host. A function that has a host drops all its parts wherever it can end; so tests only lend theirs, and end here.

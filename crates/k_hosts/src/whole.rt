@@ -59,7 +59,7 @@ fn collect_without_room<R: Abort>(rt: &R, host: &mut Host, freed: &mut Freed) ->
 
 #[test]
 fn no_collection_stops_half_way(rt: HostRuntime) -> Result<(), Fail> {
-    let mut host = Host::read(rt.alloc(), USUAL, NODE, 100, 3)?;
+    let mut host = Host::read(rt.alloc(), USUAL, NODE, 100, 3, 3)?;
     let mut freed = Freed::make(rt.alloc(), EVENTS)?;
     let end = collect_without_room(&rt, &mut host, &mut freed);
     let_go(host);

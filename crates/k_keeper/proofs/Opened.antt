@@ -26,7 +26,7 @@ fresh_kept basis bodies h left f enough = record {
       omega (arith, low, none, events, enough);
 }
 
-module _ (text : Text) (ty : TypeId) (bodies events : ℕ) (h : HostValue) (read : HasRead text ty bodies events h) where
+module _ (text : Text) (ty : TypeId) (bodies events kept : ℕ) (h : HostValue) (read : HasRead text ty bodies events kept h) where
   pub opened_room : h.basis.events ≤ events
   opened_room = let same = ap (λ (b : Basis). b.events) read.fresh.basis_is in omega (arith, same)
 
@@ -34,10 +34,10 @@ module _ (text : Text) (ty : TypeId) (bodies events : ℕ) (h : HostValue) (read
     pub read_kept : IsKept h (events - count)
     read_kept = fresh_kept _ bodies h (events - count) read.fresh (omega (arith, fits, counted))
 
-    pub opened : (freed : List Name) → HasOpened text ty bodies events (keeper_of h (events - count) freed)
+    pub opened : (freed : List Name) → HasOpened text ty bodies events kept (keeper_of h (events - count) freed)
     opened freed = record { read = read; all = omega (arith, fits, counted); enough = omega (arith, fits, counted) }
 
-  pub few_events : (test : Bool) → (IsTrue test ↔ (needed_to_operate h + length h.guests ≤ events)) → test ≡ false → HasFewEvents text ty bodies events Terms
+  pub few_events : (test : Bool) → (IsTrue test ↔ (needed_to_operate h + length h.guests ≤ events)) → test ≡ false → HasFewEvents text ty bodies events kept Terms
   few_events test decides fails = record {
     error_is = refl;
     host = h;

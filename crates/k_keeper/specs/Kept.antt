@@ -73,18 +73,18 @@ pub record HasCollectedAll (old new : KeeperValue) (pid : Pid) (event : Event) :
   pub spends : between.left ≡ new.left + 2
 
 -- a host of what the bytes declare, in which nothing has happened; what is left is all but one event for each process
-pub record HasOpened (bytes : Text) (ty : TypeId) (bodies events : ℕ) (k : KeeperValue) : Type 0 where
-  pub read : HasRead bytes ty bodies events k.host
+pub record HasOpened (bytes : Text) (ty : TypeId) (bodies events kept : ℕ) (k : KeeperValue) : Type 0 where
+  pub read : HasRead bytes ty bodies events kept k.host
   pub all : k.left + length k.host.guests ≡ events
   pub enough : needed_to_operate k.host ≤ k.left
 
 -- a host of what the bytes declare would have no room for one operation beside the reserve
-pub record HasFewEvents (bytes : Text) (ty : TypeId) (bodies events : ℕ) (why : OpenError) : Type 0 where
+pub record HasFewEvents (bytes : Text) (ty : TypeId) (bodies events kept : ℕ) (why : OpenError) : Type 0 where
   pub error_is : why ≡ Terms
   pub host : HostValue
-  pub read : HasRead bytes ty bodies events host
+  pub read : HasRead bytes ty bodies events kept host
   pub few : ¬ (needed_to_operate host + length host.guests ≤ events)
 
 -- no keeper is opened
-abbrev pub IsNotOpened : Text → TypeId → ℕ → ℕ → OpenError → Type 0
-IsNotOpened bytes ty bodies events why = IsNotRead bytes ty events why ⊎ HasFewEvents bytes ty bodies events why
+abbrev pub IsNotOpened : Text → TypeId → ℕ → ℕ → ℕ → OpenError → Type 0
+IsNotOpened bytes ty bodies events kept why = IsNotRead bytes ty events why ⊎ HasFewEvents bytes ty bodies events kept why

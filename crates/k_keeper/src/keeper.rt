@@ -51,12 +51,13 @@ impl Keeper {
         ty: TypeId,
         bodies: u32,
         events: u32,
+        kept: u32,
     ) -> Result<Keeper, OpenError>
-        ensures read { IfOk result (λ k. HasOpened text.now ty bodies events k) }
+        ensures read { IfOk result (λ k. HasOpened text.now ty bodies events kept k) }
         ensures freed { IfOk result (λ k. k.freed ≡ []) }
-        ensures why { IfErr result (λ why. IsNotOpened text.now ty bodies events why) }
+        ensures why { IfErr result (λ why. IsNotOpened text.now ty bodies events kept why) }
     {
-        let host = Host::read(alloc, text, ty, bodies, events)?;
+        let host = Host::read(alloc, text, ty, bodies, events, kept)?;
         if !fits(&host, events) {
             return Err(OpenError::Terms);
         }

@@ -69,7 +69,9 @@ fn turn(rt: &impl Print, keeper: &mut Keeper, guest: Pid, step: u64) -> Result<(
 }
 
 fn main(rt: HostRuntime) -> Result<(), Stop> {
-    let mut keeper = Keeper::read(rt.alloc(), SETUP, TypeId(0), 2000, 20000).map_err(Stop::Open)?;
+    let mut keeper = Keeper::read(rt.alloc(), SETUP, TypeId(0), 2000, 20000, 0).map_err(
+        Stop::Open,
+    )?;
     for step in 1..=300 {
         turn(&rt, &mut keeper, Pid(1), step)?;
         if keeper.host().has_ended(Pid(2)) == Some(false) {
