@@ -16,10 +16,10 @@ use Rattle.k_types.specs.Steps.{state_after, done_by, has_sharer, is_live, no_or
 use Rattle.k_types.specs.Trace.{Trace, IsHeap, process_count, operations_of}
 use Rattle.k_types.specs.TraceRules.{AreLimits}
 use Rattle.k_base.proofs.NameTests.{heap_eq_refl}
-use Rattle.k_bounds.proofs.ByProcess.{follows_own}
-use Rattle.k_frame.proofs.Sizes.{history_sized}
-use Rattle.k_laws.proofs.SoundOpening.{opening_sound}
-use Rattle.k_laws.proofs.SoundSteps.{run_sound}
+use Rattle.k_locality.proofs.ByProcess.{follows_own}
+use Rattle.k_locality.proofs.Sizes.{history_sized}
+use Rattle.k_locality.proofs.SoundOpening.{opening_sound}
+use Rattle.k_locality.proofs.SoundSteps.{run_sound}
 use Rattle.k_tie.specs.Values.{JournalValue, NoteValue}
 use Rattle.k_agree.specs.Agreement.{Shows, Agrees, BookAgrees}
 use Rattle.k_agree.specs.Settled.{IsThrough, IsOver, all_ended_in, no_orphan_in}

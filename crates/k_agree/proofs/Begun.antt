@@ -19,8 +19,8 @@ use Rattle.k_types.specs.State.{State, Object, Scan, scan_of}
 use Rattle.k_types.specs.Trace.{Trace}
 use Rattle.k_types.specs.Updates.{open_scan, count_done, close}
 use Rattle.k_base.proofs.NameTests.{heap_eq_refl}
-use Rattle.k_changes.specs.Roots.{roots_in, held_by, entered_in}
-use Rattle.k_changes.proofs.RootsTold.{roots_told}
+use Rattle.k_locality.specs.Roots.{roots_in, held_by, entered_in}
+use Rattle.k_locality.proofs.RootsTold.{roots_told}
 use Rattle.k_agree.specs.Agreement.{Shows, BookShows}
 use Rattle.k_agree.specs.Marking.{heap_begun_by, idle_part, roots_seen, begun}
 

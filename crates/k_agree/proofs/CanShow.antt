@@ -18,7 +18,7 @@ use Rattle.k_types.specs.Steps.{state_after}
 use Rattle.k_types.specs.Totals.{total}
 use Rattle.k_types.specs.Trace.{IsHeap, Trace, process_count, segment_count}
 use Rattle.k_base.proofs.NameTests.{name_eq-true}
-use Rattle.k_frame.proofs.Sizes.{history_sized}
+use Rattle.k_locality.proofs.Sizes.{history_sized}
 use Rattle.k_base.proofs.Sums.{total_append}
 use Rattle.k_agree.specs.Agreement.{BookShows, Shows}
 use Rattle.k_agree.specs.Showing.{all_pins, book_of, cell_of, once, phase_of_scan, pin_of, row_pins, targets_of}

@@ -9,7 +9,7 @@ use Rattle.k_types.specs.Names.{heap_eq}
 use Rattle.k_types.specs.State.{opening}
 use Rattle.k_types.specs.Steps.{IsLegalHistory, IsPossible, state_after, touch_count}
 use Rattle.k_types.specs.Trace.{Trace, IsHeap, segment_of}
-use Rattle.k_frame.proofs.Histories.{touches_append, legal_append, state_next}
+use Rattle.k_locality.proofs.Histories.{touches_append, legal_append, state_next}
 use Rattle.k_base.proofs.NameTests.{heap_eq_refl}
 use Rattle.k_tie.proofs.Totals.{prefix_longer}
 use Rattle.k_tie.specs.Rule.{total_of}

@@ -22,10 +22,10 @@ use Rattle.k_types.specs.TraceRules.{AreLimits}
 use Rattle.k_types.specs.Updates.{close_scan, keep_shares, keep_exits, keep_objects}
 use Rattle.k_base.proofs.NameTests.{name_eq-true}
 use Rattle.k_base.proofs.Sums.{sum_same, parts_sum}
-use Rattle.k_bounds.specs.Distinct.{AreDistinctNames}
-use Rattle.k_changes.specs.BookChanges.{bytes_in, drops, has_way_into, shared_by}
-use Rattle.k_changes.specs.CellChanges.{collected}
-use Rattle.k_changes.proofs.CollectedOnBook.{kernel_collected_on_book, collected_on_book}
+use Rattle.k_locality.specs.Distinct.{AreDistinctNames}
+use Rattle.k_locality.specs.BookChanges.{bytes_in, drops, has_way_into, shared_by}
+use Rattle.k_locality.specs.CellChanges.{collected}
+use Rattle.k_locality.proofs.CollectedOnBook.{kernel_collected_on_book, collected_on_book}
 use Rattle.k_agree.specs.Agreement.{Shows, BookShows}
 use Rattle.k_agree.specs.Ending.{dropped, freed_bytes, keeps_way, bytes_unshared, HasLeft, HasSettledWith}
 use Rattle.k_agree.proofs.Swept.{among_kept, marks, reached, reached_here, exits_are, black_exit, objects_are, kept_objects}

@@ -16,10 +16,10 @@ use Rattle.k_types.specs.State.{State, has_share}
 use Rattle.k_types.specs.Trace.{Trace, limit_of, segment_of}
 use Rattle.k_types.specs.TraceRules.{AreLimits}
 use Rattle.k_base.proofs.NameTests.{name_eq-true, name_eq_refl}
-use Rattle.k_bounds.specs.Distinct.{AreDistinctNames}
-use Rattle.k_laws.specs.Changes.{MayExit}
-use Rattle.k_changes.specs.BookChanges.{registers_in}
-use Rattle.k_changes.proofs.EndsOnBook.{end_on_book}
+use Rattle.k_locality.specs.Distinct.{AreDistinctNames}
+use Rattle.k_locality.specs.Changes.{MayExit}
+use Rattle.k_locality.specs.BookChanges.{registers_in}
+use Rattle.k_locality.proofs.EndsOnBook.{end_on_book}
 use Rattle.k_agree.specs.Agreement.{Shows, BookShows}
 use Rattle.k_agree.specs.GivingOnTheBook.{CanBeAbsorbed, CanBeEnded, charged, leading_into, new_to_kernel}
 use Rattle.k_agree.specs.Showing.{book_of, once}

@@ -11,15 +11,15 @@ use Rattle.k_types.specs.Agree.{BookValue, CellValue}
 use Rattle.k_types.specs.Cells.{ShownPart, part, shown, Cell}
 use Rattle.k_types.specs.Effects.{after_end_of}
 use Rattle.k_types.specs.Owners.{owner_of, shared, user}
-use Rattle.k_frame.specs.PartUpdates.{process_with_done}
+use Rattle.k_locality.specs.PartUpdates.{process_with_done}
 use Rattle.k_types.specs.State.{State}
 use Rattle.k_types.specs.Steps.{IsPossible, state_after}
 use Rattle.k_types.specs.Trace.{Trace}
 use Rattle.k_types.specs.TraceRules.{AreLimits}
 use Rattle.k_types.specs.Updates.{count_done, clear_registers, end_process, keep_shares, turn_exits}
-use Rattle.k_frame.proofs.Elsewhere.{count_done_elsewhere}
-use Rattle.k_frame.proofs.Histories.{state_next}
-use Rattle.k_frame.proofs.LocalEffects.{part_done}
+use Rattle.k_locality.proofs.Elsewhere.{count_done_elsewhere}
+use Rattle.k_locality.proofs.Histories.{state_next}
+use Rattle.k_locality.proofs.LocalEffects.{part_done}
 use Rattle.k_tie.specs.Values.{JournalValue}
 use Rattle.k_agree.specs.Agreement.{BookAgrees, Shows}
 use Rattle.k_agree.specs.GivingAway.{HasTakenIn, absorbed_cell, ended_cell, with_one_done}
@@ -29,9 +29,9 @@ use Rattle.k_agree.proofs.GivenOnTheBook.{absorbed_event, may_absorb, may_exit}
 use Rattle.k_types.specs.Names.{heap_eq, among}
 use Rattle.k_types.specs.Replies.{ends_other}
 use Rattle.k_types.specs.Limits.{is_above}
-use Rattle.k_laws.proofs.Ending.{kill_event, may_end_other, exit_event}
+use Rattle.k_locality.proofs.Ending.{kill_event, may_end_other, exit_event}
 use Rattle.k_base.proofs.Ancestors.{above_another}
-use Rattle.k_frame.proofs.ElsewhereOther.{exited_elsewhere}
+use Rattle.k_locality.proofs.ElsewhereOther.{exited_elsewhere}
 use Rattle.std.proofs.lemmas.Bool.{and_parts}
 
 -- an operation that counts as done shows in its process's cell alone

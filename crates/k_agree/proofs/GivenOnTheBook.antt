@@ -27,25 +27,25 @@ use Rattle.k_types.specs.Totals.{total}
 use Rattle.k_types.specs.Trace.{Trace, limit_of, process_count, segment_of, segment_count}
 use Rattle.k_types.specs.TraceRules.{AreLimits}
 use Rattle.k_types.specs.Updates.{count_done}
-use Rattle.k_frame.proofs.Histories.{state_next}
+use Rattle.k_locality.proofs.Histories.{state_next}
 use Rattle.k_base.proofs.NameTests.{heap_eq-true, heap_eq_refl}
-use Rattle.k_frame.proofs.OwnerOf.{owner_user, segment_of_shared}
+use Rattle.k_locality.proofs.OwnerOf.{owner_user, segment_of_shared}
 use Rattle.k_base.proofs.Sums.{sum_same}
-use Rattle.k_laws.proofs.Merge.{merged}
-use Rattle.k_laws.proofs.SoundAbsorbed.{is_merged as absorbed_owner}
-use Rattle.k_laws.proofs.SoundExited.{is_merged as ended_owner}
-use Rattle.k_laws.specs.Changes.{MayAbsorb, MayExit}
-use Rattle.k_changes.specs.BookChanges.{charge_in, led_back, lost_with, registers_in}
-use Rattle.k_changes.proofs.EndsOnBook.{end_on_book}
-use Rattle.k_changes.proofs.OnBook.{count_done_on_book}
-use Rattle.k_changes.proofs.TakenOnBook.{taken_on_book}
+use Rattle.k_locality.proofs.Merge.{merged}
+use Rattle.k_locality.proofs.SoundAbsorbed.{is_merged as absorbed_owner}
+use Rattle.k_locality.proofs.SoundExited.{is_merged as ended_owner}
+use Rattle.k_locality.specs.Changes.{MayAbsorb, MayExit}
+use Rattle.k_locality.specs.BookChanges.{charge_in, led_back, lost_with, registers_in}
+use Rattle.k_locality.proofs.EndsOnBook.{end_on_book}
+use Rattle.k_locality.proofs.OnBook.{count_done_on_book}
+use Rattle.k_locality.proofs.TakenOnBook.{taken_on_book}
 use Rattle.k_agree.specs.Agreement.{Shows, BookAgrees, BookShows}
 use Rattle.k_agree.specs.GivingOnTheBook.{HasAbsorbed, HasEnded, charged, leading_into, new_to_kernel}
 use Rattle.k_tie.specs.Values.{JournalValue}
 use Rattle.k_agree.proofs.AtTheEnd.{book_sound}
 use Rattle.k_agree.proofs.Swept.{among_kept}
 use Rattle.k_base.proofs.Lists.{none_is}
-use Rattle.k_laws.proofs.Ending.{kill_event, may_end_other, exit_event}
+use Rattle.k_locality.proofs.Ending.{kill_event, may_end_other, exit_event}
 
 -- a list over numbers of which one is given another value
 map_above : {A : Type 0} (f g : ℕ → A) (first n k : ℕ) → k < first → ((q : ℕ) → q ≢ k → g q ≡ f q) → map g (numbers_from first n) ≡ map f (numbers_from first n)

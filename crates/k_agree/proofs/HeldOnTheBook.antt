@@ -18,10 +18,10 @@ use Rattle.k_types.specs.Totals.{total}
 use Rattle.k_types.specs.Trace.{Trace, limit_of, process_count}
 use Rattle.k_types.specs.TraceRules.{AreLimits}
 use Rattle.k_base.proofs.NameTests.{heap_eq-true, heap_eq_refl, name_eq-true}
-use Rattle.k_bounds.specs.Distinct.{AreDistinctNames}
-use Rattle.k_laws.specs.Changes.{MayExit}
-use Rattle.k_changes.specs.BookChanges.{registers_in}
-use Rattle.k_changes.proofs.EndsOnBook.{charge_told}
+use Rattle.k_locality.specs.Distinct.{AreDistinctNames}
+use Rattle.k_locality.specs.Changes.{MayExit}
+use Rattle.k_locality.specs.BookChanges.{registers_in}
+use Rattle.k_locality.proofs.EndsOnBook.{charge_told}
 use Rattle.k_agree.specs.Agreement.{Shows, BookShows}
 use Rattle.k_agree.specs.Ending.{HasLeft}
 use Rattle.k_agree.specs.GivingOnTheBook.{HasEntered, HasUnpinned, charged, leading_into, new_to_kernel}

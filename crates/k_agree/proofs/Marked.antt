@@ -15,9 +15,9 @@ use Rattle.k_types.specs.Steps.{state_after}
 use Rattle.k_types.specs.Trace.{Trace}
 use Rattle.k_types.specs.TraceRules.{AreLimits}
 use Rattle.k_base.proofs.Objects.{has-kept, referrer}
-use Rattle.k_laws.proofs.Means.{reach_is, reached_refers}
-use Rattle.k_laws.proofs.SoundOpening.{opening_sound}
-use Rattle.k_laws.proofs.SoundSteps.{run_sound}
+use Rattle.k_locality.proofs.Means.{reach_is, reached_refers}
+use Rattle.k_locality.proofs.SoundOpening.{opening_sound}
+use Rattle.k_locality.proofs.SoundSteps.{run_sound}
 use Rattle.k_tie.specs.Values.{NoteValue}
 use Rattle.k_agree.specs.Agreement.{Shows, Agrees}
 use Rattle.k_agree.specs.Marking.{marked, is_foreign_in, AreReached}

@@ -15,10 +15,10 @@ use Rattle.k_types.specs.Owners.{owner_of, owner_of_segment, bytes_by, bytes_of,
 use Rattle.k_types.specs.State.{opening}
 use Rattle.k_types.specs.Trace.{Trace, IsHeap, segment_of, segment_count, process_count, limit_of}
 use Rattle.k_base.proofs.NameTests.{heap_eq-same, heap_eq-true}
-use Rattle.k_frame.proofs.OwnerOf.{owner_user, owner_shared}
-use Rattle.k_frame.proofs.Sizes.{get_or-same, zeros_at}
+use Rattle.k_locality.proofs.OwnerOf.{owner_user, owner_shared}
+use Rattle.k_locality.proofs.Sizes.{get_or-same, zeros_at}
 use Rattle.k_base.proofs.Sums.{sum_same, zeros}
-use Rattle.k_laws.proofs.SoundOpening.{all_unmade, charged_nothing}
+use Rattle.k_locality.proofs.SoundOpening.{all_unmade, charged_nothing}
 use Rattle.k_tie.specs.Values.{blank_note, empty_journal}
 use Rattle.k_agree.specs.Agreement.{BookShows, Agrees, BookAgrees}
 use Rattle.k_agree.specs.Opening.{opening_cell, opening_book, serials_at_first, made_at_first, homes_at_first}

@@ -15,9 +15,9 @@ use Rattle.k_types.specs.Owners.{user, owner_of}
 use Rattle.k_types.specs.State.{State, opening, scan_of}
 use Rattle.k_types.specs.Steps.{IsLegalHistory, IsPossible, state_after, touch_count}
 use Rattle.k_types.specs.Trace.{Trace, IsHeap, segment_of, segment_count}
-use Rattle.k_frame.proofs.Histories.{legal_rest, state_next}
+use Rattle.k_locality.proofs.Histories.{legal_rest, state_next}
 use Rattle.k_base.proofs.NameTests.{heap_eq_refl}
-use Rattle.k_frame.proofs.Tails.{local_touches, book_after}
+use Rattle.k_locality.proofs.Tails.{local_touches, book_after}
 use Rattle.k_locality.proofs.SameRead.{owners_same}
 use Rattle.k_tie.specs.Rule.{total_of}
 use Rattle.k_tie.specs.Values.{JournalValue, NoteValue}

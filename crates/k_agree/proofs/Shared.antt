@@ -21,12 +21,12 @@ use Rattle.k_types.specs.Trace.{Trace}
 use Rattle.k_base.proofs.NameTests.{name_eq-true, name_eq_refl, heap_eq_refl}
 use Rattle.k_base.proofs.Sums.{bit, sum_same, sum-filter, zeros, count_is_total, not_or_bit}
 use Rattle.k_base.proofs.Tests.{same_test}
-use Rattle.k_laws.proofs.Means.{reach_is}
-use Rattle.k_laws.proofs.Turned.{some_element}
-use Rattle.k_bounds.specs.Distinct.{AreDistinctNames}
-use Rattle.k_changes.specs.BookChanges.{has_way_into, leads_into, registers_in}
-use Rattle.k_changes.proofs.SharedSums.{shares_sum}
-use Rattle.k_changes.proofs.WaysInto.{share_stays_so}
+use Rattle.k_locality.proofs.Means.{reach_is}
+use Rattle.k_locality.proofs.Turned.{some_element}
+use Rattle.k_locality.specs.Distinct.{AreDistinctNames}
+use Rattle.k_locality.specs.BookChanges.{has_way_into, leads_into, registers_in}
+use Rattle.k_locality.proofs.SharedSums.{shares_sum}
+use Rattle.k_locality.proofs.WaysInto.{share_stays_so}
 use Rattle.k_agree.specs.Agreement.{Shows, BookShows}
 use Rattle.k_agree.specs.Ending.{keeps_way, dropped_shares, freed_objects, freed_bytes, dropped_exits, TellsItsShares}
 use Rattle.k_agree.proofs.Swept.{among_kept, marks, reached, reached_state, exits_are, black_exit, shows_end}

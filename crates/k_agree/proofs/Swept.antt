@@ -18,11 +18,11 @@ use Rattle.k_types.specs.Trace.{Trace}
 use Rattle.k_base.proofs.NameTests.{name_eq-true, name_eq_refl, heap_eq_sym}
 use Rattle.k_base.proofs.Objects.{has-kept}
 use Rattle.k_base.proofs.Sums.{bit, sum_same, not_or_bit, count_is_total}
-use Rattle.k_laws.proofs.Means.{reach_is}
-use Rattle.k_bounds.specs.Distinct.{AreDistinctNames}
-use Rattle.k_bounds.proofs.Distinct.{targets_sum}
-use Rattle.k_changes.specs.CellChanges.{collected, reached_in}
-use Rattle.k_changes.proofs.Collected.{ended_on_cell}
+use Rattle.k_locality.proofs.Means.{reach_is}
+use Rattle.k_locality.specs.Distinct.{AreDistinctNames}
+use Rattle.k_locality.proofs.Distinct.{targets_sum}
+use Rattle.k_locality.specs.CellChanges.{collected, reached_in}
+use Rattle.k_locality.proofs.Collected.{ended_on_cell}
 use Rattle.k_agree.specs.Agreement.{Shows}
 use Rattle.k_agree.specs.Ending.{swept, dropped_exits, ShowsItsEnd}
 use Rattle.k_base.proofs.Lists.{both_kept}

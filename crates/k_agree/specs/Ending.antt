@@ -16,8 +16,8 @@ use Rattle.k_types.specs.State.{State, has_share, is_scanned}
 use Rattle.k_types.specs.Steps.{MayEnd}
 use Rattle.k_types.specs.Totals.{total}
 use Rattle.k_types.specs.Trace.{Trace, limit_of}
-use Rattle.k_bounds.specs.Counts.{one_if}
-use Rattle.k_changes.specs.BookChanges.{has_way_into, leads_into, registers_in}
+use Rattle.k_locality.specs.Counts.{one_if}
+use Rattle.k_locality.specs.BookChanges.{has_way_into, leads_into, registers_in}
 use Rattle.k_agree.specs.Agreement.{Shows}
 
 -- the cell with its black objects and exit items alone, and no marks

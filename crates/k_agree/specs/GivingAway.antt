@@ -5,9 +5,9 @@ use Rattle.k_types.specs.declared.names.Name.{Name}
 use Rattle.k_types.specs.declared.names.Phase.TheVariants.{Absorbed}
 use Rattle.k_types.specs.Agree.{CellValue}
 use Rattle.k_types.specs.Names.{heap_eq, name_among}
-use Rattle.k_frame.specs.PartUpdates.{process_with_done}
+use Rattle.k_locality.specs.PartUpdates.{process_with_done}
 use Rattle.k_types.specs.Reach.{is_shared_heap}
-use Rattle.k_changes.specs.CellChanges.{either_of, ended_process, with_objects}
+use Rattle.k_locality.specs.CellChanges.{either_of, ended_process, with_objects}
 
 -- the cell has nothing left
 abbrev pub emptied : CellValue → CellValue

@@ -15,8 +15,8 @@ use Rattle.k_types.specs.Reach.{is_shared_heap}
 use Rattle.k_types.specs.State.{has_share}
 use Rattle.k_types.specs.Totals.{total}
 use Rattle.k_types.specs.Trace.{Trace, limit_of, segment_of}
-use Rattle.k_bounds.specs.Counts.{one_if}
-use Rattle.k_changes.specs.BookChanges.{registers_in}
+use Rattle.k_locality.specs.Counts.{one_if}
+use Rattle.k_locality.specs.BookChanges.{registers_in}
 use Rattle.k_agree.specs.Ending.{HasLeft}
 
 -- the exit items of the cell into the heap g

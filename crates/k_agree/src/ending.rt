@@ -2,7 +2,7 @@
 ghost use Rattle.std.specs.Prelude.{IsFalse, List, [], ◌∷◌, ◌≡◌, ℕ};
 ghost use Rattle.k_agree.specs.Agreement.{BookShows, Shows};
 ghost use Rattle.k_agree.specs.Ending.{HasLeft, HasSettledWith, ShowsItsEnd, TellsItsShares, dropped, dropped_exits, freed_bytes, freed_objects};
-ghost use Rattle.k_bounds.specs.Distinct.{AreDistinctNames};
+ghost use Rattle.k_locality.specs.Distinct.{AreDistinctNames};
 ghost use Rattle.k_types.specs.Agree.{BookValue, CellValue};
 ghost use Rattle.k_types.specs.Cells.{Cell};
 ghost use Rattle.k_types.specs.Effects.{after_ended};

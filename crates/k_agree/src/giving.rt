@@ -2,7 +2,7 @@
 ghost use Rattle.std.specs.Prelude.{[], ◌++◌, ◌∷◌, ◌≡◌, ℕ, IsTrue};
 ghost use Rattle.k_agree.specs.Agreement.{BookAgrees, Shows};
 ghost use Rattle.k_agree.specs.GivingAway.{HasTakenIn, absorbed_cell, ended_cell, with_one_done};
-ghost use Rattle.k_laws.specs.Changes.{MayAbsorb, MayExit};
+ghost use Rattle.k_locality.specs.Changes.{MayAbsorb, MayExit};
 ghost use Rattle.k_tie.specs.Values.{JournalValue};
 ghost use Rattle.k_types.specs.Agree.{BookValue, CellValue};
 ghost use Rattle.k_types.specs.Effects.{after_absorbed, after_end_of};

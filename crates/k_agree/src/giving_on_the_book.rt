@@ -3,9 +3,9 @@ ghost use Rattle.std.specs.Prelude.{IsFalse, IsTrue, List, Option, [], slice_ind
 ghost use Rattle.k_agree.specs.Agreement.{BookAgrees, BookShows, Shows};
 ghost use Rattle.k_agree.specs.GivingOnTheBook.{CanBeAbsorbed, CanBeEnded, HasAbsorbed, HasEnded, HasEntered, HasUnpinned, charged, leading_into, new_to_kernel};
 ghost use Rattle.k_agree.specs.Ending.{HasLeft};
-ghost use Rattle.k_bounds.specs.Distinct.{AreDistinctNames};
-ghost use Rattle.k_changes.specs.BookChanges.{registers_in};
-ghost use Rattle.k_laws.specs.Changes.{MayAbsorb, MayExit};
+ghost use Rattle.k_locality.specs.Distinct.{AreDistinctNames};
+ghost use Rattle.k_locality.specs.BookChanges.{registers_in};
+ghost use Rattle.k_locality.specs.Changes.{MayAbsorb, MayExit};
 ghost use Rattle.k_tie.specs.Values.{JournalValue};
 ghost use Rattle.k_types.specs.Agree.{BookValue, CellValue};
 ghost use Rattle.k_types.specs.Counted.{counted};

@@ -24,11 +24,11 @@ use Rattle.k_types.specs.Steps.{IsPossible, IsLegalHistory, state_after, is_live
 use Rattle.k_bounds.specs.Counts.{one_if, is_absorption, absorbed_count, is_closing_event, closing_count}
 use Rattle.k_bounds.proofs.Counting.{count_low}
 use Rattle.k_bounds.proofs.Phases.{store_phases, put_phases, ended_phases, closing_phases}
-use Rattle.k_frame.proofs.FrameSteps.{none_on}
-use Rattle.k_frame.proofs.Histories.{history_induction, state_next}
-use Rattle.k_frame.proofs.Sizes.{history_sized}
+use Rattle.k_laws.proofs.FrameSteps.{none_on}
+use Rattle.k_laws.proofs.Histories.{history_induction, state_next}
+use Rattle.k_laws.proofs.Sizes.{history_sized}
 use Rattle.k_laws.proofs.SoundEffects.{is_unmade_so, is_populating_by}
-use Rattle.k_frame.proofs.Rest.{store_rest, put_rest, freeze_rest, kill_rest}
+use Rattle.k_laws.proofs.Rest.{store_rest, put_rest, freeze_rest, kill_rest}
 use Rattle.k_base.proofs.Sums.{total_push, total_set}
 
 abbrev gone : Phase → ℕ

@@ -18,10 +18,10 @@ use Rattle.k_bounds.specs.Counts.{one_if, operation_count, is_operation, ended_c
 use Rattle.k_bounds.proofs.Counting.{one_if_low}
 use Rattle.k_bounds.proofs.AbsorbedCounts.{absorbed_at_most, closings}
 use Rattle.k_bounds.proofs.ScanCounts.{collections_balance}
-use Rattle.k_frame.proofs.Histories.{history_induction, state_next, done_append}
+use Rattle.k_laws.proofs.Histories.{history_induction, state_next, done_append}
 use Rattle.k_base.proofs.Lists.{get_or-set_cases}
-use Rattle.k_frame.proofs.Sizes.{history_sized, zeros_at}
-use Rattle.k_frame.proofs.Effects.{unless_done}
+use Rattle.k_laws.proofs.Sizes.{history_sized, zeros_at}
+use Rattle.k_laws.proofs.Effects.{unless_done}
 
 module _ (trace : Trace) where
   done_is : (st : State) (p : ℕ) (op : Op) → (after_operation trace p op st).done ≡ set st.done p (get_or st.done p 0 + 1)

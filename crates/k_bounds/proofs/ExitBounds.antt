@@ -25,8 +25,8 @@ use Rattle.k_bounds.specs.Counts.{one_if, exit_count, is_store, stores_in, store
 use Rattle.k_bounds.proofs.Counting.{total_fewer, one_if_low}
 use Rattle.k_bounds.proofs.ExitCounts.{weight, writes_to, stores_to, effect_exits}
 use Rattle.k_base.proofs.NameTests.{heap_eq-true}
-use Rattle.k_frame.proofs.FrameSteps.{none_on, none_first}
-use Rattle.k_frame.proofs.Histories.{history_induction, state_next, done_append}
+use Rattle.k_laws.proofs.FrameSteps.{none_on, none_first}
+use Rattle.k_laws.proofs.Histories.{history_induction, state_next, done_append}
 use Rattle.k_laws.proofs.SoundStore.{register_holds}
 use Rattle.k_base.proofs.Sums.{total_append}
 

@@ -28,7 +28,7 @@ use Rattle.k_bounds.proofs.SerialBounds.{serials_at_most_allocations}
 use Rattle.k_bounds.proofs.SharedBounds.{shared_exits}
 use Rattle.k_bounds.specs.Counts.{MadeBy, absorbed_count, allocation_count, allocations, begun_count, closing_count, ended_count, exit_count, one_if, operation_count, store_count, stores_by, allocates_in}
 use Rattle.k_bounds.specs.Distinct.{AreDistinctNames}
-use Rattle.k_frame.proofs.Sizes.{history_sized}
+use Rattle.k_laws.proofs.Sizes.{history_sized}
 
 -- all exit items together are at most the stores of the history
 pub exit_items_are_at_most_the_stores-all : (trace : Trace) (history : List Event) → length (state_after trace history).exits ≤ store_count history

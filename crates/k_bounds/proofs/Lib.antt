@@ -12,3 +12,6 @@ pub mod Dones
 pub mod Distinct
 pub mod ByProcess
 pub mod Laws
+pub use Rattle.k_laws.proofs.SoundOpening
+pub use Rattle.k_laws.proofs.SoundSteps
+pub use Rattle.k_laws.proofs.SoundStore

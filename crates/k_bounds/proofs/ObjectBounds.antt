@@ -17,8 +17,8 @@ use Rattle.k_types.specs.Updates.{count_done, set_register, create, with_object,
 use Rattle.k_types.specs.Effects.{step, survives, effect, effect_unless, after_new, after_operation, after_freeze, after_end_of, after_ended, after_absorbed, after_closing}
 use Rattle.k_types.specs.Steps.{run, state_after}
 use Rattle.k_bounds.specs.Counts.{one_if, is_allocation, has_allocated, allocations}
-use Rattle.k_frame.proofs.Rest.{freeze_rest, kill_rest}
-use Rattle.k_frame.proofs.Effects.{stored_length, put_length}
+use Rattle.k_laws.proofs.Rest.{freeze_rest, kill_rest}
+use Rattle.k_laws.proofs.Effects.{stored_length, put_length}
 
 placed_length : (o : Object) (xs : List Object) → length (with_object o xs) ≡ length xs + 1
 placed_length o [] = refl

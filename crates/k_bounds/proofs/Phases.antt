@@ -19,9 +19,9 @@ use Rattle.k_types.specs.Updates.{count_done, set_register, create, open_scan, s
 use Rattle.k_types.specs.Effects.{effect, effect_unless, after_operation, after_store, after_put, after_freeze, after_end_of, after_ended, after_absorbed, after_closing}
 use Rattle.k_bounds.specs.Counts.{is_share_of}
 use Rattle.k_base.proofs.Lists.{get_or-set_cases}
-use Rattle.k_frame.proofs.FrameSteps.{none_on}
+use Rattle.k_laws.proofs.FrameSteps.{none_on}
 use Rattle.k_laws.proofs.SoundEffects.{is_unmade_so}
-use Rattle.k_frame.proofs.Rest.{store_rest, put_rest, kill_rest}
+use Rattle.k_laws.proofs.Rest.{store_rest, put_rest, kill_rest}
 
 -- the shared heap's phase stays, or the operation takes the unmade heap, or it is frozen or absorbed now
 pub data Phased (s : ℕ) (before after : Phase) (ops : List Op) (p : ℕ) : Type 0 where

@@ -20,9 +20,9 @@ use Rattle.k_types.specs.Sound.{IsSound, AreDistinctScans}
 use Rattle.k_bounds.specs.Counts.{one_if, begins_collection, has_begun, begun_count, is_end, ended_count}
 use Rattle.k_base.proofs.NameTests.{heap_eq-true}
 use Rattle.k_base.proofs.Objects.{some_is}
-use Rattle.k_frame.proofs.Histories.{history_induction, state_next}
+use Rattle.k_laws.proofs.Histories.{history_induction, state_next}
 use Rattle.k_laws.proofs.SoundSteps.{legal_sound}
-use Rattle.k_frame.proofs.Rest.{store_rest, put_rest, freeze_rest, kill_rest}
+use Rattle.k_laws.proofs.Rest.{store_rest, put_rest, freeze_rest, kill_rest}
 use Rattle.k_base.proofs.Sums.{total_push}
 
 module _ (trace : Trace) where

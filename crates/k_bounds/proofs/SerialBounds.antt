@@ -17,8 +17,8 @@ use Rattle.k_types.specs.Effects.{step, effect, effect_unless, after_new, after_
 use Rattle.k_types.specs.Steps.{run, state_after}
 use Rattle.k_bounds.specs.Counts.{one_if, allocates_in, has_allocated_in, allocation_count}
 use Rattle.k_base.proofs.Lists.{get_or-set_cases}
-use Rattle.k_frame.proofs.Sizes.{zeros_at}
-use Rattle.k_frame.proofs.Rest.{store_rest, put_rest, freeze_rest, kill_rest}
+use Rattle.k_laws.proofs.Sizes.{zeros_at}
+use Rattle.k_laws.proofs.Rest.{store_rest, put_rest, freeze_rest, kill_rest}
 
 module _ (trace : Trace) (seg : ℕ) where
   made_new : (st : State) (p r at : ℕ) (ty : TypeId) → get_or (after_new trace p r at ty st).made seg 0 ≤ get_or st.made seg 0 + one_if (at == seg)

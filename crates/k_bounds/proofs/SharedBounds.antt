@@ -23,8 +23,8 @@ use Rattle.k_types.specs.Sound.{IsSound}
 use Rattle.k_bounds.specs.Counts.{exit_count, stores_in, stores_by, is_share_of, MadeBy}
 use Rattle.k_bounds.proofs.ExitBounds.{StoresInto, done_cases, ended_fewer, absorbed_fewer, closing_fewer, stores_more, own_store}
 use Rattle.k_bounds.proofs.Phases.{Phased, Stays, Taken, IsFrozen, IsAbsorbed, done_phases, absorbed_phases, ended_phases, closing_phases}
-use Rattle.k_frame.proofs.OwnerOf.{owner_stands}
-use Rattle.k_frame.proofs.Histories.{history_induction, state_next, done_append}
+use Rattle.k_laws.proofs.OwnerOf.{owner_stands}
+use Rattle.k_laws.proofs.Histories.{history_induction, state_next, done_append}
 use Rattle.k_laws.proofs.SoundOpening.{all_unmade}
 use Rattle.k_laws.proofs.SoundSteps.{legal_sound}
 

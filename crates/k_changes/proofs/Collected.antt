@@ -14,7 +14,7 @@ use Rattle.k_types.specs.Effects.{after_ended, survives, exit_stays, open_roots}
 use Rattle.k_types.specs.Cells.{part}
 use Rattle.k_changes.specs.CellChanges.{collected}
 use Rattle.k_base.proofs.NameTests.{heap_eq_refl}
-use Rattle.k_frame.proofs.Kept.{has_exit-kept, scan_closed}
+use Rattle.k_laws.proofs.Kept.{has_exit-kept, scan_closed}
 use Rattle.k_laws.proofs.Means.{reach_is}
 
 -- a filter is the same where its test is on what another keeps

@@ -27,7 +27,7 @@ use Rattle.k_changes.proofs.EntryCounts.{kept_and_gone, one_item}
 use Rattle.k_changes.proofs.SharedSums.{shares_sum}
 use Rattle.k_changes.proofs.WaysInto.{share_stays_so}
 use Rattle.k_base.proofs.Sums.{bit, sum_same, sum_both, same_below}
-use Rattle.k_frame.proofs.Kept.{has_share-kept, distinct_shares-kept, any-fewer}
+use Rattle.k_laws.proofs.Kept.{has_share-kept, distinct_shares-kept, any-fewer}
 use Rattle.k_base.proofs.NameTests.{heap_eq-true}
 use Rattle.k_base.proofs.Lists.{get_mapped, filter_stronger}
 

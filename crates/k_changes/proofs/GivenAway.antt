@@ -19,7 +19,7 @@ use Rattle.k_types.specs.Sound.{IsSound, IsOrdered}
 use Rattle.k_changes.specs.CellChanges.{at_its_end, when_absorbed, given_away, taking_in, either_of, with_objects}
 use Rattle.k_changes.proofs.Merged.{merged as merged_lists}
 use Rattle.k_base.proofs.NameTests.{heap_eq-true, heap_eq_refl, heap_eq_sym}
-use Rattle.k_frame.proofs.Kept.{has_exit-kept}
+use Rattle.k_laws.proofs.Kept.{has_exit-kept}
 use Rattle.k_laws.specs.Changes.{MayAbsorb, MayExit}
 use Rattle.k_laws.specs.Termination.{StaysOrPasses}
 use Rattle.k_laws.proofs.Merge.{merged}

@@ -34,10 +34,10 @@ use Rattle.k_changes.specs.BookChanges.{charge_in, drops, when_collected, when_e
 use Rattle.k_changes.specs.CellChanges.{at_its_end, collected, taking_in, when_absorbed, with_scan, with_created, with_exit_to, in_phase, next_name_in}
 use Rattle.k_changes.specs.Roots.{roots_in}
 use Rattle.k_changes.specs.Told.{full_limit_in, full_for_in}
-use Rattle.k_frame.proofs.Elsewhere.{open_scan_elsewhere, write_elsewhere, create_elsewhere, add_exit_elsewhere, count_done_elsewhere, set_register_elsewhere, add_share_elsewhere, close_elsewhere, set_max_elsewhere}
-use Rattle.k_frame.proofs.ElsewhereOther.{collected_elsewhere, exited_elsewhere, absorbed_elsewhere, set_phase_elsewhere}
-use Rattle.k_frame.proofs.LocalEffects.{part_done, part_register}
-use Rattle.k_frame.specs.PartUpdates.{with_written, with_done, with_register, held_in}
+use Rattle.k_laws.proofs.Elsewhere.{open_scan_elsewhere, write_elsewhere, create_elsewhere, add_exit_elsewhere, count_done_elsewhere, set_register_elsewhere, add_share_elsewhere, close_elsewhere, set_max_elsewhere}
+use Rattle.k_laws.proofs.ElsewhereOther.{collected_elsewhere, exited_elsewhere, absorbed_elsewhere, set_phase_elsewhere}
+use Rattle.k_laws.proofs.LocalEffects.{part_done, part_register}
+use Rattle.k_laws.specs.PartUpdates.{with_written, with_done, with_register, held_in}
 use Rattle.k_laws.specs.Changes.{MayAbsorb, MayExit}
 
 -- what a living process is charged is told by its cell's part and the book's

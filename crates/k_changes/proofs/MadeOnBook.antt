@@ -20,7 +20,7 @@ use Rattle.k_changes.specs.BookChanges.{with_charge, with_shared_bytes}
 use Rattle.k_changes.proofs.OnBook.{map_raised, direct_raised}
 use Rattle.k_base.proofs.Charges.{bit_turned}
 use Rattle.k_base.proofs.Sums.{bit}
-use Rattle.k_frame.proofs.OwnerOf.{owner_user, owner_kernel, owner_shared}
+use Rattle.k_laws.proofs.OwnerOf.{owner_user, owner_kernel, owner_shared}
 use Rattle.k_laws.proofs.SoundNew.{bytes_after}
 use Rattle.k_laws.proofs.Charged.{new_charge, charge_of_kernel_new, snew_charge}
 

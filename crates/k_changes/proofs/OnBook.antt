@@ -16,11 +16,10 @@ use Rattle.k_types.specs.Limits.{direct_by}
 use Rattle.k_types.specs.Updates.{count_done, write, add_exit, with_exit, open_scan, set_phase, add_share, close, set_max}
 use Rattle.k_types.specs.Cells.{book_part, pins_of}
 use Rattle.k_changes.specs.BookChanges.{owner_in, with_charge, with_entry, with_phase, with_share, when_closed, with_max}
-use Rattle.k_frame.proofs.Bytes.{bytes-written}
-use Rattle.k_base.proofs.Sums.{bit}
+use Rattle.k_laws.proofs.Bytes.{bytes-written}
+use Rattle.k_base.proofs.Sums.{bit, total_append}
 use Rattle.k_laws.proofs.Raised.{direct_added, charge_sharing}
 use Rattle.k_laws.proofs.SoundShare.{owner_kept}
-use Rattle.k_base.proofs.Sums.{total_append}
 use Rattle.k_base.proofs.Lists.{get_mapped}
 
 -- the book tells all owners

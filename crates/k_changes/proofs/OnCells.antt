@@ -15,7 +15,7 @@ use Rattle.k_types.specs.State.{State, Content, ExitItem, fresh, has_exit, scan_
 use Rattle.k_types.specs.Owners.{owner_of, objects_of, shared, phase_of, is_absorbed}
 use Rattle.k_types.specs.Updates.{create, write, add_exit, with_exit, open_scan, set_phase, with_object, next_name}
 use Rattle.k_types.specs.Cells.{CellPart, Cell, part, made_of}
-use Rattle.k_frame.specs.PartUpdates.{with_written}
+use Rattle.k_laws.specs.PartUpdates.{with_written}
 use Rattle.k_types.specs.Sound.{IsOrdered}
 use Rattle.k_changes.specs.CellChanges.{given, with_created, with_exit_to, with_scan, in_phase}
 use Rattle.k_changes.proofs.Merged.{kept_placed}

@@ -24,7 +24,7 @@ use Rattle.k_changes.proofs.OnBook.{map_changed}
 use Rattle.k_changes.proofs.EntryCounts.{entries_left}
 use Rattle.k_changes.proofs.GivenAway.{nothing_owned}
 use Rattle.k_base.proofs.Sums.{bit, sum_same}
-use Rattle.k_frame.proofs.ElsewhereOther.{owned_agree}
+use Rattle.k_laws.proofs.ElsewhereOther.{owned_agree}
 use Rattle.k_base.proofs.NameTests.{heap_eq-true, heap_eq_refl, heap_eq_sym}
 use Rattle.k_laws.proofs.Merge.{merged}
 use Rattle.k_laws.proofs.SoundAbsorbed.{is_merged, to_kernel}

@@ -11,7 +11,7 @@ use Rattle.k_types.specs.Owners.{owner_of, user, shared, bytes_by, bytes_of}
 use Rattle.k_types.specs.Limits.{full_limit, limits_in, max_of, path_of, use_of, full_above, full_for}
 use Rattle.k_types.specs.Updates.{next_name}
 use Rattle.k_types.specs.Cells.{part, book_part, use_shown}
-use Rattle.k_frame.specs.PartUpdates.{held_in}
+use Rattle.k_laws.specs.PartUpdates.{held_in}
 use Rattle.k_changes.specs.CellChanges.{given, next_name_in}
 use Rattle.k_changes.specs.BookChanges.{bytes_in}
 use Rattle.k_changes.specs.Told.{full_limit_in, limits_shown, full_above_in, full_for_in}

@@ -5,7 +5,7 @@ ghost use Rattle.k_changes.specs.CellChanges.{with_created, with_exit_to};
 ghost use Rattle.k_types.specs.Cells.{Cell, book_part, part};
 ghost use Rattle.k_types.specs.Names.{among, heap_eq};
 ghost use Rattle.k_types.specs.Owners.{owner_of, phase_of};
-ghost use Rattle.k_frame.specs.PartUpdates.{with_written};
+ghost use Rattle.k_laws.specs.PartUpdates.{with_written};
 ghost use Rattle.k_types.specs.Sound.{IsOrdered, IsSound};
 ghost use Rattle.k_types.specs.State.{Content, State, has_exit};
 ghost use Rattle.k_types.specs.Trace.{Trace, kinds_of, limit_of, process_count, size_of_type};

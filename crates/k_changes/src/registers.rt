@@ -4,7 +4,7 @@ ghost use Rattle.k_changes.specs.BookChanges.{owner_in, with_pin_moved};
 ghost use Rattle.k_types.specs.Cells.{Cell, book_part, part};
 ghost use Rattle.k_types.specs.Names.{heap_eq};
 ghost use Rattle.k_types.specs.Owners.{owner_of, user};
-ghost use Rattle.k_frame.specs.PartUpdates.{with_done, with_register};
+ghost use Rattle.k_laws.specs.PartUpdates.{with_done, with_register};
 ghost use Rattle.k_types.specs.Sound.{IsSized};
 ghost use Rattle.k_types.specs.State.{State, register};
 ghost use Rattle.k_types.specs.Trace.{Trace, process_count};

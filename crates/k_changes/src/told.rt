@@ -6,7 +6,7 @@ ghost use Rattle.k_changes.specs.Told.{full_limit_in, full_for_in};
 ghost use Rattle.k_types.specs.Cells.{Cell, book_part, part};
 ghost use Rattle.k_types.specs.Limits.{full_limit, full_for};
 ghost use Rattle.k_types.specs.Owners.{bytes_of, owner_of, shared, user};
-ghost use Rattle.k_frame.specs.PartUpdates.{held_in};
+ghost use Rattle.k_laws.specs.PartUpdates.{held_in};
 ghost use Rattle.k_types.specs.State.{State, object_at, register};
 ghost use Rattle.k_types.specs.Trace.{Trace};
 ghost use Rattle.k_types.specs.TraceRules.{AreLimits};

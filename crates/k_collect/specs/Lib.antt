@@ -8,3 +8,6 @@ pub mod Begun
 pub mod Ended
 pub mod Freed
 pub mod Settling
+pub use Rattle.k_commit.specs.Met
+pub use Rattle.k_commit.specs.Others
+pub use Rattle.k_commit.specs.Standing

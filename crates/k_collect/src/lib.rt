@@ -23,6 +23,7 @@ pub use beginning::{begin_heap, begin_kernel, close_kernel};
 pub use ending::{
     end_heap, end_heap_listing, end_kernel, end_kernel_listing, end_swept_heap, end_swept_kernel,
 };
+pub use k_commit::{meet_heap, meet_kernel, meet_shared};
 pub use marking::{mark_heap, mark_kernel};
 pub use settling::{settle_heap, settle_kernel};
 pub use sweeping::{sweep_heap, sweep_kernel};

@@ -16,10 +16,10 @@ use Rattle.k_tie.specs.Rule.{total_of}
 use Rattle.k_tie.specs.Values.{NoteValue}
 use Rattle.k_frame.proofs.Histories.{done_append, state_next}
 use Rattle.k_frame.specs.PartUpdates.{done_in, process_with_done}
-use Rattle.k_bounds.specs.Counts.{is_operation}
-use Rattle.k_bounds.proofs.Counting.{count_low}
-use Rattle.k_bounds.proofs.Dones.{dones_at_most}
-use Rattle.k_bounds.proofs.Laws.{operations_done_are_those_of_the_history}
+use Rattle.k_known.specs.Counts.{is_operation}
+use Rattle.k_known.proofs.Counting.{count_low}
+use Rattle.k_known.proofs.Dones.{dones_at_most}
+use Rattle.k_known.proofs.BoundsLaws.{operations_done_are_those_of_the_history}
 use Rattle.k_agree.specs.Agreement.{Agrees, BookAgrees, Shows}
 use Rattle.k_agree.specs.Committing.{CanCommit, IsCommitted, NotedCell, journal_after, note_after, state_to_come}
 use Rattle.k_agree.specs.GivingAway.{with_one_done}

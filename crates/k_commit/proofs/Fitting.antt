@@ -13,11 +13,11 @@ use Rattle.k_types.specs.Steps.{state_after}
 use Rattle.k_types.specs.Totals.{total}
 use Rattle.k_frame.proofs.Sizes.{history_sized}
 use Rattle.k_frame.specs.PartUpdates.{done_in}
-use Rattle.k_bounds.specs.Counts.{has_allocated, has_stored, is_operation}
-use Rattle.k_bounds.proofs.Counting.{count_low, total_fewer}
-use Rattle.k_bounds.proofs.Distinct.{pins_few}
-use Rattle.k_bounds.proofs.Dones.{dones_at_most}
-use Rattle.k_bounds.proofs.Laws.{exit_items_are_at_most_the_stores-all, objects_are_at_most_the_allocations, pins_are_at_most_the_registers-entries}
+use Rattle.k_known.specs.Counts.{has_allocated, has_stored, is_operation}
+use Rattle.k_known.proofs.Counting.{count_low, total_fewer}
+use Rattle.k_known.proofs.Distinct.{pins_few}
+use Rattle.k_known.proofs.Dones.{dones_at_most}
+use Rattle.k_known.proofs.BoundsLaws.{exit_items_are_at_most_the_stores-all, objects_are_at_most_the_allocations, pins_are_at_most_the_registers-entries}
 use Rattle.k_known.proofs.Fitting.{objects_bounded}
 use Rattle.k_agree.specs.Agreement.{Shows}
 use Rattle.k_entry.specs.Entries.{AreEntries, objects}

@@ -9,9 +9,9 @@ use Rattle.k_book.specs.Books.{BookRecord}
 use Rattle.k_cell.specs.Holdings.{HoldingsValue}
 use Rattle.k_heap.specs.Heaps.{HeapRecord}
 use Rattle.k_shared.specs.SharedHeaps.{SharedRecord}
-use Rattle.k_commit.specs.Met.{HeapHasMet, KernelHasMet, SharedHasMet}
-use Rattle.k_commit.specs.Others.{held_by, shared_by}
-use Rattle.k_commit.specs.Standing.{BookStands}
+use Rattle.k_collect.specs.Met.{HeapHasMet, KernelHasMet, SharedHasMet}
+use Rattle.k_collect.specs.Others.{held_by, shared_by}
+use Rattle.k_collect.specs.Standing.{BookStands}
 use Rattle.k_process.specs.Keeping.{operations_left}
 use Rattle.k_process.specs.declared.process.Process.{Process}
 use Rattle.k_complete.specs.Closing.{HasClosedAll}

@@ -18,7 +18,7 @@ use Rattle.k_frame.specs.PartUpdates.{done_in}
 use Rattle.k_agree.specs.Agreement.{Shows}
 use Rattle.k_book.specs.Books.{BookRecord}
 use Rattle.k_heap.specs.Heaps.{HeapRecord, has_ended_in}
-use Rattle.k_commit.specs.Met.{CanMeet, HeapHasMet}
+use Rattle.k_collect.specs.Met.{CanMeet, HeapHasMet}
 use Rattle.k_process.specs.Keeping.{operations_left}
 use Rattle.k_process.specs.declared.process.Process.{Process}
 use Rattle.k_process.specs.Heaps.{HeapsValue}

@@ -10,7 +10,7 @@ ghost use Rattle.k_types.specs.Complete.{IsPrefixOf};
 use crate::closing::close_all;
 use crate::placed::do_at;
 use k_book::Book;
-use k_commit::{meet_heap, meet_kernel, meet_shared};
+use k_collect::{meet_heap, meet_kernel, meet_shared};
 use k_operate::publish_all;
 use k_process::{Heaps, Process, next};
 use k_shared::SharedCell;

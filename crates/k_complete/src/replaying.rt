@@ -6,7 +6,7 @@ ghost use Rattle.k_process.specs.Worlds.{WorldValue};
 use crate::closing::close_all;
 use crate::ending::meet_all;
 use crate::placed::do_at;
-use k_commit::meet_heap;
+use k_collect::meet_heap;
 use k_operate::publish_all;
 use k_process::{Heaps, next};
 use k_types::Pid;

@@ -9,8 +9,7 @@ ghost use Rattle.k_depart.specs.Ending.{MarksAbsorbed};
 use crate::exits::{cut_exits, leave_exits};
 use crate::segments::give_shared;
 use k_book::Book;
-use k_commit::{append_shared_and_kernel, meet_kernel, meet_shared};
-use k_kernel::KernelCell;
+use k_commit::{KernelCell, append_shared_and_kernel, meet_kernel, meet_shared};
 use k_shared::SharedCell;
 use k_types::{Event, Heap, Phase};
 

@@ -12,9 +12,10 @@ use crate::exits::{cut_exits, pass_exits};
 use crate::registers::unpin_registers;
 use crate::segments::give_heap;
 use k_book::Book;
-use k_commit::{append_heap_and_kernel, append_heaps_and_kernel, meet_heap, meet_kernel};
+use k_commit::{
+    KernelCell, append_heap_and_kernel, append_heaps_and_kernel, meet_heap, meet_kernel,
+};
 use k_heap::HeapCell;
-use k_kernel::KernelCell;
 use k_types::{Event, Heap, Op, Reply, Seg};
 
 /// The operation `exit` ends its process. Its registers are null afterwards, its shares gone, all that it was charged is credited,

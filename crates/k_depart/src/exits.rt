@@ -9,8 +9,8 @@ ghost use Rattle.k_book.specs.Calls.{ChangesEntries};
 ghost use Rattle.k_depart.specs.Exits.{AreEntered, EntriesFollow, HasCut, HasNoExits, HasPassed, into_segment, is_passed as is_passed_item};
 
 use k_book::Book;
+use k_commit::KernelCell;
 use k_heap::HeapCell;
-use k_kernel::KernelCell;
 use k_shared::SharedCell;
 use k_types::{Heap, Name, Seg};
 

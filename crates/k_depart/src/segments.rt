@@ -4,8 +4,8 @@ ghost use Rattle.k_heap.specs.Heaps.{holdings_of as heap_holdings, own_segment};
 ghost use Rattle.k_shared.specs.SharedHeaps.{holdings_of as shared_holdings};
 ghost use Rattle.k_depart.specs.Segments.{CanGive, HasGiven};
 
+use k_commit::KernelCell;
 use k_heap::HeapCell;
-use k_kernel::KernelCell;
 use k_shared::SharedCell;
 use k_types::Seg;
 

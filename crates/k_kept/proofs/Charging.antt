@@ -21,14 +21,14 @@ use Rattle.k_types.specs.Updates.{close, close_scan, count_done, keep_exits, kee
 use Rattle.k_types.specs.Effects.{after_absorbed, after_closing, after_ended, after_operation, effect, share_stays, step, after_kill, after_end_of, effect_unless}
 use Rattle.k_types.specs.Steps.{IsPossible, has_sharer, is_live}
 use Rattle.k_types.specs.Sound.{IsSound}
-use Rattle.k_laws.specs.Charges.{bytes_added, is_done_by}
+use Rattle.k_changes.specs.Charges.{bytes_added, is_done_by}
 use Rattle.k_frame.proofs.ElsewhereOther.{absorbed_elsewhere, collected_elsewhere}
 use Rattle.k_frame.proofs.Kept.{any-fewer, distinct_shares-kept}
 use Rattle.k_base.proofs.NameTests.{heap_eq-true}
 use Rattle.k_base.proofs.Sums.{bit, sum_both, sum_same}
-use Rattle.k_laws.proofs.Charged.{operation_charges}
-use Rattle.k_laws.proofs.Ending.{other_charge}
-use Rattle.k_laws.proofs.UsesRaised.{uses_raised}
+use Rattle.k_changes.proofs.Charged.{operation_charges}
+use Rattle.k_changes.proofs.Ending.{other_charge}
+use Rattle.k_changes.proofs.UsesRaised.{uses_raised}
 use Rattle.k_changes.proofs.SharedSums.{shares_sum}
 use Rattle.k_kept.specs.Kept.{Credits, bytes_dropped, is_end_of, is_kill_of}
 use Rattle.k_kept.proofs.EndNumbers.{numbers_are_right}

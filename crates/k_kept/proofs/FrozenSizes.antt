@@ -31,10 +31,10 @@ use Rattle.k_base.proofs.NameTests.{heap_eq-true}
 use Rattle.k_frame.proofs.OwnerOf.{owner_kernel, owner_shared, owner_user}
 use Rattle.k_frame.proofs.Rest.{put_rest, store_rest}
 use Rattle.k_base.proofs.Sums.{bit}
-use Rattle.k_laws.proofs.Ending.{same_bytes}
-use Rattle.k_laws.proofs.SoundEffects.{is_populating_by, is_unmade_so}
-use Rattle.k_laws.proofs.SoundNew.{bytes_after}
-use Rattle.k_laws.proofs.SoundShare.{owner_kept}
+use Rattle.k_changes.proofs.Ending.{same_bytes}
+use Rattle.k_changes.proofs.SoundEffects.{is_populating_by, is_unmade_so}
+use Rattle.k_changes.proofs.SoundNew.{bytes_after}
+use Rattle.k_changes.proofs.SoundShare.{owner_kept}
 use Rattle.k_kept.specs.Kept.{StaysFrozen}
 
 none_more : (a b n : ℕ) (t : Bool) → a ≡ b + n * bit t → t ≡ false → a ≡ b

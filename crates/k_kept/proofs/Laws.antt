@@ -30,7 +30,7 @@ use Rattle.k_kept.proofs.FrozenSizes.{stays_frozen}
 use Rattle.k_kept.proofs.Owning.{stays_ended, owner_after, stays_kernel}
 use Rattle.k_kept.proofs.Serials.{stays_spent, step_gives}
 use Rattle.k_kept.specs.Kept.{Credits, bytes_dropped, is_end_of, GoesBy, GivesSerials, IsSpent, HasEndOf, IsPaidFor, KeepsOrGives, StaysFrozen, is_kill_of}
-use Rattle.k_laws.specs.Charges.{is_done_by}
+use Rattle.k_changes.specs.Charges.{is_done_by}
 
 -- what a process is charged changes only by its own operations and the ends of its own heap's collections
 pub only_its_own_events_change_a_charge : (trace : Trace) (st : State) (event : Event) (q : ℕ) → IsSound trace st → IsPossible trace st event → IsFalse (is_done_by event q) → IsFalse (is_kill_of event q) → IsFalse (is_end_of event q) → charge_of trace (step trace st event) q ≡ charge_of trace st q

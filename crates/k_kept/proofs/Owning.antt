@@ -23,7 +23,7 @@ use Rattle.k_frame.proofs.FrameSteps.{none_on}
 use Rattle.k_base.proofs.Lists.{get_or-set_cases}
 use Rattle.k_frame.proofs.Rest.{put_rest, store_rest, kill_rest}
 use Rattle.k_frame.proofs.Histories.{run_append}
-use Rattle.k_laws.proofs.SoundEffects.{is_populating_by, is_unmade_so}
+use Rattle.k_changes.proofs.SoundEffects.{is_populating_by, is_unmade_so}
 use Rattle.k_kept.specs.Kept.{KeepsOrGives}
 use Rattle.k_frame.proofs.Effects.{unless_ended}
 

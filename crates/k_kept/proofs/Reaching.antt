@@ -34,7 +34,7 @@ use Rattle.k_frame.proofs.Kept.{has_share-kept}
 use Rattle.k_frame.proofs.Rest.{freeze_rest, put_rest, store_rest}
 use Rattle.k_frame.proofs.Untouched.{none_touch, untouched}
 use Rattle.k_frame.specs.PartUpdates.{held_in}
-use Rattle.k_laws.proofs.SoundSteps.{legal_sound}
+use Rattle.k_changes.proofs.SoundSteps.{legal_sound}
 use Rattle.k_kept.specs.Kept.{KeepsOrGives}
 use Rattle.k_kept.specs.Reached.{StaysOrEnds, StaysOrTurns}
 use Rattle.k_kept.proofs.Owning.{owner_after, stays_ended}

@@ -1,7 +1,7 @@
 //! Which events change a charge, and by how much the end of a collection does.
 ghost use Rattle.std.specs.Prelude.{IsFalse, ◌+◌, ◌<◌, ◌≡◌, ℕ};
 ghost use Rattle.k_kept.specs.Kept.{Credits, bytes_dropped, is_end_of, is_kill_of};
-ghost use Rattle.k_laws.specs.Charges.{is_done_by};
+ghost use Rattle.k_changes.specs.Charges.{is_done_by};
 ghost use Rattle.k_types.specs.Effects.{step};
 ghost use Rattle.k_types.specs.Owners.{charge_of, user};
 ghost use Rattle.k_types.specs.Sound.{IsSound};

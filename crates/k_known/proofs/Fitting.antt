@@ -29,7 +29,7 @@ use Rattle.k_base.proofs.Objects.{has_found, length-placed}
 use Rattle.k_frame.proofs.Histories.{history_induction, state_next}
 use Rattle.k_frame.proofs.Rest.{freeze_rest, put_rest, store_rest, kill_rest}
 use Rattle.k_frame.proofs.Sizes.{history_sized}
-use Rattle.k_laws.proofs.SoundSteps.{legal_sound}
+use Rattle.k_bounds.proofs.SoundSteps.{legal_sound}
 use Rattle.k_known.specs.Fits.{AreAtMostTheSerials, FitsItsType, HasFewFields, serials_given}
 use Rattle.k_base.proofs.Sums.{total_set}
 use Rattle.k_base.proofs.Ordered.{ordered_tail}

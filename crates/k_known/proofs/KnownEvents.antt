@@ -10,8 +10,8 @@ use Rattle.k_types.specs.Known.{IsKnownEvent, IsKnownReply}
 use Rattle.k_types.specs.Steps.{IsLegalHistory, IsPossible, IsRun}
 use Rattle.k_types.specs.Sound.{IsSound}
 use Rattle.k_base.proofs.Objects.{some_is}
-use Rattle.k_laws.proofs.SoundOpening.{opening_sound}
-use Rattle.k_laws.proofs.SoundSteps.{step_sound}
+use Rattle.k_bounds.proofs.SoundOpening.{opening_sound}
+use Rattle.k_bounds.proofs.SoundSteps.{step_sound}
 use Rattle.k_known.specs.Fits.{AreKnownEvents}
 use Rattle.k_known.proofs.Replied.{reply_known}
 

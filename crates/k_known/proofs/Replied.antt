@@ -28,7 +28,7 @@ use Rattle.k_types.specs.Sound.{IsSound}
 use Rattle.k_types.specs.Known.{IsKnownFault, IsKnownName, IsKnownReply}
 use Rattle.k_base.proofs.Maxima.{length_in, tree_in}
 use Rattle.k_base.proofs.NameTests.{name_eq_refl}
-use Rattle.k_laws.proofs.SoundStore.{register_holds}
+use Rattle.k_bounds.proofs.SoundStore.{register_holds}
 use Rattle.k_base.proofs.Lists.{if_some, found_holds}
 use Rattle.k_base.proofs.Objects.{refers_found}
 use Rattle.k_base.proofs.Owners.{owner_known}

@@ -1,1 +1,2 @@
 pub mod Fits
+pub use Rattle.k_bounds.specs.Counts

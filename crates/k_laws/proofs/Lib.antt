@@ -35,3 +35,16 @@ pub mod UseShown
 pub mod UsesRaised
 pub mod Uses
 pub mod Laws
+pub use Rattle.k_frame.proofs.Bytes
+pub use Rattle.k_frame.proofs.Elsewhere
+pub use Rattle.k_frame.proofs.ElsewhereOther
+pub use Rattle.k_frame.proofs.Histories
+pub use Rattle.k_frame.proofs.Kept
+pub use Rattle.k_frame.proofs.LocalEffects
+pub use Rattle.k_frame.proofs.OwnerOf
+pub use Rattle.k_frame.proofs.Sizes
+pub use Rattle.k_frame.proofs.Tails
+pub use Rattle.k_frame.proofs.Untouched
+pub use Rattle.k_frame.proofs.Effects
+pub use Rattle.k_frame.proofs.FrameSteps
+pub use Rattle.k_frame.proofs.Rest

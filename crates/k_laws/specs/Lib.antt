@@ -6,3 +6,4 @@ pub mod Termination
 pub mod Resizing
 pub mod Refusals
 pub mod Survivors
+pub use Rattle.k_frame.specs.PartUpdates

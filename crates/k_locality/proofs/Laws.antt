@@ -15,8 +15,8 @@ use Rattle.k_types.specs.declared.names.Heap.{Heap}
 use Rattle.k_types.specs.declared.names.Pid.{Pid}
 use Rattle.k_types.specs.declared.names.SharedId.{SharedId}
 use Rattle.k_types.specs.declared.op.Op.{Op}
-use Rattle.k_laws.proofs.SoundOpening.{opening_sound}
-use Rattle.k_laws.proofs.SoundSteps.{run_sound}
+use Rattle.k_changes.proofs.SoundOpening.{opening_sound}
+use Rattle.k_changes.proofs.SoundSteps.{run_sound}
 use Rattle.k_locality.proofs.SameEnds.{end_possible, event_possible}
 use Rattle.k_locality.proofs.SamePossible.{done_possible, absorbed_possible, closing_possible}
 use Rattle.k_locality.proofs.SameReplies.{touched_same, same_turned, done_reply_same}

@@ -23,15 +23,15 @@ use Rattle.k_changes.specs.CellChanges.{reached_in}
 use Rattle.k_changes.specs.BookChanges.{has_way_into}
 use Rattle.k_changes.proofs.SharedSums.{shares_sum}
 use Rattle.k_changes.proofs.WaysInto.{share_stays_so}
-use Rattle.k_base.proofs.NameTests.{heap_eq_refl, heap_eq-true}
-use Rattle.k_base.proofs.Sums.{bit, sum_same, sum-filter, zeros, count_is_total, not_or_bit}
-use Rattle.k_laws.proofs.Means.{reach_is}
+use Rattle.k_changes.proofs.NameTests.{heap_eq_refl, heap_eq-true}
+use Rattle.k_changes.proofs.Sums.{bit, sum_same, sum-filter, zeros, count_is_total, not_or_bit}
+use Rattle.k_changes.proofs.Means.{reach_is}
 use Rattle.k_locality.specs.Same.{SameToEvent}
 use Rattle.k_locality.proofs.SameRead.{owners_same}
 use Rattle.k_types.specs.TraceRules.{AreLimits}
 use Rattle.k_locality.proofs.SamePossible.{scan_same, scanned_same, done_possible, absorbed_possible, closing_possible}
-use Rattle.k_base.proofs.Lists.{both_kept}
-use Rattle.k_base.proofs.Tests.{not_or}
+use Rattle.k_changes.proofs.Lists.{both_kept}
+use Rattle.k_changes.proofs.Tests.{not_or}
 
 -- the objects of the cell that its collection didn't reach, and whether it reached a reference to the name
 abbrev unreached : CellPart → List Object

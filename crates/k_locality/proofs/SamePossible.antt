@@ -22,9 +22,9 @@ use Rattle.k_types.specs.Cells.{CellPart, part, book_part, cells_touched}
 use Rattle.k_locality.specs.Same.{SameToEvent}
 use Rattle.k_locality.proofs.SameRead.{shares_same, closed_same}
 use Rattle.k_locality.proofs.SameReplies.{touched_same, done_reply_same}
-use Rattle.k_base.proofs.NameTests.{heap_eq_refl}
-use Rattle.k_base.proofs.Shares.{sharers_same}
-use Rattle.k_laws.proofs.PartsTell.{phases_same, ended_same}
+use Rattle.k_changes.proofs.NameTests.{heap_eq_refl}
+use Rattle.k_changes.proofs.Shares.{sharers_same}
+use Rattle.k_changes.proofs.PartsTell.{phases_same, ended_same}
 
 module _ (trace : Trace) (st su : State) where
   pub scan_same : (c : Heap) → part trace st c ≡ part trace su c → scan_of st.scans c ≡ scan_of su.scans c

@@ -13,15 +13,15 @@ use Rattle.k_types.specs.Owners.{owner_of, user, shared, bytes_of, phase_of}
 use Rattle.k_types.specs.Limits.{full_limit, full_for, use_of, is_above}
 use Rattle.k_types.specs.Updates.{next_name}
 use Rattle.k_types.specs.Replies.{fault_where, sharer_fault, is_frozen_heap, is_frozen}
-use Rattle.k_frame.specs.PartUpdates.{held_in}
+use Rattle.k_changes.specs.PartUpdates.{held_in}
 use Rattle.k_types.specs.Cells.{BookPart, CellPart, part, book_part, base_cell, access_cell, other_cells, use_shown}
 use Rattle.k_changes.specs.CellChanges.{next_name_in}
 use Rattle.k_changes.specs.BookChanges.{owner_in, bytes_in}
 use Rattle.k_changes.specs.Told.{full_limit_in, full_for_in}
 use Rattle.k_changes.proofs.OnBook.{owner_told}
 use Rattle.k_changes.proofs.ToldBy.{object_told, register_told, name_told, bytes_told, shared_bytes_told, limit_told, full_for_told}
-use Rattle.k_laws.proofs.UseShown.{use_is_shown}
-use Rattle.k_laws.proofs.PartsTell.{owner_same, phases_same, ended_same}
+use Rattle.k_changes.proofs.UseShown.{use_is_shown}
+use Rattle.k_changes.proofs.PartsTell.{owner_same, phases_same, ended_same}
 
 -- by the book
 module _ (trace : Trace) (st su : State) (book : book_part trace st ≡ book_part trace su) where

@@ -29,9 +29,9 @@ use Rattle.k_types.specs.Replies.{fault_where, first_fault, faults, access_fault
 use Rattle.k_types.specs.Cells.{part, book_part, base_cell, access_cell, other_cells, cells_touched}
 use Rattle.k_locality.specs.Same.{SameToEvent}
 use Rattle.k_locality.proofs.SameRead.{owners_same, shares_same, limit_same, shared_bytes_same, sharer_same, frozen_same, object_same, name_same, bytes_same, register_same, others_same, full_for_same, use_same}
-use Rattle.k_base.proofs.NameTests.{heap_eq_refl}
-use Rattle.k_frame.proofs.OwnerOf.{owner_kernel, owner_user, owner_shared}
-use Rattle.k_laws.proofs.PartsTell.{owner_same, phases_same}
+use Rattle.k_changes.proofs.NameTests.{heap_eq_refl}
+use Rattle.k_changes.proofs.OwnerOf.{owner_kernel, owner_user, owner_shared}
+use Rattle.k_changes.proofs.PartsTell.{owner_same, phases_same}
 
 -- an access through a register, where its cells have the same parts
 module _ (trace : Trace) (st su : State) (book : book_part trace st ≡ book_part trace su) (p : ℕ) (own : part trace st (user p) ≡ part trace su (user p)) where

@@ -1,1 +1,9 @@
 pub mod Same
+pub use Rattle.k_changes.specs.BookChanges
+pub use Rattle.k_changes.specs.CellChanges
+pub use Rattle.k_changes.specs.Changes
+pub use Rattle.k_changes.specs.Roots
+pub use Rattle.k_changes.specs.Told
+pub use Rattle.k_bounds.specs.Counts
+pub use Rattle.k_bounds.specs.Distinct
+pub use Rattle.k_changes.specs.PartUpdates

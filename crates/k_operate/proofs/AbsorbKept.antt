@@ -22,7 +22,7 @@ use Rattle.k_moves.proofs.Idle.{not_open}
 use Rattle.k_book.specs.Books.{BookRecord}
 use Rattle.k_book.proofs.Telling.{tells}
 use Rattle.k_cell.specs.Holdings.{HoldingsValue}
-use Rattle.k_shared.specs.SharedHeaps.{SharedRecord}
+use Rattle.k_process.specs.SharedHeaps.{SharedRecord}
 use Rattle.k_shares.specs.Sharers.{is_orphan_by, lowest_orphan}
 use Rattle.k_steps.specs.Begun.{HasAppended}
 use Rattle.k_steps.specs.Absorbing.{CanAbsorb, HasAbsorbedHeap}

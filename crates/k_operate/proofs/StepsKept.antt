@@ -14,7 +14,7 @@ use Rattle.k_book.specs.Books.{BookRecord, book_entries}
 use Rattle.k_entry.specs.Entries.{AreEntries}
 use Rattle.k_cell.specs.Holdings.{HoldingsValue}
 use Rattle.k_heap.specs.Heaps.{HeapRecord}
-use Rattle.k_shared.specs.SharedHeaps.{SharedRecord}
+use Rattle.k_process.specs.SharedHeaps.{SharedRecord}
 use Rattle.k_local.specs.Locals.{after_local, local_answer}
 use Rattle.k_process.specs.Beside.{HasSteppedWithKernel, HasSteppedWithShared}
 use Rattle.k_process.specs.Others.{shared_by}

@@ -6,7 +6,7 @@ use Rattle.k_types.specs.FileOrder.{absorptions}
 use Rattle.k_types.specs.Steps.{state_after}
 use Rattle.k_book.specs.Books.{BookRecord}
 use Rattle.k_cell.specs.Holdings.{HoldingsValue}
-use Rattle.k_shared.specs.SharedHeaps.{SharedRecord}
+use Rattle.k_process.specs.SharedHeaps.{SharedRecord}
 use Rattle.k_shares.specs.Sharers.{lowest_orphan}
 use Rattle.k_process.specs.Keeping.{BookKeeps, KernelKeeps, SharedKeeps}
 use Rattle.k_process.specs.declared.process.Process.{Process}

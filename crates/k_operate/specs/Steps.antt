@@ -10,7 +10,7 @@ use Rattle.k_squares.specs.Touches.{other_cells_in}
 use Rattle.k_moves.specs.Shown.{idle_part}
 use Rattle.k_book.specs.Books.{BookRecord}
 use Rattle.k_cell.specs.Holdings.{HoldingsValue}
-use Rattle.k_shared.specs.SharedHeaps.{SharedRecord}
+use Rattle.k_process.specs.SharedHeaps.{SharedRecord}
 use Rattle.k_types.specs.Cells.{Cell}
 use Rattle.k_process.specs.Keeping.{BookKeeps, KernelKeeps, SharedKeeps}
 use Rattle.k_process.specs.declared.process.Process.{Process}

@@ -5,8 +5,7 @@ ghost use Rattle.k_entry.specs.Entries.{AreEntries};
 
 use k_book::Book;
 use k_heap::HeapCell;
-use k_kernel::KernelCell;
-use k_shared::SharedCell;
+use k_process::{KernelCell, SharedCell};
 use k_types::Heap;
 
 /// Tells that no exit item of the process stands twice.

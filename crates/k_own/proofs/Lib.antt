@@ -4,3 +4,5 @@ pub mod Across
 pub mod Crossing
 pub mod Allocated
 pub mod Below
+pub use Rattle.k_commit.proofs.Placed
+pub use Rattle.k_moves.proofs.Idle

@@ -11,4 +11,7 @@ mod limits;
 mod registers;
 mod stepping;
 
+pub use k_book::Book;
+pub use k_commit::{is_above, publish};
+pub use k_heap::HeapCell;
 pub use stepping::step_own;

@@ -1,8 +1,7 @@
 //! The cell that an operation touches beside the process's own: the kernel's, or that of a shared heap.
 use k_book::Book;
-use k_commit::{append_heap_and_kernel, append_heap_and_shared};
+use k_commit::{KernelCell, append_heap_and_kernel, append_heap_and_shared};
 use k_heap::HeapCell;
-use k_kernel::KernelCell;
 use k_shared::SharedCell;
 use k_space::Stored;
 use k_types::{Event, Heap, Link, Name};

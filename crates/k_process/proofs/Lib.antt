@@ -7,3 +7,4 @@ pub use Rattle.k_locked.proofs.CanDo
 pub use Rattle.k_locked.proofs.Kept as LockedKept
 pub use Rattle.k_locked.proofs.Steps
 pub use Rattle.k_locked.proofs.RoomLeft
+pub use Rattle.k_locked.proofs.Opened

@@ -9,3 +9,4 @@ pub use Rattle.k_locked.specs.Stepped
 pub use Rattle.k_locked.specs.Beside
 pub use Rattle.k_locked.specs.Others
 pub use Rattle.k_locked.specs.Published
+pub use Rattle.k_shared.specs.SharedHeaps

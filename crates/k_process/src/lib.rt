@@ -6,4 +6,6 @@ mod heaps;
 mod process;
 
 pub use heaps::Heaps;
+pub use k_kernel::KernelCell;
+pub use k_shared::SharedCell;
 pub use process::{Process, next};

@@ -7,3 +7,4 @@ pub mod Runs
 pub mod Watched
 pub mod Opened
 pub mod Stills
+pub use Rattle.k_still.specs.Opening

@@ -5,7 +5,7 @@ use Rattle.k_types.specs.Trace.{Trace}
 use Rattle.k_process.specs.Worlds.{WorldValue}
 use Rattle.k_process.specs.Heaps.{value_of}
 use Rattle.k_process.specs.Standing.{AllStand}
-use Rattle.k_still.specs.Opening.{IsSetupOf}
+use Rattle.k_run.specs.Opening.{IsSetupOf}
 use Rattle.k_outcome.specs.Ends.{EndValue}
 use Rattle.k_outcome.specs.Listed.{AreRoomsFor}
 use Rattle.k_trace.specs.Named.{NamedTrace}

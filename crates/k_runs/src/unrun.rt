@@ -4,7 +4,7 @@ ghost use Rattle.k_outcome.specs.Listed.{AreRoomsFor};
 ghost use Rattle.k_run.specs.Runs.{IsRunOf};
 ghost use Rattle.k_process.specs.Heaps.{value_of};
 ghost use Rattle.k_process.specs.Standing.{AllStand};
-ghost use Rattle.k_still.specs.Opening.{IsSetupOf};
+ghost use Rattle.k_run.specs.Opening.{IsSetupOf};
 ghost use Rattle.k_text.specs.Named.{AreNamed};
 ghost use Rattle.k_trace.specs.Meaning.{meaning_of};
 ghost use Rattle.k_trace.specs.Rules.{IsTrace};

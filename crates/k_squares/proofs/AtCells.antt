@@ -19,8 +19,8 @@ use Rattle.k_frame.proofs.Elsewhere.{count_done_elsewhere, set_register_elsewher
 use Rattle.k_frame.proofs.ElsewhereOther.{set_phase_elsewhere}
 use Rattle.k_frame.proofs.LocalEffects.{part_done, part_register}
 use Rattle.k_base.proofs.NameTests.{heap_eq-true}
-use Rattle.k_changes.specs.CellChanges.{with_created, with_exit_to, with_scan, in_phase}
-use Rattle.k_changes.proofs.OnCells.{write_on_cell, create_on_cell, add_exit_on_cell, open_scan_on_cell, set_phase_on_cell}
+use Rattle.k_locality.specs.CellChanges.{with_created, with_exit_to, with_scan, in_phase}
+use Rattle.k_locality.proofs.OnCells.{write_on_cell, create_on_cell, add_exit_on_cell, open_scan_on_cell, set_phase_on_cell}
 use Rattle.k_squares.specs.CellAfter.{at_cell}
 
 -- where one cell's part changes and the others stay

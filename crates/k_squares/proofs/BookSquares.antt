@@ -24,16 +24,16 @@ use Rattle.k_types.specs.Cells.{BookPart, part, book_part}
 use Rattle.k_types.specs.Steps.{in_range}
 use Rattle.k_types.specs.Sound.{IsSound, IsSized}
 use Rattle.k_frame.proofs.FrameSteps.{none_on}
-use Rattle.k_laws.specs.Changes.{MayAbsorb, MayExit}
-use Rattle.k_laws.proofs.SoundEffects.{Acts, is_unmade_so}
-use Rattle.k_laws.proofs.SoundSharing.{bytes_none}
-use Rattle.k_changes.specs.BookChanges.{owner_in, with_pin_moved, with_charge, with_shared_bytes, with_share, with_phase, with_entry, when_closed, when_ended, when_taken}
-use Rattle.k_changes.proofs.OnBook.{owner_told, open_scan_on_book, close_on_book, write_on_book, add_exit_on_book, set_phase_on_book, add_share_on_book, share_again, set_max_on_book}
-use Rattle.k_changes.proofs.PinsOnBook.{set_register_on_book}
-use Rattle.k_changes.proofs.MadeOnBook.{new_on_book, new_in_kernel_on_book, new_in_shared_on_book}
-use Rattle.k_changes.proofs.EndsOnBook.{end_on_book}
-use Rattle.k_changes.proofs.TakenOnBook.{taken_on_book}
-use Rattle.k_changes.proofs.ToldBy.{shared_bytes_told}
+use Rattle.k_locality.specs.Changes.{MayAbsorb, MayExit}
+use Rattle.k_locality.proofs.SoundEffects.{Acts, is_unmade_so}
+use Rattle.k_locality.proofs.SoundSharing.{bytes_none}
+use Rattle.k_locality.specs.BookChanges.{owner_in, with_pin_moved, with_charge, with_shared_bytes, with_share, with_phase, with_entry, when_closed, when_ended, when_taken}
+use Rattle.k_locality.proofs.OnBook.{owner_told, open_scan_on_book, close_on_book, write_on_book, add_exit_on_book, set_phase_on_book, add_share_on_book, share_again, set_max_on_book}
+use Rattle.k_locality.proofs.PinsOnBook.{set_register_on_book}
+use Rattle.k_locality.proofs.MadeOnBook.{new_on_book, new_in_kernel_on_book, new_in_shared_on_book}
+use Rattle.k_locality.proofs.EndsOnBook.{end_on_book}
+use Rattle.k_locality.proofs.TakenOnBook.{taken_on_book}
+use Rattle.k_locality.proofs.ToldBy.{shared_bytes_told}
 use Rattle.k_squares.specs.CellAfter.{register_in}
 use Rattle.k_squares.specs.BookAfter.{book_repinned, book_stored, book_frozen, book_attached, book_operated}
 use Rattle.k_squares.proofs.CellSquares.{told, populates, populating_phase, freezes, may_exit, killed, kills, may_end_other, ends_told}

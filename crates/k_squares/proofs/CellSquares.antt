@@ -31,14 +31,14 @@ use Rattle.k_frame.proofs.Elsewhere.{add_share_elsewhere, close_elsewhere, set_m
 use Rattle.k_frame.proofs.ElsewhereOther.{exited_elsewhere, absorbed_elsewhere}
 use Rattle.k_frame.proofs.FrameSteps.{none_on, owner_linked}
 use Rattle.k_frame.proofs.OwnerOf.{owner_user, owner_kernel, owner_shared}
-use Rattle.k_laws.specs.Changes.{MayAbsorb, MayExit}
-use Rattle.k_laws.proofs.SoundEffects.{Acts, is_unmade_so, is_populating_by}
-use Rattle.k_changes.specs.CellChanges.{with_exit_to, with_scan, in_phase, at_its_end, when_absorbed, taking_in}
-use Rattle.k_changes.specs.BookChanges.{owner_in}
-use Rattle.k_changes.proofs.GivenAway.{end_on_cell, end_on_kernel, absorbed_on_cell, absorbed_on_kernel}
-use Rattle.k_changes.proofs.OnBook.{owner_told}
-use Rattle.k_changes.proofs.RootsTold.{roots_told}
-use Rattle.k_changes.proofs.ToldBy.{register_told}
+use Rattle.k_locality.specs.Changes.{MayAbsorb, MayExit}
+use Rattle.k_locality.proofs.SoundEffects.{Acts, is_unmade_so, is_populating_by}
+use Rattle.k_locality.specs.CellChanges.{with_exit_to, with_scan, in_phase, at_its_end, when_absorbed, taking_in}
+use Rattle.k_locality.specs.BookChanges.{owner_in}
+use Rattle.k_locality.proofs.GivenAway.{end_on_cell, end_on_kernel, absorbed_on_cell, absorbed_on_kernel}
+use Rattle.k_locality.proofs.OnBook.{owner_told}
+use Rattle.k_locality.proofs.RootsTold.{roots_told}
+use Rattle.k_locality.proofs.ToldBy.{register_told}
 use Rattle.k_squares.specs.CellAfter.{at_cell, register_in, cells_with_register, cells_with_new, with_exit_for, cells_stored, cells_put, cells_frozen, cells_scanned, cells_given, cells_operated}
 use Rattle.k_squares.proofs.AtCells.{one_cell, two_cells, register_cells, create_cells, write_cells, exit_cells, scan_cells, phase_cells}
 use Rattle.k_base.proofs.Lists.{none_is}

@@ -14,10 +14,10 @@ use Rattle.k_types.specs.Totals.{total}
 use Rattle.k_types.specs.Trace.{Trace, limit_of, process_count}
 use Rattle.k_types.specs.TraceRules.{AreLimits}
 use Rattle.k_base.proofs.NameTests.{heap_eq-true, name_eq_refl}
-use Rattle.k_bounds.proofs.Counting.{total_fewer}
-use Rattle.k_changes.specs.BookChanges.{owner_in, has_way_into, shared_by}
-use Rattle.k_changes.proofs.EndsOnBook.{charge_told}
-use Rattle.k_changes.proofs.OnBook.{owner_told}
+use Rattle.k_locality.proofs.Counting.{total_fewer}
+use Rattle.k_locality.specs.BookChanges.{owner_in, has_way_into, shared_by}
+use Rattle.k_locality.proofs.EndsOnBook.{charge_told}
+use Rattle.k_locality.proofs.OnBook.{owner_told}
 use Rattle.k_squares.specs.Owed.{PinsAreCounted, EntriesAreCounted, ChargesAreCounted}
 use Rattle.k_base.proofs.Sums.{total_at_most, passing_within}
 use Rattle.k_base.proofs.Lists.{get_mapped}

@@ -24,13 +24,13 @@ use Rattle.k_types.specs.Sound.{IsSound}
 use Rattle.k_frame.specs.PartUpdates.{with_done}
 use Rattle.k_frame.proofs.ElsewhereOther.{collected_elsewhere}
 use Rattle.k_frame.proofs.Sizes.{step_sized}
-use Rattle.k_laws.specs.Changes.{MayAbsorb}
-use Rattle.k_laws.proofs.SoundEffects.{Acts}
-use Rattle.k_changes.specs.CellChanges.{collected}
-use Rattle.k_changes.specs.BookChanges.{when_collected}
-use Rattle.k_changes.proofs.Collected.{ended_on_cell}
-use Rattle.k_changes.proofs.CollectedOnBook.{kernel_collected_on_book, collected_on_book}
-use Rattle.k_changes.proofs.OnBook.{count_done_on_book, owner_told}
+use Rattle.k_locality.specs.Changes.{MayAbsorb}
+use Rattle.k_locality.proofs.SoundEffects.{Acts}
+use Rattle.k_locality.specs.CellChanges.{collected}
+use Rattle.k_locality.specs.BookChanges.{when_collected}
+use Rattle.k_locality.proofs.Collected.{ended_on_cell}
+use Rattle.k_locality.proofs.CollectedOnBook.{kernel_collected_on_book, collected_on_book}
+use Rattle.k_locality.proofs.OnBook.{count_done_on_book, owner_told}
 use Rattle.k_types.specs.TraceRules.{AreLimits}
 use Rattle.k_base.proofs.Objects.{some_is}
 use Rattle.k_squares.specs.BookAfter.{book_after, book_collected, book_operated}

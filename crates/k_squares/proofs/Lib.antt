@@ -7,3 +7,4 @@ pub mod Counted
 pub mod OnlyTouched
 pub mod Locality
 pub mod Laws
+pub use Rattle.k_locality.proofs.Laws as LocalityLaws

@@ -24,9 +24,9 @@ use Rattle.k_types.specs.Replies.{fault_where, first_fault, at_base, refused_or,
 use Rattle.k_types.specs.Cells.{Cell, CellPart, BookPart}
 use Rattle.k_frame.specs.PartUpdates.{held_in, with_done, with_written}
 use Rattle.k_base.proofs.NameTests.{heap_eq_refl}
-use Rattle.k_changes.specs.CellChanges.{with_scan, taking_in, at_its_end, when_absorbed, in_phase, collected, next_name_in}
-use Rattle.k_changes.specs.BookChanges.{owner_in, bytes_in, with_pin_moved, with_entry, without_entries, drops, when_collected, when_ended, when_taken}
-use Rattle.k_changes.specs.Roots.{roots_in}
+use Rattle.k_locality.specs.CellChanges.{with_scan, taking_in, at_its_end, when_absorbed, in_phase, collected, next_name_in}
+use Rattle.k_locality.specs.BookChanges.{owner_in, bytes_in, with_pin_moved, with_entry, without_entries, drops, when_collected, when_ended, when_taken}
+use Rattle.k_locality.specs.Roots.{roots_in}
 use Rattle.k_squares.specs.CellAfter.{at_cell, register_in, reference_given, unless_refused, cells_with_register, cells_with_new, with_exit_for, cells_stored, cells_put, cells_frozen, cells_scanned, cells_given, cells_operated, cell_after}
 use Rattle.k_squares.specs.BookAfter.{book_repinned, book_stored, book_frozen, book_collected, book_operated, book_after}
 use Rattle.k_squares.specs.Answers.{field_in, size_fault_in, access_faults_in, is_frozen_in, passes_barrier_in, store_faults_in, load_faults_in, number_faults_in, freeze_faults_in, faults_in, reference_from_in, number_from_in, answer_in, reply_in, IsAnswered}

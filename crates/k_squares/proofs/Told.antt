@@ -27,16 +27,16 @@ use Rattle.k_types.specs.Local.{is_local, is_own, is_local_store, is_local_load}
 use Rattle.k_types.specs.Steps.{in_range}
 use Rattle.k_frame.specs.PartUpdates.{held_in}
 use Rattle.k_frame.proofs.OwnerOf.{owner_user, owner_kernel, owner_shared}
-use Rattle.k_changes.specs.BookChanges.{owner_in}
-use Rattle.k_changes.proofs.OnBook.{owner_told}
-use Rattle.k_changes.proofs.ToldBy.{register_told, object_told, name_told, bytes_told, shared_bytes_told, limit_told, full_for_told}
+use Rattle.k_locality.specs.BookChanges.{owner_in}
+use Rattle.k_locality.proofs.OnBook.{owner_told}
+use Rattle.k_locality.proofs.ToldBy.{register_told, object_told, name_told, bytes_told, shared_bytes_told, limit_told, full_for_told}
 use Rattle.k_squares.specs.CellAfter.{register_in}
 use Rattle.k_squares.specs.Answers.{field_in, field_count_in, sharer_fault_in, is_frozen_in, size_fault_in, passes_barrier_in, access_faults_in, store_faults_in, load_faults_in, number_faults_in, freeze_faults_in, faults_in, reference_from_in, number_from_in, answer_in, reply_in}
 use Rattle.k_squares.specs.Touches.{base_cell_in, access_cell_in, other_cells_in, touched_in}
 use Rattle.k_squares.specs.Locals.{is_local_store_in, is_local_load_in, is_local_in}
 use Rattle.k_squares.proofs.CellSquares.{told, populates, populating_phase}
 use Rattle.k_types.specs.Limits.{is_above}
-use Rattle.k_laws.proofs.UseShown.{use_is_shown}
+use Rattle.k_locality.proofs.UseShown.{use_is_shown}
 
 -- the faults at a base by two functions that agree
 at_base_same : (r : Option Name) (f g : Name → List (Option Fault)) → ((x : Name) → f x ≡ g x) → at_base r f ≡ at_base r g

@@ -19,9 +19,9 @@ use Rattle.k_types.specs.State.{Content, Holds, object_at, fields_of}
 use Rattle.k_types.specs.Owners.{user, phase_of}
 use Rattle.k_types.specs.Replies.{fault_where, first_fault, at_base, limit_fault, refused_or, is_foreign, is_ref, is_unmade, is_frozen, is_populating, root_of, reference, number_in, may_resize}
 use Rattle.k_types.specs.Cells.{Cell, CellPart, BookPart, use_shown}
-use Rattle.k_changes.specs.CellChanges.{next_name_in}
-use Rattle.k_changes.specs.BookChanges.{owner_in, bytes_in}
-use Rattle.k_changes.specs.Told.{full_limit_in, full_for_in}
+use Rattle.k_locality.specs.CellChanges.{next_name_in}
+use Rattle.k_locality.specs.BookChanges.{owner_in, bytes_in}
+use Rattle.k_locality.specs.Told.{full_limit_in, full_for_in}
 use Rattle.k_squares.specs.CellAfter.{register_in}
 use Rattle.k_types.specs.Limits.{is_above}
 

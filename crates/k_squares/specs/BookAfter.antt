@@ -13,7 +13,7 @@ use Rattle.k_types.specs.Names.{heap_eq}
 use Rattle.k_types.specs.Trace.{Trace, limit_of, size_of_type}
 use Rattle.k_types.specs.Owners.{user, shared}
 use Rattle.k_types.specs.Cells.{Cell, CellPart, BookPart}
-use Rattle.k_changes.specs.BookChanges.{owner_in, with_pin_moved, with_charge, with_shared_bytes, with_entry, with_phase, with_share, when_closed, without_entries, drops, when_collected, when_ended, when_taken, with_max}
+use Rattle.k_locality.specs.BookChanges.{owner_in, with_pin_moved, with_charge, with_shared_bytes, with_entry, with_phase, with_share, when_closed, without_entries, drops, when_collected, when_ended, when_taken, with_max}
 use Rattle.k_squares.specs.CellAfter.{register_in, reference_given, unless_refused}
 use Rattle.k_squares.specs.Touches.{ends_other_in}
 

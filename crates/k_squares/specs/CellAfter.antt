@@ -18,9 +18,9 @@ use Rattle.k_types.specs.State.{Refers, Holds}
 use Rattle.k_types.specs.Owners.{user, shared}
 use Rattle.k_types.specs.Cells.{Cell, CellPart, BookPart}
 use Rattle.k_frame.specs.PartUpdates.{held_in, with_done, with_register, with_written}
-use Rattle.k_changes.specs.CellChanges.{with_created, with_exit_to, with_scan, in_phase, collected, at_its_end, when_absorbed, taking_in}
-use Rattle.k_changes.specs.BookChanges.{owner_in}
-use Rattle.k_changes.specs.Roots.{roots_in}
+use Rattle.k_locality.specs.CellChanges.{with_created, with_exit_to, with_scan, in_phase, collected, at_its_end, when_absorbed, taking_in}
+use Rattle.k_locality.specs.BookChanges.{owner_in}
+use Rattle.k_locality.specs.Roots.{roots_in}
 use Rattle.k_squares.specs.Touches.{ends_other_in}
 
 -- the parts of all cells, of which that of the one is changed

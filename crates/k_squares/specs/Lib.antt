@@ -5,3 +5,4 @@ pub mod Touches
 pub mod Locals
 pub mod Follows
 pub mod Owed
+pub use Rattle.k_locality.specs.Same

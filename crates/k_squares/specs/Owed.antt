@@ -7,8 +7,8 @@ use Rattle.k_types.specs.Trace.{Trace, limit_of}
 use Rattle.k_types.specs.State.{State}
 use Rattle.k_types.specs.Owners.{user}
 use Rattle.k_types.specs.Cells.{part, book_part, pins_of}
-use Rattle.k_changes.specs.CellChanges.{collected}
-use Rattle.k_changes.specs.BookChanges.{owner_in, bytes_in, charge_in, has_way_into, registers_in, shared_by}
+use Rattle.k_locality.specs.CellChanges.{collected}
+use Rattle.k_locality.specs.BookChanges.{owner_in, bytes_in, charge_in, has_way_into, registers_in, shared_by}
 use Rattle.k_squares.specs.CellAfter.{register_in}
 
 -- an object of another heap that a register of the process holds is pinned, as often as its registers hold it

@@ -11,7 +11,7 @@ use Rattle.k_types.specs.declared.event.Event.TheVariants.{Done as DoneEvent, En
 use Rattle.k_types.specs.Trace.{Trace}
 use Rattle.k_types.specs.Cells.{Cell, CellPart, BookPart}
 use Rattle.k_frame.specs.PartUpdates.{held_in}
-use Rattle.k_changes.specs.BookChanges.{owner_in}
+use Rattle.k_locality.specs.BookChanges.{owner_in}
 use Rattle.k_types.specs.Limits.{is_above}
 
 -- the cell beside the process's own that an access to an object of the heap touches

@@ -10,7 +10,7 @@ use Rattle.k_types.specs.Steps.{state_after}
 use Rattle.k_types.specs.Trace.{Trace}
 use Rattle.k_kept.proofs.Laws.{ended_processes_stay_ended}
 use Rattle.k_agree.specs.Agreement.{BookAgrees}
-use Rattle.k_book.specs.Books.{BookRecord}
+use Rattle.k_own.specs.Books.{BookRecord}
 use Rattle.k_squares.specs.Touches.{ends_other_in}
 
 -- the book tells who has ended

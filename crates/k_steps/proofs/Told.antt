@@ -23,18 +23,18 @@ use Rattle.k_frame.proofs.Sizes.{history_sized}
 use Rattle.k_frame.specs.PartUpdates.{held_in}
 use Rattle.k_laws.proofs.SoundSteps.{legal_sound}
 use Rattle.k_agree.proofs.Openings.{home_at}
-use Rattle.k_book.specs.Books.{BookRecord}
+use Rattle.k_own.specs.Books.{BookRecord}
 use Rattle.k_changes.specs.BookChanges.{owner_in}
 use Rattle.k_changes.proofs.Laws.{the_book_tells_the_owners}
 use Rattle.k_changes.proofs.ToldBy.{register_told}
 use Rattle.k_entry.specs.Entries.{home_of}
-use Rattle.k_heap.specs.Heaps.{HeapRecord}
-use Rattle.k_moves.specs.Shown.{idle_part}
-use Rattle.k_moves.proofs.Idle.{part_shown}
+use Rattle.k_own.specs.Heaps.{HeapRecord}
+use Rattle.k_own.specs.Shown.{idle_part}
+use Rattle.k_own.proofs.Idle.{part_shown}
 use Rattle.k_squares.proofs.Laws.{touched_cells_are_told}
 use Rattle.k_squares.specs.Touches.{other_cells_in}
-use Rattle.k_commit.specs.Met.{Before, HaveMet}
-use Rattle.k_commit.proofs.Placed.{register_is_placed}
+use Rattle.k_own.specs.Met.{Before, HaveMet}
+use Rattle.k_own.proofs.Placed.{register_is_placed}
 use Rattle.k_steps.specs.Reaching.{CanReach, CanReachEnd, CanReachOwner, CanReachThrough}
 use Rattle.k_base.proofs.Owners.{owner_known}
 

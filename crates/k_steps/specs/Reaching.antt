@@ -8,9 +8,9 @@ use Rattle.k_types.specs.Cells.{Cell}
 use Rattle.k_types.specs.Steps.{in_range}
 use Rattle.k_types.specs.Trace.{Trace, process_count}
 use Rattle.k_agree.specs.Agreement.{Agrees}
-use Rattle.k_book.specs.Books.{BookRecord}
-use Rattle.k_heap.specs.Heaps.{HeapRecord}
-use Rattle.k_commit.specs.Standing.{BookStands}
+use Rattle.k_own.specs.Books.{BookRecord}
+use Rattle.k_own.specs.Heaps.{HeapRecord}
+use Rattle.k_own.specs.Standing.{BookStands}
 use Rattle.k_steps.specs.declared.reached.Reach.{Reach}
 use Rattle.k_steps.specs.declared.reached.Reach.TheVariants.{Own, Kernel, Shared, End}
 

@@ -1,9 +1,9 @@
 //! What is reached is what is touched.
 ghost use Rattle.std.specs.Prelude.{◌≡◌, ◌∷◌, ℕ, IsFalse};
 ghost use Rattle.k_agree.specs.Agreement.{BookAgrees};
-ghost use Rattle.k_book.specs.Books.{BookRecord};
-ghost use Rattle.k_commit.specs.Met.{Before, HaveMet};
-ghost use Rattle.k_moves.specs.Shown.{idle_part};
+ghost use Rattle.k_own.specs.Books.{BookRecord};
+ghost use Rattle.k_own.specs.Met.{Before, HaveMet};
+ghost use Rattle.k_own.specs.Shown.{idle_part};
 ghost use Rattle.k_squares.specs.Touches.{ends_other_in, other_cells_in};
 ghost use Rattle.k_types.specs.Agree.{book_shown_by};
 ghost use Rattle.k_types.specs.Cells.{cells_touched};

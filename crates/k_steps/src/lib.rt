@@ -19,9 +19,8 @@ pub use k_collect::{
     begin_heap, begin_kernel, close_kernel, end_heap, end_kernel, end_swept_heap, end_swept_kernel,
     mark_heap, mark_kernel, settle_heap, settle_kernel, sweep_heap, sweep_kernel,
 };
-pub use k_commit::publish;
 pub use k_depart::{absorb, exit, kill};
-pub use k_own::step_own;
+pub use k_own::{publish, step_own};
 pub use k_pair::{step_kernel, step_shared};
 pub use laws::{ends_are_told_once, reached_cells_are_touched};
 pub use reached::Reach;

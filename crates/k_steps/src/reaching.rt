@@ -1,7 +1,7 @@
 //! The cells beside the process's own that an operation touches.
 ghost use Rattle.std.specs.Prelude.{◌≡◌, ◌∷◌, [], Some, if◌then◌else◌};
 ghost use Rattle.k_frame.specs.PartUpdates.{held_in};
-ghost use Rattle.k_moves.specs.Shown.{idle_part};
+ghost use Rattle.k_own.specs.Shown.{idle_part};
 ghost use Rattle.k_squares.specs.Touches.{access_cell_in, base_cell_in, ends_other_in, other_cells_in};
 ghost use Rattle.k_steps.specs.Reaching.{CanReach, CanReachEnd, CanReachOwner, CanReachThrough, cells_of};
 ghost use Rattle.k_types.specs.Agree.{book_shown_by};
@@ -9,9 +9,7 @@ ghost use Rattle.k_types.specs.Trace.{Trace};
 ghost use Rattle.k_types.specs.declared.names.Heap.TheVariants.{Kernel, User};
 
 use crate::reached::Reach;
-use k_book::Book;
-use k_commit::is_above;
-use k_heap::HeapCell;
+use k_own::{Book, HeapCell, is_above};
 use k_types::{Heap, Op, Pid, Reg};
 
 /// The cell that an access to an object of that heap touches beside the process's own.

@@ -17,7 +17,7 @@ use Rattle.k_cell.specs.Holdings.{HoldingsValue}
 use Rattle.k_heap.specs.declared.heap.CellRooms.{CellRooms}
 use Rattle.k_heap.specs.Heaps.{HeapRecord, opened_heap}
 use Rattle.k_kernel.specs.Kernels.{opened_kernel}
-use Rattle.k_locked.specs.Keeping.{HeapKeeps, KernelKeeps, SharedKeeps}
+use Rattle.k_process.specs.Keeping.{HeapKeeps, KernelKeeps, SharedKeeps}
 use Rattle.k_shared.specs.SharedHeaps.{SharedRecord, opened_shared}
 use Rattle.k_space.specs.Objects.{BodyValue}
 use Rattle.k_tie.specs.Values.{NoteValue, blank_note}
@@ -27,7 +27,7 @@ use Rattle.k_still.specs.Opening.{AreBeginnings, ArePending, ArePendingShared, C
 use Rattle.k_process.specs.Standing.{HeapsStand}
 use Rattle.k_process.specs.Worlds.{WorldValue}
 use Rattle.k_still.proofs.Stands.{heap_stands, kernel_stands, shared_stands}
-use Rattle.k_locked.proofs.Lists.{each_pushed}
+use Rattle.k_process.proofs.Lists.{each_pushed}
 use Rattle.k_still.proofs.InOrder.{each_first, each_rest}
 
 -- the first of what is left is taken

@@ -14,7 +14,7 @@ use Rattle.k_base.proofs.Lists.{numbers_length}
 use Rattle.k_bodies.specs.Bodies.{bodies_of}
 use Rattle.k_bodies.proofs.Operations.{own_operations}
 use Rattle.k_book.specs.Books.{BookRecord}
-use Rattle.k_locked.specs.Keeping.{BookKeeps, SharedKeeps}
+use Rattle.k_process.specs.Keeping.{BookKeeps, SharedKeeps}
 use Rattle.k_shared.specs.SharedHeaps.{SharedRecord}
 use Rattle.k_space.specs.Objects.{BodyValue}
 use Rattle.k_tie.specs.Values.{JournalValue, NoteValue, blank_note, empty_journal}

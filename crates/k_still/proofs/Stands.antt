@@ -16,9 +16,9 @@ use Rattle.k_kernel.specs.Kernels.{opened_kernel}
 use Rattle.k_shared.specs.SharedHeaps.{opened_shared}
 use Rattle.k_space.specs.Objects.{BodyValue}
 use Rattle.k_tie.specs.Values.{JournalValue, NoteValue, blank_note, empty_journal}
-use Rattle.k_locked.specs.Keeping.{BookKeeps, HeapKeeps, KernelKeeps, SharedKeeps}
-use Rattle.k_locked.specs.Rooms.{shared_exit_room}
-use Rattle.k_locked.proofs.Opened.{opened_book_keeps, opened_heap_keeps, opened_kernel_keeps, opened_shared_keeps}
+use Rattle.k_process.specs.Keeping.{BookKeeps, HeapKeeps, KernelKeeps, SharedKeeps}
+use Rattle.k_process.specs.Rooms.{shared_exit_room}
+use Rattle.k_process.proofs.Opened.{opened_book_keeps, opened_heap_keeps, opened_kernel_keeps, opened_shared_keeps}
 use Rattle.k_still.specs.Opening.{IsSetupOf}
 use Rattle.k_process.specs.Worlds.{WorldValue}
 

@@ -19,8 +19,8 @@ use Rattle.k_bodies.specs.Bodies.{bodies_of}
 use Rattle.k_tie.specs.Values.{JournalValue, NoteValue, blank_note, empty_journal}
 use Rattle.k_book.specs.Books.{BookRecord}
 use Rattle.k_cell.specs.Holdings.{HoldingsValue}
-use Rattle.k_locked.specs.Keeping.{BookKeeps, KernelKeeps, SharedKeeps}
-use Rattle.k_locked.specs.Rooms.{shared_exit_room}
+use Rattle.k_process.specs.Keeping.{BookKeeps, KernelKeeps, SharedKeeps}
+use Rattle.k_process.specs.Rooms.{shared_exit_room}
 use Rattle.k_trace.specs.declared.trace.Trace.{Trace as TraceRead}
 use Rattle.k_trace.specs.Meaning.{meaning_of}
 use Rattle.k_trace.specs.Named.{NamedTrace}

@@ -1,6 +1,6 @@
 //! All heaps of a run and its book, before the first event and on one thread.
 ghost use Rattle.std.specs.Prelude.{◌≡◌, IfOk};
-ghost use Rattle.k_locked.specs.Keeping.{BookKeeps};
+ghost use Rattle.k_process.specs.Keeping.{BookKeeps};
 ghost use Rattle.k_trace.specs.Meaning.{meaning_of};
 ghost use Rattle.k_trace.specs.Rules.{IsTrace};
 ghost use Rattle.k_still.specs.Opening.{CanOpenBook, CanOpenWith, IsOpened};

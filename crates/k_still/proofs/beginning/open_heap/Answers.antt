@@ -3,7 +3,7 @@ use Rattle.k_shared.specs.SharedHeaps.{opened_shared}
 use Rattle.k_types.specs.declared.names.Heap.TheVariants.{Shared}
 use Rattle.k_types.specs.Trace.{segment_of}
 use Rattle.k_still.specs.Opening.{HasOpenedHeap}
-use Rattle.k_locked.proofs.Lists.{ok_weaker}
+use Rattle.k_process.proofs.Lists.{ok_weaker}
 use Rattle.k_still.proofs.Begun.{can_begin, heap_opened}
 use Rattle.k_still.proofs.beginning.open_heap.Goals as goal
 

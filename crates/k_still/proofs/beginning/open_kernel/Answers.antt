@@ -1,7 +1,7 @@
 use Rattle.std.proofs.Common.{◌≡◌, arith}
 use Rattle.k_kernel.specs.Kernels.{opened_kernel}
 use Rattle.k_still.specs.Opening.{HasOpenedKernel}
-use Rattle.k_locked.proofs.Lists.{ok_weaker}
+use Rattle.k_process.proofs.Lists.{ok_weaker}
 use Rattle.k_still.proofs.Begun.{can_begin, first_serial, kernel_opened, objects_enough}
 use Rattle.k_still.proofs.beginning.open_kernel.Goals as goal
 

@@ -1,7 +1,7 @@
 use Rattle.std.proofs.Common.{sym, ap, subst}
 use Rattle.k_book.specs.Books.{BookRecord}
-use Rattle.k_locked.specs.Keeping.{BookKeeps}
-use Rattle.k_locked.proofs.Lists.{nothing_is_something}
+use Rattle.k_process.specs.Keeping.{BookKeeps}
+use Rattle.k_process.proofs.Lists.{nothing_is_something}
 use Rattle.k_still.proofs.FirstBook.{none_is_refused}
 use Rattle.k_still.proofs.Stands.{book_stands}
 use Rattle.k_still.proofs.first.open_book.Goals as goal
