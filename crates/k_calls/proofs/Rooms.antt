@@ -1,5 +1,5 @@
 -- Where the journal has room for an event, the tables have room for what it adds.
-use Rattle.std.proofs.Common.{◌≡◌, ℕ, ◌+◌, ◌<◌, ◌≤◌, ◌==◌, refl, sym, ap, ◌∙◌, List, length, get_or, arith, Option, Some, None}
+use Rattle.std.proofs.Common.{◌≡◌, ℕ, ◌+◌, ◌<◌, ◌≤◌, ◌==◌, inl, refl, sym, ap, ◌∙◌, List, length, get_or, arith, Option, Some, None}
 use Rattle.k_types.specs.declared.op.Op.{Op}
 use Rattle.k_types.specs.declared.op.Op.TheVariants.{New, KNew, SNew, Store}
 use Rattle.k_types.specs.Agree.{CellValue}
@@ -18,7 +18,7 @@ use Rattle.k_entry.specs.Entries.{AreEntries, objects}
 use Rattle.k_entry.proofs.WholeWalks.{all_distinct, few_items}
 use Rattle.k_space.specs.Objects.{BodyValue}
 use Rattle.k_book.specs.Books.{BookRecord, book_entries}
-use Rattle.k_cell.specs.Holdings.{HasSerialLeft, HoldingsValue}
+use Rattle.k_cell.specs.Holdings.{HasObjectRoom, HoldingsValue}
 use Rattle.k_commit.specs.Changed.{bodies_after}
 use Rattle.k_commit.specs.Rooms.{HasEventRoom, HasExitRoom, HasTableRoom}
 use Rattle.k_guests.proofs.CanDo.{owner_shown, serial_shown}
@@ -51,18 +51,18 @@ module _ (basis : Basis) (b : BookRecord) (serves : BookServes basis b) (left : 
 
   -- a segment that its cell has can give one serial more
   pub serial_left : (c : Cell) (v : CellValue) (h : HoldingsValue) (seg : ℕ) → h.value.made ≡ v.made → Shows basis.trace now c v → GivesSerials basis.events h.serial_rooms seg →
-      (given : ℕ) → get_or h.value.made seg None ≡ Some given → HasSerialLeft h seg
+      (given : ℕ) → get_or h.value.made seg None ≡ Some given → HasObjectRoom h seg
   serial_left c v h seg same shows can given there =
       let shown : get_or v.made seg None ≡ Some given = ap (λ (made : List (Option ℕ)). get_or made seg None) (sym same) ∙ there in
       let machines = sym shown ∙ serial_shown basis.trace now c v seg (owner_shown basis.trace now c v seg given shows shown) shows in
       let is : given ≡ get_or now.made seg 0 = cc in
       let few = serials_few seg in
       let enough = can.enough in
-      record { given = given; room = can.room; there = there; can_give = can.there; left = omega (arith, is, few, left, enough) }
+      record { given = given; room = can.room; there = there; can_give = can.there; left = inl (omega (arith, is, few, left, enough)) }
 
 module _ (basis : Basis) (bodies : List BodyValue) (n : ℕ) (h : HoldingsValue) (seg : ℕ) (b : BookRecord) where
   -- room in the tables of a heap, for an operation whose body comes first
-  pub table_room : (op : Op) → bodies ≡ bodies_for basis op n → ((given : ℕ) → get_or h.value.made seg None ≡ Some given → HasSerialLeft h seg) → HasExitRoom h b → HasTableRoom basis.trace bodies h seg b op
+  pub table_room : (op : Op) → bodies ≡ bodies_for basis op n → ((given : ℕ) → get_or h.value.made seg None ≡ Some given → HasObjectRoom h seg) → HasExitRoom h b → HasTableRoom basis.trace bodies h seg b op
   table_room (New r ty) stock serial exits = record { body = record { rest = supply_of basis n; first = stock }; serial = serial }
   table_room (KNew r ty) stock serial exits = record { body = record { rest = supply_of basis n; first = stock }; serial = serial }
   table_room (SNew r s ty) stock serial exits = record { body = record { rest = supply_of basis n; first = stock }; serial = serial }

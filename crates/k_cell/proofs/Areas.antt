@@ -1,12 +1,12 @@
 -- Areas that change in one segment, or in marks alone, by number.
-use Rattle.std.proofs.Common.{◌≡◌, ℕ, zero, suc, ◌+◌, ◌-◌, ◌<◌, ◌≤◌, refl, sym, ap, subst, ◌∙◌, inl, inr, List, [], ◌∷◌, ◌++◌, length, map, get_or, set, Option, Some, None, option_map, arith}
+use Rattle.std.proofs.Common.{◌≡◌, ◌⊎◌, ℕ, zero, suc, ◌+◌, ◌-◌, ◌<◌, ◌≤◌, refl, sym, ap, subst, ◌∙◌, inl, inr, List, [], ◌∷◌, ◌++◌, length, map, get_or, set, Option, Some, None, option_map, arith}
 use Rattle.std.proofs.Math.Path.{fun_ext}
 use Rattle.std.proofs.lemmas.Bool.{cases_eq}
 use Rattle.std.proofs.lemmas.List.{length-append, length-map}
 use Rattle.k_types.specs.Numbers.{numbers_from, numbers_below}
 use Rattle.k_changes.specs.CellChanges.{given}
 use Rattle.k_space.specs.Objects.{BodyValue}
-use Rattle.k_space.specs.Segments.{IsSegment, LiesAt, Row, SegmentValue, made, new_row, placed, row_at, unmarked_row, unmarked_segment}
+use Rattle.k_space.specs.Segments.{HasRoom, IsSegment, LiesAt, Row, SegmentValue, made, new_row, placed, row_at, unmarked_row, unmarked_segment}
 use Rattle.k_space.specs.Areas.{AreaValue, place_of, segment_at, unmarked}
 use Rattle.k_space.proofs.AreaRows.{number_found}
 use Rattle.k_areas.specs.Shown.{area_objects, HasNoneFrom, AreNumberedBelow}
@@ -15,6 +15,8 @@ use Rattle.k_areas.proofs.Found.{at_map, at_set_same, at_set_other, set_number, 
 use Rattle.k_areas.proofs.Changed.{same_area}
 use Rattle.k_areas.proofs.Named.{made_listed}
 use Rattle.k_cell.specs.Holdings.{serial_rooms_of, AreBegun}
+use Rattle.k_cell.specs.Placed.{CanPlace}
+use Rattle.k_cell.proofs.Living.{living_alike}
 use Rattle.k_base.proofs.Lists.{set_below, some_one}
 
 pub same_below : {A : Type 0} (f g : ℕ → A) (n : ℕ) → ((i : ℕ) → f i ≡ g i) → map f (numbers_below n) ≡ map g (numbers_below n)
@@ -111,6 +113,16 @@ room_unmarked : (o : Option SegmentValue) → option_map (λ (s : SegmentValue).
 room_unmarked None = refl
 room_unmarked (Some s) = refl
 
+room_alike : (t s : SegmentValue) → unmarked_segment t ≡ unmarked_segment s → (made s < s.room) ⊎ HasRoom s → (made t < t.room) ⊎ HasRoom t
+room_alike t s one has =
+    let long : length (map unmarked_row t.rows) ≡ length (map unmarked_row s.rows) = ap (λ (y : SegmentValue). length y.rows) one in
+    let rows : length t.rows ≡ length s.rows = sym (length-map t.rows unmarked_row) ∙ long ∙ length-map s.rows unmarked_row in
+    let room : t.room ≡ s.room = ap (λ (y : SegmentValue). y.room) one in
+    elim has [
+      | inl few ↦ inl (omega (arith, rows, room, few))
+      | inr h ↦ inr (record { few = omega (arith, living_alike t s one, room, h.few); left = omega (arith, rows, h.left) })
+    ]
+
 module _ (a b : AreaValue) (same : unmarked b ≡ unmarked a) where
   both : (k : ℕ) → option_map unmarked_segment (segment_at b.segments k) ≡ option_map unmarked_segment (segment_at a.segments k)
   both k =
@@ -133,6 +145,17 @@ module _ (a b : AreaValue) (same : unmarked b ≡ unmarked a) where
           let one : unmarked_segment x ≡ unmarked_segment s = some_one e in
           let long : length (map unmarked_row x.rows) ≡ length (map unmarked_row s.rows) = ap (λ (y : SegmentValue). length y.rows) one in
           omega (arith, long, length-map x.rows unmarked_row, length-map s.rows unmarked_row, begun k s at)
+
+  pub can_place_alike : (k : ℕ) → CanPlace a.segments k → CanPlace b.segments k
+  can_place_alike k can = by_segment (segment_at b.segments k) refl
+    where
+      by_segment : (o : Option SegmentValue) → segment_at b.segments k ≡ o → CanPlace b.segments k
+      by_segment None at =
+          let off : None ≡ Some (unmarked_segment can.segment) = sym (ap (option_map unmarked_segment) at) ∙ both k ∙ ap (option_map unmarked_segment) can.there in
+          absurd (cc)
+      by_segment (Some t) at =
+          let one : unmarked_segment t ≡ unmarked_segment can.segment = some_one (sym (ap (option_map unmarked_segment) at) ∙ both k ∙ ap (option_map unmarked_segment) can.there) in
+          record { segment = t; there = at; left = room_alike t can.segment one can.left }
 
   pub alike : (bound : ℕ) → AreAlike bound a b
   alike bound = record {

@@ -1,6 +1,7 @@
 pub mod Found
 pub mod Grayed
 pub mod Areas
+pub mod Living
 pub mod Lists
 pub mod Seen
 pub mod Marks

@@ -1,6 +1,6 @@
 -- What holdings show after each change of their tables.
-use Rattle.std.proofs.Common.{◌≡◌, ℕ, ◌+◌, ◌<◌, true, false, refl, sym, ap, ap₂, subst, ◌∙◌, List, [], length, map, get_or, set, slice_set, Option, Some, None, option_map, arith}
-use Rattle.std.proofs.lemmas.Bool.{false≢true}
+use Rattle.std.proofs.Common.{◌≡◌, inl, inr, ℕ, ◌+◌, ◌<◌, true, false, refl, sym, ap, ap₂, subst, ◌∙◌, List, [], length, map, get_or, set, slice_set, Option, Some, None, option_map, arith}
+use Rattle.std.proofs.lemmas.Bool.{cases_lt, false≢true}
 use Rattle.std.proofs.lemmas.List.{length-set}
 use Rattle.k_types.specs.declared.names.Name.{Name}
 use Rattle.k_types.specs.declared.names.Link.{Link}
@@ -16,7 +16,7 @@ use Rattle.k_types.specs.Types.{object_size}
 use Rattle.k_types.specs.Updates.{object_after_write, with_object}
 use Rattle.k_changes.specs.CellChanges.{given}
 use Rattle.k_space.specs.Objects.{BodyValue}
-use Rattle.k_space.specs.Segments.{Row, SegmentValue, made, placed, with_row}
+use Rattle.k_space.specs.Segments.{Row, SegmentValue, living, made, placed, with_row}
 use Rattle.k_space.specs.Areas.{AreaValue, place_of, row_of_name, segment_at, with_row_in}
 use Rattle.k_space.proofs.AreaRows.{found, number_found, changed_is}
 use Rattle.k_exit.specs.Exits.{ExitList, ExitRow, with_target}
@@ -27,11 +27,12 @@ use Rattle.k_areas.proofs.Changed.{written_area}
 use Rattle.k_areas.proofs.Joined.{placed_area}
 use Rattle.k_areas.proofs.Named.{made_listed}
 use Rattle.k_cell.specs.Changes.{next_in, with_body, with_exit_item, with_field}
-use Rattle.k_cell.specs.Holdings.{HoldingsValue, AreBegun, AreHoldings, AreMarksKept, HasSerialLeft, cell_seen, holdings_seen, serial_rooms_of}
+use Rattle.k_cell.specs.Holdings.{HoldingsValue, AreBegun, AreHoldings, AreMarksKept, HasObjectRoom, cell_seen, holdings_seen, living_in, serial_rooms_of}
 use Rattle.k_cell.specs.Looks.{field_among, field_count_among, row_fields}
 use Rattle.k_cell.specs.Placed.{CanPlace, IsIntAt, IsPlacedIn, IsRefAt, IsWrittenIn}
-use Rattle.k_cell.proofs.Areas.{next_serial, placed_begun, placed_made, rooms_listed, set_begun, set_made_same, set_numbered, set_rooms}
+use Rattle.k_cell.proofs.Areas.{given_there, next_serial, placed_begun, placed_made, rooms_listed, set_begun, set_made_same, set_numbered, set_rooms}
 use Rattle.k_cell.proofs.Found.{fields_found}
+use Rattle.k_cell.proofs.Living.{living_there}
 use Rattle.k_cell.proofs.Lists.{added_room, added_targets, int_field, ref_field, total_placed, total_written}
 
 abbrev pub cell_of_lists : CellPhase → List Object → List (Option ℕ) → List Name → List Name → List Name → List Name → CellValue
@@ -103,8 +104,16 @@ module _ (bound : ℕ) (a new : AreaValue) (items : List ExitRow) (number : ℕ)
     marks = subst (λ q. AreMarksKept q new items) (sym idle) tt;
   }
 
--- the segment can give one more serial
-pub can_place : (bound number : ℕ) (phase : CellPhase) (a : AreaValue) (exits : ExitList) (note : NoteValue) → HasNoneFrom a.segments bound → HasSerialLeft (holdings_seen bound phase a exits note) number → CanPlace a.segments number
+-- the objects of a segment among those of the area
+living_listed : (segments : List SegmentValue) (bound number : ℕ) (s : SegmentValue) → HasNoneFrom segments bound → segment_at segments number ≡ Some s → living_in number (area_objects bound segments) ≡ living s
+living_listed segments bound number s none at =
+    elim (cases_lt number bound) [
+      | inl below ↦ living_there number segments s at bound below
+      | inr past ↦ let off : None ≡ Some s = sym (none number past) ∙ at in absurd (cc)
+    ]
+
+-- the segment has room for one more object
+pub can_place : (bound number : ℕ) (phase : CellPhase) (a : AreaValue) (exits : ExitList) (note : NoteValue) → HasNoneFrom a.segments bound → HasObjectRoom (holdings_seen bound phase a exits note) number → CanPlace a.segments number
 can_place bound number phase a exits note none left = by_segment (segment_at a.segments number) refl
   where
     made_there : option_map made (segment_at a.segments number) ≡ Some left.given
@@ -120,7 +129,29 @@ can_place bound number phase a exits note none left = by_segment (segment_at a.s
         let r : Some s.room ≡ Some left.room = ap (option_map (λ (t : SegmentValue). t.room)) (sym at) ∙ room_at in
         let m' : made s ≡ left.given = cc in
         let r' : s.room ≡ left.room = cc in
-        record { segment = s; there = at; left = omega (arith, m', r', left.left) }
+        let lives = living_listed a.segments bound number s none at in
+        record {
+          segment = s;
+          there = at;
+          left =
+              elim left.left [
+                | inl few ↦ inl (omega (arith, m', r', few))
+                | inr both ↦ inr (record { few = omega (arith, lives, r', both.0); left = omega (arith, m', both.1) })
+              ];
+        }
+
+pub left_there : (bound number : ℕ) (phase : CellPhase) (a : AreaValue) (exits : ExitList) (note : NoteValue) → HasNoneFrom a.segments bound → CanPlace a.segments number → HasObjectRoom (holdings_seen bound phase a exits note) number
+left_there bound number phase a exits note none can = record {
+  given = made can.segment;
+  room = can.segment.room;
+  there = given_there a.segments bound number can.segment none can.there;
+  can_give = rooms_listed a.segments bound number none ∙ ap (option_map (λ (s : SegmentValue). s.room)) can.there;
+  left =
+      elim can.left [
+        | inl few ↦ inl few
+        | inr has ↦ inr (omega (arith, living_listed a.segments bound number can.segment none can.there, has.few), has.left)
+      ];
+}
 
 -- a field written
 module _ (bound : ℕ) (a new : AreaValue) (n : Name) (i : ℕ) (content : Content) (numbered : AreNumberedBelow bound a.segments) (w : IsWrittenIn a new n i content) where

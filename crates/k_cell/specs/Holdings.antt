@@ -1,11 +1,12 @@
 -- What is seen of the holdings of a cell, and how the tables show it.
-use Rattle.std.specs.Prelude.{◌≡◌, ◌<◌, ◌==◌, if◌then◌else◌, slice_set, ℕ, List, [], map, length, slice_index_or, Option, Some, None, option_map, IsFalse}
+use Rattle.std.specs.Prelude.{◌≡◌, ◌⊎◌, ◌+◌, ◌^◌, ◌<◌, ◌==◌, count_by, if◌then◌else◌, slice_set, ℕ, List, [], map, length, slice_index_or, Option, Some, None, option_map, IsFalse}
 use Rattle.k_types.specs.declared.names.Name.{Name}
 use Rattle.k_types.specs.declared.names.CellPhase.{CellPhase}
 use Rattle.k_types.specs.declared.names.CellPhase.TheVariants.{Idle, Begun, Marked}
 use Rattle.k_types.specs.Agree.{CellValue}
 use Rattle.k_types.specs.Numbers.{numbers_below}
 use Rattle.k_types.specs.Owners.{object_bytes}
+use Rattle.k_types.specs.State.{Object}
 use Rattle.k_types.specs.Totals.{total}
 use Rattle.k_space.specs.Segments.{SegmentValue, made, segment_objects}
 use Rattle.k_space.specs.Areas.{AreaValue, segment_at, gray_at, black_at}
@@ -18,7 +19,7 @@ use Rattle.k_areas.specs.Shown.{area_objects, AreNumberedBelow}
 use Rattle.k_areas.specs.Lists.{made_list, gray_names, black_names, marked_targets}
 
 -- what a cell shows of its heap, its note, and the rooms: how many numbers for segments there are, how many segments the cell
--- can have, how many serials each of them can give, and how many exit items there can be
+-- can have, how many objects can live in each of them at once, and how many exit items there can be
 pub record HoldingsValue : Type 0 where
   pub value : CellValue
   pub note : NoteValue
@@ -27,7 +28,7 @@ pub record HoldingsValue : Type 0 where
   pub serial_rooms : List (Option ℕ)
   pub exit_room : ℕ
 
--- for each number below the bound, how many serials its segment can give
+-- for each number below the bound, how many objects can live in its segment at once
 abbrev pub serial_rooms_of : ℕ → List SegmentValue → List (Option ℕ)
 serial_rooms_of bound segments = map (λ number. option_map (λ s. s.room) (segment_at segments number)) (numbers_below bound)
 
@@ -93,13 +94,18 @@ pub record AreHoldings (bound bytes : ℕ) (phase : CellPhase) (a : AreaValue) (
   pub weighed : bytes ≡ total object_bytes (area_objects bound a.segments)
   pub marks : AreMarksKept phase a items
 
--- the segment is there, and can give one more serial
-pub record HasSerialLeft (holdings : HoldingsValue) (seg : ℕ) : Type 0 where
+-- how many of the objects are of that segment
+abbrev pub living_in : ℕ → List Object → ℕ
+living_in seg objects = count_by (λ o. o.name.seg.0 == seg) objects
+
+-- the segment is there and has room for one more object: fewer of its objects live than can at once, and a serial is left, both
+-- of which hold where fewer serials were ever given
+pub record HasObjectRoom (holdings : HoldingsValue) (seg : ℕ) : Type 0 where
   pub given : ℕ
   pub room : ℕ
   pub there : slice_index_or holdings.value.made seg None ≡ Some given
   pub can_give : slice_index_or holdings.serial_rooms seg None ≡ Some room
-  pub left : given < room
+  pub left : (given < room) ⊎ ((living_in seg holdings.value.objects < room) × (given + 2 < 2 ^ 32))
 
 -- a cell whose only segment has that number and no object yet
 abbrev pub fresh_cell : ℕ → ℕ → CellValue

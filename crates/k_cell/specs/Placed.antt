@@ -1,17 +1,17 @@
 -- What changes of one segment make of an area.
-use Rattle.std.specs.Prelude.{◌≡◌, ℕ, ◌<◌, List, length, slice_set, Some}
+use Rattle.std.specs.Prelude.{◌≡◌, ◌⊎◌, ℕ, ◌<◌, List, length, slice_set, Some}
 use Rattle.k_types.specs.declared.names.Name.{Name}
 use Rattle.k_types.specs.declared.names.Link.{Link}
 use Rattle.k_types.specs.State.{Content}
 use Rattle.k_space.specs.Objects.{BodyValue, HasInt, HasRef}
-use Rattle.k_space.specs.Segments.{Row, SegmentValue, made, placed}
+use Rattle.k_space.specs.Segments.{HasRoom, Row, SegmentValue, made, placed}
 use Rattle.k_space.specs.Areas.{AreaValue, row_of_name, segment_at, with_row_of, with_segment}
 
--- the segment of that number is there and can give one more serial
+-- the segment of that number is there and has room for one more object, which it has where fewer serials were given
 pub record CanPlace (segments : List SegmentValue) (number : ℕ) : Type 0 where
   pub segment : SegmentValue
   pub there : segment_at segments number ≡ Some segment
-  pub left : made segment < segment.room
+  pub left : (made segment < segment.room) ⊎ HasRoom segment
 
 -- the segment has the object under its next serial, and all else is as it was
 pub record IsPlacedIn (old new : AreaValue) (number : ℕ) (body : BodyValue) (link : Link) : Type 0 where

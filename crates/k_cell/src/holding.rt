@@ -1,5 +1,5 @@
 //! The holdings of a cell.
-ghost use Rattle.std.specs.Prelude.{◌≡◌, ◌+◌, ◌<◌, ◌≤◌, ◌^◌, ◌==◌, ◌⊎◌, not, [], IfOk, IfSome, IfNone, IsFalse, IsTrue, Some, None, length, map, nat_lt, option_map, slice_get, slice_index_or, if◌then◌else◌};
+ghost use Rattle.std.specs.Prelude.{◌≡◌, ◌↔◌, ◌+◌, ◌<◌, ◌≤◌, ◌^◌, ◌==◌, ◌⊎◌, not, [], IfOk, IfSome, IfNone, IsFalse, IsTrue, Some, None, length, map, nat_lt, option_map, slice_get, slice_index_or, if◌then◌else◌};
 ghost use Rattle.std.specs.List.{list_any};
 ghost use Rattle.std.specs.Borrow.{sem};
 ghost use Rattle.k_types.specs.Agree.{CellValue};
@@ -20,7 +20,7 @@ ghost use Rattle.k_agree.specs.Ending.{freed_bytes, freed_objects};
 ghost use Rattle.k_cell.specs.Looks.{field_among, field_count_among, type_among};
 ghost use Rattle.k_cell.specs.Changes.{HasDroppedExit, HasGrayed, HasItsExits, HasMarked, HasRoot, next_in, with_black_alone, with_body, with_exit_item, with_field, freed_at};
 ghost use Rattle.k_mark.specs.Listening.{AreTold};
-ghost use Rattle.k_cell.specs.Holdings.{HasGivenSegment, HasSerialLeft, fresh_holdings, with_segment_added};
+ghost use Rattle.k_cell.specs.Holdings.{HasGivenSegment, HasObjectRoom, fresh_holdings, with_segment_added};
 
 use crate::carrying::{Carried, still_whole};
 use crate::rooms::HoldingRooms;
@@ -192,6 +192,13 @@ impl Holdings {
         self.exits.leads_into(seg)
     }
 
+    /// Whether the segment of that number is there and has room for one more object. Constant time.
+    pub fn has_object_room(&self, seg: Seg) -> bool
+        ensures { IsTrue result ↔ HasObjectRoom self.now seg.0 }
+    {
+        self.area.has_room_in(seg)
+    }
+
     /// Lends the note, which never leaves its place.
     pub fn note_mut(&mut self) -> &mut Note
         ensures* writes_back { sem 𝓛 (lends_note self.entry result) }
@@ -203,7 +210,7 @@ impl Holdings {
     /// Puts an object into the segment of that number, and gives its name. No collection is open. Constant time, and no memory.
     pub fn place(&mut self, seg: Seg, body: Body) -> Link
         requires idle { self.old.value.collection ≡ Idle }
-        requires left { HasSerialLeft self.old seg.0 }
+        requires left { HasObjectRoom self.old seg.0 }
         requires bytes { total object_bytes self.old.value.objects + 144 < 2 ^ 64 }
         ensures name { name_of result ≡ next_in seg.0 self.old.value }
         ensures placed { self.new ≡ record self.old { value = with_body seg.0 body self.old.value } }

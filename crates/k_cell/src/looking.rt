@@ -1,12 +1,13 @@
-//! Look-ups of one object in an area, by its name.
-ghost use Rattle.std.specs.Prelude.{◌≡◌, is_some, length, option_map, slice_index_or};
+//! Look-ups of one object in an area, by its name, and of room for one more.
+ghost use Rattle.std.specs.Prelude.{◌≡◌, ◌↔◌, IsTrue, is_some, length, option_map, slice_index_or};
 ghost use Rattle.k_types.specs.State.{Holds};
 ghost use Rattle.k_space.specs.Areas.{HasDistinct, row_of_name};
 ghost use Rattle.k_space.specs.Objects.{content_of};
 ghost use Rattle.k_cell.specs.Looks.{row_fields, row_type};
+ghost use Rattle.k_cell.specs.Placed.{CanPlace};
 
 use k_space::{Area, Stored};
-use k_types::{Name, TypeId};
+use k_types::{Name, Seg, TypeId};
 
 /// Whether the object is there.
 pub(crate) fn lives_at(area: &Area, at: Name) -> bool
@@ -58,4 +59,19 @@ pub(crate) fn type_at(area: &Area, at: Name) -> Option<TypeId>
     let segment = area.get(at.seg)?;
     let slot = segment.find(at.serial)?;
     segment.type_of(slot)
+}
+
+/// Whether the segment of that number is there and has room for one more object.
+pub(crate) fn has_room_in(area: &Area, seg: Seg) -> bool
+    requires { HasDistinct area.now.segments }
+    ensures { IsTrue result ↔ CanPlace area.now.segments seg.0 }
+{
+    match area.get(seg) {
+        Some(segment) => {
+            // Read so that the proof knows what holds of every segment.
+            let _given = segment.made();
+            segment.has_room()
+        }
+        None => false,
+    }
 }

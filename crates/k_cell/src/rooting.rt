@@ -16,7 +16,7 @@ ghost use Rattle.k_cell.specs.Placed.{CanPlace, IsIntAt, IsPlacedIn, IsRefAt, Is
 ghost use Rattle.k_cell.specs.Rooted.{AreGrayBut, grayed_all};
 
 use crate::carrying::{is_reached_still, known_bound, known_first, marked_below};
-use crate::looking::{count_at, field_at, lives_at, type_at};
+use crate::looking::{count_at, field_at, has_room_in, lives_at, type_at};
 use crate::writing::{place_in, write_int_in, write_ref_in};
 use k_exit::ExitTable;
 use k_io::NoMemory;
@@ -224,6 +224,14 @@ impl RootedArea {
         ensures { result ≡ row_type (row_of_name self.now.segments at) }
     {
         type_at(&self.area, at)
+    }
+
+    /// Whether the segment of that number is there and has room for one more object.
+    pub(crate) fn has_room_in(&self, seg: Seg) -> bool
+        requires { HasDistinct self.now.segments }
+        ensures { IsTrue result ↔ CanPlace self.now.segments seg.0 }
+    {
+        has_room_in(&self.area, seg)
     }
 
     /// Puts an object into the segment of that number.

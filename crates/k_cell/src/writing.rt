@@ -17,7 +17,7 @@ pub(crate) fn place_in(area: &mut Area, seg: Seg, body: Body) -> Link
     let Some(segment) = area.get_mut(seg) else {
         unreachable!()
     };
-    // Read so that the proof knows where serials begin.
+    // Read so that the proof knows what holds of every segment.
     let _given = segment.made();
     segment.place(body)
 }

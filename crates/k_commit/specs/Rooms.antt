@@ -8,7 +8,7 @@ use Rattle.k_types.specs.Trace.{Trace}
 use Rattle.k_space.specs.Objects.{BodyValue, new_body}
 use Rattle.k_agree.specs.Meeting.{Fits}
 use Rattle.k_book.specs.Books.{BookRecord}
-use Rattle.k_heap.specs.Holdings.{HasSerialLeft, HoldingsValue}
+use Rattle.k_heap.specs.Holdings.{HasObjectRoom, HoldingsValue}
 use Rattle.k_heap.specs.Heaps.{HeapRecord, holdings_of as heap_holdings, own_segment}
 use Rattle.k_shared.specs.SharedHeaps.{SharedRecord}
 use Rattle.k_commit.specs.Others.{OtherValue, of_kernel, of_shared}
@@ -28,10 +28,10 @@ pub record HasBody (trace : Trace) (ty : TypeId) (bodies : List BodyValue) : Typ
   pub rest : List BodyValue
   pub first : bodies ≡ new_body trace.types ty ∷ rest
 
--- there is a body for a new object, and a serial in the segment if it is the heap's
+-- there is a body for a new object, and room in the segment if it is the heap's
 pub record HasRoomForNew (trace : Trace) (ty : TypeId) (bodies : List BodyValue) (heap : HoldingsValue) (seg : ℕ) : Type 0 where
   pub body : HasBody trace ty bodies
-  pub serial : (given : ℕ) → slice_index_or heap.value.made seg None ≡ Some given → HasSerialLeft heap seg
+  pub serial : (given : ℕ) → slice_index_or heap.value.made seg None ≡ Some given → HasObjectRoom heap seg
 
 -- the tables have room for what the operation may add to the heap and its segment: a new object, or an exit item
 abbrev pub HasTableRoom : Trace → List BodyValue → HoldingsValue → ℕ → BookRecord → Op → Type 0

@@ -20,8 +20,8 @@ use Rattle.k_cell.specs.Holdings.{HoldingsValue}
 use Rattle.k_heap.specs.declared.heap.CellRooms.{CellRooms}
 
 -- a process's cell: what it shows of the state, its note, the bodies for the allocations to come, and the rooms: how many numbers
--- for segments there are, how many segments it can have, how many serials each can give, and how many exit items and unpublished
--- events there can be
+-- for segments there are, how many segments it can have, how many objects can live in each at once, and how many exit items and
+-- unpublished events there can be
 pub record HeapRecord : Type 0 where
   pub pid : Pid
   pub note : NoteValue

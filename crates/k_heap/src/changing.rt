@@ -13,7 +13,7 @@ ghost use Rattle.k_cell.specs.Ending.{freed_bytes, freed_objects};
 ghost use Rattle.k_cell.specs.Looks.{field_among, field_count_among};
 ghost use Rattle.k_cell.specs.Changes.{HasDroppedExit, HasGrayed, HasItsExits, HasMarked, HasRoot, next_in, with_black_alone, with_body, with_exit_item, with_field, freed_at};
 ghost use Rattle.k_cell.specs.Listening.{AreTold};
-ghost use Rattle.k_cell.specs.Holdings.{HasGivenSegment, HasSerialLeft};
+ghost use Rattle.k_cell.specs.Holdings.{HasGivenSegment, HasObjectRoom};
 ghost use Rattle.k_heap.specs.Heaps.{holdings_of, own_segment};
 
 use crate::heap::HeapCell;
@@ -25,7 +25,7 @@ impl HeapCell {
     /// Puts an object into the process's heap, and gives its name. No collection is open. Constant time, and no memory.
     pub fn place(&mut self, body: Body) -> Link
         requires idle { self.old.value.collection ≡ Idle }
-        requires left { HasSerialLeft (holdings_of self.old) (own_segment self.old.pid) }
+        requires left { HasObjectRoom (holdings_of self.old) (own_segment self.old.pid) }
         requires bytes { total object_bytes self.old.value.objects + 144 < 2 ^ 64 }
         ensures name { name_of result ≡ next_in (own_segment self.old.pid) self.old.value }
         ensures placed { self.new ≡ record self.old { value = with_body (own_segment self.old.pid) body self.old.value } }

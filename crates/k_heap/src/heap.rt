@@ -12,7 +12,7 @@ use std::alloc::Global;
 use std::collections::VecDeque;
 use std::marker::Model;
 
-/// How much a process's cell is made for: serials of its segment, exit items, and unpublished events.
+/// How much a process's cell is made for: objects of its segment that live at once, exit items, and unpublished events.
 #[derive(Clone, Copy, Debug)]
 pub struct CellRooms {
     pub objects: u32,

@@ -1,5 +1,5 @@
 //! What the cell of a process tells.
-ghost use Rattle.std.specs.Prelude.{◌≡◌, ◌<◌, ◌≤◌, ◌==◌, not, Some, length, option_map, slice_get};
+ghost use Rattle.std.specs.Prelude.{◌≡◌, ◌↔◌, IsTrue, ◌<◌, ◌≤◌, ◌==◌, not, Some, length, option_map, slice_get};
 ghost use Rattle.std.specs.List.{list_any};
 ghost use Rattle.k_types.specs.Names.{name_among, name_of};
 ghost use Rattle.k_types.specs.Owners.{object_bytes};
@@ -9,7 +9,8 @@ ghost use Rattle.k_base.specs.Distinct.{AreDistinctNames};
 ghost use Rattle.k_frame.specs.PartUpdates.{done_in, held_in};
 ghost use Rattle.k_space.specs.Objects.{content_of};
 ghost use Rattle.k_cell.specs.Looks.{field_among, field_count_among, type_among};
-ghost use Rattle.k_heap.specs.Heaps.{has_ended_in};
+ghost use Rattle.k_cell.specs.Holdings.{HasObjectRoom};
+ghost use Rattle.k_heap.specs.Heaps.{has_ended_in, holdings_of, own_segment};
 
 use crate::heap::HeapCell;
 use k_space::Stored;
@@ -109,6 +110,13 @@ impl HeapCell {
         ensures room { length self.now.value.exits ≤ self.now.exit_room }
     {
         self.holdings.exit_count()
+    }
+
+    /// Whether the process's heap has room for one more object. Constant time.
+    pub fn has_object_room(&self) -> bool
+        ensures { IsTrue result ↔ HasObjectRoom (holdings_of self.now) (own_segment self.now.pid) }
+    {
+        self.holdings.has_object_room(Seg(self.pid.0 + 1))
     }
 
     /// The target of the exit item at that place, from 0. Constant time.

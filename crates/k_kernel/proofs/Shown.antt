@@ -1,5 +1,5 @@
 -- What the kernel's cell shows at first.
-use Rattle.std.proofs.Common.{◌≡◌, ◌==◌, ℕ, zero, suc, ◌+◌, ◌<◌, ◌≤◌, cond, refl, sym, ap, ◌∙◌, List, [], ◌∷◌, map, get_or, set, Option, Some, None, ne_eqb, arith}
+use Rattle.std.proofs.Common.{◌≡◌, ◌==◌, ℕ, zero, suc, ◌+◌, ◌<◌, ◌≤◌, cond, refl, inl, sym, ap, ◌∙◌, List, [], ◌∷◌, map, get_or, set, Option, Some, None, ne_eqb, arith}
 use Rattle.k_types.specs.declared.setup.Setup.{Setup}
 use Rattle.k_types.specs.Numbers.{numbers_below}
 use Rattle.k_cell.specs.CellChanges.{given}
@@ -7,7 +7,7 @@ use Rattle.k_space.specs.Objects.{new_directory}
 use Rattle.k_tie.specs.Values.{NoteValue}
 use Rattle.k_cell.specs.declared.rooms.HoldingRooms.{HoldingRooms}
 use Rattle.k_cell.specs.Changes.{with_body}
-use Rattle.k_cell.specs.Holdings.{HasSerialLeft, fresh_cell, fresh_holdings}
+use Rattle.k_cell.specs.Holdings.{HasObjectRoom, fresh_cell, fresh_holdings}
 use Rattle.k_kernel.specs.Kernels.{opened_kernel, segments_of}
 use Rattle.k_base.proofs.Lists.{set_below}
 
@@ -25,13 +25,13 @@ some_bound setup = omega arith
 given_at_first : (setup : Setup) → get_or (fresh_cell (segments_of setup) 0).made 0 None ≡ Some 0
 given_at_first setup = first_listed (λ number. cond (number == 0) (Some 0) None) (segments_of setup) (some_bound setup)
 
-pub serial_left : (setup : Setup) (objects exits : ℕ) (note : NoteValue) → 1 ≤ objects → HasSerialLeft (fresh_holdings 0 (rooms_of setup objects exits) note) 0
+pub serial_left : (setup : Setup) (objects exits : ℕ) (note : NoteValue) → 1 ≤ objects → HasObjectRoom (fresh_holdings 0 (rooms_of setup objects exits) note) 0
 serial_left setup objects exits note some = record {
   given = 0;
   room = objects;
   there = given_at_first setup;
   can_give = first_listed (λ number. cond (number == 0) (Some objects) None) (segments_of setup) (some_bound setup);
-  left = omega (arith, some);
+  left = inl (omega (arith, some));
 }
 
 -- the directory is placed

@@ -14,7 +14,7 @@ ghost use Rattle.k_cell.specs.Ending.{freed_bytes, freed_objects};
 ghost use Rattle.k_cell.specs.Looks.{field_among, field_count_among};
 ghost use Rattle.k_cell.specs.Changes.{HasDroppedExit, HasGrayed, HasItsExits, HasMarked, HasRoot, next_in, with_black_alone, with_body, with_exit_item, with_field, freed_at};
 ghost use Rattle.k_cell.specs.Listening.{AreTold};
-ghost use Rattle.k_cell.specs.Holdings.{HasSerialLeft, with_segment_added};
+ghost use Rattle.k_cell.specs.Holdings.{HasObjectRoom, with_segment_added};
 
 use crate::kernel::KernelCell;
 use k_cell::{Listener, Swept};
@@ -25,7 +25,7 @@ impl KernelCell {
     /// Puts an object into the kernel's own segment, and gives its name. No collection is open. Constant time, and no memory.
     pub fn place(&mut self, body: Body) -> Link
         requires idle { self.old.value.collection ≡ Idle }
-        requires left { HasSerialLeft self.old 0 }
+        requires left { HasObjectRoom self.old 0 }
         requires bytes { total object_bytes self.old.value.objects + 144 < 2 ^ 64 }
         ensures name { name_of result ≡ next_in 0 self.old.value }
         ensures placed { self.new ≡ record self.old { value = with_body 0 body self.old.value } }

@@ -37,8 +37,8 @@ impl Model for KernelCell {
 impl KernelCell {
     ghost use Rattle.k_kernel.specs.Lends.{lends_note};
 
-    /// The kernel's cell before the first event, which has the directory alone. The directory takes the first of the `objects`
-    /// serials. It takes the memory for all rooms at once; `NoMemory` comes where there is none.
+    /// The kernel's cell before the first event, which has the directory alone. The directory is one of the `objects` that
+    /// can live in the segment at once. It takes the memory for all rooms at once; `NoMemory` comes where there is none.
     pub fn make(
         alloc: Global,
         setup: &Setup,

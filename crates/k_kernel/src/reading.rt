@@ -1,5 +1,5 @@
 //! What the kernel's cell tells.
-ghost use Rattle.std.specs.Prelude.{◌≡◌, ◌<◌, ◌≤◌, ◌==◌, Some, length, slice_get};
+ghost use Rattle.std.specs.Prelude.{◌≡◌, ◌↔◌, IsTrue, ◌<◌, ◌≤◌, ◌==◌, Some, length, slice_get};
 ghost use Rattle.std.specs.List.{list_any};
 ghost use Rattle.k_types.specs.Names.{directory, name_among, name_of};
 ghost use Rattle.k_types.specs.Owners.{object_bytes};
@@ -7,6 +7,7 @@ ghost use Rattle.k_types.specs.State.{has};
 ghost use Rattle.k_types.specs.Totals.{total};
 ghost use Rattle.k_base.specs.Distinct.{AreDistinctNames};
 ghost use Rattle.k_space.specs.Objects.{content_of};
+ghost use Rattle.k_cell.specs.Holdings.{HasObjectRoom};
 ghost use Rattle.k_cell.specs.Looks.{field_among, field_count_among, type_among};
 
 use crate::kernel::KernelCell;
@@ -81,6 +82,13 @@ impl KernelCell {
         ensures room { length self.now.value.exits ≤ self.now.exit_room }
     {
         self.holdings.exit_count()
+    }
+
+    /// Whether the kernel's own segment has room for one more object. Constant time.
+    pub fn has_object_room(&self) -> bool
+        ensures { IsTrue result ↔ HasObjectRoom self.now 0 }
+    {
+        self.holdings.has_object_room(Seg(0))
     }
 
     /// The target of the exit item at that place, from 0. Constant time.

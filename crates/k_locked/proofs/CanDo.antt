@@ -1,5 +1,5 @@
 -- A cell and the book that keep what the locks ask can take the process's next operation.
-use Rattle.std.proofs.Common.{◌≡◌, ℕ, zero, suc, ◌<◌, ◌≤◌, cond, true, false, refl, sym, ap, ◌∙◌, subst, List, [], ◌∷◌, ◌++◌, append-nil, length, drop, get_or, arith, Option, Some, None, IsTrue, IsFalse}
+use Rattle.std.proofs.Common.{◌≡◌, ℕ, zero, suc, ◌<◌, ◌≤◌, cond, true, false, inl, refl, sym, ap, ◌∙◌, subst, List, [], ◌∷◌, ◌++◌, append-nil, length, drop, get_or, arith, Option, Some, None, IsTrue, IsFalse}
 use Rattle.std.specs.List.{list_all}
 use Rattle.std.proofs.lemmas.Bool.{and_parts}
 use Rattle.std.proofs.lemmas.List.{length-append}
@@ -39,7 +39,7 @@ use Rattle.k_entry.proofs.WholeWalks.{all_distinct, few_items}
 use Rattle.k_space.specs.Objects.{BodyValue}
 use Rattle.k_bodies.specs.Bodies.{bodies_of}
 use Rattle.k_commit.specs.Books.{BookRecord, book_entries}
-use Rattle.k_commit.specs.Holdings.{HasSerialLeft, HoldingsValue}
+use Rattle.k_commit.specs.Holdings.{HasObjectRoom, HoldingsValue}
 use Rattle.k_commit.specs.Heaps.{HeapRecord, has_ended_in, holdings_of as heap_holdings, own_segment}
 use Rattle.k_commit.specs.SharedHeaps.{SharedRecord}
 use Rattle.k_commit.specs.Others.{of_shared}
@@ -96,18 +96,18 @@ entries_left trace table b k items left =
 
 -- a segment that its cell has, and in which the next operation allocates, can give one more serial
 serial_left : (trace : Trace) (st : State) (c : Cell) (v : CellValue) (h : HoldingsValue) (seg : ℕ) → h.value.made ≡ v.made → owner_of trace st seg ≡ c → Shows trace st c v → CanGive trace h.serial_rooms seg →
-    get_or st.made seg 0 < serial_room trace seg → HasSerialLeft h seg
+    get_or st.made seg 0 < serial_room trace seg → HasObjectRoom h seg
 serial_left trace st c v h seg same owned shows can left = record {
   given = get_or st.made seg 0;
   room = can.room;
   there = ap (λ (made : List (Option ℕ)). get_or made seg None) same ∙ serial_shown trace st c v seg owned shows;
   can_give = can.there;
-  left = let e = can.enough in omega (arith, left, e);
+  left = let e = can.enough in inl (omega (arith, left, e));
 }
 
 -- room in the tables of a heap for the operation that comes next: each allocation finds its body, and a segment with a serial left
 module _ (trace : Trace) (bodies : List BodyValue) (h : HoldingsValue) (seg : ℕ) (b : BookRecord) where
-  pub table_room : (op : Op) (rest : List Op) → bodies ≡ bodies_of trace.types (op ∷ rest) → (IsTrue (is_allocation op) → (given : ℕ) → get_or h.value.made seg None ≡ Some given → HasSerialLeft h seg) → (IsTrue (is_store op) → HasExitRoom h b) →
+  pub table_room : (op : Op) (rest : List Op) → bodies ≡ bodies_of trace.types (op ∷ rest) → (IsTrue (is_allocation op) → (given : ℕ) → get_or h.value.made seg None ≡ Some given → HasObjectRoom h seg) → (IsTrue (is_store op) → HasExitRoom h b) →
       HasTableRoom trace bodies h seg b op
   table_room (New r ty) rest is serial exits = record { body = record { rest = bodies_of trace.types rest; first = is }; serial = serial refl }
   table_room (KNew r ty) rest is serial exits = record { body = record { rest = bodies_of trace.types rest; first = is }; serial = serial refl }
@@ -179,7 +179,7 @@ module _ (trace : Trace) (table : TableId) (c : HeapRecord) (h : HeapKeeps trace
         pub bodies_now : c.bodies ≡ bodies_of trace.types (op ∷ rest)
         bodies_now = h.bodies ∙ ap (bodies_of trace.types) left
 
-        own_serial : IsTrue (allocates_in trace (own_segment c.pid) c.pid.0 op) → HasSerialLeft (heap_holdings c) (own_segment c.pid)
+        own_serial : IsTrue (allocates_in trace (own_segment c.pid) c.pid.0 op) → HasObjectRoom (heap_holdings c) (own_segment c.pid)
         own_serial allocates =
             serial_left trace now (User c.pid) c.value (heap_holdings c) (own_segment c.pid) refl (owner_user trace now c.pid.0 h.agrees.there living) shows_now
             (h.rooms.serials lives) (leaves_room.serials (own_segment c.pid) allocates)

@@ -26,7 +26,7 @@ use Rattle.k_locked.specs.Rooms.{shared_exit_room}
 abbrev pub operations_left : Trace → HeapRecord → List Op
 operations_left trace c = drop (done_in c.value.process) (operations_of trace c.pid.0)
 
--- by these rooms the segment is there, and can give a serial for each allocation of the trace
+-- by these rooms the segment is there, and has room for an object of each allocation of the trace
 pub record CanGive (trace : Trace) (rooms : List (Option ℕ)) (seg : ℕ) : Type 0 where
   pub room : ℕ
   pub there : slice_index_or rooms seg None ≡ Some room

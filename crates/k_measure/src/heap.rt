@@ -71,6 +71,8 @@ pub fn place(segment: &mut Segment, bodies: Vec<Body>)
     ensures number { segment.new.number ≡ segment.old.number }
 {
     for body in bodies {
+        // Read so that the proof knows that no more live than serials were given.
+        let _given = segment.made();
         segment.place(body);
     }
 }

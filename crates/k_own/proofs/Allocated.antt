@@ -27,7 +27,7 @@ use Rattle.k_frame.proofs.OwnerOf.{owner_user}
 use Rattle.k_space.specs.Objects.{BodyValue, new_body}
 use Rattle.k_book.specs.Books.{BookRecord}
 use Rattle.k_cell.specs.Changes.{next_in, with_body}
-use Rattle.k_cell.specs.Holdings.{HasSerialLeft}
+use Rattle.k_cell.specs.Holdings.{HasObjectRoom}
 use Rattle.k_changes.specs.BookChanges.{owner_in, with_charge, with_pin_moved}
 use Rattle.k_changes.specs.CellChanges.{next_name_in, with_created}
 use Rattle.k_frame.specs.PartUpdates.{held_in, with_done, with_register}
@@ -68,7 +68,7 @@ module _ (before : Before) (c : HeapRecord) (b : BookRecord) (r : Reg) (ty : Typ
       (ap (λ (h : Heap). heap_eq h (User before.cell.pid)) (owner_user before.trace (state_after before.trace before.book.journal.list) before.cell.pid.0 (process_known before due.have_met) (process_lives before due.have_met))
       ∙ heap_eq_refl (User before.cell.pid))
 
-  serial_left : HasSerialLeft (holdings_of before.cell) (own_segment before.cell.pid)
+  serial_left : HasObjectRoom (holdings_of before.cell) (own_segment before.cell.pid)
   serial_left = due.tables.serial (get_or (state_after before.trace before.book.journal.list).made (own_segment before.cell.pid) 0) segment_made
 
   pub bytes_fit : total object_bytes c.value.objects + 144 < 2 ^ 64
@@ -109,9 +109,9 @@ module _ (before : Before) (c : HeapRecord) (b : BookRecord) (r : Reg) (ty : Typ
     settled = ap (λ (w : HeapRecord). w.value.tail) due.cell_is ∙ due.have_met.heap.settled
 
     -- the cell without the body has a serial left
-    pub serial_left_now : HasSerialLeft (holdings_of (record c { bodies = left })) (own_segment c.pid)
+    pub serial_left_now : HasObjectRoom (holdings_of (record c { bodies = left })) (own_segment c.pid)
     serial_left_now =
-        subst (λ (w : HeapRecord). HasSerialLeft (holdings_of (record w { bodies = left })) (own_segment w.pid)) (sym due.cell_is)
+        subst (λ (w : HeapRecord). HasObjectRoom (holdings_of (record w { bodies = left })) (own_segment w.pid)) (sym due.cell_is)
         (record { given = serial_left.given; room = serial_left.room; there = serial_left.there; can_give = serial_left.can_give; left = serial_left.left })
 
     pub idle : c.value.collection ≡ Idle

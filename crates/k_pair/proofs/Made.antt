@@ -35,7 +35,7 @@ use Rattle.k_moves.proofs.Beside.{held_own, own_changed, refused_beside, second_
 use Rattle.k_moves.proofs.Changed.{new_shown}
 use Rattle.k_book.specs.Books.{BookRecord}
 use Rattle.k_cell.specs.Changes.{next_in, with_body}
-use Rattle.k_cell.specs.Holdings.{HasSerialLeft, HoldingsValue}
+use Rattle.k_cell.specs.Holdings.{HasObjectRoom, HoldingsValue}
 use Rattle.k_heap.specs.Heaps.{HeapRecord, with_register_in}
 use Rattle.k_commit.specs.Changed.{CanSetRegister, HasChangedWith, HasSetRegister}
 use Rattle.k_commit.specs.Met.{BeforeWith}
@@ -88,7 +88,7 @@ module _ (before : BeforeWith) (c : HeapRecord) (k : HoldingsValue) (b : BookRec
   unfolding part owner_of_segment
   given_here = ap (λ (s : ShownPart). s.made 0) met.have_met.after.shows.part
 
-  pub serial_left : HasSerialLeft k 0
+  pub serial_left : HasObjectRoom k 0
   serial_left = met.room.tables.serial (get_or (state_after trace b.journal.list).made 0 0) given_here
 
   module _ (body : BodyValue) (rest : List BodyValue) (split : c.bodies ≡ body ∷ rest) where

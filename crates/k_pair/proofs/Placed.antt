@@ -31,7 +31,7 @@ use Rattle.k_moves.specs.Shown.{idle_part}
 use Rattle.k_moves.proofs.Changed.{new_shown}
 use Rattle.k_book.specs.Books.{BookRecord}
 use Rattle.k_cell.specs.Changes.{next_in, with_body}
-use Rattle.k_cell.specs.Holdings.{HasSerialLeft}
+use Rattle.k_cell.specs.Holdings.{HasObjectRoom}
 use Rattle.k_heap.specs.Heaps.{HeapRecord, with_register_in}
 use Rattle.k_shared.specs.SharedHeaps.{SharedRecord, holdings_of}
 use Rattle.k_commit.specs.Changed.{CanSetRegister, HasChangedWith, HasSetRegister}
@@ -96,7 +96,7 @@ module _ (before : BeforeWith) (c : HeapRecord) (s : SharedRecord) (b : BookReco
           populated_segment trace c s b met.have_met c.pid.0
           (subst (λ (t : SharedId). IsTrue (is_populating (phase_of b.value.phases t.0) c.pid.0)) same_heap populates)
 
-      pub serial_left : HasSerialLeft (holdings_of s) s.seg.0
+      pub serial_left : HasObjectRoom (holdings_of s) s.seg.0
       serial_left =
           let left = met.room.tables.serial serials segment_there in
           record { given = left.given; room = left.room; there = left.there; can_give = left.can_give; left = left.left }

@@ -13,8 +13,8 @@ use Rattle.k_cell.specs.Opening.{opening_cell}
 use Rattle.k_cell.specs.Holdings.{HoldingsValue}
 
 -- a shared heap's cell: the heap, the segment with which it begins, its note, what it shows of the state, and the rooms: how many
--- numbers for segments there are, how many segments it can have, how many serials each can give, and how many exit items there
--- can be
+-- numbers for segments there are, how many segments it can have, how many objects can live in each at once, and how many exit
+-- items there can be
 pub record SharedRecord : Type 0 where
   pub id : SharedId
   pub seg : Seg

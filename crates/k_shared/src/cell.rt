@@ -48,7 +48,7 @@ impl SharedCell {
     ghost use Rattle.k_shared.specs.Lends.{lends_note};
 
     /// The cell of a shared heap before the first event: it has no object, and the heap is unmade. It takes the memory for so
-    /// many objects, freed ones too, and exit items at once; `NoMemory` comes where there is none.
+    /// many objects that live at once, and so many exit items; `NoMemory` comes where there is none.
     pub fn make(
         alloc: Global,
         setup: &Setup,

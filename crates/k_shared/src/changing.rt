@@ -8,7 +8,7 @@ ghost use Rattle.k_types.specs.State.{Holds, Refers};
 ghost use Rattle.k_types.specs.Totals.{total};
 ghost use Rattle.k_cell.specs.Looks.{field_among, field_count_among};
 ghost use Rattle.k_cell.specs.Changes.{HasDroppedExit, next_in, with_body, with_exit_item, with_field};
-ghost use Rattle.k_cell.specs.Holdings.{HasGivenSegment, HasSerialLeft};
+ghost use Rattle.k_cell.specs.Holdings.{HasGivenSegment, HasObjectRoom};
 ghost use Rattle.k_shared.specs.SharedHeaps.{holdings_of, with_phase};
 
 use crate::cell::SharedCell;
@@ -25,7 +25,7 @@ impl SharedCell {
 
     /// Puts an object into the segment with which the heap begins, and gives its name. Constant time, and no memory.
     pub fn place(&mut self, body: Body) -> Link
-        requires left { HasSerialLeft (holdings_of self.old) self.old.seg.0 }
+        requires left { HasObjectRoom (holdings_of self.old) self.old.seg.0 }
         requires bytes { total object_bytes self.old.value.objects + 144 < 2 ^ 64 }
         ensures name { name_of result ≡ next_in self.old.seg.0 self.old.value }
         ensures placed { self.new ≡ record self.old { value = with_body self.old.seg.0 body self.old.value } }

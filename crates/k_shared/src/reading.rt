@@ -1,5 +1,5 @@
 //! What the cell of a shared heap tells.
-ghost use Rattle.std.specs.Prelude.{◌≡◌, ◌<◌, ◌≤◌, ◌==◌, Some, length, slice_get};
+ghost use Rattle.std.specs.Prelude.{◌≡◌, ◌↔◌, IsTrue, ◌<◌, ◌≤◌, ◌==◌, Some, length, slice_get};
 ghost use Rattle.std.specs.List.{list_any};
 ghost use Rattle.k_types.specs.Names.{name_among};
 ghost use Rattle.k_types.specs.Owners.{object_bytes};
@@ -7,7 +7,9 @@ ghost use Rattle.k_types.specs.State.{has};
 ghost use Rattle.k_types.specs.Totals.{total};
 ghost use Rattle.k_base.specs.Distinct.{AreDistinctNames};
 ghost use Rattle.k_space.specs.Objects.{content_of};
+ghost use Rattle.k_cell.specs.Holdings.{HasObjectRoom};
 ghost use Rattle.k_cell.specs.Looks.{field_among, field_count_among, type_among};
+ghost use Rattle.k_shared.specs.SharedHeaps.{holdings_of};
 
 use crate::cell::SharedCell;
 use k_space::Stored;
@@ -84,6 +86,13 @@ impl SharedCell {
         ensures room { length self.now.value.exits ≤ self.now.exit_room }
     {
         self.holdings.exit_count()
+    }
+
+    /// Whether the segment with which the heap begins has room for one more object. Constant time.
+    pub fn has_object_room(&self) -> bool
+        ensures { IsTrue result ↔ HasObjectRoom (holdings_of self.now) self.now.seg.0 }
+    {
+        self.holdings.has_object_room(self.seg)
     }
 
     /// The target of the exit item at that place, from 0. Constant time.

@@ -1,9 +1,8 @@
 -- Places of which those of the lower serials are black.
 use Rattle.std.proofs.Common.{◌≡◌, ◌≢◌, ◌⊎◌, ℕ, zero, suc, ◌+◌, ◌<◌, ◌≤◌, false, refl, sym, ap, ap₂, subst, ◌∙◌, inl, inr, List, [], ◌∷◌, length, map, get_or, slice_get, set, Option, Some, None, count_by, arith}
-use Rattle.std.proofs.lemmas.Bool.{cases_eq, cases_lt, false≢true}
+use Rattle.std.proofs.lemmas.Bool.{cases_eq, false≢true}
 use Rattle.std.proofs.lemmas.List.Sums.{sum_by-cons}
 use Rattle.std.proofs.lemmas.List.{get_or-set_same, get_or-set_other, length-set}
-use Rattle.std.proofs.lemmas.Option.{slice_get_within}
 use Rattle.slab.specs.Slab.{Slab, get}
 use Rattle.k_base.proofs.Lists.{some_inside}
 use Rattle.k_types.specs.Totals.{total}
@@ -14,11 +13,12 @@ use Rattle.k_space.specs.declared.marks.Mark.{Mark}
 use Rattle.k_space.specs.declared.marks.Mark.TheVariants.{White as MarkWhite, Gray as MarkGray, Black as MarkBlack}
 use Rattle.k_space.specs.declared.segment.Cell.{Cell}
 use Rattle.k_space.specs.Segments.{Row, SegmentValue, row_at, some_gray, blackened_row, blackened_rows}
-use Rattle.k_space.specs.Areas.{HasDistinct, place_of, row_in_segment, row_of_name, segment_at}
-use Rattle.k_space.specs.Places.{row_of, row_in, row_bytes, AreBytes, IsSound, IsGrayList, IsLastGray, is_gray_place, is_white_place, black_place, black_places}
+use Rattle.k_space.specs.Areas.{HasDistinct, row_in_segment, row_of_name, segment_at}
+use Rattle.k_space.specs.Places.{row_of, row_in, row_bytes, AreBytes, IsSound, IsGrayList, IsLastGray, is_gray_place, is_taken, is_white_place, black_place, black_places}
 use Rattle.k_space.specs.Listed.{AreBlackened, AreInFront, IsListed}
 use Rattle.k_space.proofs.GrayLists.{bit}
 use Rattle.k_space.proofs.Numbers.{found_at}
+use Rattle.k_space.proofs.Taken.{same_sized}
 use Rattle.k_space.proofs.Rows.{row_at_view, same_At}
 
 -- the loop
@@ -103,8 +103,8 @@ black_places_are (suc n) (p ∷ new) [] len low high = absurd (omega arith)
 black_places_are (suc n) (p ∷ new) (q ∷ old) len low high =
     ap₂ (λ z zs. z ∷ zs) (low 0 (omega arith)) (black_places_are n new old (omega (arith, len)) (λ i below. low (suc i) (omega (arith, below))) (λ i above. high (suc i) (omega (arith, above))))
 
-pub blackened_is : (live : List ℕ) (below kept next : ℕ) (old new : List Place) → IsListed old live kept next → AreBlackened live below (length live) old new → new ≡ black_places below old
-blackened_is live below kept next old new listed was =
+pub blackened_is : (live : List ℕ) (below passed : ℕ) (old new : List Place) → IsListed old live passed → AreBlackened live below (length live) old new → new ≡ black_places below old
+blackened_is live below passed old new listed was =
     black_places_are below new old was.len
     (λ i low. elim (was.each i) [ inl same ↦ by_place i low same (get_or old i Empty) refl | inr black ↦ black.1 ])
     (λ i high. elim (was.each i) [ inl same ↦ same | inr black ↦ absurd (omega (arith, high, black.0)) ])
@@ -185,16 +185,22 @@ places_plain number room capacity places cells head s sound is none j = by_place
         let placed = sound.placed j slot (MarkGray next) e in
         absurd (false≢true (sym shown ∙ ap (λ p. some_gray (row_of cells p)) e ∙ ap (λ o. some_gray (row_in slot (MarkGray next) o)) placed.there))
 
+taken_black : (n : ℕ) (places : List Place) → count_by is_taken (black_places n places) ≡ count_by is_taken places
+taken_black zero places = refl
+taken_black (suc n) [] = refl
+taken_black (suc n) (p ∷ places) =
+    omega (arith, sum_by-cons (λ x. bit (is_taken x)) (black_place p) (black_places n places), sum_by-cons (λ x. bit (is_taken x)) p places, ap bit (one p), taken_black n places)
+  where
+    one : (p : Place) → is_taken (black_place p) ≡ is_taken p
+    one Empty = refl
+    one (At slot mark) = refl
+
 pub blackened_sound : (n : ℕ) (places : List Place) (cells : Slab Cell) (room capacity : ℕ) (head : ℕ) → IsSound places cells room capacity head → ((j : ℕ) → is_gray_place (get_or places j Empty) ≡ false) → IsSound (black_places n places) cells room capacity 0
 blackened_sound n places cells room capacity head sound plain =
     record {
       first = black_empty n places 0 sound.first;
       begun = omega (arith, length-black n places, sound.begun);
-      within = omega (arith, length-black n places, sound.within);
-      reserved = sound.reserved;
-      small = sound.small;
-      keys = sound.keys;
-      fits = omega (arith, length-black n places, sound.fits);
+      sized = same_sized places (black_places n places) cells room capacity (length-black n places) (taken_black n places) sound.sized;
       placed = λ j s mark e. let was = black_there n places j s mark e in sound.placed j s was.0 was.1;
       kept = λ s x e. let was = sound.kept s x e in let now = black_stays n places x.serial.0 s was.mark was.there in record { mark = now.0; there = now.1; few = was.few };
       grays = subst (λ (k : ℕ). IsGrayList (black_places n places) k 0) (sym (none_counted (black_places n places) (still_plain n places plain))) refl;
@@ -224,25 +230,18 @@ black_dark : (p : Place) → is_white_place (black_place p) ≡ false
 black_dark Empty = refl
 black_dark (At slot mark) = refl
 
-pub listed_blackened : (n : ℕ) (places new : List Place) (live : List ℕ) (kept next front : ℕ) → IsListed places live kept next → AreBlackened live n (length live) places new → new ≡ black_places n places → AreInFront live n front →
-    IsListed (black_places n places) live front front
-listed_blackened n places new live kept next front was black is at_front = record {
-  few = omega (arith, was.few, length-black n places);
-  within = omega arith;
+pub listed_blackened : (n : ℕ) (places new : List Place) (live : List ℕ) (passed front : ℕ) → IsListed places live passed → AreBlackened live n (length live) places new → new ≡ black_places n places → AreInFront live n front →
+    IsListed (black_places n places) live front
+listed_blackened n places new live passed front was black is at_front = record {
+  counted = was.counted ∙ sym (taken_black n places);
   reached = at_front.within;
   inside = λ k below. omega (arith, was.inside k below, length-black n places);
-  covers = λ i s mark e.
-      let there = black_there n places i s mark e in
-      let a = was.covers i s there.0 there.1 in
-      record { at = a.at; below = a.below; is = a.is; outside = sides a.at };
+  covers = λ i s mark e. let there = black_there n places i s mark e in was.covers i s there.0 there.1;
   done = λ k low.
       ap (λ (ps : List Place). is_white_place (get_or ps (get_or live k 0) Empty)) (sym is)
       ∙ ap is_white_place (black.done k (omega (arith, low, at_front.within)) (at_front.low k low))
       ∙ black_dark (get_or places (get_or live k 0) Empty);
 }
-  where
-    sides : (at : ℕ) → (at < front) ⊎ (front ≤ at)
-    sides at = cases_lt at front
 
 black_shown : (cells : Slab Cell) (p : Place) → row_of cells (black_place p) ≡ blackened_row (row_of cells p)
 black_shown cells Empty = refl

@@ -1,10 +1,10 @@
--- The bytes that a segment keeps, and the end of its slots.
-use Rattle.std.proofs.Common.{◌≡◌, ℕ, ◌+◌, ◌<◌, ◌≤◌, max, refl, sym, ap, ap₂, ◌∙◌, inl, inr, List, [], ◌∷◌, ◌++◌, length, map, get_or, set, Option, Some, None, arith}
+-- The bytes that a segment keeps.
+use Rattle.std.proofs.Common.{◌≡◌, ℕ, ◌+◌, ◌<◌, ◌≤◌, refl, sym, ap, ap₂, ◌∙◌, inl, inr, List, [], ◌∷◌, ◌++◌, length, map, get_or, set, Option, Some, None, arith}
 use Rattle.k_base.proofs.Sums.{total_set, total_push}
 use Rattle.std.proofs.Math.ListN.{get_or-map}
 use Rattle.std.proofs.lemmas.Bool.{cases_eq}
 use Rattle.std.proofs.lemmas.List.{length-set, length-append, get_or-set_other, get_or-set_same, map-set, map-append, length-map}
-use Rattle.slab.specs.Slab.{Slab, get, with_value, Updates}
+use Rattle.slab.specs.Slab.{Slab, get, with_value}
 use Rattle.k_types.specs.Totals.{total}
 use Rattle.k_types.specs.Types.{object_size}
 use Rattle.k_types.specs.Owners.{object_bytes}
@@ -14,7 +14,7 @@ use Rattle.k_space.specs.declared.marks.Mark.{Mark}
 use Rattle.k_space.specs.declared.marks.Mark.TheVariants.{White as MarkWhite}
 use Rattle.k_space.specs.declared.segment.Cell.{Cell}
 use Rattle.k_space.specs.Segments.{Row, objects_from}
-use Rattle.k_space.specs.Places.{row_of, row_in, row_bytes, AreBytes, AreBelow, white_place}
+use Rattle.k_space.specs.Places.{row_of, row_in, row_bytes, AreBytes, white_place}
 use Rattle.k_space.proofs.GrayLists.{At_inside}
 
 total-maps : {A B : Type 0} (f : B → ℕ) (g h : A → B) (xs : List A) → ((x : A) → f (g x) ≡ f (h x)) → total f (map g xs) ≡ total f (map h xs)
@@ -109,34 +109,3 @@ bytes_freed places cells after bytes i size was rows within had =
       omega (arith, was.counted, sum, lost),
       λ rest e. record { counted = omega (arith, was.counted, sum, lost, all, e); small = omega (arith, was.small, e, length-set places i Empty) },
     )
-
--- the end of the slots
-pub below_rewritten : (cells : Slab Cell) (slot : ℕ) (cell new : Cell) (end : ℕ) → AreBelow cells end → get cells slot ≡ Some cell → AreBelow (with_value cells slot new) end
-below_rewritten cells slot cell new end was found = record {
-  below = λ s x e.
-      elim (cases_eq s slot) [
-        | inl same ↦ was.below s cell (ap (get cells) same ∙ found)
-        | inr differs ↦ was.below s x (sym (get_or-set_other cells.slots slot s (Some new) None differs) ∙ e)
-      ];
-}
-
-pub below_pushed : (cells after : Slab Cell) (slot : ℕ) (cell : Cell) (end : ℕ) → AreBelow cells end → Updates cells after slot (Some cell) → AreBelow after (max end (slot + 1))
-below_pushed cells after slot cell end was updates = record {
-  below = λ s x e.
-      elim (cases_eq s slot) [
-        | inl same ↦ omega (arith, same)
-        | inr differs ↦ let had = was.below s x (sym (updates.others s differs) ∙ e) in omega (arith, had)
-      ];
-}
-
-pub below_freed : (cells after : Slab Cell) (slot : ℕ) (end : ℕ) → AreBelow cells end → Updates cells after slot None → AreBelow after end
-below_freed cells after slot end was updates = record {
-  below = λ s x e.
-      elim (cases_eq s slot) [
-        | inl same ↦ absurd (gone x (sym updates.changed ∙ ap (get after) (sym same) ∙ e))
-        | inr differs ↦ was.below s x (sym (updates.others s differs) ∙ e)
-      ];
-}
-  where
-    gone : (x : Cell) → ◌≡◌ {A = Option Cell} None (Some x) → ⊥
-    gone x e = cc

@@ -10,11 +10,13 @@ use Rattle.k_space.specs.declared.marks.Mark.{Mark}
 use Rattle.k_space.specs.declared.marks.Mark.TheVariants.{White as MarkWhite, Gray as MarkGray, Black as MarkBlack}
 use Rattle.k_space.specs.declared.segment.Cell.{Cell}
 use Rattle.k_space.specs.declared.segment.Gone.{Gone}
-use Rattle.k_space.specs.Segments.{White, Row, SegmentValue, LiesAt, row_at, with_row, is_marked}
-use Rattle.k_space.specs.Sweeping.{IsUnmarkedAt, IsFree, IsTakenAway}
+use Rattle.k_types.specs.Types.{object_size}
+use Rattle.k_space.specs.Segments.{White, Row, SegmentValue, row_at, with_row, is_marked}
+use Rattle.k_space.specs.Sweeping.{IsTakenAway}
 use Rattle.k_space.specs.Places.{row_of, row_in, color_of, IsSound, IsPlaced, IsKept, IsGrayList, is_gray_place, is_white_place}
-use Rattle.k_space.proofs.GrayLists.{At_inside, list_kept, count-set}
-use Rattle.k_space.proofs.Rows.{set_agree, row_at_view, same_At, lies_in, row_there, bit, same_cell}
+use Rattle.k_space.proofs.GrayLists.{bit, At_inside, list_kept, count-set}
+use Rattle.k_space.proofs.Taken.{taken_freed}
+use Rattle.k_space.proofs.Rows.{set_agree, row_at_view, same_At, row_there, same_cell}
 
 -- the object of one slot is gone
 count_none : (slots : List (Option Cell)) (key : ℕ) (cell : Cell) → get_or slots key None ≡ Some cell → count_by is_some (set slots key None) + 1 ≡ count_by is_some slots
@@ -32,11 +34,14 @@ freed places cells after room capacity head i slot cell sound here found updates
     record {
       first = get_or-set_other places i 0 Empty Empty not_first ∙ sound.first;
       begun = omega (arith, length-set places i Empty, sound.begun);
-      within = omega (arith, length-set places i Empty, sound.within);
-      reserved = sound.reserved;
-      small = sound.small;
-      keys = omega (arith, stays, sound.keys);
-      fits = omega (arith, length-set places i Empty, sound.fits, len, stays);
+      sized = record {
+        given = omega (arith, length-set places i Empty, sound.sized.given);
+        counted = omega (arith, len, sound.sized.counted, taken_freed places i slot MarkWhite here);
+        within = omega (arith, len, sound.sized.within);
+        fits = omega (arith, stays, sound.sized.fits);
+        slots = sound.sized.slots ∙ sym stays;
+        keys = omega (arith, stays, sound.sized.keys);
+      };
       placed = placed_after;
       kept = kept_after;
       grays = subst (λ (n : ℕ). IsGrayList (set places i Empty) n head) (sym same_count) (list_kept places (count_by is_gray_place places) head i Empty (λ m w q. not_gray m q) sound.grays);
@@ -114,106 +119,29 @@ freed_rows places cells after room capacity head i slot mark sound here updates 
                 let one : a.cell ≡ b.cell = same_cell (sym a.there ∙ ap (get cells) same ∙ b.there) in
                 differs (sym a.serial_is ∙ ap (λ (x : Cell). x.serial.0) one ∙ b.serial_is)
 
--- the object of a slot, by the place of its serial
-at_slot : (number room : ℕ) (places : List Place) (cells : Slab Cell) (capacity : ℕ) (head : ℕ) (s : SegmentValue) (slot : ℕ) (cell : Cell) (mark : Mark) → IsSound places cells room capacity head →
-    record { number = number; room = room; rows = map (row_of cells) places } ≡ s → get cells slot ≡ Some cell → get_or places cell.serial.0 Empty ≡ At slot mark →
-    LiesAt s slot cell.serial.0 (record { slot = slot; color = color_of mark; ty = cell.body.ty; fields = cell.body.fields })
-at_slot number room places cells capacity head s slot cell mark sound is found here =
-    record { there = row_there number room places cells s cell.serial.0 slot mark (Some cell) is here found; slot_is = refl }
-
-pub white_mark : (slot : ℕ) (mark : Mark) → is_white_place (At slot mark) ≡ true → color_of mark ≡ White
-white_mark slot MarkWhite e = refl
-white_mark slot (MarkGray next) e = absurd (cc)
-white_mark slot MarkBlack e = absurd (cc)
-
 pub other_mark : (slot : ℕ) (mark : Mark) → is_white_place (At slot mark) ≡ false → is_marked (color_of mark) ≡ true
 other_mark slot MarkWhite e = absurd (cc)
 other_mark slot (MarkGray next) e = refl
 other_mark slot MarkBlack e = refl
 
-pub unmarked_there : (number room : ℕ) (places : List Place) (cells : Slab Cell) (capacity : ℕ) (head : ℕ) (s : SegmentValue) (slot : ℕ) (cell : Cell) → IsSound places cells room capacity head →
-    record { number = number; room = room; rows = map (row_of cells) places } ≡ s → get cells slot ≡ Some cell → is_white_place (get_or places cell.serial.0 Empty) ≡ true →
-    IsUnmarkedAt s slot
-unmarked_there number room places cells capacity head s slot cell sound is found white =
-    let kept = sound.kept slot cell found in
-    record {
-      serial = cell.serial.0;
-      row = record { slot = slot; color = color_of kept.mark; ty = cell.body.ty; fields = cell.body.fields };
-      lies = at_slot number room places cells capacity head s slot cell kept.mark sound is found kept.there;
-      unmarked = white_mark slot kept.mark (sym (ap is_white_place kept.there) ∙ white);
-    }
-
-pub marked_there : (number room : ℕ) (places : List Place) (cells : Slab Cell) (capacity : ℕ) (head : ℕ) (s : SegmentValue) (slot : ℕ) (cell : Cell) → IsSound places cells room capacity head →
-    record { number = number; room = room; rows = map (row_of cells) places } ≡ s → get cells slot ≡ Some cell → is_white_place (get_or places cell.serial.0 Empty) ≡ false →
-    (serial : ℕ) (row : Row) → row_at s serial ≡ Some row → row.slot ≡ slot → is_marked row.color ≡ true
-marked_there number room places cells capacity head s slot cell sound is found dark serial row at slot_is =
-    let l = lies_in number room places cells s slot serial row is (record { there = at; slot_is = slot_is }) in
-    let one : l.cell ≡ cell = same_cell (sym l.there ∙ found) in
-    let placed = sound.placed serial slot l.mark l.at in
-    let two : placed.cell ≡ cell = same_cell (sym placed.there ∙ found) in
-    let serials : cell.serial.0 ≡ serial = ap (λ (x : Cell). x.serial.0) (sym two) ∙ placed.serial_is in
-    let off : is_white_place (At slot l.mark) ≡ false = sym (ap (λ k. is_white_place (get_or places k Empty)) serials ∙ ap is_white_place l.at) ∙ dark in
-    ap (λ (r : Row). is_marked r.color) l.row_is ∙ other_mark slot l.mark off
-
-pub none_there : (number room : ℕ) (places : List Place) (cells : Slab Cell) (s : SegmentValue) (slot : ℕ) → record { number = number; room = room; rows = map (row_of cells) places } ≡ s → get cells slot ≡ None →
-    (serial : ℕ) (row : Row) → row_at s serial ≡ Some row → row.slot ≡ slot → ⊥
-none_there number room places cells s slot is none serial row at slot_is =
-    let l = lies_in number room places cells s slot serial row is (record { there = at; slot_is = slot_is }) in
-    let both : None ≡ Some l.cell = sym none ∙ l.there in
-    cc
-
 -- what the freed object was
-pub freed_view : (number room : ℕ) (places : List Place) (cells after : Slab Cell) (capacity : ℕ) (head : ℕ) (s : SegmentValue) (slot i : ℕ) (cell : Cell) (mark : Mark) → IsSound places cells room capacity head →
+freed_view : (number room : ℕ) (places : List Place) (cells after : Slab Cell) (capacity : ℕ) (head : ℕ) (s : SegmentValue) (slot i : ℕ) (mark : Mark) → IsSound places cells room capacity head →
     record { number = number; room = room; rows = map (row_of cells) places } ≡ s → get_or places i Empty ≡ At slot mark → Updates cells after slot None →
     record { number = number; room = room; rows = map (row_of after) (set places i Empty) } ≡ with_row s i None
-freed_view number room places cells after capacity head s slot i cell mark sound is here updates =
+freed_view number room places cells after capacity head s slot i mark sound is here updates =
     ap (λ (rs : List (Option Row)). record { number = number; room = room; rows = rs }) (freed_rows places cells after room capacity head i slot mark sound here updates)
     ∙ ap (λ (x : SegmentValue). with_row x i None) is
 
--- where a live object lies, by what the slab has there
-pub record Placed (places : List Place) (slot serial : ℕ) (row : Row) (cell : Cell) : Type 0 where
-  pub mark : Mark
-  pub at : get_or places serial Empty ≡ At slot mark
-  pub serial_is : cell.serial.0 ≡ serial
-  pub row_is : row ≡ record { slot = slot; color = color_of mark; ty = cell.body.ty; fields = cell.body.fields }
-
-pub place_there : (number room : ℕ) (places : List Place) (cells : Slab Cell) (capacity : ℕ) (head : ℕ) (s : SegmentValue) (slot serial : ℕ) (row : Row) (cell : Cell) → IsSound places cells room capacity head →
-    record { number = number; room = room; rows = map (row_of cells) places } ≡ s → LiesAt s slot serial row → get cells slot ≡ Some cell → Placed places slot serial row cell
-place_there number room places cells capacity head s slot serial row cell sound is lies found =
-    let l = lies_in number room places cells s slot serial row is lies in
-    let one : l.cell ≡ cell = same_cell (sym l.there ∙ found) in
-    let placed = sound.placed serial slot l.mark l.at in
-    let two : placed.cell ≡ cell = same_cell (sym placed.there ∙ found) in
-    record {
-      mark = l.mark;
-      at = l.at;
-      serial_is = ap (λ (x : Cell). x.serial.0) (sym two) ∙ placed.serial_is;
-      row_is = l.row_is ∙ ap (λ (x : Cell). record { slot = slot; color = color_of l.mark; ty = x.body.ty; fields = x.body.fields }) one;
-    }
-
-pub white_place_is : (slot : ℕ) (mark : Mark) → color_of mark ≡ White → mark ≡ MarkWhite
-white_place_is slot MarkWhite e = refl
-white_place_is slot (MarkGray next) e = absurd (cc)
-white_place_is slot MarkBlack e = absurd (cc)
-
--- a white place has an object without a mark
-pub unmarked_place : (number room : ℕ) (places : List Place) (cells : Slab Cell) (capacity head : ℕ) (s : SegmentValue) (serial slot : ℕ) (mark : Mark) → IsSound places cells room capacity head →
-    record { number = number; room = room; rows = map (row_of cells) places } ≡ s → get_or places serial Empty ≡ At slot mark → is_white_place (At slot mark) ≡ true → IsUnmarkedAt s slot
-unmarked_place number room places cells capacity head s serial slot mark sound is here white =
-    let placed = sound.placed serial slot mark here in
-    record {
-      serial = serial;
-      row = record { slot = slot; color = color_of mark; ty = placed.cell.body.ty; fields = placed.cell.body.fields };
-      lies = record { there = row_there number room places cells s serial slot mark (Some placed.cell) is here placed.there; slot_is = refl };
-      unmarked = white_mark slot mark white;
-    }
-
-pub taken_away : (s new : SegmentValue) (slot : ℕ) (gone : Gone) (u : IsUnmarkedAt s slot) → gone.slot.0 ≡ slot → IsFree s new u.serial u.row gone → IsTakenAway s new gone
-taken_away s new slot gone u at free = record {
-  row = u.row;
-  there = ap (row_at s) free.serial_is ∙ u.lies.there;
-  slot = u.lies.slot_is ∙ sym at;
-  unmarked = u.unmarked;
-  bytes = free.bytes;
-  freed = free.freed ∙ ap (λ k. with_row s k None) (sym free.serial_is);
+-- the object was live and had no mark
+pub taken_away : (number room : ℕ) (places : List Place) (cells after : Slab Cell) (capacity head : ℕ) (s : SegmentValue) (serial slot : ℕ) (cell : Cell) (gone : Gone) → IsSound places cells room capacity head →
+    record { number = number; room = room; rows = map (row_of cells) places } ≡ s → get_or places serial Empty ≡ At slot MarkWhite → get cells slot ≡ Some cell → Updates cells after slot None →
+    gone.serial.0 ≡ serial → gone.slot.0 ≡ slot → gone.bytes ≡ object_size (length cell.body.fields) →
+    IsTakenAway s (record { number = number; room = room; rows = map (row_of after) (set places serial Empty) }) gone
+taken_away number room places cells after capacity head s serial slot cell gone sound is here found updates named lies bytes = record {
+  row = record { slot = slot; color = White; ty = cell.body.ty; fields = cell.body.fields };
+  there = ap (row_at s) named ∙ row_there number room places cells s serial slot MarkWhite (Some cell) is here found;
+  slot = sym lies;
+  unmarked = refl;
+  bytes = bytes;
+  freed = freed_view number room places cells after capacity head s slot serial MarkWhite sound is here updates ∙ ap (λ k. with_row s k None) (sym named);
 }

@@ -1,9 +1,14 @@
 pub mod NameTests
-pub mod StampLemmas
+pub mod ChainSteps
+pub mod ChainWalks
+pub mod SpotPlaces
+pub mod SpotViews
 pub mod GrayLists
+pub mod Taken
 pub mod Rows
 pub mod Pushed
 pub mod GrayQueue
+pub mod Entries
 pub mod ListedLemmas
 pub mod Freed
 pub mod AreaRows

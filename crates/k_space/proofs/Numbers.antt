@@ -76,11 +76,21 @@ distinct_push xs y h none = distinct_from (xs ++ y ∷ []) both
         ]
 
 -- the list without the one at i, in whose place the last one is
-pub record IsWithout (xs ys : List SegmentValue) (i : ℕ) : Type 0 where
+pub record IsWithout {A : Type 0} (xs ys : List A) (i : ℕ) : Type 0 where
   pub len : length ys + 1 ≡ length xs
   pub within : i < length xs
-  pub moved : (d : SegmentValue) → i + 1 < length xs → get_or ys i d ≡ get_or xs (length xs - 1) d
-  pub others : (k : ℕ) (d : SegmentValue) → k ≢ i → k + 1 < length xs → get_or ys k d ≡ get_or xs k d
+  pub moved : (d : A) → i + 1 < length xs → get_or ys i d ≡ get_or xs (length xs - 1) d
+  pub others : (k : ℕ) (d : A) → k ≢ i → k + 1 < length xs → get_or ys k d ≡ get_or xs k d
+
+-- what taking one out leaves, where so many were there
+pub swapped : {A : Type 0} (xs ys : List A) (i m n : ℕ) → m ≡ length xs → n ≡ length ys → n + 1 ≡ m → i < length xs →
+    ((d : A) → i + 1 < m → get_or ys i d ≡ get_or xs (m - 1) d) × ((k : ℕ) (d : A) → k ≢ i → k + 1 < m → get_or ys k d ≡ get_or xs k d) → IsWithout xs ys i
+swapped xs ys i m n old new fewer within by_index = record {
+  len = omega (arith, old, new, fewer);
+  within = within;
+  moved = λ d more. by_index.0 d (omega (arith, more, old)) ∙ ap (λ k. get_or xs (k - 1) d) old;
+  others = λ k d apart more. by_index.1 k d apart (omega (arith, more, old));
+}
 
 -- where each came from
 pub record Origin (xs : List SegmentValue) (i j : ℕ) (s : SegmentValue) : Type 0 where

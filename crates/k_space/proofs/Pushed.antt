@@ -1,5 +1,5 @@
 -- What the rows of a segment are after one object more.
-use Rattle.std.proofs.Common.{◌≡◌, ◌≢◌, ℕ, zero, suc, ◌+◌, ◌≤◌, ◌⊎◌, refl, sym, ap, ap₂, subst, ◌∙◌, inl, inr, List, [], ◌∷◌, ◌++◌, length, map, get_or, Option, Some, None, count_by, arith}
+use Rattle.std.proofs.Common.{◌≡◌, ◌≢◌, ℕ, zero, suc, ◌+◌, ◌<◌, ◌≤◌, ◌^◌, ◌⊎◌, refl, sym, ap, ap₂, subst, ◌∙◌, inl, inr, List, [], ◌∷◌, ◌++◌, length, map, get_or, Option, Some, None, count_by, arith}
 use Rattle.std.proofs.lemmas.Bool.{cases_eq}
 use Rattle.std.proofs.lemmas.List.{get_or_append_left, get_or_push, map-append, length-append}
 use Rattle.slab.specs.Slab.{Slab, get, slab_len, Updates}
@@ -11,6 +11,7 @@ use Rattle.k_space.specs.declared.segment.Cell.{Cell}
 use Rattle.k_space.specs.Segments.{Row, SegmentValue, new_row, placed}
 use Rattle.k_space.specs.Places.{row_of, row_in, IsSound, IsPlaced, IsKept, IsGrayList, is_gray_place}
 use Rattle.k_space.proofs.GrayLists.{At_inside, list_pushed, count_pushed}
+use Rattle.k_space.proofs.Taken.{taken_pushed}
 use Rattle.k_space.proofs.Rows.{maps_agree, same_At, same_cell}
 
 -- one object more
@@ -20,18 +21,21 @@ at_pushed [] x (suc i) slot mark e = absurd (cc)
 at_pushed (y ∷ ys) x zero slot mark e = inl e
 at_pushed (y ∷ ys) x (suc i) slot mark e = elim (at_pushed ys x i slot mark e) [ inl there ↦ inl there | inr here ↦ inr (ap suc here.0, here.1) ]
 
-pub pushed : (places : List Place) (cells after : Slab Cell) (room capacity : ℕ) (head : ℕ) (slot : ℕ) (cell : Cell) → IsSound places cells room capacity head → length places ≤ room →
+pub pushed : (places : List Place) (cells after : Slab Cell) (room capacity : ℕ) (head : ℕ) (slot : ℕ) (cell : Cell) → IsSound places cells room capacity head → slab_len cells < room → length places + 1 < 2 ^ 32 →
     get cells slot ≡ None → Updates cells after slot (Some cell) → slab_len after ≡ slab_len cells + 1 → after.capacity ≡ cells.capacity → cell.serial.0 ≡ length places → length cell.body.fields ≤ 16 →
     IsSound (places ++ At slot MarkWhite ∷ []) after room capacity head
-pushed places cells after room capacity head slot cell sound more vacant updates len stays serial few =
+pushed places cells after room capacity head slot cell sound more left vacant updates len stays serial few =
     record {
       first = get_or_append_left places (At slot MarkWhite ∷ []) Empty 0 sound.begun ∙ sound.first;
       begun = omega (arith, length-append places (At slot MarkWhite ∷ []));
-      within = omega (arith, length-append places (At slot MarkWhite ∷ []), more);
-      reserved = sound.reserved;
-      small = sound.small;
-      keys = omega (arith, stays, sound.keys);
-      fits = omega (arith, length-append places (At slot MarkWhite ∷ []), more, len, stays, sound.fits);
+      sized = record {
+        given = omega (arith, length-append places (At slot MarkWhite ∷ []), left);
+        counted = omega (arith, len, sound.sized.counted, taken_pushed places slot MarkWhite);
+        within = omega (arith, len, more);
+        fits = omega (arith, stays, sound.sized.fits);
+        slots = sound.sized.slots ∙ sym stays;
+        keys = omega (arith, stays, sound.sized.keys);
+      };
       placed = placed_after;
       kept = kept_after;
       grays = subst (λ (n : ℕ). IsGrayList (places ++ At slot MarkWhite ∷ []) n head) (sym (count_pushed places (At slot MarkWhite) refl)) (list_pushed places (count_by is_gray_place places) head (At slot MarkWhite) sound.grays);
@@ -64,6 +68,13 @@ pushed places cells after room capacity head slot cell sound more vacant updates
               let was = sound.kept s x (sym (updates.others s differs) ∙ e) in
               record { mark = was.mark; there = get_or_append_left places (At slot MarkWhite ∷ []) Empty x.serial.0 (At_inside places x.serial.0 s was.mark was.there) ∙ was.there; few = was.few }
         ]
+
+-- no object lies in a slot that the slab has free
+pub no_place : (places : List Place) (cells : Slab Cell) (room capacity head slot : ℕ) → IsSound places cells room capacity head → get cells slot ≡ None → (i : ℕ) (mark : Mark) → get_or places i Empty ≢ At slot mark
+no_place places cells room capacity head slot sound vacant i mark e =
+    let p = sound.placed i slot mark e in
+    let none : Some p.cell ≡ None = sym p.there ∙ vacant in
+    cc
 
 -- the rows that were there
 pub rows_kept : (places : List Place) (cells after : Slab Cell) (room capacity : ℕ) (head : ℕ) (slot : ℕ) (o : Option Cell) → IsSound places cells room capacity head →

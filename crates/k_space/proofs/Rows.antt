@@ -1,12 +1,12 @@
 -- What the rows of a segment are after a change.
-use Rattle.std.proofs.Common.{◌≡◌, ◌≢◌, ℕ, zero, suc, ◌+◌, ◌-◌, ◌<◌, ◌≤◌, ◌^◌, Bool, true, false, cond, refl, sym, ap, ap₂, subst, ◌∙◌, inl, inr, List, [], ◌∷◌, ◌++◌, length, map, take, get_or, set, Option, Some, None, is_some, count_by, arith}
+use Rattle.std.proofs.Common.{◌≡◌, ◌≢◌, ℕ, zero, suc, ◌<◌, ◌≤◌, Bool, true, false, cond, refl, sym, ap, ap₂, subst, ◌∙◌, inl, inr, List, [], ◌∷◌, ◌++◌, length, map, take, get_or, set, Option, Some, None, is_some, count_by, arith}
 use Rattle.k_base.proofs.Lists.{some_one}
 use Rattle.std.proofs.Math.ListN.{get_or-map}
 use Rattle.std.proofs.Math.Seq.{map-set_same}
 use Rattle.std.proofs.lemmas.Bool.{cases_eq}
 use Rattle.std.proofs.lemmas.List.Sums.{sum_by-cons}
 use Rattle.std.proofs.lemmas.List.{get_or-set_same, get_or-set_other, length-set, map-set, set-get_or, length-map, get_or_default}
-use Rattle.slab.specs.Slab.{Slab, get, slab_len, with_value}
+use Rattle.slab.specs.Slab.{Slab, get, with_value}
 use Rattle.k_space.specs.declared.marks.Place.{Place}
 use Rattle.k_space.specs.declared.marks.Place.TheVariants.{Empty, At}
 use Rattle.k_space.specs.declared.marks.Mark.{Mark}
@@ -16,9 +16,10 @@ use Rattle.k_space.specs.declared.body.Stored.{Stored}
 use Rattle.k_space.specs.declared.bound.Bound.{Bound}
 use Rattle.k_space.specs.declared.segment.Cell.{Cell}
 use Rattle.k_space.specs.Segments.{Gray, Row, SegmentValue, LiesAt, row_at, with_row, some_gray, unmarked_row}
-use Rattle.k_space.specs.Places.{row_of, row_in, color_of, IsSound, IsPlaced, IsKept, IsGrayList, is_gray_place, white_place}
+use Rattle.k_space.specs.Places.{row_of, row_in, color_of, IsSized, IsSound, IsPlaced, IsKept, IsGrayList, is_gray_place, is_taken, white_place}
 use Rattle.k_space.specs.Visiting.{AreHeld, IsVisitedFromIn}
 use Rattle.k_space.proofs.GrayLists.{At_inside}
+use Rattle.k_space.proofs.Taken.{same_sized, taken_map, taken_recolored}
 
 pub front_whole : {A : Type 0} (xs ys : List A) (n : ℕ) → length xs ≡ n → take n (xs ++ ys) ≡ xs
 front_whole [] ys zero e = refl
@@ -63,11 +64,7 @@ same_At s t m n e = (cc, cc)
 pub record AreKept (places : List Place) (cells : Slab Cell) (room capacity : ℕ) : Type 0 where
   pub first : get_or places 0 Empty ≡ Empty
   pub begun : 0 < length places
-  pub within : length places ≤ room + 1
-  pub reserved : capacity ≡ room + 1
-  pub small : room < 2 ^ 32
-  pub keys : cells.capacity < 2 ^ 64
-  pub fits : slab_len cells + (room + 1 - length places) ≤ cells.capacity
+  pub sized : IsSized places cells room capacity
   pub placed : (i slot : ℕ) (mark : Mark) → get_or places i Empty ≡ At slot mark → IsPlaced cells i slot
   pub kept : (slot : ℕ) (cell : Cell) → get cells slot ≡ Some cell → IsKept places slot cell
 
@@ -75,11 +72,7 @@ pub kept_of : (places : List Place) (cells : Slab Cell) (room capacity head : �
 kept_of places cells room capacity head sound = record {
   first = sound.first;
   begun = sound.begun;
-  within = sound.within;
-  reserved = sound.reserved;
-  small = sound.small;
-  keys = sound.keys;
-  fits = sound.fits;
+  sized = sound.sized;
   placed = sound.placed;
   kept = sound.kept;
 }
@@ -88,11 +81,7 @@ pub sound_of : (places : List Place) (cells : Slab Cell) (room capacity head : �
 sound_of places cells room capacity head kept grays = record {
   first = kept.first;
   begun = kept.begun;
-  within = kept.within;
-  reserved = kept.reserved;
-  small = kept.small;
-  keys = kept.keys;
-  fits = kept.fits;
+  sized = kept.sized;
   placed = kept.placed;
   kept = kept.kept;
   grays = grays;
@@ -105,11 +94,7 @@ recolored_kept places cells room capacity i slot m n sound here =
     record {
       first = get_or-set_other places i 0 (At slot n) Empty not_first ∙ sound.first;
       begun = omega (arith, length-set places i (At slot n), sound.begun);
-      within = omega (arith, length-set places i (At slot n), sound.within);
-      reserved = sound.reserved;
-      small = sound.small;
-      keys = sound.keys;
-      fits = omega (arith, length-set places i (At slot n), sound.fits);
+      sized = same_sized places (set places i (At slot n)) cells room capacity (length-set places i (At slot n)) (taken_recolored places i slot m n here) sound.sized;
       placed = placed_after;
       kept = kept_after;
     }
@@ -280,11 +265,14 @@ rewritten places cells room capacity head slot cell new sound found serial field
     record {
       first = sound.first;
       begun = sound.begun;
-      within = sound.within;
-      reserved = sound.reserved;
-      small = sound.small;
-      keys = sound.keys;
-      fits = omega (arith, count_some cells.slots slot cell new found, sound.fits);
+      sized = record {
+        given = sound.sized.given;
+        counted = count_some cells.slots slot cell new found ∙ sound.sized.counted;
+        within = omega (arith, count_some cells.slots slot cell new found, sound.sized.within);
+        fits = sound.sized.fits;
+        slots = sound.sized.slots;
+        keys = sound.sized.keys;
+      };
       placed = placed_after;
       kept = kept_after;
       grays = sound.grays;
@@ -363,16 +351,16 @@ no_gray_left (p ∷ places) = omega (arith, sum_by-cons (λ x. bit (is_gray_plac
     not_gray Empty = refl
     not_gray (At slot mark) = refl
 
+pub taken_white : (p : Place) → is_taken (white_place p) ≡ is_taken p
+taken_white Empty = refl
+taken_white (At slot mark) = refl
+
 pub whitened : (places : List Place) (cells : Slab Cell) (room capacity : ℕ) (head : ℕ) → IsSound places cells room capacity head → IsSound (map white_place places) cells room capacity 0
 whitened places cells room capacity head sound =
     record {
       first = get_or-map white_place places 0 Empty ∙ ap white_place sound.first;
       begun = omega (arith, length-map places white_place, sound.begun);
-      within = omega (arith, length-map places white_place, sound.within);
-      reserved = sound.reserved;
-      small = sound.small;
-      keys = sound.keys;
-      fits = omega (arith, length-map places white_place, sound.fits);
+      sized = same_sized places (map white_place places) cells room capacity (length-map places white_place) (taken_map white_place taken_white places) sound.sized;
       placed = λ j s mark e. let was = white_there places j s mark e in sound.placed j s was.0 was.1;
       kept = λ s x e. let was = sound.kept s x e in record { mark = MarkWhite; there = get_or-map white_place places x.serial.0 Empty ∙ ap white_place was.there; few = was.few };
       grays = subst (λ (n : ℕ). IsGrayList (map white_place places) n 0) (sym (no_gray_left places)) refl;

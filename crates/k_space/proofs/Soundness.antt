@@ -1,13 +1,18 @@
 -- What holds of every segment.
 use Rattle.std.proofs.Common.{◌≡◌, ◌*◌, ℕ, ◌≤◌, refl, sym, ap, subst, ◌∙◌, List, length, map, Some, arith}
 use Rattle.std.proofs.lemmas.List.{length-map}
-use Rattle.slab.specs.Slab.{Slab, get}
+use Rattle.slab.specs.Slab.{Slab, get, slab_len}
 use Rattle.k_space.specs.declared.marks.Place.{Place}
 use Rattle.k_space.specs.declared.segment.Cell.{Cell}
-use Rattle.k_space.specs.Segments.{Row, SegmentValue, IsSegment, row_at, made, segment_bytes}
+use Rattle.k_space.specs.Segments.{Row, SegmentValue, IsSegment, row_at, living, made, segment_bytes}
 use Rattle.k_space.specs.Places.{row_of, IsSound, AreBytes}
 use Rattle.k_space.proofs.Bytes.{bytes_shown}
+use Rattle.k_space.proofs.Taken.{taken_rows}
 use Rattle.k_space.proofs.Rows.{lies_in, no_row, same_cell}
+
+-- a row for each place
+pub rows_shown : {number room : ℕ} (places : List Place) (cells : Slab Cell) (s : SegmentValue) → record { number = number; room = room; rows = map (row_of cells) places } ≡ s → length s.rows ≡ length places
+rows_shown places cells s is = ap (λ (x : SegmentValue). length x.rows) (sym is) ∙ length-map places (row_of cells)
 
 module _ (number room capacity : ℕ) (places : List Place) (cells : Slab Cell) (head bytes : ℕ) (sound : IsSound places cells room capacity head) (kept : AreBytes places cells bytes) where
   shown : SegmentValue
@@ -15,6 +20,12 @@ module _ (number room capacity : ℕ) (places : List Place) (cells : Slab Cell) 
 
   rows : length (map (row_of cells) places) ≡ length places
   rows = length-map places (row_of cells)
+
+  lives : living (record { number = number; room = room; rows = map (row_of cells) places }) ≡ slab_len cells
+  lives = taken_rows places cells sound.placed ∙ sym sound.sized.counted
+
+  pub living_is : (s : SegmentValue) → record { number = number; room = room; rows = map (row_of cells) places } ≡ s → living s ≡ slab_len cells
+  living_is s is = ap (λ (x : SegmentValue). living x) (sym is) ∙ lives
 
   few : (serial : ℕ) (row : Row) → row_at (record { number = number; room = room; rows = map (row_of cells) places }) serial ≡ Some row → length row.fields ≤ 16
   few serial row at =
@@ -38,8 +49,9 @@ module _ (number room capacity : ℕ) (places : List Place) (cells : Slab Cell) 
   segment_sound s is = subst (λ (x : SegmentValue). IsSegment x) is (record {
     begun = omega (arith, rows, sound.begun);
     first = no_row number room places cells (record { number = number; room = room; rows = map (row_of cells) places }) 0 refl sound.first;
-    within = omega (arith, rows, sound.within);
-    small = sound.small;
+    within = omega (arith, lives, sound.sized.within);
+    given = omega (arith, rows, sound.begun, sound.sized.given);
+    small = omega (arith, sound.sized.fits, sound.sized.keys);
     fields = few;
     bytes = bytes_most;
     apart = one_serial;

@@ -2,6 +2,7 @@ pub mod Objects
 pub mod Segments
 pub mod Sweeping
 pub mod Places
+pub mod Chains
 pub mod Stamps
 pub mod Listed
 pub mod Bounds

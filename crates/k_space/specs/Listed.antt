@@ -1,25 +1,39 @@
 -- The list of live objects. No public clause cites this file.
-use Rattle.std.specs.Prelude.{◌≡◌, ◌⊎◌, ℕ, ◌<◌, ◌≤◌, false, List, length, slice_index_or}
+use Rattle.std.specs.Prelude.{◌≡◌, ◌⊎◌, ℕ, ◌<◌, ◌≤◌, false, List, length, map, count_by, slice_index_or}
 use Rattle.k_space.specs.declared.marks.Place.{Place}
 use Rattle.k_space.specs.declared.marks.Place.TheVariants.{Empty, At}
 use Rattle.k_space.specs.declared.marks.Mark.{Mark}
-use Rattle.k_space.specs.Places.{black_place, is_white_place}
+use Rattle.k_space.specs.declared.marks.Mark.TheVariants.{White as MarkWhite}
+use Rattle.k_space.specs.declared.live.Entry.{Entry}
+use Rattle.k_space.specs.Places.{black_place, is_taken, is_white_place}
 
--- the list has the serial, before the one place or from the other one on
-pub record IsAmong (live : List ℕ) (kept next serial : ℕ) : Type 0 where
+-- the serials of the entries
+abbrev pub serials : List Entry → List ℕ
+serials entries = map (λ e. e.serial) entries
+
+-- the list has the serial
+pub record IsAmong (live : List ℕ) (serial : ℕ) : Type 0 where
   pub at : ℕ
   pub below : at < length live
   pub is : slice_index_or live at 0 ≡ serial
-  pub outside : (at < kept) ⊎ (next ≤ at)
 
--- the list has each serial with an object, before the one place, where none is white, or from the other one on
-pub record IsListed (places : List Place) (live : List ℕ) (kept next : ℕ) : Type 0 where
-  pub few : length live < length places
-  pub within : kept ≤ next
-  pub reached : next ≤ length live
+-- the places of so many from the first of the list are not white
+abbrev pub ArePassed : List Place → List ℕ → ℕ → Type 0
+ArePassed places live count = (k : ℕ) → k < count → is_white_place (slice_index_or places (slice_index_or live k 0) Empty) ≡ false
+
+-- the list has each serial with an object, and no more entries than there are objects, and the places of the first so many are not white
+pub record IsListed (places : List Place) (live : List ℕ) (passed : ℕ) : Type 0 where
+  pub counted : length live ≡ count_by is_taken places
+  pub reached : passed ≤ length live
   pub inside : (k : ℕ) → k < length live → slice_index_or live k 0 < length places
-  pub covers : (serial slot : ℕ) (mark : Mark) → slice_index_or places serial Empty ≡ At slot mark → IsAmong live kept next serial
-  pub done : (k : ℕ) → k < kept → is_white_place (slice_index_or places (slice_index_or live k 0) Empty) ≡ false
+  pub covers : (serial slot : ℕ) (mark : Mark) → slice_index_or places serial Empty ≡ At slot mark → IsAmong live serial
+  pub done : ArePassed places live passed
+
+-- it stands there on the list, and its object has the slot and no mark, while those before it are not white
+pub record IsNextWhite (places : List Place) (live : List ℕ) (at slot : ℕ) : Type 0 where
+  pub below : at < length live
+  pub there : slice_index_or places (slice_index_or live at 0) Empty ≡ At slot MarkWhite
+  pub done : ArePassed places live at
 
 -- no place from that serial on has changed, and any other is as it was or black, which those of so many of the list are
 pub record AreBlackened (live : List ℕ) (below count : ℕ) (old new : List Place) : Type 0 where

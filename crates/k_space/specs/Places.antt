@@ -1,5 +1,5 @@
 -- How a segment keeps its objects. No public clause cites this file.
-use Rattle.std.specs.Prelude.{◌≡◌, ℕ, zero, suc, ◌+◌, ◌-◌, ◌*◌, ◌<◌, ◌≤◌, ◌^◌, Bool, true, false, List, [], ◌∷◌, length, map, count_by, slice_index_or, Option, Some, None}
+use Rattle.std.specs.Prelude.{◌≡◌, ℕ, zero, suc, ◌+◌, ◌*◌, ◌<◌, ◌≤◌, ◌^◌, Bool, true, false, List, [], ◌∷◌, length, map, count_by, slice_index_or, Option, Some, None}
 use Rattle.slab.specs.Slab.{Slab, get, slab_len}
 use Rattle.k_types.specs.Totals.{total}
 use Rattle.k_types.specs.Types.{object_size}
@@ -63,15 +63,26 @@ abbrev pub row_bytes : Option Row → ℕ
 row_bytes None = 0
 row_bytes (Some row) = object_size (length row.fields)
 
--- places and slots name each other, the gray places are one list, and there is room for every serial, and memory for no more
+-- the place has an object
+abbrev pub is_taken : Place → Bool
+is_taken Empty = false
+is_taken (At slot mark) = true
+
+-- the serials are numbers of 32 bits, the objects are those of the places and within the room, and there is memory for as many
+-- at once, in slots of which there are as many on either side
+pub record IsSized (places : List Place) (cells : Slab Cell) (room capacity : ℕ) : Type 0 where
+  pub given : length places < 2 ^ 32
+  pub counted : slab_len cells ≡ count_by is_taken places
+  pub within : slab_len cells ≤ room
+  pub fits : room ≤ cells.capacity
+  pub slots : capacity ≡ cells.capacity
+  pub keys : cells.capacity + 1 < 2 ^ 32
+
+-- places and slots name each other, the gray places are one list, and there is room for each object
 pub record IsSound (places : List Place) (cells : Slab Cell) (room capacity head : ℕ) : Type 0 where
   pub first : slice_index_or places 0 Empty ≡ Empty
   pub begun : 0 < length places
-  pub within : length places ≤ room + 1
-  pub reserved : capacity ≡ room + 1
-  pub small : room < 2 ^ 32
-  pub keys : cells.capacity < 2 ^ 64
-  pub fits : slab_len cells + (room + 1 - length places) ≤ cells.capacity
+  pub sized : IsSized places cells room capacity
   pub placed : (i slot : ℕ) (mark : Mark) → slice_index_or places i Empty ≡ At slot mark → IsPlaced cells i slot
   pub kept : (slot : ℕ) (cell : Cell) → get cells slot ≡ Some cell → IsKept places slot cell
   pub grays : IsGrayList places (count_by is_gray_place places) head
@@ -80,10 +91,6 @@ pub record IsSound (places : List Place) (cells : Slab Cell) (room capacity head
 pub record AreBytes (places : List Place) (cells : Slab Cell) (bytes : ℕ) : Type 0 where
   pub counted : bytes ≡ total row_bytes (map (row_of cells) places)
   pub small : bytes + 144 ≤ 144 * length places
-
--- no slot from that one on has an object
-pub record AreBelow (cells : Slab Cell) (end : ℕ) : Type 0 where
-  pub below : (slot : ℕ) (cell : Cell) → get cells slot ≡ Some cell → slot < end
 
 -- the place with no mark
 abbrev pub white_place : Place → Place
@@ -94,11 +101,6 @@ white_place (At slot mark) = At slot MarkWhite
 abbrev pub is_white_place : Place → Bool
 is_white_place (At slot MarkWhite) = true
 is_white_place _ = false
-
--- the place has no object
-abbrev pub is_empty_place : Place → Bool
-is_empty_place Empty = true
-is_empty_place (At slot mark) = false
 
 -- the place of a black object
 abbrev pub black_place : Place → Place

@@ -1,5 +1,5 @@
 -- What a contract sees of a segment.
-use Rattle.std.specs.Prelude.{◌≡◌, ℕ, zero, suc, ◌+◌, ◌-◌, ◌*◌, ◌<◌, ◌≤◌, ◌^◌, Bool, true, false, List, [], ◌∷◌, ◌++◌, length, map, slice_index_or, slice_set, Option, Some, None}
+use Rattle.std.specs.Prelude.{◌≡◌, ℕ, zero, suc, ◌+◌, ◌-◌, ◌*◌, ◌<◌, ◌≤◌, ◌^◌, Bool, true, false, List, [], ◌∷◌, ◌++◌, length, map, slice_index_or, slice_set, count_by, is_some, Option, Some, None}
 use Rattle.k_types.specs.declared.names.TypeId.{TypeId}
 use Rattle.k_types.specs.State.{Content, Object}
 use Rattle.k_types.specs.Totals.{total}
@@ -19,7 +19,8 @@ pub record Row : Type 0 where
   pub ty : Option TypeId
   pub fields : List Content
 
--- at each serial from 0 on the object, or nothing where it is gone; no object has serial 0
+-- how many objects can live at once, and at each serial from 0 on the object, or nothing where it is gone; no object has
+-- serial 0
 pub record SegmentValue : Type 0 where
   pub number : ℕ
   pub room : ℕ
@@ -32,6 +33,10 @@ row_at s serial = slice_index_or s.rows serial None
 -- how many serials were given
 abbrev pub made : SegmentValue → ℕ
 made s = length s.rows - 1
+
+-- how many objects live
+abbrev pub living : SegmentValue → ℕ
+living s = count_by is_some s.rows
 
 -- the segment where the serial has that object, or none
 abbrev pub with_row : SegmentValue → ℕ → Option Row → SegmentValue
@@ -142,12 +147,18 @@ blackened_rows (suc n) (row ∷ rows) = blackened_row row ∷ blackened_rows n r
 abbrev pub blackened_segment : ℕ → SegmentValue → SegmentValue
 blackened_segment below s = record s { rows = blackened_rows below s.rows }
 
--- what holds of every segment: the serials from 1 on were given, within the room; an object has at most 16 fields; no two objects lie in one slot
+-- one more object can be put in: fewer live than can at once, and a serial is left
+pub record HasRoom (s : SegmentValue) : Type 0 where
+  pub few : living s < s.room
+  pub left : made s + 2 < 2 ^ 32
+
+-- what holds of every segment: the serials from 1 on were given, the objects that live are within the room; an object has at most 16 fields; no two objects lie in one slot
 pub record IsSegment (s : SegmentValue) : Type 0 where
   pub begun : length s.rows ≡ made s + 1
   pub first : row_at s 0 ≡ None
-  pub within : made s ≤ s.room
-  pub small : s.room < 2 ^ 32
+  pub within : living s ≤ s.room
+  pub given : made s + 1 < 2 ^ 32
+  pub small : s.room + 1 < 2 ^ 32
   pub fields : (serial : ℕ) (row : Row) → row_at s serial ≡ Some row → length row.fields ≤ 16
   pub bytes : segment_bytes s ≤ 144 * made s
   pub apart : (i j : ℕ) (one other : Row) → row_at s i ≡ Some one → row_at s j ≡ Some other → one.slot ≡ other.slot → i ≡ j

@@ -1,10 +1,12 @@
 //! The places of objects by serial, and their marks.
-ghost use Rattle.std.specs.Prelude.{◌≡◌, ◌<◌, ◌≤◌, ◌+◌, ◌^◌, ◌++◌, ◌∷◌, [], length, map, slice_set, slice_index_or, IfOk, ℕ};
+ghost use Rattle.std.specs.Prelude.{◌≡◌, ◌≢◌, ◌<◌, ◌≤◌, ◌+◌, ◌-◌, ◌^◌, ◌++◌, ◌∷◌, [], length, map, slice_set, slice_index_or, IfOk, ℕ};
+ghost use Rattle.k_space.specs.declared.marks.Mark.{Mark as MarkOf};
+ghost use Rattle.k_space.specs.declared.marks.Mark.TheVariants.{White as MarkWhite, Gray as MarkGray};
 ghost use Rattle.k_space.specs.declared.marks.Place.TheVariants.{Empty as NoPlace, At as PlaceAt};
-ghost use Rattle.k_space.specs.declared.marks.Mark.TheVariants.{Gray as MarkGray};
-ghost use Rattle.k_space.specs.Places.{white_place, black_place, is_white_place, is_empty_place, is_gray_place, IsGrayEnd};
-ghost use Rattle.k_space.specs.Stamps.{seen, plain};
+ghost use Rattle.k_space.specs.Places.{white_place, black_place, is_gray_place, IsGrayEnd};
+ghost use Rattle.k_space.specs.Stamps.{IsHeld, mark_of, plain};
 
+use crate::chains::{Spot, insert, reach, remove};
 use k_io::NoMemory;
 use std::alloc::Global;
 use std::marker::Model;
@@ -26,96 +28,48 @@ pub enum Place {
 }
 
 impl Place {
-    /// Whether it has an object without a mark.
-    pub(crate) fn is_white(self) -> bool
-        ensures { result ≡ is_white_place self }
-    {
-        matches!(self, Place::At(_, Mark::White))
-    }
-
     /// Whether it has a gray object.
     pub(crate) fn is_gray(self) -> bool
         ensures { result ≡ is_gray_place self }
     {
         matches!(self, Place::At(_, Mark::Gray(_)))
     }
+}
 
-    /// Whether it has no object.
-    pub(crate) fn is_empty(self) -> bool
-        ensures { result ≡ is_empty_place self }
-    {
-        matches!(self, Place::Empty)
+/// The mark of the object in a spot. With the stamp of the epoch it is gray, and with the one after it black; with any other it
+/// is white, so that a new epoch makes all objects white.
+fn mark_of(spot: Spot, epoch: u32) -> Mark
+    requires { epoch + 1 < 2 ^ 32 }
+    ensures { result ≡ mark_of epoch spot }
+{
+    if spot.stamp == epoch {
+        Mark::Gray(spot.next)
+    } else if spot.stamp == epoch + 1 {
+        Mark::Black
+    } else {
+        Mark::White
     }
 }
 
-/// A place as it is kept. With stamp 0 it is empty, with that of the epoch gray, and with the one after it black; with any
-/// other it is white, so that a new epoch makes all places white.
-#[derive(Clone, Copy)]
-struct Spot {
-    slot: usize,
-    stamp: u32,
-    next: u32,
-}
-
-impl Spot {
-    /// The place as it is kept.
-    fn of(place: Place, epoch: u32) -> Spot
-        requires begun { 2 ≤ epoch }
-        requires small { epoch + 1 < 2 ^ 32 }
-        ensures seen { seen epoch result ≡ place }
-        ensures stamped { result.stamp < epoch + 2 }
-    {
-        match place {
-            Place::Empty => Spot {
-                slot: 0,
-                stamp: 0,
-                next: 0,
-            },
-            Place::At(slot, mark) => match mark {
-                Mark::White => Spot {
-                    slot,
-                    stamp: 1,
-                    next: 0,
-                },
-                Mark::Gray(next) => Spot {
-                    slot,
-                    stamp: epoch,
-                    next,
-                },
-                Mark::Black => Spot {
-                    slot,
-                    stamp: epoch + 1,
-                    next: 0,
-                },
-            },
-        }
-    }
-
-    /// The place that it keeps.
-    fn seen(self, epoch: u32) -> Place
-        requires { epoch + 1 < 2 ^ 32 }
-        ensures { result ≡ seen epoch self }
-    {
-        if self.stamp == 0 {
-            Place::Empty
-        } else if self.stamp == epoch {
-            Place::At(self.slot, Mark::Gray(self.next))
-        } else if self.stamp == epoch + 1 {
-            Place::At(self.slot, Mark::Black)
-        } else {
-            Place::At(self.slot, Mark::White)
-        }
-    }
-
-    /// The same without a mark in any epoch.
-    fn plain(self) -> Spot
-        ensures { result ≡ plain self }
-    {
-        Spot {
-            slot: self.slot,
-            stamp: if self.stamp == 0 { 0 } else { 1 },
-            next: self.next,
-        }
+/// The spot with that mark.
+fn marked(spot: Spot, mark: Mark, epoch: u32) -> Spot
+    requires begun { 0 < epoch }
+    requires small { epoch + 1 < 2 ^ 32 }
+    ensures mark { mark_of epoch result ≡ mark }
+    ensures stamp { result.stamp < epoch + 2 }
+    ensures serial { result.serial ≡ spot.serial }
+    ensures before { result.before ≡ spot.before }
+{
+    let (stamp, next) = match mark {
+        Mark::White => (0, 0),
+        Mark::Gray(next) => (epoch, next),
+        Mark::Black => (epoch + 1, 0),
+    };
+    Spot {
+        serial: spot.serial,
+        before: spot.before,
+        stamp,
+        next,
     }
 }
 
@@ -124,44 +78,65 @@ fn restamp(spots: &mut [Spot])
     ensures { spots.new ≡ map plain spots.old }
 {
     for spot in spots.iter_mut() {
-        *spot = spot.plain();
+        *spot = Spot {
+            serial: spot.serial,
+            before: spot.before,
+            stamp: 0,
+            next: spot.next,
+        };
     }
 }
 
-/// The places of a segment, by serial. All marks go away in constant time.
+/// The places of a segment, by serial. A place is found on the chain of its serial, among those of the younger objects of the chain:
+/// few, where there are as many chains as objects and their serials are spread. Memory goes with the slots, not with the
+/// serials. All marks go away in constant time.
 #[derive(Drop)]
 pub struct Places {
+    // By slot.
     spots: Vec<Spot>,
+    // One more than the slot of the youngest object of each chain; 0 where it has none.
+    heads: Vec<u32>,
+    // How many serials were given, with 0, which no object has.
+    made: u32,
     epoch: u32,
 }
 
 impl Model for Places {
-    ghost use Rattle.std.specs.Prelude.{map, vec_capacity};
-    ghost use Rattle.k_space.specs.Stamps.{PlacesValue, AreStamped, seen};
+    ghost use Rattle.std.specs.Prelude.{vec_capacity};
+    ghost use Rattle.k_space.specs.Stamps.{PlacesValue, AreKept, kept_places};
 
     ghost Value = { PlacesValue };
 
-    ghost view = { λ p. record { items = map (seen p.epoch) p.spots.items; capacity = vec_capacity p.spots } };
+    ghost view = { λ p. record { items = kept_places p.spots.items p.epoch p.made; capacity = vec_capacity p.spots } };
 
-    ghost invariant = { λ p. AreStamped p.spots.items p.epoch };
+    ghost invariant = { λ p. AreKept p.spots.items p.heads.items p.made p.epoch (vec_capacity p.spots) };
 }
 
 impl Places {
-    /// No place, and room for so many.
-    pub(crate) fn make(alloc: Global, capacity: usize) -> Result<Places, NoMemory>
-        ensures { IfOk result (λ p. p ≡ record { items = []; capacity = capacity }) }
+    /// No object, memory for so many slots, and chains for so many objects.
+    pub(crate) fn make(alloc: Global, slots: usize, objects: u32) -> Result<Places, NoMemory>
+        requires { slots < 2 ^ 32 - 1 }
+        ensures { IfOk result (λ p. p ≡ record { items = NoPlace ∷ []; capacity = slots }) }
     {
+        let chains = (objects.max(1) as usize).next_power_of_two();
+        let heads = vec![in alloc; 0; chains]?;
+        let spots = Vec::with_capacity(alloc, slots)?;
         Ok(Places {
-            spots: Vec::with_capacity(alloc, capacity)?,
-            epoch: 2,
+            spots,
+            heads,
+            made: 1,
+            epoch: 1,
         })
     }
 
-    /// How many places there are.
+    /// How many serials were given, with 0.
     pub(crate) fn len(&self) -> usize
-        ensures { result ≡ length self.now.items }
+        ensures value { result ≡ length self.now.items }
+        ensures small { length self.now.items < 2 ^ 32 }
+        ensures apart { (i j slot : ℕ) (a b : MarkOf) → slice_index_or self.now.items i NoPlace ≡ PlaceAt slot a → slice_index_or self.now.items j NoPlace ≡ PlaceAt slot b → i ≡ j }
     {
-        self.spots.len()
+        let _ = &self.spots;
+        self.made as usize
     }
 
     /// The place of that serial.
@@ -169,49 +144,84 @@ impl Places {
         requires { serial < length self.now.items }
         ensures { result ≡ slice_index_or self.now.items serial NoPlace }
     {
-        self.spots[serial].seen(self.epoch)
+        let at = reach(&self.spots, &self.heads, serial).at;
+        if at == 0 {
+            return Place::Empty;
+        }
+        let slot = at as usize - 1;
+        Place::At(slot, mark_of(self.spots[slot], self.epoch))
     }
 
-    /// Makes it the place of that serial.
-    #[tactic(auto, using(crate::proofs::StampLemmas::stamped_set))]
-    pub(crate) fn set(&mut self, serial: usize, place: Place)
-        requires { serial < length self.old.items }
-        ensures { self.new ≡ record self.old { items = slice_set self.old.items serial place } }
+    /// The same, with no walk along a chain where the object lies in the slot of the hint. Any number may be the hint.
+    pub(crate) fn at_near(&self, serial: usize, hint: usize) -> Place
+        requires { serial < length self.now.items }
+        ensures { result ≡ slice_index_or self.now.items serial NoPlace }
     {
-        self.spots[serial] = Spot::of(place, self.epoch);
+        if 0 < serial && hint < self.spots.len() {
+            let spot = self.spots[hint];
+            if spot.serial as usize == serial {
+                return Place::At(hint, mark_of(spot, self.epoch));
+            }
+        }
+        self.at(serial)
     }
 
-    /// Makes the place of that serial black, if it has an object.
-    pub(crate) fn blacken(&mut self, serial: usize)
-        requires { serial < length self.old.items }
-        ensures { self.new ≡ record self.old { items = slice_set self.old.items serial (black_place (slice_index_or self.old.items serial NoPlace)) } }
+    /// Puts an unmarked object into that slot, under the next serial. No memory.
+    pub(crate) fn put(&mut self, slot: usize)
+        requires slot { slot < self.old.capacity }
+        requires free { (i : ℕ) (mark : MarkOf) → slice_index_or self.old.items i NoPlace ≢ PlaceAt slot mark }
+        requires few { length self.old.items + 1 < 2 ^ 32 }
+        ensures { self.new ≡ record self.old { items = self.old.items ++ PlaceAt slot MarkWhite ∷ [] } }
     {
-        match self.at(serial) {
-            Place::At(slot, _) => self.set(serial, Place::At(slot, Mark::Black)),
+        insert(&mut self.spots, &mut self.heads, slot, self.made);
+        self.made += 1;
+    }
+
+    /// Gives the object in that slot that mark, with no look along a chain.
+    pub(crate) fn mark_in(&mut self, slot: usize, mark: Mark)
+        requires { IsHeld self.old.items slot }
+        ensures { (serial : ℕ) (was : MarkOf) → slice_index_or self.old.items serial NoPlace ≡ PlaceAt slot was → self.new ≡ record self.old { items = slice_set self.old.items serial (PlaceAt slot mark) } }
+    {
+        self.spots[slot] = marked(self.spots[slot], mark, self.epoch);
+    }
+
+    /// Gives the object of that serial, if there is one, that mark. The slot is a hint of where it lies.
+    pub(crate) fn mark(&mut self, serial: usize, hint: usize, mark: Mark)
+        requires { serial < length self.old.items }
+        ensures there { (slot : ℕ) (was : MarkOf) → slice_index_or self.old.items serial NoPlace ≡ PlaceAt slot was → self.new ≡ record self.old { items = slice_set self.old.items serial (PlaceAt slot mark) } }
+        ensures none { slice_index_or self.old.items serial NoPlace ≡ NoPlace → self.new ≡ self.old }
+    {
+        match self.at_near(serial, hint) {
+            Place::At(slot, _) => self.mark_in(slot, mark),
             Place::Empty => {}
         }
     }
 
-    /// Has the gray place of the one serial, which names no next one, name the other.
-    pub(crate) fn follow(&mut self, last: usize, next: u32)
+    /// Makes the object of that serial black, if there is one. The slot is a hint of where it lies.
+    pub(crate) fn blacken(&mut self, serial: usize, hint: usize)
+        requires { serial < length self.old.items }
+        ensures { self.new ≡ record self.old { items = slice_set self.old.items serial (black_place (slice_index_or self.old.items serial NoPlace)) } }
+    {
+        self.mark(serial, hint, Mark::Black);
+    }
+
+    /// Has the gray place of the one serial, which names no next one, name the other. The slot is a hint of where the one lies.
+    pub(crate) fn follow(&mut self, last: usize, hint: usize, next: u32)
         requires { IsGrayEnd self.old.items last }
         ensures { (slot : ℕ) → slice_index_or self.old.items last NoPlace ≡ PlaceAt slot (MarkGray 0) → self.new ≡ record self.old { items = slice_set self.old.items last (PlaceAt slot (MarkGray next)) } }
     {
-        self.spots[last].next = next;
+        self.mark(last, hint, Mark::Gray(next));
     }
 
-    /// Makes it the place of the next serial.
-    #[tactic(auto, using(crate::proofs::StampLemmas::stamped_push))]
-    pub(crate) fn push_reserved(&mut self, place: Place)
-        requires { length self.old.items < self.old.capacity }
-        ensures { self.new ≡ record self.old { items = self.old.items ++ place ∷ [] } }
+    /// Takes the object of that serial, if there is one, out.
+    pub(crate) fn take(&mut self, serial: usize)
+        requires { serial < length self.old.items }
+        ensures { self.new ≡ record self.old { items = slice_set self.old.items serial NoPlace } }
     {
-        let spot = Spot::of(place, self.epoch);
-        self.spots.push_reserved(spot);
+        remove(&mut self.spots, &mut self.heads, serial);
     }
 
-    /// Takes the marks of all places away. Constant time, but for one pass at each 2,000,000,000th call.
-    #[tactic(auto, using(crate::proofs::StampLemmas::stamped_later))]
+    /// Takes the marks of all objects away. Constant time, but for one pass of the slots at each 2,000,000,000th call.
     pub(crate) fn whiten(&mut self)
         ensures { self.new ≡ record self.old { items = map white_place self.old.items } }
     {
@@ -219,7 +229,7 @@ impl Places {
             self.epoch += 2;
         } else {
             restamp(&mut self.spots);
-            self.epoch = 2;
+            self.epoch = 1;
         }
     }
 }

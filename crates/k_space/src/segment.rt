@@ -1,24 +1,27 @@
 //! The objects made under one number.
-ghost use Rattle.std.specs.Prelude.{◌≡◌, ◌<◌, ◌≤◌, ◌+◌, ℕ, length, map, Some, None, option_map, IfOk, IfSome, IfNone, IsSome, ◌∷◌, [], slice_set, slice_get, ◌==◌, IsFalse, IsTrue, OnSome};
+ghost use Rattle.std.specs.Prelude.{◌≡◌, ◌↔◌, ◌<◌, ◌≤◌, ◌+◌, ℕ, length, map, Some, None, option_map, IfOk, IfSome, IfNone, IsSome, ◌∷◌, [], slice_set, slice_get, ◌==◌, IsFalse, IsTrue, OnSome};
 ghost use Rattle.k_types.specs.State.{Refers, Holds, field_kind};
 ghost use Rattle.k_types.specs.Types.{object_size};
 ghost use Rattle.k_space.specs.Objects.{HasRef, HasInt, content_of};
 ghost use Rattle.k_types.specs.Names.{name_of};
-ghost use Rattle.k_space.specs.Segments.{Row, White, LiesAt, IsLive, row_at, made, with_row, IsSegment, placed, some_gray, is_gray, is_marked, gray_or_black, segment_bytes, unmarked_segment, blackened_segment, body_of};
-ghost use Rattle.k_space.specs.Sweeping.{IsFreed, IsFree, IsFirstUnmarked, IsTakenAway, IsUnmarkedAt};
+ghost use Rattle.k_space.specs.Segments.{Row, White, LiesAt, IsLive, HasRoom, row_at, living, made, with_row, IsSegment, placed, some_gray, is_gray, is_marked, gray_or_black, segment_bytes, unmarked_segment, blackened_segment, body_of};
+ghost use Rattle.k_space.specs.Sweeping.{IsTakenAway};
 ghost use Rattle.k_space.specs.Visiting.{AreHeld, IsVisitedFromIn, IsVisitedIn};
 ghost use Rattle.slab.specs.Slab.{get};
 ghost use Rattle.k_space.specs.declared.segment.Cell.{Cell as SlabCell};
 
 use crate::body::{Body, Stored};
 use crate::bound::Bound;
-use crate::live::{Pass, blacken, next_white, passed};
+use crate::live::{Entry, blacken, next_white};
 use crate::marks::{Mark, Place, Places};
 use k_io::NoMemory;
 use k_types::{Field, Link, Name, Seg, Serial, Slot, TypeId};
 use slab::Slab;
-use std::alloc::Global;
+use std::alloc::{AllocError, Global};
 use std::marker::Model;
+
+// Slots and serials are numbers below this one.
+const END: usize = 4_294_967_295;
 
 #[derive(Drop)]
 struct Cell {
@@ -50,16 +53,15 @@ pub struct Segment {
     cells: Slab<Cell>,
     // The serial of the gray object that was made gray first; 0 where there is none.
     gray: u32,
-    // That of the one that was made gray last.
+    // That of the one that was made gray last, and a hint of where it lies.
     last: u32,
+    last_slot: usize,
     // Those of the live objects.
     bytes: u64,
-    // One more than the highest slot that was ever used.
-    end: usize,
-    // The serials of the live objects, in any order, and of some that are gone.
-    live: Vec<u32>,
-    // How far a sweep has come on that list.
-    pass: Pass,
+    // The live objects, in any order.
+    live: Vec<Entry>,
+    // How many of these, from the first on, a sweep has passed.
+    passed: usize,
 }
 
 impl Drop for Segment {
@@ -71,10 +73,10 @@ impl Drop for Segment {
             cells: _,
             gray: _,
             last: _,
+            last_slot: _,
             bytes: _,
-            end: _,
             live: _,
-            pass: _,
+            passed: _,
         } = self;
     }
 }
@@ -85,8 +87,8 @@ impl Model for Segment {
     ghost Value = { SegmentValue };
 
     ghost use Rattle.std.specs.Prelude.{map, vec_capacity, ◌≡◌};
-    ghost use Rattle.k_space.specs.Places.{row_of, IsSound, IsLastGray, AreBytes, AreBelow};
-    ghost use Rattle.k_space.specs.Listed.{IsListed};
+    ghost use Rattle.k_space.specs.Places.{row_of, IsSound, IsLastGray, AreBytes};
+    ghost use Rattle.k_space.specs.Listed.{IsListed, serials};
 
     ghost view = { λ s. record { number = s.number.0; room = s.room; rows = map (row_of s.cells) s.places.items } };
 
@@ -94,8 +96,7 @@ impl Model for Segment {
       sound : IsSound s.places.items s.cells s.room s.places.capacity s.gray;
       last : IsLastGray s.places.items s.last;
       bytes : AreBytes s.places.items s.cells s.bytes;
-      end : AreBelow s.cells s.end;
-      listed : IsListed s.places.items s.live.items s.pass.kept s.pass.next;
+      listed : IsListed s.places.items (serials s.live.items) s.passed;
       reserved : vec_capacity s.live ≡ s.room;
     } };
 }
@@ -116,27 +117,28 @@ fn copy_unless(cells: &Slab<Cell>, slot: usize, skip: bool, into: &mut [Stored])
 }
 
 impl Segment {
-    /// A segment with no object, in which `room` serials can be given. It takes the memory for all of
-    /// them at once; `NoMemory` comes where there is none.
+    /// A segment with no object, in which `room` of them can live at once. It takes the memory for all of
+    /// them; `NoMemory` comes where there is none, and where slots would not be numbers of 32 bits.
     pub fn make(alloc: Global, seg: Seg, room: u32) -> Result<Segment, NoMemory>
         ensures { IfOk result (λ s. s ≡ record { number = seg.0; room = room; rows = None ∷ [] }) }
     {
-        let mut places = Places::make(alloc, room as usize + 1)?;
-        places.push_reserved(Place::Empty);
         let cells = Slab::with_capacity(alloc, room as usize)?;
-        // Read so that the proof has its range: the number of a slot, plus 1, fits.
-        let _slots = cells.capacity();
+        let slots = cells.capacity();
+        // No such memory is given.
+        if slots >= END {
+            return Err(NoMemory::from(AllocError));
+        }
         Ok(Segment {
             number: seg,
             room,
-            places,
+            places: Places::make(alloc, slots, room)?,
             cells,
             gray: 0,
             last: 0,
+            last_slot: 0,
             bytes: 0,
-            end: 0,
             live: Vec::with_capacity(alloc, room as usize)?,
-            pass: Pass { kept: 0, next: 0 },
+            passed: 0,
         })
     }
 
@@ -157,6 +159,21 @@ impl Segment {
         (self.places.len() - 1) as u32
     }
 
+    /// How many objects live. Constant time.
+    pub fn living(&self) -> u32
+        ensures value { result ≡ living self.now }
+        ensures sound { IsSegment self.now }
+    {
+        self.cells.len() as u32
+    }
+
+    /// Whether one more object can be put in. Constant time.
+    pub fn has_room(&self) -> bool
+        ensures { IsTrue result ↔ HasRoom self.now }
+    {
+        self.cells.len() < self.room as usize && self.places.len() < END
+    }
+
     /// The bytes of the live objects. They are kept, and not added up here: constant time.
     pub fn bytes(&self) -> u64
         ensures value { result ≡ segment_bytes self.now }
@@ -168,7 +185,7 @@ impl Segment {
     /// Puts an object in, under the next serial, and in a slot that has none. Constant time, and no
     /// memory.
     pub fn place(&mut self, body: Body) -> Link
-        requires { made self.old < self.old.room }
+        requires { HasRoom self.old }
         ensures seg { result.seg.0 ≡ self.old.number }
         ensures serial { result.serial.0 ≡ length self.old.rows }
         ensures next { result.serial.0 ≡ made self.old + 1 }
@@ -180,9 +197,12 @@ impl Segment {
             serial: Serial(serial),
             body,
         });
-        self.places.push_reserved(Place::At(slot, Mark::White));
-        self.end = self.end.max(slot + 1);
-        self.live.push_reserved(serial);
+        self.places.put(slot);
+        let entry = Entry {
+            serial,
+            slot: slot as u32,
+        };
+        self.live.push_reserved(entry);
         Link {
             seg: self.number,
             slot: Slot(slot),
@@ -190,7 +210,7 @@ impl Segment {
         }
     }
 
-    /// Where the object of that serial lies. Constant time.
+    /// Where the object of that serial lies. Constant time where the hash spreads the serials.
     pub fn find(&self, serial: Serial) -> Option<Slot>
         ensures { option_map (λ s. s.0) result ≡ option_map (λ row. row.slot) (row_at self.now serial.0) }
     {
@@ -293,7 +313,7 @@ impl Segment {
     }
 
     /// Makes a white object gray. Other objects, and serials with no object, stay as they are. Constant
-    /// time, and no memory.
+    /// time where the hash spreads the serials, and no memory.
     #[tactic(auto, using(crate::proofs::Rows::kept_view))]
     pub fn make_gray(&mut self, serial: Serial)
         ensures grayed { (row : Row) → row_at self.old serial.0 ≡ Some row → self.new ≡ with_row self.old serial.0 (Some (record row { color = gray_or_black row.color })) }
@@ -309,13 +329,14 @@ impl Segment {
             Place::At(slot, mark) => match mark {
                 Mark::White => {
                     // Behind the others, so that objects are visited mostly in the order of their making.
-                    let last = self.last;
+                    let (last, hint) = (self.last, self.last_slot);
                     self.last = serial.0;
-                    self.places.set(at, Place::At(slot, Mark::Gray(0)));
+                    self.last_slot = slot;
+                    self.places.mark_in(slot, Mark::Gray(0));
                     if self.gray == 0 {
                         self.gray = serial.0;
                     } else {
-                        self.places.follow(last as usize, serial.0);
+                        self.places.follow(last as usize, hint, serial.0);
                     }
                 }
                 Mark::Gray(_) => {}
@@ -326,7 +347,7 @@ impl Segment {
     }
 
     /// Takes a gray object, makes it black, and writes what its fields hold to the front of the list. `None` comes
-    /// where no object is gray. Constant time, and no memory.
+    /// where no object is gray. Constant time where the hash spreads the serials, and no memory.
     pub fn visit_gray(&mut self, into: &mut [Stored]) -> Option<Visited>
         requires { 16 ≤ length into.old }
         ensures some { IfSome result (λ found. IsVisitedIn self.old self.new found into.new) }
@@ -361,7 +382,7 @@ impl Segment {
                         serial: Serial(serial),
                     };
                     let fields = copy_unless(&self.cells, slot, bound.covers(name), into);
-                    self.places.set(at, Place::At(slot, Mark::Black));
+                    self.places.mark_in(slot, Mark::Black);
                     self.gray = next;
                     Some(Visited { name, fields })
                 }
@@ -372,7 +393,7 @@ impl Segment {
         }
     }
 
-    /// Whether there is an object of that serial, and it is gray. Constant time.
+    /// Whether there is an object of that serial, and it is gray. Constant time where the hash spreads the serials.
     pub fn is_gray(&self, serial: Serial) -> bool
         ensures { result ≡ some_gray (row_at self.now serial.0) }
     {
@@ -391,34 +412,17 @@ impl Segment {
         let front = blacken(&self.live, &mut self.places, below);
         self.gray = 0;
         // A sweep keeps these without a look at them.
-        self.pass = Pass {
-            kept: front,
-            next: front,
-        };
+        self.passed = front;
     }
 
     /// Takes the marks of all objects away. Constant time, however many objects were ever made, but for one pass
-    /// of the serials at each 2,000,000,000th call.
+    /// of the slots at each 2,000,000,000th call.
     pub fn unmark_all(&mut self)
         ensures { self.new ≡ unmarked_segment self.old }
     {
         self.places.whiten();
         self.gray = 0;
-        self.pass = Pass { kept: 0, next: 0 };
-    }
-
-    /// Frees the first object that isn't marked, by slots from that one on. It passes the slots up to
-    /// that object, so that calls from the freed slot on pass each slot once that was ever used.
-    /// [`Segment::free_unmarked`], which keeps no order, passes those of live objects alone.
-    pub fn sweep_next(&mut self, from: Slot) -> Option<Gone>
-        ensures freed { IfSome result (λ gone. IsFreed self.old self.new from.0 gone) }
-        ensures none { IfNone result ((serial : ℕ) (row : Row) → row_at self.old serial ≡ Some row → from.0 ≤ row.slot → IsTrue (is_marked row.color)) }
-        ensures kept { IfNone result (self.new ≡ self.old) }
-    {
-        match self.first_unmarked(from.0) {
-            Some(slot) => Some(self.free(slot)),
-            None => None,
-        }
+        self.passed = 0;
     }
 
     /// Frees an object that isn't marked. All calls up to the one that frees nothing look once, at most, at each object
@@ -428,14 +432,21 @@ impl Segment {
         ensures none { IfNone result ((serial : ℕ) (row : Row) → row_at self.old serial ≡ Some row → IsTrue (is_marked row.color)) }
         ensures kept { IfNone result (self.new ≡ self.old) }
     {
-        let pass = next_white(&mut self.live, &self.places, self.pass);
-        self.pass = pass;
-        if pass.next >= self.live.len() {
-            return None;
-        }
-        match self.places.at(self.live[pass.next] as usize) {
-            Place::At(slot, _) => Some(self.free(slot)),
-            Place::Empty => unreachable!(),
+        match next_white(&self.live, &self.places, self.passed) {
+            Some(white) => {
+                self.passed = white.at;
+                let entry = self.live.swap_remove(white.at);
+                self.places.take(entry.serial as usize);
+                let cell = self.cells.remove(white.slot);
+                let bytes = cell.body.bytes();
+                self.bytes -= bytes;
+                Some(Gone {
+                    slot: Slot(white.slot),
+                    serial: cell.serial,
+                    bytes,
+                })
+            }
+            None => None,
         }
     }
 
@@ -445,54 +456,5 @@ impl Segment {
         ensures { (serial : ℕ) (row : Row) → LiesAt self.now slot.0 serial row → result.now ≡ body_of row }
     {
         &self.cells[slot.0].body
-    }
-
-    /// The first slot from that one on with an object that isn't marked.
-    fn first_unmarked(&self, from: usize) -> Option<usize>
-        ensures some { IfSome result (λ slot. IsFirstUnmarked self.now from slot) }
-        ensures none { IfNone result ((serial : ℕ) (row : Row) → row_at self.now serial ≡ Some row → from ≤ row.slot → IsTrue (is_marked row.color)) }
-    {
-        for slot in from..self.end() {
-            if self.is_unmarked(slot) {
-                return Some(slot);
-            }
-        }
-        None
-    }
-
-    /// No object lies at this slot or a higher one.
-    fn end(&self) -> usize
-        ensures { (serial : ℕ) (row : Row) → row_at self.now serial ≡ Some row → row.slot < result }
-    {
-        self.end
-    }
-
-    /// Whether an object without a mark lies there.
-    fn is_unmarked(&self, slot: usize) -> bool
-        ensures yes { IsTrue result → IsUnmarkedAt self.now slot }
-        ensures no { IsFalse result → (serial : ℕ) (row : Row) → row_at self.now serial ≡ Some row → row.slot ≡ slot → IsTrue (is_marked row.color) }
-    {
-        let Some(cell) = self.cells.get(slot) else {
-            return false;
-        };
-        self.places.at(cell.serial.0 as usize).is_white()
-    }
-
-    /// Frees the object there, which isn't marked.
-    fn free(&mut self, slot: usize) -> Gone
-        requires { IsUnmarkedAt self.old slot }
-        ensures slot { result.slot.0 ≡ slot }
-        ensures freed { (serial : ℕ) (row : Row) → LiesAt self.old slot serial row → IsFree self.old self.new serial row result }
-    {
-        let cell = self.cells.remove(slot);
-        let bytes = cell.body.bytes();
-        self.places.set(cell.serial.0 as usize, Place::Empty);
-        self.bytes -= bytes;
-        self.pass = passed(&self.live, &self.places, self.pass, cell.serial.0);
-        Gone {
-            slot: Slot(slot),
-            serial: cell.serial,
-            bytes,
-        }
     }
 }

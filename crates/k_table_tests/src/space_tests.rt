@@ -1,21 +1,23 @@
 //! Sizes, serials and slots at the corners.
 use k_space::{Area, Body, Segment};
-use k_types::{Field, Seg, Serial, Slot, TypeId, TypeTable};
+use k_types::{Field, Seg, Serial, TypeId, TypeTable};
 use std::test::Fail;
 
-// Two objects of 40 bytes, one after the other: the second lies in the slot of the first, under a serial of its own.
+// Two objects of 40 bytes, one after the other, where one can live at once: the second lies in the slot of the first, under a
+// serial of its own.
 #[test]
 fn a_slot_used_again_has_a_new_serial(rt: HostRuntime) -> Result<(), Fail> {
     let first = Body::directory(rt.alloc(), 3)?;
     let second = Body::directory(rt.alloc(), 3)?;
-    let mut segment = Segment::make(rt.alloc(), Seg(1), 2)?;
+    let mut segment = Segment::make(rt.alloc(), Seg(1), 1)?;
     let one = segment.place(first);
     assert_eq!(rt; segment.bytes(), 40);
-    let gone = segment.sweep_next(Slot(0));
+    assert!(rt; !segment.has_room());
+    let gone = segment.free_unmarked();
     assert!(rt; gone.is_some());
     assert_eq!(rt; segment.bytes(), 0);
     assert!(rt; segment.find(one.serial).is_none());
-    assert!(rt; segment.made() < 2);
+    assert!(rt; segment.has_room());
     let two = segment.place(second);
     assert_eq!(rt; one.serial.0, 1);
     assert_eq!(rt; two.serial.0, 2);

@@ -1,7 +1,11 @@
 use Rattle.std.proofs.Common.{◌≡◌, Some, sym, ap, ◌∙◌, arith}
 use Rattle.k_space.specs.Areas.{segment_at, with_segment}
 use Rattle.k_space.proofs.AreaRows.{number_found}
+use Rattle.k_cell.proofs.Living.{room_there}
 use Rattle.k_cell.proofs.writing.place_in.Goals as goal
+
+pub place-requires : goal.place-requires
+place-requires c = room_there c.args.area.now.segments c.args.seg.0 c.in-Some.segment.now (sym c.in-Some.ensures.value) c.made-given.ensures.sound c.requires.room
 
 pub returns : goal.returns
 returns c =

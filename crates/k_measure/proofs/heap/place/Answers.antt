@@ -2,9 +2,17 @@ use Rattle.std.proofs.Common.{◌≡◌, ◌+◌, ◌∷◌, ◌∙◌, zero, su
 use Rattle.std.specs.Vec.Iter.{into_iter_items}
 use Rattle.k_space.specs.Objects.{BodyValue}
 use Rattle.k_space.specs.Segments.{SegmentValue, new_row}
+use Rattle.k_space.proofs.Taken.{room_made}
 use Rattle.k_measure.specs.Inside.{AreNew, KeepsInside}
 use Rattle.k_measure.proofs.Inside.{placed_inside}
 use Rattle.k_measure.proofs.heap.place.Goals as goal
+
+pub place-requires : goal.place-requires
+place-requires c =
+    let at = c.loop-body.invariant in
+    let steps : into_iter_items c.loop-body.body-iterator ≡ c.in-Some.body ∷ into_iter_items c.next.new.self = c.in-Some.ensures.steps.0 in
+    let left : length (into_iter_items c.loop-body.body-iterator) ≡ suc (length (into_iter_items c.next.new.self)) = ap (λ (bs : List BodyValue). length bs) steps in
+    room_made c.loop-body.segment c.made-given.ensures.sound (omega (arith, at.begun, at.room, left))
 
 pub loop-body-preserved : goal.loop-body-preserved
 loop-body-preserved c =

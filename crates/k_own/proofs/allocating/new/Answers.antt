@@ -9,7 +9,7 @@ use Rattle.k_types.specs.Names.{name_of}
 use Rattle.k_types.specs.Owners.{object_bytes}
 use Rattle.k_types.specs.Totals.{total}
 use Rattle.k_cell.specs.Changes.{next_in, with_body}
-use Rattle.k_cell.specs.Holdings.{HasSerialLeft}
+use Rattle.k_cell.specs.Holdings.{HasObjectRoom}
 use Rattle.k_heap.specs.Heaps.{HeapRecord, holdings_of, own_segment}
 use Rattle.k_commit.specs.Changed.{CanSetRegister, HasChanged, HasSetRegister}
 use Rattle.k_commit.specs.Charging.{HasCharged, IsFullFor}
@@ -18,7 +18,7 @@ use Rattle.k_own.proofs.allocating.new.Goals as goal
 
 pub place-link-requires-clause-left : goal.place-link-requires-clause-left
 place-link-requires-clause-left g c =
-    subst (λ (w : HeapRecord). HasSerialLeft (holdings_of w) (own_segment w.pid)) (sym c.take_body-body.ensures.rest)
+    subst (λ (w : HeapRecord). HasObjectRoom (holdings_of w) (own_segment w.pid)) (sym c.take_body-body.ensures.rest)
     (serial_left_now g.before c.args.cell.now c.args.book.now c.args.reg c.args.ty c.requires c.take_body-body.result c.take_body-body.new.self.bodies c.take_body-body.ensures.first)
 
 pub place-link-requires-clause-bytes : goal.place-link-requires-clause-bytes

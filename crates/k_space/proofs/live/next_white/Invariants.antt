@@ -1,12 +1,5 @@
-use Rattle.std.proofs.Common.{◌≡◌, ◌-◌, length, vec_capacity}
-use Rattle.k_space.specs.Listed.{IsListed}
+use Rattle.k_space.specs.Listed.{ArePassed, serials}
 use Rattle.k_space.proofs.live.next_white.Given as goal
 
-abbrev pub invariant-loop-next : goal.invariant-loop-next
-invariant-loop-next l = record {
-  listed : IsListed l.fn.places.items l.live.items l.kept l.next;
-  capacity : vec_capacity l.live ≡ vec_capacity l.fn.live;
-}
-
-abbrev pub decreases-loop-next : goal.decreases-loop-next
-decreases-loop-next l = length l.live.items - l.next
+abbrev pub invariant-loop-at : goal.invariant-loop-at
+invariant-loop-at l = ArePassed l.places.items (serials l.live) l.at

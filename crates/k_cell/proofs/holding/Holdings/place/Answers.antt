@@ -1,7 +1,7 @@
 use Rattle.std.proofs.Common.{◌≡◌, sym, ap, subst, ◌∙◌}
 use Rattle.k_types.specs.declared.names.CellPhase.TheVariants.{Idle}
 use Rattle.k_space.specs.Bounds.{is_covered}
-use Rattle.k_cell.specs.Holdings.{HoldingsValue, HasSerialLeft}
+use Rattle.k_cell.specs.Holdings.{HoldingsValue, HasObjectRoom}
 use Rattle.k_cell.proofs.Seen.{can_place, placed_kept, placed_name, placed_seen}
 use Rattle.k_cell.proofs.Carried.{placed_carried}
 use Rattle.k_cell.proofs.holding.Holdings.place.Goals as goal
@@ -9,7 +9,7 @@ use Rattle.k_cell.proofs.holding.Holdings.place.Goals as goal
 pub place_in-link-requires-clause-room : goal.place_in-link-requires-clause-room
 place_in-link-requires-clause-room c =
     can_place c.self.inside.bound c.args.seg.0 c.self.inside.phase c.self.inside.area c.self.inside.exits c.self.inside.note c.self.invariant.tables.numbered.none
-    (subst (λ (h : HoldingsValue). HasSerialLeft h c.args.seg.0) (sym c.self.view_is) c.requires.left)
+    (subst (λ (h : HoldingsValue). HasObjectRoom h c.args.seg.0) (sym c.self.view_is) c.requires.left)
 
 pub invariant_of-self : goal.invariant_of-self
 invariant_of-self c =

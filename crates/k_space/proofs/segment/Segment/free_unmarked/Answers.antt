@@ -1,43 +1,71 @@
-use Rattle.std.proofs.Common.{ℕ, List, ◌≡◌, ◌<◌, true, refl, sym, ap, subst, ◌∙◌, length, get_or, map, arith}
-use Rattle.std.proofs.lemmas.List.{get_or_default}
-use Rattle.slab.specs.Slab.{Slab}
+use Rattle.std.proofs.Common.{List, ◌≡◌, ◌-◌, refl, sym, ap, subst, ◌∙◌, length, arith}
+use Rattle.k_space.specs.declared.live.Entry.{Entry}
 use Rattle.k_space.specs.declared.segment.Cell.{Cell}
-use Rattle.k_space.specs.declared.marks.Mark.{Mark}
-use Rattle.k_space.specs.declared.marks.Place.{Place}
-use Rattle.k_space.specs.declared.marks.Place.TheVariants.{Empty, At}
-use Rattle.k_space.specs.Segments.{Row, SegmentValue, is_marked}
-use Rattle.k_space.specs.Sweeping.{IsUnmarkedAt, IsTakenAway}
-use Rattle.k_space.specs.Places.{row_of, is_white_place, IsSound}
-use Rattle.k_space.proofs.Freed.{unmarked_place, taken_away, other_mark}
-use Rattle.k_space.proofs.ListedLemmas.{none_white}
-use Rattle.k_space.proofs.Rows.{lies_in}
+use Rattle.k_space.specs.declared.marks.Place.TheVariants.{Empty}
+use Rattle.k_space.specs.declared.marks.Mark.TheVariants.{White as MarkWhite}
+use Rattle.k_space.specs.Segments.{Row, is_marked}
+use Rattle.k_space.specs.Listed.{ArePassed, IsNextWhite, serials}
+use Rattle.k_space.proofs.Bytes.{bytes_freed, size_there}
+use Rattle.k_space.proofs.Entries.{length_serials, serial_read, serials_without}
+use Rattle.k_space.proofs.Freed.{freed, freed_rows, other_mark, taken_away}
+use Rattle.k_space.proofs.GrayLists.{At_inside}
+use Rattle.k_space.proofs.GrayQueue.{last_set}
+use Rattle.k_space.proofs.ListedLemmas.{listed_freed, next_place, next_serial, none_white}
+use Rattle.k_space.proofs.Numbers.{swapped}
+use Rattle.k_space.proofs.Rows.{lies_in, same_cell}
 use Rattle.k_space.proofs.segment.Segment.free_unmarked.Goals as goal
 
-pub returns-then-pass-len-clause-none : goal.returns-then-pass-len-clause-none
-returns-then-pass-len-clause-none c = λ serial row at.
+pub returns-in-None-clause-none : goal.returns-in-None-clause-none
+returns-in-None-clause-none c = λ serial row at.
     let places = c.self.inside.places.items in
     let l = lies_in _ _ places c.self.inside.cells c.args.self.now row.slot serial row c.self.view_is (record { there = at; slot_is = refl }) in
-    ap (λ (r : Row). is_marked r.color) l.row_is ∙ other_mark row.slot l.mark (none_white places _ _ _ c.next_white-pass.ensures.listed (omega (arith, c.if-pass-len.true, c.len.ensures, c.next_white-pass.new.live.ok.0, c.next_white-pass.ensures.listed.reached)) serial row.slot l.mark l.at)
+    let live = c.self.inside.live.items in
+    let all : ArePassed places (serials live) (length live) = subst (λ (xs : List Entry). ArePassed places (serials xs) (length xs)) c.deref.ensures.value c.in-None.ensures.none in
+    ap (λ (r : Row). is_marked r.color) l.row_is ∙ other_mark row.slot l.mark (none_white places (serials live) _ c.self.invariant.listed (subst (ArePassed places (serials live)) (sym (length_serials live)) all) serial row.slot l.mark l.at)
 
--- the object that is freed
-found : (number room : ℕ) (places : List Place) (cells : Slab Cell) (capacity head : ℕ) (live : List ℕ) (at n d slot : ℕ) (mark : Mark) (p : Place) → IsSound places cells room capacity head → at < length live → n ≡ get_or live at d →
-    p ≡ get_or places n Empty → p ≡ At slot mark → is_white_place (get_or places (get_or live at 0) Empty) ≡ true →
-    IsUnmarkedAt (record { number = number; room = room; rows = map (row_of cells) places }) slot
-found number room places cells capacity head live at n d slot mark p sound below read place is white =
-    let serial : n ≡ get_or live at 0 = read ∙ get_or_default live at d 0 below in
-    let here : get_or places n Empty ≡ At slot mark = sym place ∙ is in
-    unmarked_place number room places cells capacity head _ n slot mark sound refl here (sym (ap is_white_place here) ∙ ap (λ n. is_white_place (get_or places n Empty)) serial ∙ white)
+pub overflow_sub-self : goal.overflow_sub-self
+overflow_sub-self c =
+    let places = c.self.inside.places.items in
+    let cells = c.self.inside.cells in
+    let at = c.swap_remove-entry.result.serial in
+    let next : IsNextWhite places (serials c.self.inside.live.items) c.in-Some.white.at c.in-Some.white.slot = subst (λ (xs : List Entry). IsNextWhite places (serials xs) c.in-Some.white.at c.in-Some.white.slot) c.deref.ensures.value c.in-Some.ensures.some in
+    let here = next_place places (serials c.self.inside.live.items) c.in-Some.white.at c.in-Some.white.slot at next (serial_read c.self.inside.live.items c.in-Some.white.at c.swap_remove-entry.result c.swap_remove-entry.ensures.value) in
+    let rows = freed_rows places cells c.remove-cell.new.self c.self.inside.room _ c.self.inside.gray at c.in-Some.white.slot MarkWhite c.self.invariant.sound here c.remove-cell.ensures.updates in
+    let size = size_there places cells at c.in-Some.white.slot MarkWhite c.remove-cell.result here c.remove-cell.ensures.value ∙ sym c.bytes-bytes.ensures.size in
+    (bytes_freed places cells c.remove-cell.new.self c.self.inside.bytes at c.bytes-bytes.result c.self.invariant.bytes rows (At_inside places at c.in-Some.white.slot MarkWhite here) size).0
 
-pub free-requires : goal.free-requires
-free-requires c =
-    let below : c.next_white-pass.result.next < length c.next_white-pass.new.live.items = omega (arith, c.if-pass-len.false, c.len.ensures, c.next_white-pass.new.live.ok.0) in
-    found _ _ c.self.inside.places.items c.self.inside.cells _ c.self.inside.gray c.next_white-pass.new.live.items c.next_white-pass.result.next c.index.result.now _ c.in-At.slot c.in-At.field-1 c.at.result
-    c.self.invariant.sound below c.index.ensures c.at.ensures c.in-At.is (c.next_white-pass.ensures.white below)
+pub invariant_of-self : goal.invariant_of-self
+invariant_of-self c =
+    let places = c.self.inside.places.items in
+    let cells = c.self.inside.cells in
+    let live = c.self.inside.live in
+    let after = c.swap_remove-entry.new.self in
+    let at = c.swap_remove-entry.result.serial in
+    let next : IsNextWhite places (serials live.items) c.in-Some.white.at c.in-Some.white.slot = subst (λ (xs : List Entry). IsNextWhite places (serials xs) c.in-Some.white.at c.in-Some.white.slot) c.deref.ensures.value c.in-Some.ensures.some in
+    let read = serial_read live.items c.in-Some.white.at c.swap_remove-entry.result c.swap_remove-entry.ensures.value in
+    let here = next_place places (serials live.items) c.in-Some.white.at c.in-Some.white.slot at next read in
+    let rows = freed_rows places cells c.remove-cell.new.self c.self.inside.room _ c.self.inside.gray at c.in-Some.white.slot MarkWhite c.self.invariant.sound here c.remove-cell.ensures.updates in
+    let size = size_there places cells at c.in-Some.white.slot MarkWhite c.remove-cell.result here c.remove-cell.ensures.value ∙ sym c.bytes-bytes.ensures.size in
+    let within = At_inside places at c.in-Some.white.slot MarkWhite here in
+    let bytes = bytes_freed places cells c.remove-cell.new.self c.self.inside.bytes at c.bytes-bytes.result c.self.invariant.bytes rows within size in
+    let without = serials_without live.items after.items c.in-Some.white.at
+    (swapped live.items after.items c.in-Some.white.at live.len after.len live.ok.0 after.ok.0 c.swap_remove-entry.ensures.len (omega (arith, next.below, length_serials live.items)) c.swap_remove-entry.ensures.by_index) in
+    rw c.take.ensures (record {
+      sound = freed places cells c.remove-cell.new.self c.self.inside.room _ c.self.inside.gray at c.in-Some.white.slot c.remove-cell.result c.self.invariant.sound here c.remove-cell.ensures.value c.remove-cell.ensures.updates c.remove-cell.ensures.len c.remove-cell.ensures.capacity;
+      bytes = bytes.1 (c.self.inside.bytes - c.bytes-bytes.result) (omega (arith, bytes.0));
+      listed = rw (next_serial places (serials live.items) c.in-Some.white.at c.in-Some.white.slot at next read) (listed_freed places (serials live.items) (serials after.items) _ c.in-Some.white.at c.in-Some.white.slot c.self.invariant.listed next without);
+      reserved = omega (arith, c.swap_remove-entry.ensures.capacity, c.self.invariant.reserved);
+      last = last_set places c.self.inside.last at Empty c.self.invariant.last within refl;
+    })
 
-pub returns-clause-freed : goal.returns-clause-freed
-returns-clause-freed c =
-    let below : c.next_white-pass.result.next < length c.next_white-pass.new.live.items = omega (arith, c.if-pass-len.false, c.len.ensures, c.next_white-pass.new.live.ok.0) in
-    let u = found _ _ c.self.inside.places.items c.self.inside.cells _ c.self.inside.gray c.next_white-pass.new.live.items c.next_white-pass.result.next c.index.result.now _ c.in-At.slot c.in-At.field-1 c.at.result
-    c.self.invariant.sound below c.index.ensures c.at.ensures c.in-At.is (c.next_white-pass.ensures.white below) in
-    subst (λ (s : SegmentValue). IsTakenAway s c.free.new.self c.free.result) c.self.view_is
-    (taken_away _ c.free.new.self c.in-At.slot c.free.result u c.free.ensures.slot (c.free.ensures.freed u.serial u.row u.lies))
+pub returns-in-Some-clause-freed : goal.returns-in-Some-clause-freed
+returns-in-Some-clause-freed c =
+    let places = c.self.inside.places.items in
+    let at = c.swap_remove-entry.result.serial in
+    let next : IsNextWhite places (serials c.self.inside.live.items) c.in-Some.white.at c.in-Some.white.slot = subst (λ (xs : List Entry). IsNextWhite places (serials xs) c.in-Some.white.at c.in-Some.white.slot) c.deref.ensures.value c.in-Some.ensures.some in
+    let here = next_place places (serials c.self.inside.live.items) c.in-Some.white.at c.in-Some.white.slot at next (serial_read c.self.inside.live.items c.in-Some.white.at c.swap_remove-entry.result c.swap_remove-entry.ensures.value) in
+    let placed = c.self.invariant.sound.placed at c.in-Some.white.slot MarkWhite here in
+    let one : c.remove-cell.result ≡ placed.cell = same_cell (sym c.remove-cell.ensures.value ∙ placed.there) in
+    rw c.take.ensures
+    (taken_away _ _ places c.self.inside.cells c.remove-cell.new.self _ c.self.inside.gray c.args.self.now at c.in-Some.white.slot c.remove-cell.result _ c.self.invariant.sound c.self.view_is here
+    c.remove-cell.ensures.value c.remove-cell.ensures.updates (ap (λ (x : Cell). x.serial.0) one ∙ placed.serial_is) refl c.bytes-bytes.ensures.size)

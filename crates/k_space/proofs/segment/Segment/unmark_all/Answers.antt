@@ -12,8 +12,7 @@ invariant_of-self c =
     rw c.whiten.ensures (record {
       sound = whitened places c.self.inside.cells c.self.inside.room _ c.self.inside.gray c.self.invariant.sound;
       bytes = bytes_whitened places c.self.inside.cells c.self.inside.bytes c.self.invariant.bytes;
-      end = c.self.invariant.end;
-      listed = listed_whitened places _ _ _ c.self.invariant.listed;
+      listed = listed_whitened places _ _ c.self.invariant.listed;
       reserved = c.self.invariant.reserved;
       last = last_whitened places c.self.inside.last;
     })

@@ -4,7 +4,7 @@ use Rattle.k_space.specs.declared.marks.Mark.TheVariants.{White as MarkWhite, Gr
 use Rattle.k_space.specs.Segments.{SegmentValue, row_at, some_gray}
 use Rattle.k_space.specs.Places.{IsGrayList, is_gray_place}
 use Rattle.k_space.proofs.GrayQueue.{last_set}
-use Rattle.k_space.proofs.ListedLemmas.{listed_set}
+use Rattle.k_space.proofs.ListedLemmas.{listed_recolored}
 use Rattle.k_space.proofs.Bytes.{bytes_recolored}
 use Rattle.k_space.proofs.GrayLists.{above_zero, first_left, head_gray, none_gray, no_head, At_inside}
 use Rattle.k_space.proofs.Rows.{recolored, visited, gray_row, row_at_view}
@@ -18,6 +18,9 @@ returns-then-self-eq0-clause-none c = λ serial.
     ∙ ap some_gray (row_at_view c.self.inside.cells places serial)
     ∙ gray_row c.self.inside.cells (get_or places serial Empty) (none_gray places (no_head places _ grays) serial)
 
+pub mark_in-requires : goal.mark_in-requires
+mark_in-requires c = record { serial = c.self.inside.gray; was = MarkGray c.in-Gray.next; there = sym c.at-place.ensures ∙ (c.in-At.is ∙ ap (At c.in-At.slot) c.in-Gray.is) }
+
 pub invariant_of-self : goal.invariant_of-self
 invariant_of-self c =
     let places = c.self.inside.places.items in
@@ -25,13 +28,12 @@ invariant_of-self c =
     let some = above_zero at c.if-self-eq0.false in
     let first = head_gray places _ at some c.self.invariant.sound.grays in
     let here = sym c.at-place.ensures ∙ (c.in-At.is ∙ ap (At c.in-At.slot) c.in-Gray.is) in
-    rw c.set.ensures (record {
+    rw (c.mark_in.ensures c.self.inside.gray (MarkGray c.in-Gray.next) here) (record {
       sound =
           recolored places c.self.inside.cells c.self.inside.room _ at c.in-Gray.next at c.in-At.slot (MarkGray c.in-Gray.next) MarkBlack c.self.invariant.sound here
           (first_left places _ at c.in-At.slot c.in-Gray.next (At c.in-At.slot MarkBlack) refl here some c.self.invariant.sound.grays refl);
       bytes = bytes_recolored places c.self.inside.cells c.self.inside.bytes at c.in-At.slot (MarkGray c.in-Gray.next) MarkBlack c.self.invariant.bytes here;
-      end = c.self.invariant.end;
-      listed = listed_set places _ _ _ at (At c.in-At.slot MarkBlack) c.self.invariant.listed (At_inside places at c.in-At.slot (MarkGray c.in-Gray.next) here) refl (λ s m e. c.self.invariant.listed.covers at c.in-At.slot (MarkGray c.in-Gray.next) here);
+      listed = listed_recolored places _ _ at c.in-At.slot (MarkGray c.in-Gray.next) MarkBlack c.self.invariant.listed here refl;
       reserved = c.self.invariant.reserved;
       last = last_set places c.self.inside.last at (At c.in-At.slot MarkBlack) c.self.invariant.last (At_inside places at c.in-At.slot (MarkGray c.in-Gray.next) here) refl;
     })
@@ -66,6 +68,6 @@ pub returns-clause-some : goal.returns-clause-some
 returns-clause-some c =
     let here = sym c.at-place.ensures ∙ (c.in-At.is ∙ ap (At c.in-At.slot) c.in-Gray.is) in
     let placed = c.self.invariant.sound.placed c.self.inside.gray c.in-At.slot (MarkGray c.in-Gray.next) here in
-    rw c.set.ensures
+    rw (c.mark_in.ensures c.self.inside.gray (MarkGray c.in-Gray.next) here)
     (visited c.args.bound _ _ c.self.inside.places.items c.self.inside.cells c.args.self.now c.self.inside.gray c.in-At.slot c.in-Gray.next placed.cell c.copy_unless-fields.result c.copy_unless-fields.new.into c.self.view_is here placed.there c.copy_unless-fields.ensures.most
     (λ plain. c.copy_unless-fields.ensures.held (c.covers.ensures ∙ plain) placed.cell placed.there))

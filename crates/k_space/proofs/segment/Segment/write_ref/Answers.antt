@@ -8,7 +8,7 @@ use Rattle.std.proofs.lemmas.Option.{slice_get_within}
 use Rattle.k_space.proofs.Rows.{lies_in, same_cell, rewritten, rewritten_view}
 use Rattle.std.proofs.lemmas.List.{length-set}
 use Rattle.k_space.proofs.Rows.{slot_inside}
-use Rattle.k_space.proofs.Bytes.{bytes_rewritten, below_rewritten}
+use Rattle.k_space.proofs.Bytes.{bytes_rewritten}
 use Rattle.k_space.proofs.segment.Segment.write_ref.Goals as goal
 
 pub index_mut-requires : goal.index_mut-requires
@@ -36,7 +36,6 @@ invariant_of-self c =
     record {
       sound = rewritten c.self.inside.places.items c.self.inside.cells c.self.inside.room _ c.self.inside.gray c.args.slot.0 cell new c.self.invariant.sound found refl fields;
       bytes = bytes_rewritten c.self.inside.places.items c.self.inside.cells c.self.inside.bytes c.args.slot.0 cell new c.self.invariant.bytes found fields (slot_inside c.self.inside.cells.slots c.args.slot.0 cell found);
-      end = below_rewritten c.self.inside.cells c.args.slot.0 cell new c.self.inside.end c.self.invariant.end found;
       listed = c.self.invariant.listed;
       reserved = c.self.invariant.reserved;
       last = c.self.invariant.last;
