@@ -17,10 +17,12 @@ static inline kaffe_answer done(kaffe_answer answer) {
     return answer;
 }
 
-/* A host of the text with room for so many objects and events. */
+/* A host of the text with room for so many objects in each heap and so many events, of which none is kept. */
 static inline guest *guest_open_text(const char *text, uint32_t objects, uint32_t events) {
     kaffe_answer why = {0};
-    guest *made = kaffe_make(text, NODE, objects, events, &why);
+    kaffe_rooms rooms = kaffe_rooms_for(objects, kaffe_lines(text, "proc"), kaffe_lines(text, "shared"));
+    rooms.events = events;
+    guest *made = kaffe_make_with(text, NODE, objects, &rooms, &why);
     if (!made) {
         fprintf(stderr, "no host: line %u, reason %u\n", why.seg, why.at);
         exit(1);

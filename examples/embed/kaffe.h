@@ -4,7 +4,8 @@
    is a guest, with a heap and 16 registers, which are its roots. docs/EMBEDDING.md says what a caller owes and what each code means.
 
    Every call answers, and none aborts. A call whose status is not KAFFE_OK has changed nothing.
-   After kaffe_open an allocation alone takes memory, and none where the supply of its process has a body of the type. */
+   After kaffe_open an allocation alone takes memory, and none where the supply of its process has a body of the type. What a host takes at
+   its opening goes with its rooms, and not with how long it runs. */
 #ifndef KAFFE_H
 #define KAFFE_H
 #include <stddef.h>
@@ -26,12 +27,14 @@ enum kaffe_status {
     KAFFE_OWN_CALL = 2, /* the operation has a call of its own: no function of this header answers it */
     KAFFE_ENDED = 3,    /* the process has ended */
     KAFFE_PHASE = 4,    /* a collection of a heap that is touched is open: the functions of this header leave none open */
-    KAFFE_FULL = 5,     /* a table of exit items may be full, or the process has done 2^32 - 1 operations */
+    KAFFE_FULL = 5,     /* the journal has no room for the event, or the process has done 2^32 - 1 operations */
     KAFFE_NO_MEMORY = 6, /* memory is wanting for the object, and the supply of the process has no body of its type */
     KAFFE_ORPHAN = 7,   /* the shared heap to be absorbed is not the first orphan */
     KAFFE_NO_CALL = 8,  /* the request names no call */
     KAFFE_NO_HOST = 9,  /* no host could be made: see kaffe_make */
-    KAFFE_RESERVED = 10 /* no more events are left than are kept for collections; kaffe_kill asks for none of them */
+    KAFFE_RESERVED = 10, /* no more events are left than are kept for collections; kaffe_kill asks for none of them */
+    KAFFE_OBJECTS = 11, /* as many objects live in the heap as it has room for: collect it, or the kernel heap after kaffe_knew */
+    KAFFE_ITEMS = 12    /* a reference that leads out of its heap may need an exit item or an entry item, and no more is left of these */
 };
 
 /* Why an operation is refused. It counts as done, and has changed no heap, register or charge. */
@@ -59,13 +62,15 @@ enum kaffe_what {
     KAFFE_NOTHING = 0, /* none of them counts */
     KAFFE_NAME = 1,    /* seg, serial: an object. A name is never used again. Both 0: null */
     KAFFE_NUMBER = 2,  /* number */
-    KAFFE_FREED = 3    /* what a collection freed: seg objects, number bytes, serial exit items, at shares */
+    KAFFE_FREED = 3,   /* what a collection freed: seg objects, number bytes, serial exit items, at shares */
+    KAFFE_ASKED = 32   /* 32 and more: what an event was asked for, see kaffe_event_at. what - 32 is the number of its call */
 };
 
 typedef struct kaffe_request { /* 32 bytes, passed by value */
     uint32_t call;             /* enum kaffe_call_number */
     uint32_t pid;              /* the process, from 0 in order of declaration */
-    uint32_t at;               /* a field, a type, a limit, a shared heap or the process that is killed, from 0 in order of declaration */
+    uint32_t at;               /* a field, a type, a limit, a shared heap or the process that is killed, from 0 in order of declaration;
+                                  or the number of an event, from 0 */
     uint32_t to;               /* the type, where at is a shared heap */
     uint8_t reg, base;         /* registers, 0 to 15 */
     uint8_t unused0, unused1;
@@ -76,7 +81,7 @@ typedef struct kaffe_request { /* 32 bytes, passed by value */
 typedef struct kaffe_answer {
     uint32_t status; /* enum kaffe_status */
     uint32_t fault;  /* enum kaffe_fault */
-    uint32_t at;     /* the limit, process or shared heap that the fault names */
+    uint32_t at;     /* the limit, process or shared heap that the fault names; of what an event was asked for, the process */
     uint32_t what;   /* enum kaffe_what */
     uint32_t seg, serial;
     uint64_t number;
@@ -102,6 +107,7 @@ enum kaffe_call_number {
     KAFFE_CALL_KCOLLECT = 17,
     KAFFE_CALL_KILL = 18,
     KAFFE_CALL_ABSORB = 19,
+    KAFFE_CALL_TAKE = 20,
     KAFFE_ASK_LIVES = 32,
     KAFFE_ASK_BYTES = 33,
     KAFFE_ASK_CHARGE = 34,
@@ -115,18 +121,41 @@ enum kaffe_call_number {
     KAFFE_ASK_ORPHAN = 42,
     KAFFE_ASK_LEFT = 43,
     KAFFE_ASK_FREED_COUNT = 44,
-    KAFFE_ASK_FREED_NAME = 45 /* at is the place of the name, from 0 */
+    KAFFE_ASK_FREED_NAME = 45, /* at is the place of the name, from 0 */
+    KAFFE_ASK_EVENT = 46,      /* at is the number of the event, from 0 */
+    KAFFE_ASK_CAME = 47        /* the same */
 };
+
+/* Events that are no calls, in the place of the number of a call. */
+enum kaffe_event_number {
+    KAFFE_EVENT_ENDED = 22,  /* a collection has ended, of the kernel heap where reg is 0, and of that of process pid where it is 1 */
+    KAFFE_EVENT_CLOSING = 23 /* the last collection of a run: no function of this header adds it */
+};
+
+/* For how much a host has room. The opening takes memory for all of it, and no call takes any for a table after it. */
+typedef struct kaffe_rooms { /* 28 bytes, passed by value */
+    uint32_t events;         /* events in the host's whole life: below 2^30, and at least three for each process, one for each shared heap
+                                and three */
+    uint32_t kept;           /* the last of them, which can be read and taken out: at most events */
+    uint32_t tail;           /* events inside its heap that a process has before they come to the others: at least 1 */
+    uint32_t objects;        /* objects that live at once in the heap of a process, in a shared heap, and in the kernel heap beside those that
+                                it took over: at least 1, which is its directory */
+    uint32_t exits;          /* references out of the heap of one process, or of one shared heap, each object that is referred to once */
+    uint32_t kernel_exits;   /* the same of the kernel heap: `exits` of it for each living process are kept back for its end, and the rest is
+                                for stores. At least exits for each process */
+    uint32_t entries;        /* objects to which references of other heaps lead */
+} kaffe_rooms;
 
 /* The name of an object, which is never used again. */
 typedef struct kaffe_name {
     uint32_t seg, serial;
 } kaffe_name;
 
-/* The four functions that are linked. The caller gives kaffe_size() bytes, aligned as malloc aligns, and has them back after kaffe_close.
+/* The five functions that are linked. The caller gives kaffe_size() bytes, aligned as malloc aligns, and has them back after kaffe_close.
    kaffe_open always leaves something to be closed: a host, or a place without one, whose every call answers KAFFE_NO_HOST. */
 size_t kaffe_size(void);
-void kaffe_open(const uint8_t *text, size_t length, uint32_t type, uint32_t bodies, uint32_t events, kaffe_host *at);
+kaffe_rooms kaffe_rooms_for(uint32_t objects, uint32_t processes, uint32_t heaps);
+void kaffe_open(const uint8_t *text, size_t length, uint32_t type, uint32_t bodies, kaffe_rooms rooms, kaffe_host *at);
 kaffe_answer kaffe_call(kaffe_host *host, kaffe_request request);
 void kaffe_close(kaffe_host *host);
 
@@ -227,7 +256,7 @@ static inline kaffe_answer kaffe_absorb(kaffe_host *h, uint32_t shared) {
     return kaffe_request_call(h, KAFFE_CALL_ABSORB, 0, shared, 0, 0, 0, 0);
 }
 
-/* Asks a question, KAFFE_ASK_LIVES to KAFFE_ASK_FREED_NAME, of the process, limit or register. It changes nothing. */
+/* Asks a question, KAFFE_ASK_LIVES to KAFFE_ASK_CAME, of the process, limit, register, place or event. It changes nothing. */
 static inline kaffe_answer kaffe_ask(kaffe_host *h, uint32_t question, uint32_t pid, uint32_t at) {
     return kaffe_request_call(h, question, pid, at, 0, (uint8_t)(at < 16 ? at : 255), 0, 0);
 }
@@ -261,21 +290,68 @@ static inline uint64_t kaffe_left(kaffe_host *h) { return kaffe_ask(h, KAFFE_ASK
 /* The bytes of the kernel heap. */
 static inline uint64_t kaffe_kernel_bytes(kaffe_host *h) { return kaffe_ask(h, KAFFE_ASK_KERNEL_BYTES, 0, 0).number; }
 
-/* A host in memory of malloc, of what the text declares. Each process has a supply of that many bodies of the type: as many allocations of
-   it, refused ones too, take no memory. All calls together can add that many events. NULL where there is none, and then `why` says:
-   seg is the first bad line and at the reason of docs/FORMATS.md; or seg is 0, and at is 1 where memory ran out, 2 where the type is
-   not declared, the events are 2^30 or more, or they are fewer than three for each process, one for each shared heap and three. */
-static inline kaffe_host *kaffe_make(const char *text, uint32_t type, uint32_t bodies, uint32_t events, kaffe_answer *why) {
+/* An event: a call that was done, with what came of it, or the end of a collection. */
+typedef struct kaffe_event {
+    uint32_t number;     /* from 0 in the order of the journal */
+    kaffe_request asked; /* the request for it: call is one of enum kaffe_call_number or of enum kaffe_event_number */
+    kaffe_answer came;   /* what it was answered: for a collection nothing, and for its end what it freed */
+} kaffe_event;
+
+/* Reads the event of that number. Answers 1, or 0 where there is none yet or where it is older than the last that are kept. Constant time. */
+static inline int kaffe_event_at(kaffe_host *h, uint32_t number, kaffe_event *event) {
+    kaffe_answer asked = kaffe_ask(h, KAFFE_ASK_EVENT, 0, number);
+    if (asked.status) return 0;
+    uint32_t call = asked.what - KAFFE_ASKED, to = call == KAFFE_CALL_SNEW ? (uint32_t)asked.number : 0;
+    kaffe_request q = {call, asked.at, asked.seg, to, (uint8_t)(asked.serial % 256), (uint8_t)(asked.serial / 256), 0, 0, 0,
+                       call == KAFFE_CALL_SNEW ? 0 : asked.number};
+    event->number = number;
+    event->asked = q;
+    event->came = kaffe_ask(h, KAFFE_ASK_CAME, 0, number);
+    return 1;
+}
+
+/* Takes out the next event, the first that is still kept and was not taken out before. Answers 1, or 0 where there is none. So each event is
+   given at most once, in order, and a gap in the numbers tells how many were forgotten before they were taken. What a process did inside
+   its heap comes to the journal later, with its next event that does not stay there. Constant time. */
+static inline int kaffe_take(kaffe_host *h, kaffe_event *event) {
+    kaffe_answer a = kaffe_request_call(h, KAFFE_CALL_TAKE, 0, 0, 0, 0, 0, 0);
+    return a.status == KAFFE_OK && a.what == KAFFE_NUMBER && kaffe_event_at(h, (uint32_t)a.number, event);
+}
+
+/* A host in memory of malloc, of what the text declares, with these rooms. Each process has a supply of that many bodies of the type: as many
+   allocations of it, refused ones too, take no memory. NULL where there is none, and then `why` says: seg is the first bad line and at the
+   reason of docs/FORMATS.md; or seg is 0, and at is 1 where memory ran out, 2 where the type is not declared or the rooms are not as
+   kaffe_rooms says. */
+static inline kaffe_host *kaffe_make_with(const char *text, uint32_t type, uint32_t bodies, const kaffe_rooms *rooms, kaffe_answer *why) {
     kaffe_answer none = {KAFFE_NO_HOST, 0, 1, 0, 0, 0, 0};
     kaffe_host *h = (kaffe_host *)malloc(kaffe_size());
     *why = none;
     if (!h) return NULL;
-    kaffe_open((const uint8_t *)text, strlen(text), type, bodies, events, h);
+    kaffe_open((const uint8_t *)text, strlen(text), type, bodies, *rooms, h);
     *why = kaffe_ask(h, KAFFE_ASK_EVENTS, 0, 0);
     if (why->status != KAFFE_NO_HOST) return h;
     kaffe_close(h);
     free(h);
     return NULL;
+}
+
+/* How many lines of the text begin with the word and a space: of a good text as many as it declares so. */
+static inline uint32_t kaffe_lines(const char *text, const char *word) {
+    size_t length = strlen(word);
+    uint32_t count = 0;
+    while (text) {
+        count += strncmp(text, word, length) == 0 && text[length] == ' ';
+        text = strchr(text, '\n');
+        if (text) text++;
+    }
+    return count;
+}
+
+/* The same with rooms for so many living objects in each heap, as kaffe_rooms_for gives them: 2^30 - 1 events, of which none is kept, and as
+   many references as there can be objects. */
+static inline kaffe_host *kaffe_make(const char *text, uint32_t type, uint32_t bodies, uint32_t objects, kaffe_answer *why) {
+    kaffe_rooms rooms = kaffe_rooms_for(objects, kaffe_lines(text, "proc"), kaffe_lines(text, "shared"));
+    return kaffe_make_with(text, type, bodies, &rooms, why);
 }
 
 /* Gives all memory of the host back. */

@@ -2,8 +2,10 @@
 //!
 //! A [`Host`] is owned, so it is closed once; a call borrows it, so two calls never overlap; and it may move between threads. Nothing
 //! here can make memory unsafe. `docs/EMBEDDING.md` says what each code means.
-use std::error::Error;
-use std::fmt;
+#[path = "kaffe_answers.rs"]
+mod answers;
+
+pub use answers::*;
 use std::marker::PhantomData;
 use std::ops::Range;
 
@@ -30,22 +32,42 @@ struct Request {
     number: u64,
 }
 
-/// What came of it, as `kaffe_answer` of `kaffe.h`.
+/// For how much a host has room, as `kaffe_rooms` of `kaffe.h`. The opening takes memory for all of it, and no call takes any for a table
+/// after it.
 #[repr(C)]
-#[derive(Clone, Copy, Debug, Default, PartialEq, Eq)]
-struct Answer {
-    status: u32,
-    fault: u32,
-    at: u32,
-    what: u32,
-    seg: u32,
-    serial: u32,
-    number: u64,
+#[derive(Clone, Copy, Debug, PartialEq, Eq)]
+pub struct Rooms {
+    /// Events in the host's whole life: below 2^30, and at least three for each process, one for each shared heap and three.
+    pub events: u32,
+    /// The last of them, which can be read and taken out: at most `events`.
+    pub kept: u32,
+    /// Events inside its heap that a process has before they come to the others: at least 1.
+    pub tail: u32,
+    /// Objects that live at once in the heap of a process, in a shared heap, and in the kernel heap beside those that it took over: at least
+    /// 1, which is its directory.
+    pub objects: u32,
+    /// References out of the heap of one process, or of one shared heap, each object that is referred to once.
+    pub exits: u32,
+    /// The same of the kernel heap. `exits` of it for each living process are kept back for its end, and the rest is for stores: at least
+    /// `exits` for each process.
+    pub kernel_exits: u32,
+    /// Objects to which references of other heaps lead.
+    pub entries: u32,
+}
+
+impl Rooms {
+    /// Rooms for so many living objects in each heap of so many processes and shared heaps: 2^30 - 1 events, of which none is kept, and as
+    /// many references as there can be objects.
+    pub fn for_objects(objects: u32, processes: u32, heaps: u32) -> Rooms {
+        // SAFETY: `kaffe_rooms_for` asks nothing.
+        unsafe { kaffe_rooms_for(objects, processes, heaps) }
+    }
 }
 
 unsafe extern "C" {
     fn kaffe_size() -> usize;
-    fn kaffe_open(text: *const u8, length: usize, ty: u32, bodies: u32, events: u32, at: *mut Opaque);
+    fn kaffe_rooms_for(objects: u32, processes: u32, heaps: u32) -> Rooms;
+    fn kaffe_open(text: *const u8, length: usize, ty: u32, bodies: u32, rooms: Rooms, at: *mut Opaque);
     fn kaffe_call(host: *mut Opaque, request: Request) -> Answer;
     fn kaffe_close(host: *mut Opaque);
 }
@@ -71,6 +93,7 @@ mod call {
     pub const KCOLLECT: u32 = 17;
     pub const KILL: u32 = 18;
     pub const ABSORB: u32 = 19;
+    pub const TAKE: u32 = 20;
     pub const LIVES: u32 = 32;
     pub const BYTES: u32 = 33;
     pub const CHARGE: u32 = 34;
@@ -85,194 +108,34 @@ mod call {
     pub const LEFT: u32 = 43;
     pub const FREED_COUNT: u32 = 44;
     pub const FREED_NAME: u32 = 45;
-}
-
-/// The number of a process, from 0 in order of declaration.
-#[derive(Clone, Copy, Debug, PartialEq, Eq, PartialOrd, Ord, Hash)]
-pub struct Pid(pub u32);
-/// The number of a register, 0 to 15.
-#[derive(Clone, Copy, Debug, PartialEq, Eq, PartialOrd, Ord, Hash)]
-pub struct Reg(pub u8);
-/// The number of a type, from 0 in order of declaration.
-#[derive(Clone, Copy, Debug, PartialEq, Eq, PartialOrd, Ord, Hash)]
-pub struct TypeId(pub u32);
-/// The number of a limit, from 0 in order of declaration.
-#[derive(Clone, Copy, Debug, PartialEq, Eq, PartialOrd, Ord, Hash)]
-pub struct LimitId(pub u32);
-/// The number of a shared heap, from 0 in order of declaration.
-#[derive(Clone, Copy, Debug, PartialEq, Eq, PartialOrd, Ord, Hash)]
-pub struct SharedId(pub u32);
-
-/// The name of an object: it is never used again, so a host may keep it as a key.
-#[derive(Clone, Copy, Debug, PartialEq, Eq, PartialOrd, Ord, Hash)]
-pub struct Name {
-    pub seg: u32,
-    pub serial: u32,
-}
-
-/// What a collection freed.
-#[derive(Clone, Copy, Debug, PartialEq, Eq)]
-pub struct Freed {
-    pub objects: u32,
-    pub bytes: u64,
-    pub exit_items: u32,
-    pub shares: u32,
-}
-
-/// What a call lacks. Nothing has changed.
-#[derive(Clone, Copy, Debug, PartialEq, Eq)]
-pub enum Lack {
-    /// No such process, register, type, limit or shared heap is declared, or a maximum is 2^40 or more; or the question has no answer.
-    Unknown,
-    /// The operation has a call of its own. No method answers it.
-    OwnCall,
-    /// The process has ended.
-    Ended,
-    /// A collection of a heap that is touched is open. The methods leave none open.
-    Phase,
-    /// A table of exit items may be full, or the process has done 2^32 - 1 operations.
-    Full,
-    /// Memory is wanting for the object, and the supply of the process has no body of its type.
-    NoMemory,
-    /// The shared heap to be absorbed is not the first orphan.
-    Orphan,
-    /// No more events are left than are kept for collections. `kill` asks for none of them.
-    Reserved,
-    /// The library is of another version than this module: it has no such call, or answers a number that this module has not.
-    NoCall,
-}
-
-/// Why an operation is refused. It counts as done, and has changed no heap, register or charge.
-#[derive(Clone, Copy, Debug, PartialEq, Eq)]
-pub enum Fault {
-    /// The base register, or the root register of `freeze`, is null.
-    Null,
-    /// Another living process owns the base object.
-    Foreign,
-    /// The shared heap owns the base object, and the process does not share it.
-    NotSharer(SharedId),
-    /// The object has no such field.
-    NoField,
-    /// A reference was asked of an integer field, or a number of a reference field.
-    WrongKind,
-    /// The base object is in a frozen shared heap.
-    Frozen,
-    /// The write barrier refuses the store, or the root of `freeze` is not in that heap.
-    Segv,
-    /// The process does not populate the shared heap.
-    NotPopulating(SharedId),
-    /// The shared heap is not frozen.
-    NotFrozen(SharedId),
-    /// The shared heap has been made before.
-    Taken(SharedId),
-    /// The limit is full: collect a heap that it counts, or kill a guest. On `resize`, one of the path above a hard limit.
-    LimitFull(LimitId),
-    /// The kernel heap is at its ceiling.
-    KernelFull,
-    /// The limit of the process is not strictly below that of the process that would kill it.
-    ProcNotBelow(Pid),
-    /// The limit is not strictly below that of the process that would resize it.
-    LimitNotBelow(LimitId),
-    /// More bytes are in use at the limit than the maximum that it would get.
-    InUse(LimitId),
-}
-
-/// Why a call is not done.
-#[derive(Clone, Copy, Debug, PartialEq, Eq)]
-pub enum Refusal {
-    Lack(Lack),
-    Fault(Fault),
-}
-
-/// Why no host is made.
-#[derive(Clone, Copy, Debug, PartialEq, Eq)]
-pub enum OpenError {
-    /// The first bad line of the text, and the number of its reason in `docs/FORMATS.md`.
-    Bad { line: u32, reason: u32 },
-    /// Memory ran out.
-    NoMemory,
-    /// The type is not declared, or the events are 2^30 or more.
-    Terms,
-}
-
-impl fmt::Display for Refusal {
-    fn fmt(&self, f: &mut fmt::Formatter<'_>) -> fmt::Result {
-        match self {
-            Refusal::Lack(lack) => write!(f, "{lack:?}"),
-            Refusal::Fault(fault) => write!(f, "{fault:?}"),
-        }
-    }
-}
-
-impl fmt::Display for OpenError {
-    fn fmt(&self, f: &mut fmt::Formatter<'_>) -> fmt::Result {
-        write!(f, "{self:?}")
-    }
-}
-
-impl Error for Refusal {}
-impl Error for OpenError {}
-
-fn lack_of(status: u32) -> Lack {
-    match status {
-        1 => Lack::Unknown,
-        2 => Lack::OwnCall,
-        3 => Lack::Ended,
-        4 => Lack::Phase,
-        5 => Lack::Full,
-        6 => Lack::NoMemory,
-        7 => Lack::Orphan,
-        10 => Lack::Reserved,
-        _ => Lack::NoCall,
-    }
-}
-
-fn fault_of(fault: u32, at: u32) -> Refusal {
-    Refusal::Fault(match fault {
-        1 => Fault::Null,
-        2 => Fault::Foreign,
-        3 => Fault::NotSharer(SharedId(at)),
-        4 => Fault::NoField,
-        5 => Fault::WrongKind,
-        6 => Fault::Frozen,
-        7 => Fault::Segv,
-        8 => Fault::NotPopulating(SharedId(at)),
-        9 => Fault::NotFrozen(SharedId(at)),
-        10 => Fault::Taken(SharedId(at)),
-        11 => Fault::LimitFull(LimitId(at)),
-        12 => Fault::KernelFull,
-        13 => Fault::ProcNotBelow(Pid(at)),
-        14 => Fault::LimitNotBelow(LimitId(at)),
-        15 => Fault::InUse(LimitId(at)),
-        _ => return Refusal::Lack(Lack::NoCall),
-    })
-}
-
-fn freed(a: Answer) -> Freed {
-    Freed { objects: a.seg, bytes: a.number, exit_items: a.serial, shares: a.at }
-}
-
-fn name(a: Answer) -> Name {
-    Name { seg: a.seg, serial: a.serial }
-}
-
-fn target(a: Answer) -> Option<Name> {
-    (a.serial != 0).then(|| name(a))
+    pub const EVENT: u32 = 46;
+    pub const CAME: u32 = 47;
 }
 
 /// Processes with their heaps and limits. Dropping it gives all its memory back.
 pub struct Host(Box<[u128]>);
 
+/// How many lines of the text begin with the word and a space: of a good text as many as it declares so.
+fn lines_of(text: &str, word: &str) -> u32 {
+    text.split('\n').filter(|line| line.split(' ').next() == Some(word) && line.len() > word.len()).count() as u32
+}
+
 impl Host {
-    /// A host of what the text declares. Each process has a supply of `bodies` bodies of the type: as many allocations of it, refused ones
-    /// too, take no memory, and no call but an allocation takes any. All calls together can add `events` events.
-    pub fn open(text: &str, ty: TypeId, bodies: u32, events: u32) -> Result<Host, OpenError> {
+    /// A host of what the text declares, with rooms for so many living objects in each heap, by [`Rooms::for_objects`].
+    pub fn open(text: &str, ty: TypeId, bodies: u32, objects: u32) -> Result<Host, OpenError> {
+        let rooms = Rooms::for_objects(objects, lines_of(text, "proc"), lines_of(text, "shared"));
+        Host::open_with(text, ty, bodies, rooms)
+    }
+
+    /// A host of what the text declares, with these rooms. Each process has a supply of `bodies` bodies of the type: as many allocations of
+    /// it, refused ones too, take no memory, and no call but an allocation takes any.
+    pub fn open_with(text: &str, ty: TypeId, bodies: u32, rooms: Rooms) -> Result<Host, OpenError> {
         // SAFETY: `kaffe_size` asks nothing.
         let size = unsafe { kaffe_size() };
         let mut room = vec![0u128; size.div_ceil(16)].into_boxed_slice();
         let at = room.as_mut_ptr().cast();
         // SAFETY: the room is as large as `kaffe_size` says and aligned to 16; pointer and length are those of one text.
-        unsafe { kaffe_open(text.as_ptr(), text.len(), ty.0, bodies, events, at) };
+        unsafe { kaffe_open(text.as_ptr(), text.len(), ty.0, bodies, rooms, at) };
         let mut host = Host(room);
         let why = host.send(Request { call: call::EVENTS, ..Request::default() });
         match (why.status, why.seg, why.at) {
@@ -292,7 +155,7 @@ impl Host {
         let answer = self.send(request);
         match (answer.status, answer.fault) {
             (0, 0) => Ok(answer),
-            (0, fault) => Err(fault_of(fault, answer.at)),
+            (0, fault) => Err(refusal_of(fault, answer.at)),
             (status, _) => Err(Refusal::Lack(lack_of(status))),
         }
     }
@@ -458,6 +321,22 @@ impl Host {
     /// How many events the journal has.
     pub fn events(&mut self) -> Option<u64> {
         self.number(call::EVENTS, 0, 0)
+    }
+
+    /// The event of that number, from 0. `None` where there is none yet, or where it is older than the last that are kept.
+    pub fn event(&mut self, at: u32) -> Option<Event> {
+        let asked = self.send(Request { call: call::EVENT, at, ..Request::default() });
+        let came = self.send(Request { call: call::CAME, at, ..Request::default() });
+        (asked.status == 0).then(|| asked_of(asked).map(|asked| Event { asked, came: came_of(came) })).flatten()
+    }
+
+    /// Takes out the next event, the first that is still kept and was not taken out before. So each event is given at most once, in order,
+    /// and a gap in the numbers tells how many were forgotten before they were taken. What a process did inside its heap comes to the
+    /// journal later, with its next event that does not stay there.
+    pub fn take_event(&mut self) -> Option<Taken> {
+        let answer = self.send(Request { call: call::TAKE, ..Request::default() });
+        let number = (answer.status == 0 && answer.what == 2).then_some(answer.number as u32)?;
+        self.event(number).map(|event| Taken { number, event })
     }
 
     /// The bytes of the kernel heap.

@@ -49,7 +49,7 @@ static void refused(kaffe_host *h, uint32_t guest, uint32_t limit, uint64_t step
 
 int main(void) {
     kaffe_answer why;
-    kaffe_host *h = kaffe_make(DECLARED, NODE, 2000, 20000, &why);
+    kaffe_host *h = kaffe_make(DECLARED, NODE, 2000, 1000, &why);
     if (!h) return fprintf(stderr, "line %" PRIu32 ", reason %" PRIu32 "\n", why.seg, why.at), 1;
     const uint32_t guests[] = {GOOD, GREEDY};
     const uint64_t most[] = {20, 0}; /* good keeps 20 nodes, greedy keeps all */

@@ -63,7 +63,7 @@ fn refused(mut host: Host, guest: Pid, limit: LimitId, step: u64) -> Result<Host
 }
 
 fn main() -> Result<(), Box<dyn std::error::Error>> {
-    let mut host = Host::open(DECLARED, NODE, 2000, 20000)?;
+    let mut host = Host::open(DECLARED, NODE, 2000, 1000)?;
     for step in 1..=300 {
         for (guest, most) in [(GOOD, 20), (GREEDY, 0)] {
             if host.lives(guest) != Some(true) {

@@ -1,7 +1,7 @@
 //! A host as a plain Rust programmer would write it, behind the C functions of `kaffe.h`: heaps of guests, limits in a tree, registers
 //! as roots, the write barrier, exit items, entry counts and pins. It proves nothing, and has the calls that `calls.c` uses.
 //!
-//! With the feature `journal` it keeps the list of all events, as a host of this project does.
+//! With the feature `journal` it keeps the list of all events, as a host of this project does where it is asked to.
 
 mod declared;
 mod heap;
@@ -41,6 +41,20 @@ pub struct Answer {
     number: u64,
 }
 
+/// For how much a host has room. A plain host has room for all of it that memory gives, but for events.
+#[allow(dead_code)]
+#[repr(C)]
+#[derive(Clone, Copy, Default)]
+pub struct Rooms {
+    events: u32,
+    kept: u32,
+    tail: u32,
+    objects: u32,
+    exits: u32,
+    kernel_exits: u32,
+    entries: u32,
+}
+
 /// What `kaffe_open` writes: a host, or the first line that declares none.
 pub enum Place {
     Open(Box<Host>),
@@ -54,12 +68,17 @@ pub extern "C" fn kaffe_size() -> usize {
     size_of::<Place>()
 }
 
+#[no_mangle]
+pub extern "C" fn kaffe_rooms_for(objects: u32, _processes: u32, _heaps: u32) -> Rooms {
+    Rooms { objects, ..Rooms::default() }
+}
+
 /// # Safety
 /// `text` has `length` bytes, and `at` has `kaffe_size()` that nobody else uses until `kaffe_close`.
 #[no_mangle]
-pub unsafe extern "C" fn kaffe_open(text: *const u8, length: usize, _kind: u32, _bodies: u32, events: u32, at: *mut Place) {
+pub unsafe extern "C" fn kaffe_open(text: *const u8, length: usize, _kind: u32, _bodies: u32, rooms: Rooms, at: *mut Place) {
     let text = String::from_utf8_lossy(slice::from_raw_parts(text, length));
-    let place = match declared::read(&text, events) {
+    let place = match declared::read(&text, rooms.events) {
         Ok(host) => Place::Open(Box::new(host)),
         Err(line) => Place::Bad { line },
     };

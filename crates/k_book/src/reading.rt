@@ -39,6 +39,13 @@ impl Book {
         self.table.living()
     }
 
+    /// Into how many objects exit items lead. Constant time.
+    pub fn entry_count(&self) -> u32
+        ensures { result ≡ length self.now.value.entries }
+    {
+        self.entered.entry_count()
+    }
+
     /// Whether the process shares the heap, and so pays for it.
     pub fn shares(&self, pid: Pid, shared: SharedId) -> bool
         requires process { pid.0 < length self.now.procs }

@@ -1,4 +1,4 @@
-//! A host for C: four functions over `k_embed`, which `kaffe.h` declares. C gives the memory for a host, and has it back.
+//! A host for C: five functions over `k_embed`, which `kaffe.h` declares. C gives the memory for a host, and has it back.
 #![tactic(auto)]
 
 ghost use Rattle.std.specs.Prelude.{◌≡◌};
@@ -6,9 +6,10 @@ ghost use Rattle.std.specs.Borrow.{full_share, sem};
 ghost use Rattle.std.specs.Ptr.{lies_at, room_at};
 ghost use Rattle.k_embed.specs.contracts.serving.Slot.{the_row};
 ghost use Rattle.k_embed.specs.declared.serving.Slot.{Slot};
+ghost use Rattle.k_embed.specs.Asked.{AreRoomsFor};
 ghost use Rattle.k_embed.specs.Served.{IsOpened, IsServed};
 
-use k_embed::{Answer, Request, Slot, opened, serve};
+use k_embed::{Answer, Request, Rooms, Slot, opened, rooms_for, serve};
 use std::alloc::Global;
 
 /// What C has of a host: its address. C never looks behind it.
@@ -23,20 +24,28 @@ pub extern "C" fn kaffe_size() -> usize {
     size_of::<Slot>()
 }
 
-/// Makes a host where there is room for it, of what the text declares; or a place with none, and with the line and the reason why.
+/// The rooms for so many living objects in each heap of so many processes and shared heaps, where no event is kept.
+#[unsafe(no_mangle)]
+pub extern "C" fn kaffe_rooms_for(objects: u32, processes: u32, heaps: u32) -> Rooms
+    ensures { AreRoomsFor objects processes heaps result }
+{
+    rooms_for(objects, processes, heaps)
+}
+
+/// Makes a host where there is room for it, of what the text declares, with these rooms; or a place with none, and with the line and the reason why.
 #[unsafe(no_mangle)]
 pub unsafe extern "C" fn kaffe_open(
     alloc: Global,
     text: &[u8],
     ty: u32,
     bodies: u32,
-    events: u32,
+    rooms: Rooms,
     at: *mut KaffeHost,
 )
     requires* { sem 𝓛 (room_at the_row at) }
-    ensures* { ∃ₛ (λ (w : Slot). sem 𝓛 (lies_at the_row full_share at w) ∗ ⌜ IsOpened text.now ty bodies events w ⌝) }
+    ensures* { ∃ₛ (λ (w : Slot). sem 𝓛 (lies_at the_row full_share at w) ∗ ⌜ IsOpened text.now ty bodies rooms w ⌝) }
 {
-    std::ptr::write(at as *mut Slot, opened(alloc, text, ty, bodies, events));
+    std::ptr::write(at as *mut Slot, opened(alloc, text, ty, bodies, rooms));
 }
 
 /// Does what the request asks of the host, and answers what came of it.

@@ -23,7 +23,7 @@ use Rattle.k_guests.proofs.CanDo.{owner_shown}
 use Rattle.k_guests.proofs.Kept.{absorbed_stays}
 use Rattle.k_guests.specs.Keeping.{is_absorbed_in}
 use Rattle.k_guests.specs.declared.guest.Guest.{Guest}
-use Rattle.k_guests.specs.Serving.{Basis, BookServes, GivesSerials, GuestServesWith, KernelServes, SharedServes}
+use Rattle.k_guests.specs.Serving.{Basis, BookServes, GuestServesWith, HasReserveAt, HasSegment, KernelServes, SharedServes}
 
 module _ (basis : Basis) where
   -- a process whose cell has changed note, value and bodies
@@ -35,9 +35,9 @@ module _ (basis : Basis) where
     agrees = agrees;
     table = table;
     stock = stock;
-    exits = subst (λ (x : HeapRecord). basis.events ≤ x.exit_room) (sym is) serves.exits;
-    serials = λ now. subst (λ (x : HeapRecord). GivesSerials basis.events x.serial_rooms (own_segment x.pid)) (sym is) (serves.serials (lives now));
-    tail = subst (λ (x : HeapRecord). basis.events ≤ x.tail_room) (sym is) serves.tail;
+    exits = ap (λ (x : HeapRecord). x.exit_room) is ∙ serves.exits;
+    serials = λ now. subst (λ (x : HeapRecord). HasSegment x.serial_rooms (own_segment x.pid)) (sym is) (serves.serials (lives now));
+    tail = subst (λ (x : HeapRecord). basis.rooms.tail ≤ x.tail_room) (sym is) serves.tail;
   }
 
   -- the kernel's cell that has changed note and value
@@ -47,14 +47,15 @@ module _ (basis : Basis) where
     rules = serves.rules;
     agrees = agrees;
     table = table;
-    exits = subst (λ (y : HoldingsValue). basis.events ≤ y.exit_room) (sym is) serves.exits;
-    serials = subst (λ (y : HoldingsValue). GivesSerials basis.events y.serial_rooms 0) (sym is) serves.serials;
+    exits = ap (λ (y : HoldingsValue). y.exit_room) is ∙ serves.exits;
+    serials = subst (λ (y : HoldingsValue). HasSegment y.serial_rooms 0) (sym is) serves.serials;
     numbers = subst (λ (y : HoldingsValue). segment_count basis.trace ≤ y.bound) (sym is) serves.numbers;
   }
 
   -- the book that has changed journal and value
-  pub book_goes_on : (b l : BookRecord) → BookServes basis b → l ≡ record b { journal = l.journal; value = l.value } → BookAgrees basis.trace l.journal l.value → BookServes basis l
-  book_goes_on b l serves is agrees = record {
+  pub book_goes_on : (b l : BookRecord) → BookServes basis b → l ≡ record b { journal = l.journal; value = l.value } → BookAgrees basis.trace l.journal l.value → HasReserveAt basis (state_after basis.trace l.journal.list) →
+      BookServes basis l
+  book_goes_on b l serves is agrees reserve = record {
     stands = record {
       keeps = serves.stands.keeps;
       of_trace = record {
@@ -68,7 +69,8 @@ module _ (basis : Basis) where
     };
     events = ap (λ (x : BookRecord). x.event_room) is ∙ serves.events;
     kept = ap (λ (x : BookRecord). x.kept) is ∙ serves.kept;
-    entries = subst (λ (x : BookRecord). basis.events ≤ x.entry_room) (sym is) serves.entries;
+    entries = ap (λ (x : BookRecord). x.entry_room) is ∙ serves.entries;
+    reserve = reserve;
   }
 
 -- a shared heap that shows serials of its own segment is not absorbed
@@ -104,6 +106,6 @@ module _ (basis : Basis) (old tie : TableId) (s x : SharedRecord) (rest : List E
     table = table;
     segment = ap (λ (y : SharedRecord). y.seg.0) is ∙ serves.segment ∙ ap (λ (y : SharedRecord). segment_of basis.trace (Shared y.id)) (sym is);
     idle = idle;
-    exits = subst (λ (y : SharedRecord). basis.events ≤ y.exit_room) (sym is) serves.exits;
-    serials = λ now. subst (λ (y : SharedRecord). GivesSerials basis.events y.serial_rooms y.seg.0) (sym is) (serves.serials (stood now));
+    exits = ap (λ (y : SharedRecord). y.exit_room) is ∙ serves.exits;
+    serials = λ now. subst (λ (y : SharedRecord). HasSegment y.serial_rooms y.seg.0) (sym is) (serves.serials (stood now));
   }

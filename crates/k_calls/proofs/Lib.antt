@@ -1,6 +1,7 @@
 pub mod Rooms
 pub mod Provided
 pub mod Going
+pub mod Reserved
 pub mod Due
 pub mod Inside
 pub mod Staying

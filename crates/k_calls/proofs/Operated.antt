@@ -1,5 +1,6 @@
 -- An operation with whatever it touches.
-use Rattle.std.proofs.Common.{◌≡◌, ◌<◌, refl, sym, ap, ◌∙◌, subst, List, [], ◌∷◌, length, set, Some, slice_get, IsFalse, IsTrue, inl, inr, arith}
+use Rattle.std.proofs.lemmas.List.{length-append}
+use Rattle.std.proofs.Common.{◌≡◌, ◌+◌, ◌<◌, refl, sym, ap, ◌∙◌, subst, List, [], ◌∷◌, length, set, Some, slice_get, IsFalse, IsTrue, inl, inr, arith}
 use Rattle.k_types.specs.declared.event.Event.{Event}
 use Rattle.k_types.specs.declared.event.Event.TheVariants.{Done}
 use Rattle.k_types.specs.declared.event.Reply.{Reply}
@@ -7,6 +8,7 @@ use Rattle.k_types.specs.declared.names.Heap.TheVariants.{Kernel, Shared}
 use Rattle.k_types.specs.declared.names.Pid.{Pid}
 use Rattle.k_types.specs.declared.names.SharedId.{SharedId}
 use Rattle.k_types.specs.declared.op.Op.{Op}
+use Rattle.k_types.specs.declared.op.Op.TheVariants.{New, Store}
 use Rattle.k_types.specs.Agree.{book_shown_by}
 use Rattle.k_types.specs.Cells.{Cell}
 use Rattle.k_squares.specs.Locals.{is_local_in}
@@ -18,8 +20,11 @@ use Rattle.k_shared.specs.SharedHeaps.{SharedRecord}
 use Rattle.k_operate.specs.Reaching.{CanReach}
 use Rattle.k_operate.proofs.HeapsReached.{heap_reached}
 use Rattle.k_guests.specs.declared.guest.Guest.{Guest}
-use Rattle.k_calls.specs.Doing.{CanDoInside, CanDoWithKernel, CanDoWithShared, CanOperate, HasDoneAlone, HasDoneInside, HasDoneWithKernel, HasDoneWithShared, HasEventsLeft, HasOperated, IsDueWith, IsKernelReady, IsReady, LeavesOthers, bodies_for, left_after, provided_for, touched_by}
-use Rattle.k_guests.specs.Serving.{Basis, GuestServes, GuestServesWith, HeapsServe, KernelServes, supply_of}
+use Rattle.k_calls.specs.Adding.{HasOwnRoom, HasSharedRoom}
+use Rattle.k_calls.specs.Doing.{CanDoInside, CanDoWithKernel, CanDoWithShared, CanOperate, HasDoneAlone, HasDoneInside, HasDoneWithKernel, HasDoneWithShared, HasEventsLeft, HasOperated, HasRoomToPublish, IsDueWith, IsKernelReady, IsPublishedWhereFull, IsReady, LeavesOthers, bodies_for, left_after, provided_for, touched_by}
+use Rattle.k_guests.specs.Serving.{Basis, GuestServes, GuestServesWith, HasTailRoom, HeapsServe, KernelServes, supply_of}
+use Rattle.k_calls.specs.declared.errors.HostError.{HostError}
+use Rattle.k_calls.specs.Refusals.{IsOwnBarred, LacksRoom}
 use Rattle.k_calls.proofs.Staying.{heaps_set, heaps_stay, kernel_stays}
 
 -- what an operation touches, where trying it inside has changed nothing
@@ -27,29 +32,66 @@ pub touched_before : (basis : Basis) (g h : Guest) (b : BookRecord) (op : Op) �
     other_cells_in basis.trace (book_shown_by b.value) (idle_part g.cell.value) g.cell.pid.0 op ≡ cells
 touched_before basis g h b op same cells touches = ap (λ (x : Guest). other_cells_in basis.trace (book_shown_by b.value) (idle_part x.cell.value) x.cell.pid.0 op) (sym same) ∙ touches
 
-module _ (basis : Basis) (g : Guest) (k : HoldingsValue) (ss : List SharedRecord) (b : BookRecord) (op : Op) (can : CanOperate basis g k ss b) (ready : IsReady basis g op) (room : HasEventsLeft basis g b) where
+-- the process's heap has no room for what the operation adds, where trying it inside has changed nothing
+pub own_barred : (basis : Basis) (g h : Guest) (b : BookRecord) (op : Op) → h ≡ g → touched_by basis h b op ≡ [] → (why : HostError) → LacksRoom op (HasOwnRoom basis h b op) why → IsOwnBarred basis g b op why
+own_barred basis g h b op same touches why lacks = subst (λ (x : Guest). IsOwnBarred basis x b op why) same (record { touches = touches; barred = lacks })
+
+-- the body that is provided takes no room from the tables
+provided_left : (basis : Basis) (g : Guest) (b : BookRecord) (op : Op) → HasOwnRoom basis g b op → HasOwnRoom basis (provided_for basis op g) b op
+provided_left basis g b (New r ty) left = left
+provided_left basis g b (Store base i value) left = left
+provided_left basis g b _ left = tt
+
+module _ (basis : Basis) (g : Guest) (k : HoldingsValue) (ss : List SharedRecord) (b : BookRecord) (op : Op) (can : CanOperate basis g k ss b) (ready : IsReady basis g op) (room : HasEventsLeft basis g b) (few : HasTailRoom basis g) where
   pub can_inside : CanDoInside basis g op
   can_inside = record {
     serves = subst (λ t. GuestServes basis t g) (sym can.guest.table) can.guest;
     in_range = ready.in_range;
     awake = ready.awake;
     room = ready.room;
-    tail = omega (arith, room);
+    tail = few;
   }
 
-  pub inside_operated : (h : Guest) (pid : Pid) (said : Reply) → IsTrue (is_local_in (idle_part g.cell.value) g.cell.pid.0 op) → HasDoneInside basis op g h said → pid ≡ h.cell.pid →
-      HasOperated basis op g h k k ss ss b b (Done pid op said)
-  inside_operated h pid said own d is =
-      let same : h.cell.pid ≡ g.cell.pid = ap (λ (x : Guest). x.cell.pid) d.guest_is in
-      let event : Done pid op said ≡ Done g.cell.pid op said = ap (λ (p : Pid). Done p op said) (is ∙ same) in
-      record {
-        can = record { guest = subst (λ t. GuestServes basis t h) can.guest.table d.serves; rest = can.rest };
-        same_table = refl;
-        pid = same;
-        said = said;
-        event_is = event;
-        done = inl (record { own = own; inside = d; kernel_is = refl; shared_is = refl; book_is = refl });
-      }
+  -- an operation that is done inside, where what is unpublished then is published if it is full
+  module _ (h : Guest) (said : Reply) (own : IsTrue (is_local_in (idle_part g.cell.value) g.cell.pid.0 op)) (d : HasDoneInside basis op g h said) where
+    same_process : h.cell.pid ≡ g.cell.pid
+    same_process = ap (λ (x : Guest). x.cell.pid) d.guest_is
+
+    pub serves_inside : GuestServes basis b.journal.table h
+    serves_inside = subst (λ t. GuestServes basis t h) can.guest.table d.serves
+
+    pub room_inside : HasRoomToPublish basis h b
+    room_inside =
+        let longer : length h.cell.value.tail ≡ length g.cell.value.tail + 1 =
+        ap (λ (x : Guest). length x.cell.value.tail) d.guest_is ∙ length-append g.cell.value.tail (Done g.cell.pid op said ∷ []) in
+        omega (arith, room, longer)
+
+    pub inside_operated : (e : Guest) (l : BookRecord) (pid : Pid) → pid ≡ h.cell.pid → IsPublishedWhereFull basis h e b l → HasOperated basis op g e k k ss ss b l (Done pid op said)
+    inside_operated e l pid is (inl stays) =
+        subst (λ (x : BookRecord). HasOperated basis op g e k k ss ss b x (Done pid op said)) (sym stays.2)
+        (subst (λ (x : Guest). HasOperated basis op g x k k ss ss b b (Done pid op said)) (sym stays.1) (record {
+          can = record { guest = serves_inside; rest = can.rest };
+          same_table = refl;
+          pid = same_process;
+          said = said;
+          event_is = ap (λ (p : Pid). Done p op said) (is ∙ same_process);
+          done = inl (record { own = own; inside = d; few = stays.0; kernel_is = refl; shared_is = refl; book_is = refl });
+        }))
+    inside_operated e l pid is (inr full) = record {
+      can = record {
+        guest = full.1.keeps.guest;
+        rest = record {
+          kernel = kernel_stays basis b.journal.table l.journal.table full.1.keeps.same_table k can.rest.kernel;
+          heaps = heaps_stay basis b.journal.table l.journal.table full.1.keeps.same_table ss can.rest.heaps;
+          book = full.1.keeps.book;
+        };
+      };
+      same_table = full.1.keeps.same_table;
+      pid = full.1.keeps.pid ∙ same_process;
+      said = said;
+      event_is = ap (λ (p : Pid). Done p op said) (is ∙ same_process);
+      done = inr (inl (record { own = own; mid = h; inside = d; full = full.0; published = full.1; kernel_is = refl; shared_is = refl }));
+    }
 
   -- an operation that is not done inside
   module _ (h : Guest) (same : h ≡ g) (outside : IsFalse (is_local_in (idle_part g.cell.value) g.cell.pid.0 op)) where
@@ -78,7 +120,7 @@ module _ (basis : Basis) (g : Guest) (k : HoldingsValue) (ss : List SharedRecord
       no_collection = ready.no_collection;
       goes_on = ready.goes_on;
       awake = record { lives = ready.awake.lives; idle = ready.awake.idle };
-      room = record { exits = ready.room.exits; count = ready.room.count };
+      room = ready.room;
     }
 
     pub heap_there : (id : SharedId) → other_cells_in basis.trace (book_shown_by b.value) (idle_part h.cell.value) h.cell.pid.0 op ≡ Shared id ∷ [] → id.0 < length ss
@@ -107,15 +149,18 @@ module _ (basis : Basis) (g : Guest) (k : HoldingsValue) (ss : List SharedRecord
             pid = d.pid;
             said = d.said;
             event_is = d.event_is;
-            done = inr (record { outside = outside; appended = record { journal = d.appended.journal; possible = d.appended.possible }; settled = d.settled; idle = d.idle; bodies = d.bodies; others = others });
+            done = inr (inr (record { outside = outside; appended = record { journal = d.appended.journal; possible = d.appended.possible }; settled = d.settled; idle = d.idle; bodies = d.bodies; others = others }));
           }
+
+      pub own_left : HasOwnRoom basis h b op → HasOwnRoom basis p b op
+      own_left left = subst (λ (x : Guest). HasOwnRoom basis x b op) (sym provided) (provided_left basis g b op (subst (λ (x : Guest). HasOwnRoom basis x b op) same left))
 
       pub alone_operated : (e : Guest) (l : BookRecord) (event : Event) → touched_by basis h b op ≡ [] → HasDoneAlone basis op p e b l event → HasOperated basis op g e k k ss ss b l event
       alone_operated e l event touches d =
           operated e k ss l event (kernel_stays basis b.journal.table l.journal.table d.same_table k can.rest.kernel) (heaps_stay basis b.journal.table l.journal.table d.same_table ss can.rest.heaps) d
           (inl (record { touches = touched_before basis g h b op same [] touches; kernel_is = refl; shared_is = refl }))
 
-      pub can_kernel : IsKernelReady basis k → other_cells_in basis.trace (book_shown_by b.value) (idle_part h.cell.value) h.cell.pid.0 op ≡ Kernel ∷ [] → CanDoWithKernel basis p k b op
+      pub can_kernel : IsKernelReady basis k b op → other_cells_in basis.trace (book_shown_by b.value) (idle_part h.cell.value) h.cell.pid.0 op ≡ Kernel ∷ [] → CanDoWithKernel basis p k b op
       can_kernel kernel touches = record { due = due (Kernel ∷ []) touches; kernel = can.rest.kernel; ready = kernel }
 
       pub kernel_operated : (e : Guest) (x : HoldingsValue) (l : BookRecord) (event : Event) → touched_by basis h b op ≡ Kernel ∷ [] → HasDoneWithKernel basis op p e x b l event →
@@ -125,11 +170,11 @@ module _ (basis : Basis) (g : Guest) (k : HoldingsValue) (ss : List SharedRecord
           (inr (inl (record { touches = touched_before basis g h b op same (Kernel ∷ []) touches; idle = d.idle; shared_is = refl })))
 
       module _ (id : SharedId) (s : SharedRecord) (at : slice_get ss id.0 ≡ Some s) where
-        pub can_shared : length s.value.exits < basis.events → other_cells_in basis.trace (book_shown_by b.value) (idle_part h.cell.value) h.cell.pid.0 op ≡ Shared id ∷ [] → CanDoWithShared basis p s b op
-        can_shared few touches = record {
+        pub can_shared : HasSharedRoom basis s b op → other_cells_in basis.trace (book_shown_by b.value) (idle_part h.cell.value) h.cell.pid.0 op ≡ Shared id ∷ [] → CanDoWithShared basis p s b op
+        can_shared left touches = record {
           due = due (Shared s.id ∷ []) (touches ∙ ap (λ (i : SharedId). Shared i ∷ []) (sym (ap (λ n. record { 0 = n }) (can.rest.heaps.placed id.0 s at))));
           shared = can.rest.heaps.each id.0 s at;
-          exits = few;
+          room = left;
         }
 
         pub shared_operated : (e : Guest) (t : SharedRecord) (l : BookRecord) (event : Event) → touched_by basis h b op ≡ Shared id ∷ [] → HasDoneWithShared basis op p e s t b l event →

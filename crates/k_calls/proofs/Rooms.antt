@@ -1,73 +1,92 @@
--- Where the journal has room for an event, the tables have room for what it adds.
-use Rattle.std.proofs.Common.{◌≡◌, ℕ, ◌+◌, ◌<◌, ◌≤◌, ◌==◌, inl, refl, sym, ap, ◌∙◌, List, length, get_or, arith, Option, Some, None}
+-- Where a call has tested it, the tables have room for what the operation adds.
+use Rattle.std.proofs.Common.{◌≡◌, ℕ, ◌<◌, sym, ap, subst, List, [], ◌∷◌, length, get_or, arith, Some, None, IsFalse, IsTrue, refl}
+use Rattle.std.proofs.lemmas.Bool.{false≢true}
+use Rattle.k_types.specs.declared.names.Heap.TheVariants.{Kernel, Shared}
+use Rattle.k_types.specs.declared.names.Pid.{Pid}
+use Rattle.k_types.specs.declared.names.SharedId.{SharedId}
 use Rattle.k_types.specs.declared.op.Op.{Op}
 use Rattle.k_types.specs.declared.op.Op.TheVariants.{New, KNew, SNew, Store}
-use Rattle.k_types.specs.Agree.{CellValue}
-use Rattle.k_types.specs.Cells.{BookPart, Cell, book_part, entries}
-use Rattle.k_types.specs.Counted.{counted}
-use Rattle.k_types.specs.State.{State}
-use Rattle.k_types.specs.Steps.{state_after}
-use Rattle.k_base.proofs.Sums.{sum_same}
-use Rattle.k_bounds.specs.Counts.{has_allocated_in, has_stored}
-use Rattle.k_bounds.proofs.AllExits.{exits_at_most_stores}
-use Rattle.k_bounds.proofs.Counting.{count_low, one_if_low}
-use Rattle.k_bounds.proofs.Distinct.{entries_few}
-use Rattle.k_bounds.proofs.SerialBounds.{serials_at_most_allocations}
-use Rattle.k_agree.specs.Agreement.{Shows}
-use Rattle.k_entry.specs.Entries.{AreEntries, objects}
-use Rattle.k_entry.proofs.WholeWalks.{all_distinct, few_items}
-use Rattle.k_space.specs.Objects.{BodyValue}
-use Rattle.k_book.specs.Books.{BookRecord, book_entries}
+use Rattle.k_types.specs.Agree.{BookValue, book_shown_by}
+use Rattle.k_types.specs.Cells.{Cell, CellPart}
+use Rattle.k_squares.specs.Touches.{other_cells_in}
+use Rattle.k_book.specs.Books.{BookRecord}
+use Rattle.k_bounds.specs.Counts.{is_store}
 use Rattle.k_cell.specs.Holdings.{HasObjectRoom, HoldingsValue}
 use Rattle.k_commit.specs.Changed.{bodies_after}
-use Rattle.k_commit.specs.Rooms.{HasEventRoom, HasExitRoom, HasTableRoom}
-use Rattle.k_guests.proofs.CanDo.{owner_shown, serial_shown}
+use Rattle.k_commit.specs.Others.{of_shared}
+use Rattle.k_commit.specs.Rooms.{HasEventRoom, HasTableRoom}
+use Rattle.k_heap.specs.Heaps.{HeapRecord, holdings_of as heap_holdings, own_segment}
+use Rattle.k_shared.specs.SharedHeaps.{SharedRecord, holdings_of as shared_holdings}
+use Rattle.k_space.specs.Objects.{BodyValue}
+use Rattle.k_tie.specs.Values.{NoteValue}
+use Rattle.k_guests.specs.declared.guest.Guest.{Guest}
+use Rattle.k_guests.specs.Keeping.{is_absorbed_in}
+use Rattle.k_guests.specs.Serving.{Basis, BookServes, supply_of}
+use Rattle.k_calls.specs.Adding.{HasEntryRoom, HasKernelItemLeft, HasKernelRoom, HasOwnRoom, HasSharedRoom}
 use Rattle.k_calls.specs.Doing.{bodies_for}
-use Rattle.k_guests.specs.Serving.{Basis, BookServes, GivesSerials, supply_of}
 
-module _ (basis : Basis) (b : BookRecord) (serves : BookServes basis b) (left : length b.journal.list < basis.events) where
-  abbrev now : State
-  now = state_after basis.trace b.journal.list
+-- room for one object more is there whatever the note knows
+met_still : (h : HoldingsValue) (note : NoteValue) (seg : ℕ) → HasObjectRoom h seg → HasObjectRoom (record h { note = note }) seg
+met_still h note seg left = record { given = left.given; room = left.room; there = left.there; can_give = left.can_give; left = left.left }
 
-  pub event_left : HasEventRoom b
-  event_left = let all = serves.events in omega (arith, left, all)
+-- and whether the holdings show the phase of a shared heap
+shown_still : (s : SharedRecord) (seg : ℕ) → HasObjectRoom (shared_holdings s) seg → HasObjectRoom (of_shared s).held seg
+shown_still s seg left = record { given = left.given; room = left.room; there = left.there; can_give = left.can_give; left = left.left }
 
-  -- there are fewer exit items than events, and so there are fewer entry items
-  exits_few : length now.exits ≤ length b.journal.list
-  exits_few = omega (arith, exits_at_most_stores basis.trace b.journal.list, count_low has_stored b.journal.list)
+-- the book has the same value as when its room was tested
+module _ (basis : Basis) (tested b : BookRecord) (serves : BookServes basis b) (same : b.value ≡ tested.value) where
+  pub event_left : length b.journal.list < basis.rooms.events → HasEventRoom b
+  event_left left = let all = serves.events in omega (arith, left, all)
 
-  pub entry_left : AreEntries (book_entries b) → length b.value.entries < b.entry_room
-  unfolding book_part
-  entry_left items =
-      let few = few_items (book_entries b) items in
-      let same = sum_same (counted b.value.entries) (entries now) (λ n. ap (λ (p : BookPart). p.entries n) serves.stands.agrees.shows.part) (objects b.value.entries) in
-      let most = entries_few now (objects b.value.entries) (all_distinct (book_entries b) items) in
-      let room = serves.entries in
-      omega (arith, few, same, most, exits_few, left, room)
+  entry_left : HasEntryRoom basis tested → length b.value.entries < b.entry_room
+  entry_left left = let all = serves.entries in let many = ap (λ (v : BookValue). length v.entries) same in omega (arith, left, all, many)
 
-  serials_few : (seg : ℕ) → get_or now.made seg 0 ≤ 1 + length b.journal.list
-  serials_few seg =
-      omega (arith, serials_at_most_allocations basis.trace b.journal.list seg, one_if_low (seg == 0), count_low (has_allocated_in basis.trace seg) b.journal.list)
+  module _ (bodies : List BodyValue) (n : ℕ) (part : CellPart) (p : ℕ) where
+    abbrev cells_of : Op → List Cell
+    cells_of op = other_cells_in basis.trace (book_shown_by b.value) part p op
 
-  -- a segment that its cell has can give one serial more
-  pub serial_left : (c : Cell) (v : CellValue) (h : HoldingsValue) (seg : ℕ) → h.value.made ≡ v.made → Shows basis.trace now c v → GivesSerials basis.events h.serial_rooms seg →
-      (given : ℕ) → get_or h.value.made seg None ≡ Some given → HasObjectRoom h seg
-  serial_left c v h seg same shows can given there =
-      let shown : get_or v.made seg None ≡ Some given = ap (λ (made : List (Option ℕ)). get_or made seg None) (sym same) ∙ there in
-      let machines = sym shown ∙ serial_shown basis.trace now c v seg (owner_shown basis.trace now c v seg given shows shown) shows in
-      let is : given ≡ get_or now.made seg 0 = cc in
-      let few = serials_few seg in
-      let enough = can.enough in
-      record { given = given; room = can.room; there = there; can_give = can.there; left = inl (omega (arith, is, few, left, enough)) }
+    -- the tables of a process's heap, where its cell alone is touched
+    pub own_tables : (g : Guest) (w : HeapRecord) (op : Op) → bodies ≡ bodies_for basis op n → cells_of op ≡ [] → heap_holdings w ≡ record (heap_holdings g.cell) { note = w.note } → w.pid ≡ g.cell.pid →
+        w.exit_room ≡ basis.rooms.exits → HasOwnRoom basis g tested op → HasTableRoom basis.trace bodies (heap_holdings w) (own_segment w.pid) b op
+    unfolding other_cells_in
+    own_tables g w (New r ty) stock cells holds pid exits room = record {
+      body = record { rest = supply_of basis n; first = stock };
+      serial = λ given there.
+          subst (λ (h : HoldingsValue). HasObjectRoom h (own_segment w.pid)) (sym holds)
+          (subst (λ (q : Pid). HasObjectRoom (record (heap_holdings g.cell) { note = w.note }) (own_segment q)) (sym pid) (met_still (heap_holdings g.cell) w.note (own_segment g.cell.pid) room));
+    }
+    own_tables g w (KNew r ty) stock cells holds pid exits room = absurd (cc)
+    own_tables g w (SNew r s ty) stock cells holds pid exits room = absurd (cc)
+    own_tables g w (Store base i value) stock cells holds pid exits room = record {
+      exits = let same = ap (λ (h : HoldingsValue). length h.value.exits) holds in let few = room.exits in omega (arith, same, few, exits);
+      entries = entry_left room.entries;
+    }
+    own_tables g w _ stock cells holds pid exits room = tt
 
-module _ (basis : Basis) (bodies : List BodyValue) (n : ℕ) (h : HoldingsValue) (seg : ℕ) (b : BookRecord) where
-  -- room in the tables of a heap, for an operation whose body comes first
-  pub table_room : (op : Op) → bodies ≡ bodies_for basis op n → ((given : ℕ) → get_or h.value.made seg None ≡ Some given → HasObjectRoom h seg) → HasExitRoom h b → HasTableRoom basis.trace bodies h seg b op
-  table_room (New r ty) stock serial exits = record { body = record { rest = supply_of basis n; first = stock }; serial = serial }
-  table_room (KNew r ty) stock serial exits = record { body = record { rest = supply_of basis n; first = stock }; serial = serial }
-  table_room (SNew r s ty) stock serial exits = record { body = record { rest = supply_of basis n; first = stock }; serial = serial }
-  table_room (Store base i value) stock serial exits = exits
-  table_room _ stock serial exits = tt
+    -- those of the kernel's heap, where its cell is touched
+    pub kernel_tables : (k : HoldingsValue) (op : Op) → bodies ≡ bodies_for basis op n → cells_of op ≡ Kernel ∷ [] → k.exit_room ≡ basis.rooms.kernel_exits → HasKernelRoom basis k tested op →
+        HasTableRoom basis.trace bodies k 0 b op
+    unfolding other_cells_in
+    kernel_tables k (New r ty) stock cells exits room = absurd (cc)
+    kernel_tables k (KNew r ty) stock cells exits room = record { body = record { rest = supply_of basis n; first = stock }; serial = λ given there. room }
+    kernel_tables k (SNew r s ty) stock cells exits room = absurd (cc)
+    kernel_tables k (Store base i value) stock cells exits room = record { exits = let few = room.exits in omega (arith, few, exits); entries = entry_left room.entries }
+    kernel_tables k _ stock cells exits room = tt
+
+    -- those of a shared heap, where its cell is touched
+    pub shared_tables : (s : SharedRecord) (id : SharedId) (op : Op) → bodies ≡ bodies_for basis op n → cells_of op ≡ Shared id ∷ [] → s.exit_room ≡ basis.rooms.exits → HasSharedRoom basis s tested op →
+        ((given : ℕ) → get_or s.value.made s.seg.0 None ≡ Some given → IsFalse (is_absorbed_in s.value.phase)) → HasTableRoom basis.trace bodies (of_shared s).held s.seg.0 b op
+    unfolding other_cells_in
+    shared_tables s id (New r ty) stock cells exits room stands = absurd (cc)
+    shared_tables s id (KNew r ty) stock cells exits room stands = absurd (cc)
+    shared_tables s id (SNew r t ty) stock cells exits room stands = record { body = record { rest = supply_of basis n; first = stock }; serial = λ given there. shown_still s s.seg.0 (room (stands given there)) }
+    shared_tables s id (Store base i value) stock cells exits room stands = record { exits = let few = room.exits in omega (arith, few, exits); entries = entry_left room.entries }
+    shared_tables s id _ stock cells exits room stands = tt
+
+-- a store that touches the kernel's cell has found an exit item
+pub kernel_item : (basis : Basis) (k : HoldingsValue) (b : BookRecord) (op : Op) → IsTrue (is_store op) → HasKernelRoom basis k b op → HasKernelItemLeft basis k b
+kernel_item basis k b (Store base i value) store room = room
+kernel_item basis k b _ store room = absurd (false≢true store)
 
 -- the supply is left once the operation has taken its body
 pub bodies_left : (basis : Basis) (n : ℕ) (op : Op) → bodies_after op (bodies_for basis op n) ≡ supply_of basis n

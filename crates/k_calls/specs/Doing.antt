@@ -27,7 +27,8 @@ use Rattle.k_operate.specs.Operating.{collects_or_exits}
 use Rattle.k_shared.specs.SharedHeaps.{SharedRecord}
 use Rattle.k_space.specs.Objects.{BodyValue, new_body}
 use Rattle.k_guests.specs.declared.guest.Guest.{Guest}
-use Rattle.k_guests.specs.Serving.{Basis, BookServes, GuestServes, GuestServesWith, KeepsPair, KernelServes, RestServes, SharedServes, supply_of}
+use Rattle.k_guests.specs.Serving.{Basis, BookServes, GuestServes, GuestServesWith, HasTailRoom, KeepsPair, KernelServes, RestServes, SharedServes, supply_of}
+use Rattle.k_calls.specs.Adding.{HasKernelRoom, HasSharedRoom}
 
 -- an allocation finds a body of its type in the supply
 abbrev pub HasItsBody : Basis → ℕ → Op → Type 0
@@ -67,34 +68,33 @@ pub record IsAwake (g : Guest) : Type 0 where
   pub lives : IsFalse (has_ended_in g.cell.value.process)
   pub idle : g.cell.value.collection ≡ Idle
 
--- the process can have one exit item more, and do one operation more
-pub record HasItemRoom (basis : Basis) (g : Guest) : Type 0 where
-  pub exits : length g.cell.value.exits < basis.events
-  pub count : done_in g.cell.value.process < 2 ^ 32 - 1
+-- the process can do one operation more
+abbrev pub HasCountRoom : Guest → Type 0
+HasCountRoom g = done_in g.cell.value.process < 2 ^ 32 - 1
 
 -- the journal has room for the unpublished events of the process, and for one more
 abbrev pub HasEventsLeft : Basis → Guest → BookRecord → Type 0
-HasEventsLeft basis g b = length b.journal.list + length g.cell.value.tail < basis.events
+HasEventsLeft basis g b = length b.journal.list + length g.cell.value.tail < basis.rooms.events
 
 -- the journal has room for the unpublished events of the process
 abbrev pub HasRoomToPublish : Basis → Guest → BookRecord → Type 0
-HasRoomToPublish basis g b = length b.journal.list + length g.cell.value.tail ≤ basis.events
+HasRoomToPublish basis g b = length b.journal.list + length g.cell.value.tail ≤ basis.rooms.events
 
--- the process is awake and has room, and the operation names what the setup declares, begins no collection and ends no process
+-- the process is awake and can do one operation more, and the operation names what the setup declares, begins no collection and ends no process
 pub record IsReady (basis : Basis) (g : Guest) (op : Op) : Type 0 where
   pub in_range : IsTrue (in_range basis.trace op)
   pub no_collection : IsFalse (is_collect op)
   pub goes_on : IsFalse (collects_or_exits op)
   pub awake : IsAwake g
-  pub room : HasItemRoom basis g
+  pub room : HasCountRoom g
 
--- the process serves and is awake, the operation names what the setup declares, and the cell has room for one more unpublished event
+-- the process serves and is awake, the operation names what the setup declares, and there can be one operation and one unpublished event more
 pub record CanDoInside (basis : Basis) (g : Guest) (op : Op) : Type 0 where
   pub serves : GuestServes basis g.cell.note.table g
   pub in_range : IsTrue (in_range basis.trace op)
   pub awake : IsAwake g
-  pub room : HasItemRoom basis g
-  pub tail : length g.cell.value.tail < basis.events
+  pub room : HasCountRoom g
+  pub tail : HasTailRoom basis g
 
 -- the operation was done inside the heap: its event is the newest that the journal lacks, and possible after those before it
 pub record HasDoneInside (basis : Basis) (op : Op) (old g : Guest) (said : Reply) : Type 0 where
@@ -108,6 +108,11 @@ pub record HasPublishedAll (basis : Basis) (old g : Guest) (old_b b : BookRecord
   pub guest_is : g ≡ record old { cell = record old.cell { note = g.cell.note; value = record old.cell.value { tail = [] } } }
   pub book_is : b ≡ record old_b { journal = b.journal }
   pub journal : b.journal.list ≡ old_b.journal.list ++ old.cell.value.tail
+
+-- where no event more can be unpublished, all that were so are published, and else nothing has changed
+abbrev pub IsPublishedWhereFull : Basis → Guest → Guest → BookRecord → BookRecord → Type 0
+IsPublishedWhereFull basis old g old_b b =
+    (HasTailRoom basis old × (g ≡ old) × (b ≡ old_b)) ⊎ ((basis.rooms.tail ≤ length old.cell.value.tail) × HasPublishedAll basis old g old_b b)
 
 -- process and book serve and are ready for the operation, which is not done inside the heap and touches these cells beside the own; the
 -- process has the body of the object that it makes
@@ -138,16 +143,16 @@ pub record HasDoneAlone (basis : Basis) (op : Op) (old g : Guest) (old_b b : Boo
   pub idle : g.cell.value.collection ≡ Idle
   pub bodies : g.bodies ≡ old.bodies
 
--- the kernel's heap is not collected, and can have one exit item more
-pub record IsKernelReady (basis : Basis) (k : HoldingsValue) : Type 0 where
+-- the kernel's heap is not collected, and has room for what the operation adds to it
+pub record IsKernelReady (basis : Basis) (k : HoldingsValue) (b : BookRecord) (op : Op) : Type 0 where
   pub idle : k.value.collection ≡ Idle
-  pub exits : length k.value.exits < basis.events
+  pub room : HasKernelRoom basis k b op
 
 -- the operation touches the kernel's cell too, which serves and is ready
 pub record CanDoWithKernel (basis : Basis) (g : Guest) (k : HoldingsValue) (b : BookRecord) (op : Op) : Type 0 where
   pub due : IsDueWith basis g b op (Kernel ∷ [])
   pub kernel : KernelServes basis b.journal.table k
-  pub ready : IsKernelReady basis k
+  pub ready : IsKernelReady basis k b op
 
 -- the kernel's cell serves still, too, and its heap is not collected
 pub record HasDoneWithKernel (basis : Basis) (op : Op) (old g : Guest) (k : HoldingsValue) (old_b b : BookRecord) (event : Event) : Type 0 where
@@ -155,11 +160,11 @@ pub record HasDoneWithKernel (basis : Basis) (op : Op) (old g : Guest) (k : Hold
   pub kernel : KernelServes basis b.journal.table k
   pub idle : k.value.collection ≡ Idle
 
--- the operation touches the shared heap's cell too, which serves and can have one exit item more
+-- the operation touches the shared heap's cell too, which serves and has room for what the operation adds to it
 pub record CanDoWithShared (basis : Basis) (g : Guest) (s : SharedRecord) (b : BookRecord) (op : Op) : Type 0 where
   pub due : IsDueWith basis g b op (Shared s.id ∷ [])
   pub shared : SharedServes basis b.journal.table s
-  pub exits : length s.value.exits < basis.events
+  pub room : HasSharedRoom basis s b op
 
 -- the shared heap's cell serves still, too, and is the same one
 pub record HasDoneWithShared (basis : Basis) (op : Op) (old g : Guest) (old_s s : SharedRecord) (old_b b : BookRecord) (event : Event) : Type 0 where
@@ -201,13 +206,25 @@ abbrev pub LeavesOthers : List Cell → HoldingsValue → HoldingsValue → List
 LeavesOthers cells old_k k old_shared shared =
     LeavesAll cells old_k k old_shared shared ⊎ LeavesShared cells k old_shared shared ⊎ LeavesKernel cells old_k k old_shared shared
 
--- the operation needs the process's heap alone and was done inside it, and nothing else has changed
+-- the operation needs the process's heap alone and was done inside it, one event more can be unpublished, and nothing else has changed
 pub record IsKept (basis : Basis) (op : Op) (old g : Guest) (old_k k : HoldingsValue) (old_shared shared : List SharedRecord) (old_b b : BookRecord) (said : Reply) : Type 0 where
   pub own : IsTrue (is_local_in (idle_part old.cell.value) old.cell.pid.0 op)
   pub inside : HasDoneInside basis op old g said
+  pub few : HasTailRoom basis g
   pub kernel_is : k ≡ old_k
   pub shared_is : shared ≡ old_shared
   pub book_is : b ≡ old_b
+
+-- the operation needs the process's heap alone and was done inside it. With it there were as many unpublished events as there can be,
+-- which were published, and nothing else has changed
+pub record IsKeptAndPublished (basis : Basis) (op : Op) (old g : Guest) (old_k k : HoldingsValue) (old_shared shared : List SharedRecord) (old_b b : BookRecord) (said : Reply) : Type 0 where
+  pub own : IsTrue (is_local_in (idle_part old.cell.value) old.cell.pid.0 op)
+  pub mid : Guest
+  pub inside : HasDoneInside basis op old mid said
+  pub full : basis.rooms.tail ≤ length mid.cell.value.tail
+  pub published : HasPublishedAll basis mid g old_b b
+  pub kernel_is : k ≡ old_k
+  pub shared_is : shared ≡ old_shared
 
 -- the operation does not need the process's heap alone. Its event is appended behind what the process had unpublished; the process has
 -- nothing unpublished, its heap is not collected, and an allocation has taken a body of its type from the supply if one was there
@@ -219,11 +236,13 @@ pub record IsRecorded (basis : Basis) (op : Op) (old g : Guest) (old_k k : Holdi
   pub bodies : g.bodies ≡ left_after basis op old.bodies
   pub others : LeavesOthers (touched_by basis old old_b op) old_k k old_shared shared
 
--- all serves still, and the event of the operation is kept by the process or recorded in the journal
+-- all serves still, and the event of the operation is kept by the process, kept and then published, or recorded in the journal
 pub record HasOperated (basis : Basis) (op : Op) (old g : Guest) (old_k k : HoldingsValue) (old_shared shared : List SharedRecord) (old_b b : BookRecord) (event : Event) : Type 0 where
   pub can : CanOperate basis g k shared b
   pub same_table : b.journal.table ≡ old_b.journal.table
   pub pid : g.cell.pid ≡ old.cell.pid
   pub said : Reply
   pub event_is : event ≡ Done old.cell.pid op said
-  pub done : IsKept basis op old g old_k k old_shared shared old_b b said ⊎ IsRecorded basis op old g old_k k old_shared shared old_b b event
+  pub done : IsKept basis op old g old_k k old_shared shared old_b b said
+      ⊎ IsKeptAndPublished basis op old g old_k k old_shared shared old_b b said
+      ⊎ IsRecorded basis op old g old_k k old_shared shared old_b b event

@@ -1,3 +1,4 @@
+pub mod Adding
 pub mod Doing
 pub mod Refusals
 pub use Rattle.k_operate.specs.Reaching

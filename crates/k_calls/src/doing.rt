@@ -1,14 +1,14 @@
 //! One operation of a process, with the cells that it touches and the book.
 ghost use Rattle.std.specs.Prelude.{◌≡◌, IfNone, IfSome, IsFalse, [], is_some};
-ghost use Rattle.k_book.specs.Books.{book_entries};
-ghost use Rattle.k_entry.specs.Entries.{AreEntries};
 ghost use Rattle.k_moves.specs.Shown.{idle_part};
 ghost use Rattle.k_squares.specs.Locals.{is_local_in};
 ghost use Rattle.k_squares.specs.Touches.{other_cells_in};
 ghost use Rattle.k_operate.specs.Reaching.{CanReach, cells_of};
 ghost use Rattle.k_types.specs.Agree.{book_shown_by};
-ghost use Rattle.k_calls.specs.Doing.{CanDoInside, CanDoWithKernel, CanDoWithShared, HasDoneAlone, HasDoneInside, HasDoneWithKernel, HasDoneWithShared, HasPublishedAll, HasRoomToPublish, IsDueWith};
-ghost use Rattle.k_guests.specs.Serving.{Basis, BookServes, GuestServes};
+ghost use Rattle.k_base.specs.Distinct.{AreDistinctNames};
+ghost use Rattle.k_calls.specs.Adding.{HasOwnRoom};
+ghost use Rattle.k_calls.specs.Doing.{CanDoInside, CanDoWithKernel, CanDoWithShared, HasDoneAlone, HasDoneInside, HasDoneWithKernel, HasDoneWithShared, HasPublishedAll, HasRoomToPublish, IsDueWith, IsPublishedWhereFull};
+ghost use Rattle.k_guests.specs.Serving.{Basis, BookServes, GuestServes, basis_of};
 
 use k_book::Book;
 use k_guests::{Guest, Terms};
@@ -16,7 +16,7 @@ use k_kernel::KernelCell;
 use k_local::local;
 use k_operate::{Reach, publish, reach, step_kernel, step_own, step_shared};
 use k_shared::SharedCell;
-use k_types::{Event, Heap, Op, Reply};
+use k_types::{Event, Op, Reply};
 
 /// Does the operation inside the process's own heap, if it needs that heap alone.
 pub(crate) fn do_inside(terms: &Terms, guest: &mut Guest, op: &Op) -> Option<Reply>
@@ -41,6 +41,18 @@ pub(crate) fn publish_all(terms: &Terms, guest: &mut Guest, book: &mut Book)
     publish(&mut guest.cell, book);
 }
 
+/// Publishes what the process did inside its heap where no event more can be unpublished.
+pub(crate) fn publish_where_full(terms: &Terms, guest: &mut Guest, book: &mut Book)
+    requires guest { GuestServes (basis_of terms.now) book.old.journal.table guest.old }
+    requires book { BookServes (basis_of terms.now) book.old }
+    requires room { HasRoomToPublish (basis_of terms.now) guest.old book.old }
+    ensures { IsPublishedWhereFull (basis_of terms.now) guest.old guest.new book.old book.new }
+{
+    if guest.cell.tail_len() >= terms.rooms.tail {
+        publish_all(terms, guest, book);
+    }
+}
+
 /// The cells that the operation touches beside its process's own.
 pub fn reached(terms: &Terms, guest: &Guest, book: &Book, op: &Op) -> Reach
     ghost basis: { Basis }
@@ -50,21 +62,21 @@ pub fn reached(terms: &Terms, guest: &Guest, book: &Book, op: &Op) -> Reach
     reach(&guest.cell, book, op)
 }
 
-/// Tells that no entry item of the book stands twice, and that each counts.
-fn know_entries(book: &Book)
-    ensures { AreEntries (book_entries book.now) }
+/// Tells that no exit item of the kernel's heap stands twice.
+fn know_exits(kernel: &KernelCell)
+    ensures { AreDistinctNames kernel.now.value.exits }
 {
-    book.first_entry(Heap::Kernel);
+    kernel.exit_count();
 }
 
 /// Publishes, and does an operation that touches the process's own cell alone.
 pub fn do_alone(terms: &Terms, guest: &mut Guest, book: &mut Book, op: &Op) -> Event
     ghost basis: { Basis }
-    requires { IsDueWith basis guest.old book.old op.now [] }
+    requires due { IsDueWith basis guest.old book.old op.now [] }
+    requires room { HasOwnRoom basis guest.old book.old op.now }
     ensures { HasDoneAlone basis op.now guest.old guest.new book.old book.new result }
 {
     publish(&mut guest.cell, book);
-    know_entries(book);
     step_own(&mut guest.cell, book, op)
 }
 
@@ -81,7 +93,7 @@ pub(crate) fn do_with_kernel(
     ensures { HasDoneWithKernel basis op.now guest.old guest.new kernel.new book.old book.new result }
 {
     publish(&mut guest.cell, book);
-    know_entries(book);
+    know_exits(kernel);
     step_kernel(&mut guest.cell, kernel, book, op)
 }
 
@@ -98,6 +110,5 @@ pub(crate) fn do_with_shared(
     ensures { HasDoneWithShared basis op.now guest.old guest.new shared.old shared.new book.old book.new result }
 {
     publish(&mut guest.cell, book);
-    know_entries(book);
     step_shared(&mut guest.cell, shared, book, op)
 }

@@ -11,8 +11,13 @@ pub enum HostError {
     Ended,
     /// A collection of a heap that is touched is open, or not as far as the call asks.
     Phase,
-    /// There may be no room for the event, or for what it adds to a table.
+    /// There may be no room for the event, in the journal or among what the process has unpublished, or the process has done as many
+    /// operations as can be counted.
     Full,
+    /// The heap has no room for one object more.
+    Objects,
+    /// No exit item is left to the heap, or no entry item to the book.
+    Items,
     /// The allocation finds no memory for its object, and the supply has no body of its type.
     NoMemory,
     /// A shared heap is an orphan, or the one to be absorbed is none.

@@ -1,13 +1,15 @@
 //! Operations of a host's processes, each tested before it is done.
 //!
-//! [`operate_with`] does an operation inside the process's heap where it needs that heap alone, and else publishes and calls the step of
-//! the cells that it touches. A `kill` that ends another process has a call of its own, in `k_ends`. [`try_inside`] does what needs the
+//! [`operate_with`] does an operation inside the process's heap where it needs that heap alone, and publishes only once no event more can
+//! be unpublished. Else it publishes and calls the step of the cells that it touches. A `kill` that ends another process has a call of its own, in `k_ends`. [`try_inside`] does what needs the
 //! heap alone or nothing, and [`try_publish`] publishes. The object of an allocation has its memory before the step: a body of the
 //! process's supply, or a new one. What a step asks beyond what the parts of a host keep, such as room in the
 //! journal, is tested first: a test that fails is a [`HostError`], which names what is lacking, and nothing has changed.
-//! [`ready`], [`room_left`] and [`reached`] are the tests that all operations have in common.
+//! [`ready`], [`room_left`] and [`reached`] are the tests that all operations have in common. Room for what an operation adds to a heap,
+//! an object or an exit item, is tested once it is known which cells it touches, so that a full table bars no other operation.
 #![tactic(auto)]
 
+mod adding;
 mod doing;
 mod errors;
 mod providing;

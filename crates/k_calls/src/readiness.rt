@@ -1,14 +1,13 @@
 //! What an operation asks beyond what a host keeps, tested when it is called.
 ghost use Rattle.std.specs.Prelude.{◌≡◌, ◌↔◌, IfErr, IsTrue, OnOk};
-ghost use Rattle.k_calls.specs.Doing.{HasEventsLeft, HasItemRoom, HasRoomToPublish, IsAwake, IsKernelReady, IsReady};
-ghost use Rattle.k_calls.specs.Refusals.{IsKernelNotReady, IsNotAwake, IsNotReady, Lacks, is_plain};
+ghost use Rattle.k_calls.specs.Doing.{HasCountRoom, HasEventsLeft, HasRoomToPublish, IsAwake, IsReady};
+ghost use Rattle.k_calls.specs.Refusals.{IsNotAwake, IsNotReady, Lacks, is_plain};
 ghost use Rattle.k_guests.specs.Serving.{basis_of};
 
 use crate::errors::HostError;
 use crate::ranges::is_in_range;
 use k_book::Book;
 use k_guests::{Guest, Terms};
-use k_kernel::KernelCell;
 use k_types::{CellPhase, Op};
 
 /// Whether the operation has no call of its own.
@@ -104,14 +103,14 @@ pub fn awake(guest: &Guest) -> Result<(), HostError>
 pub fn has_events_left(terms: &Terms, guest: &Guest, book: &Book) -> bool
     ensures { IsTrue result ↔ HasEventsLeft (basis_of terms.now) guest.now book.now }
 {
-    u64::from(book.len()) + u64::from(guest.cell.tail_len()) < u64::from(terms.events)
+    u64::from(book.len()) + u64::from(guest.cell.tail_len()) < u64::from(terms.rooms.events)
 }
 
 /// Whether the journal has room for what the process has unpublished.
 pub(crate) fn has_room_to_publish(terms: &Terms, guest: &Guest, book: &Book) -> bool
     ensures { IsTrue result ↔ HasRoomToPublish (basis_of terms.now) guest.now book.now }
 {
-    u64::from(book.len()) + u64::from(guest.cell.tail_len()) <= u64::from(terms.events)
+    u64::from(book.len()) + u64::from(guest.cell.tail_len()) <= u64::from(terms.rooms.events)
 }
 
 /// Tells that the journal has room for what the process has unpublished and one event more.
@@ -125,11 +124,11 @@ pub fn room_left(terms: &Terms, guest: &Guest, book: &Book) -> Result<(), HostEr
     Ok(())
 }
 
-/// Whether the process can have one exit item more, and do one operation more.
-pub(crate) fn has_item_room(terms: &Terms, guest: &Guest) -> bool
-    ensures { IsTrue result ↔ HasItemRoom (basis_of terms.now) guest.now }
+/// Whether the process can do one operation more.
+pub(crate) fn has_count_room(guest: &Guest) -> bool
+    ensures { IsTrue result ↔ HasCountRoom guest.now }
 {
-    guest.cell.exit_count() < terms.events && guest.cell.done() < u32::MAX
+    guest.cell.done() < u32::MAX
 }
 
 /// Whether the process can try the operation now.
@@ -144,21 +143,7 @@ pub fn ready(terms: &Terms, guest: &Guest, op: &Op) -> Result<(), HostError>
         return Err(HostError::OwnCall);
     }
     awake(guest)?;
-    if !has_item_room(terms, guest) {
-        return Err(HostError::Full);
-    }
-    Ok(())
-}
-
-/// Whether the kernel's heap is not collected and can have one exit item more.
-pub(crate) fn kernel_ready(terms: &Terms, kernel: &KernelCell) -> Result<(), HostError>
-    ensures ok { OnOk result (IsKernelReady (basis_of terms.now) kernel.now) }
-    ensures why { IfErr result (λ why. IsKernelNotReady (basis_of terms.now) kernel.now why) }
-{
-    if !is_idle(kernel.phase()) {
-        return Err(HostError::Phase);
-    }
-    if kernel.exit_count() >= terms.events {
+    if !has_count_room(guest) {
         return Err(HostError::Full);
     }
     Ok(())

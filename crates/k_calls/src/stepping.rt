@@ -1,16 +1,19 @@
 //! An operation that is made up, with whatever it touches, and what a process does inside its heap.
-ghost use Rattle.std.specs.Prelude.{◌≡◌, IfErr, IfNone, IfOk, IfSome, OnErr, OnOk, is_some};
+ghost use Rattle.std.specs.Prelude.{◌≡◌, ◌↔◌, ◌+◌, ◌<◌, IsTrue, length, IfErr, IfNone, IfOk, IfSome, OnErr, OnOk, is_some};
 ghost use Rattle.k_moves.specs.Shown.{idle_part};
 ghost use Rattle.k_squares.specs.Locals.{is_local_in};
-ghost use Rattle.k_guests.specs.Serving.{BookServes, GuestServes, basis_of};
+ghost use Rattle.k_guests.specs.Serving.{BookServes, GuestServes, HasTailRoom, basis_of};
 ghost use Rattle.k_calls.specs.Doing.{CanOperate, HasDoneInside, HasOperated, HasPublishedAll};
 ghost use Rattle.k_calls.specs.Refusals.{CanNotDoInside, CanNotOperateAlone, CanNotPublish};
 
-use crate::doing::{do_alone, do_inside, do_with_kernel, do_with_shared, publish_all, reached};
+use crate::adding::{kernel_ready, own_room, shared_room};
+use crate::doing::{
+    do_alone, do_inside, do_with_kernel, do_with_shared, publish_all, publish_where_full, reached,
+};
 use crate::errors::HostError;
 use crate::providing::provide;
 use crate::ranges::is_in_range;
-use crate::readiness::{awake, has_item_room, has_room_to_publish, kernel_ready, ready, room_left};
+use crate::readiness::{awake, has_count_room, has_room_to_publish, ready, room_left};
 use k_book::Book;
 use k_guests::{Guest, Terms};
 use k_kernel::KernelCell;
@@ -19,10 +22,18 @@ use k_shared::SharedCell;
 use k_types::{Event, Op, Reply};
 use std::alloc::Global;
 
+/// Whether one event more can be unpublished after the next one.
+fn has_tail_left(terms: &Terms, guest: &Guest) -> bool
+    ensures { IsTrue result ↔ (length guest.now.cell.value.tail + 1 < terms.now.rooms.tail) }
+{
+    u64::from(guest.cell.tail_len()) + 1 < u64::from(terms.rooms.tail)
+}
+
 /// Does the operation inside the process's own heap, if it needs that heap alone and there is room.
 pub fn try_inside(terms: &Terms, guest: &mut Guest, op: &Op) -> Result<Option<Reply>, HostError>
     requires { GuestServes (basis_of terms.now) guest.old.cell.note.table guest.old }
     ensures done { IfOk result (λ answer. IfSome answer (λ said. HasDoneInside (basis_of terms.now) op.now guest.old guest.new said)) }
+    ensures few { IfOk result (λ answer. IfSome answer (λ said. HasTailRoom (basis_of terms.now) guest.new)) }
     ensures none { IfOk result (λ answer. IfNone answer (guest.new ≡ guest.old)) }
     ensures same { IfErr result (λ why. guest.new ≡ guest.old) }
     ensures told { IfOk result (λ answer. is_some answer ≡ is_local_in (idle_part guest.old.cell.value) guest.old.cell.pid.0 op.now) }
@@ -32,7 +43,7 @@ pub fn try_inside(terms: &Terms, guest: &mut Guest, op: &Op) -> Result<Option<Re
         return Err(HostError::Unknown);
     }
     awake(guest)?;
-    if !has_item_room(terms, guest) || guest.cell.tail_len() >= terms.events {
+    if !has_count_room(guest) || !has_tail_left(terms, guest) {
         return Err(HostError::Full);
     }
     Ok(do_inside(terms, guest, op))
@@ -53,8 +64,9 @@ pub fn try_publish(terms: &Terms, guest: &mut Guest, book: &mut Book) -> Result<
     Ok(())
 }
 
-/// Does the operation with whatever it touches, if it is ready and there is room, and memory for the object that it makes. A `kill` that
-/// ends another process has a call of its own, which is lent that process too.
+/// Does the operation with whatever it touches, if it is ready and there is room, and memory for the object that it makes. What is done
+/// inside the heap is published once no event more can be unpublished. A `kill` that ends another process has a call of its own, which is
+/// lent that process too.
 pub fn operate_with(
     alloc: Global,
     terms: &Terms,
@@ -64,7 +76,8 @@ pub fn operate_with(
     book: &mut Book,
     op: &Op,
 ) -> Result<Event, HostError>
-    requires { CanOperate (basis_of terms.now) guest.old kernel.old shared.old.items book.old }
+    requires can { CanOperate (basis_of terms.now) guest.old kernel.old shared.old.items book.old }
+    requires few { HasTailRoom (basis_of terms.now) guest.old }
     ensures done { IfOk result (λ event. HasOperated (basis_of terms.now) op.now guest.old guest.new kernel.old kernel.new shared.old.items shared.new.items book.old book.new event) }
     ensures same { IfErr result (λ why. (guest.new ≡ guest.old) × (kernel.new ≡ kernel.old) × (shared.new.items ≡ shared.old.items) × (book.new ≡ book.old)) }
     ensures why { IfErr result (λ why. CanNotOperateAlone (basis_of terms.now) kernel.old shared.old.items book.old op.now guest.old why) }
@@ -73,6 +86,7 @@ pub fn operate_with(
     room_left(terms, guest, book)?;
     if let Some(reply) = do_inside(terms, guest, op) {
         let pid = guest.cell.pid();
+        publish_where_full(terms, guest, book);
         return Ok(Event::Done {
             pid,
             op: *op,
@@ -81,19 +95,18 @@ pub fn operate_with(
     }
     match reached(terms, guest, book, op) {
         Reach::Own => {
+            own_room(terms, guest, book, op)?;
             provide(alloc, terms, guest, op)?;
             Ok(do_alone(terms, guest, book, op))
         }
         Reach::Kernel => {
-            kernel_ready(terms, kernel)?;
+            kernel_ready(terms, kernel, book, op)?;
             provide(alloc, terms, guest, op)?;
             Ok(do_with_kernel(terms, guest, kernel, book, op))
         }
         Reach::Shared(id) => {
             let heap = &mut shared[id.0 as usize];
-            if heap.exit_count() >= terms.events {
-                return Err(HostError::Full);
-            }
+            shared_room(terms, heap, book, op)?;
             provide(alloc, terms, guest, op)?;
             Ok(do_with_shared(terms, guest, heap, book, op))
         }

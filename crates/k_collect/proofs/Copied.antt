@@ -1,8 +1,6 @@
 -- Roots that were copied into the row of noted ones.
-use Rattle.std.proofs.Common.{◌≡◌, ℕ, ◌||◌, Bool, true, false, refl, sym, ap, ◌∙◌, List, ◌++◌}
+use Rattle.std.proofs.Common.{◌≡◌, ℕ, ◌||◌, Bool, true, false, refl, sym, ap, ◌∙◌, List}
 use Rattle.std.proofs.lemmas.Bool.{or_left}
-use Rattle.k_types.specs.declared.names.CellPhase.{CellPhase}
-use Rattle.k_types.specs.declared.names.CellPhase.TheVariants.{Begun}
 use Rattle.k_types.specs.declared.names.Heap.{Heap}
 use Rattle.k_types.specs.declared.names.Name.{Name}
 use Rattle.k_types.specs.Agree.{CellValue}

@@ -1,5 +1,5 @@
 -- What is not black in a marked cell is what the end of its collection takes from the machine.
-use Rattle.std.proofs.Common.{◌≡◌, ℕ, ◌+◌, ◌<◌, ◌≤◌, ◌&&◌, ◌||◌, ◌++◌, ◌∷◌, [], not, Bool, true, false, cond, refl, sym, ap, ap₂, ◌∙◌, subst, List, length, arith, unwrap_or}
+use Rattle.std.proofs.Common.{◌≡◌, ℕ, ◌+◌, ◌≤◌, ◌&&◌, ◌||◌, ◌++◌, ◌∷◌, [], not, Bool, true, false, cond, refl, sym, ap, ap₂, ◌∙◌, subst, List, length, arith, unwrap_or}
 use Rattle.k_types.specs.declared.event.Event.{Event}
 use Rattle.k_types.specs.declared.event.Event.TheVariants.{Ended}
 use Rattle.k_types.specs.declared.names.CellPhase.TheVariants.{Marked}
@@ -15,6 +15,7 @@ use Rattle.k_types.specs.Steps.{IsLegalHistory, state_after}
 use Rattle.k_types.specs.Trace.{Trace}
 use Rattle.k_types.specs.TraceRules.{KeepsRules}
 use Rattle.k_types.specs.Updates.{close_scan, keep_exits, keep_objects, keep_shares}
+use Rattle.k_base.proofs.Lists.{length-kept}
 use Rattle.k_base.proofs.Objects.{has-kept}
 use Rattle.k_frame.proofs.Histories.{state_next}
 use Rattle.k_laws.proofs.Means.{reach_is}
@@ -28,7 +29,6 @@ use Rattle.k_heap.specs.Heaps.{HeapRecord}
 use Rattle.k_commit.specs.Met.{HeapHasMet, KernelHasMet}
 use Rattle.k_commit.specs.Others.{held_by}
 use Rattle.k_collect.specs.Freed.{AreFreed, gone_between}
-use Rattle.k_collect.proofs.Sizes.{freed_few}
 
 not_kept : (there own kept : Bool) → ((there && own) && not kept) ≡ (there && not (not own || kept))
 not_kept true true kept = refl
@@ -79,12 +79,12 @@ met_value trace c d b k met = ap (λ (y : HeapRecord). y.value) met.cell_is
 pub kernel_met_value : (trace : Trace) (c d : HoldingsValue) (b k : BookRecord) → KernelHasMet trace c d b k → d.value ≡ c.value
 kernel_met_value trace c d b k met = ap (λ (y : HoldingsValue). y.value) (ap held_by met.other_is)
 
+-- there is room for what goes where there is room for all objects
+pub fits_all : (v : CellValue) (count room : ℕ) → count + length v.objects ≤ room → count + freed_objects v ≤ room
+fits_all v count room fits = let few = length-kept (λ o. not (name_among o.name v.black)) v.objects in omega (arith, few, fits)
+
 -- what was told of a cell that shows the state after this history
 module _ (trace : Trace) (history : List Event) (keeps : KeepsRules trace) (legal : IsLegalHistory trace history) (cell : Cell) (v : CellValue) (shows : Shows trace (state_after trace history) cell v) where
-  -- there is room for all where there is room for as many as the events and one more
-  pub fits_all : (count room : ℕ) → count + length history < room → count + freed_objects v ≤ room
-  fits_all count room fits = let few = freed_few trace history keeps legal cell v shows in omega (arith, few, fits)
-
   pub all_freed : v.collection ≡ Marked → (objects bytes exits shares : ℕ) (event : Event) → event ≡ Ended cell objects bytes exits shares → (old new : List Name) → AreTold (freed_at v) (freed_objects v) old new → AreFreed trace history event old new
   all_freed phase objects bytes exits shares event is old new told = record {
     once = λ n.

@@ -1,5 +1,5 @@
 //! The ends of collections.
-ghost use Rattle.std.specs.Prelude.{◌≡◌, ◌<◌, ◌+◌, [], length};
+ghost use Rattle.std.specs.Prelude.{◌≡◌, ◌≤◌, ◌+◌, [], length};
 ghost use Rattle.k_types.specs.Trace.{Trace};
 ghost use Rattle.k_agree.specs.Meeting.{Fits};
 ghost use Rattle.k_collect.specs.Collecting.{CanEndHeap, CanEndKernel};
@@ -64,14 +64,14 @@ pub fn end_heap(cell: &mut HeapCell, book: &mut Book) -> Event
     end_heap_telling(cell, book, &mut nobody)
 }
 
-/// The same, and the list then has the names of the objects that went, and no others, each once and in any order, where it has room for one more
-/// than there are events.
+/// The same, and the list then has the names of the objects that went, and no others, each once and in any order, where it has room
+/// for as many as the heap has objects.
 pub fn end_heap_listing(cell: &mut HeapCell, book: &mut Book, freed: &mut Freed) -> Event
     ghost trace: { Trace }
     requires { CanEndHeap trace cell.old book.old }
     ensures ended { HasEndedHeap trace cell.old cell.new book.old book.new result }
     ensures room { freed.new.room ≡ freed.old.room }
-    ensures listed { length book.old.journal.list < freed.old.room → AreFreed trace book.old.journal.list result [] freed.new.names }
+    ensures listed { length cell.old.value.objects ≤ freed.old.room → AreFreed trace book.old.journal.list result [] freed.new.names }
 {
     freed.clear();
     end_heap_telling(cell, book, freed)
@@ -83,7 +83,7 @@ fn end_heap_telling<L: Listener>(cell: &mut HeapCell, book: &mut Book, listener:
     requires { CanEndHeap trace cell.old book.old }
     ensures ended { HasEndedHeap trace cell.old cell.new book.old book.new result }
     ensures room { L.room listener.new ≡ L.room listener.old }
-    ensures told { length (L.heard listener.old) + length book.old.journal.list < L.room listener.old →
+    ensures told { length (L.heard listener.old) + length cell.old.value.objects ≤ L.room listener.old →
         AreFreed trace book.old.journal.list result (L.heard listener.old) (L.heard listener.new) }
 {
     meet_heap(cell, book);
@@ -131,14 +131,14 @@ pub fn end_kernel(kernel: &mut KernelCell, book: &mut Book) -> Event
     end_kernel_telling(kernel, book, &mut nobody)
 }
 
-/// The same, and the list then has the names of the objects that went, and no others, each once and in any order, where it has room for one more
-/// than there are events.
+/// The same, and the list then has the names of the objects that went, and no others, each once and in any order, where it has room
+/// for as many as the heap has objects.
 pub fn end_kernel_listing(kernel: &mut KernelCell, book: &mut Book, freed: &mut Freed) -> Event
     ghost trace: { Trace }
     requires { CanEndKernel trace kernel.old book.old }
     ensures ended { HasEndedKernel trace kernel.old kernel.new book.old book.new result }
     ensures room { freed.new.room ≡ freed.old.room }
-    ensures listed { length book.old.journal.list < freed.old.room → AreFreed trace book.old.journal.list result [] freed.new.names }
+    ensures listed { length kernel.old.value.objects ≤ freed.old.room → AreFreed trace book.old.journal.list result [] freed.new.names }
 {
     freed.clear();
     end_kernel_telling(kernel, book, freed)
@@ -154,7 +154,7 @@ fn end_kernel_telling<L: Listener>(
     requires { CanEndKernel trace kernel.old book.old }
     ensures ended { HasEndedKernel trace kernel.old kernel.new book.old book.new result }
     ensures room { L.room listener.new ≡ L.room listener.old }
-    ensures told { length (L.heard listener.old) + length book.old.journal.list < L.room listener.old →
+    ensures told { length (L.heard listener.old) + length kernel.old.value.objects ≤ L.room listener.old →
         AreFreed trace book.old.journal.list result (L.heard listener.old) (L.heard listener.new) }
 {
     meet_kernel(kernel, book);

@@ -1,5 +1,5 @@
--- What a request asks for: an operation, or a whole call of another kind.
-use Rattle.std.specs.Prelude.{◌==◌, if◌then◌else◌, Option, Some, None}
+-- What a request asks for: an operation, a whole call of another kind, or the next event; and which rooms are asked for.
+use Rattle.std.specs.Prelude.{◌≡◌, ℕ, ◌+◌, ◌*◌, ◌==◌, if◌then◌else◌, Bool, Option, Some, None}
 use Rattle.k_types.specs.declared.names.LimitId.{LimitId}
 use Rattle.k_types.specs.declared.names.Pid.{Pid}
 use Rattle.k_types.specs.declared.names.Reg.{Reg}
@@ -9,7 +9,10 @@ use Rattle.k_types.specs.declared.op.Op.{Op}
 use Rattle.k_types.specs.declared.op.Op.TheVariants.{New, KNew, SNew, Store, Load, Move, Clear, Dir, Put, Get, Share, Freeze, Attach, Kill as KillOther, Resize}
 use Rattle.k_embed.specs.declared.doing.Whole.{Whole}
 use Rattle.k_embed.specs.declared.doing.Whole.TheVariants.{Absorb, Collect, CollectKernel, Kill}
+use Rattle.k_guests.specs.declared.rooms.Rooms.{Rooms as HostRooms}
+use Rattle.k_guests.specs.Enough.{greater, lesser, most_room}
 use Rattle.k_embed.specs.declared.messages.Request.{Request}
+use Rattle.k_embed.specs.declared.messages.Rooms.{Rooms}
 
 -- the register that is written or stored, and that of the object or the one that is read
 abbrev pub reg_of : Request → Reg
@@ -62,3 +65,30 @@ whole_of q =
     else if q.call == 18 then Some Kill
     else if q.call == 19 then Some (Absorb (shared_of q))
     else None
+
+-- whether the request takes the next event out
+abbrev pub is_take : Request → Bool
+is_take q = q.call == 20
+
+-- the rooms that are asked for
+abbrev pub rooms_of : Rooms → HostRooms
+rooms_of r = record {
+  events = r.events;
+  kept = r.kept;
+  tail = r.tail;
+  objects = r.objects;
+  exits = r.exits;
+  kernel_exits = r.kernel_exits;
+  entries = r.entries;
+}
+
+-- rooms for so many objects in each heap of so many processes and shared heaps: as many exit items as objects, as many events as there can
+-- be, and none of them kept
+pub record AreRoomsFor (each processes heaps : ℕ) (r : Rooms) : Type 0 where
+  pub events : r.events ≡ most_room
+  pub kept : r.kept ≡ 0
+  pub tail : r.tail ≡ lesser (greater each 1) 1024
+  pub objects : r.objects ≡ each
+  pub exits : r.exits ≡ each
+  pub kernel_exits : r.kernel_exits ≡ lesser ((processes + 1) * each) most_room
+  pub entries : r.entries ≡ lesser ((processes + heaps + 1) * each) most_room

@@ -10,7 +10,7 @@ use Rattle.k_types.specs.declared.names.Name.{Name}
 use Rattle.k_keeper.specs.OpenError.{OpenError}
 use Rattle.k_keeper.specs.OpenError.TheVariants.{Bad, NoMemory, Terms}
 use Rattle.k_keeper.specs.HostError.{HostError}
-use Rattle.k_keeper.specs.HostError.TheVariants.{Unknown, OwnCall, Ended as HasEnded, Phase, Full, NoMemory as LacksMemory, Orphan, Reserved}
+use Rattle.k_keeper.specs.HostError.TheVariants.{Unknown, OwnCall, Ended as HasEnded, Phase, Full, NoMemory as LacksMemory, Orphan, Reserved, Objects, Items}
 use Rattle.k_embed.specs.declared.messages.Answer.{Answer}
 
 -- only this is said
@@ -76,6 +76,8 @@ of_error Full = plain 5 0 0
 of_error LacksMemory = plain 6 0 0
 of_error Orphan = plain 7 0 0
 of_error Reserved = plain 10 0 0
+of_error Objects = plain 11 0 0
+of_error Items = plain 12 0 0
 
 -- the fault, with the limit, process or shared heap that it names
 abbrev pub of_fault : Fault → Answer

@@ -1,5 +1,5 @@
 -- What a call of a host is answered, in numbers.
-use Rattle.std.specs.Prelude.{◌≡◌, ℕ, ◌==◌, nat_lt, if◌then◌else◌, Option, Some, None, MatchOption, length, option_map, slice_get, Result, IfErr, IfOk, OnErr, OnOk}
+use Rattle.std.specs.Prelude.{◌≡◌, ℕ, ◌==◌, nat_lt, if◌then◌else◌, IsFalse, IsTrue, Option, Some, None, IfNone, IfSome, MatchOption, length, option_map, slice_get, Result, IfErr, IfOk, OnErr, OnOk}
 use Rattle.k_types.specs.declared.event.Event.{Event}
 use Rattle.k_types.specs.declared.names.Pid.{Pid}
 use Rattle.k_types.specs.declared.names.TypeId.{TypeId}
@@ -8,6 +8,7 @@ use Rattle.k_types.specs.Bounds.{register_count}
 use Rattle.k_types.specs.Limits.{max_of}
 use Rattle.k_types.specs.Owners.{object_bytes}
 use Rattle.k_types.specs.Totals.{total}
+use Rattle.k_host.specs.Hosts.{event_of}
 use Rattle.k_keeper.specs.HostError.{HostError}
 use Rattle.k_keeper.specs.Guest.{Guest}
 use Rattle.k_keeper.specs.OpenError.{OpenError}
@@ -19,14 +20,17 @@ use Rattle.k_keeper.specs.Asked.{charge_told, done_by, has_ended_of, heap_bytes_
 use Rattle.k_keeper.specs.Calls.{HasAbsorbedIn, HasCollectedIn, HasExitedIn, HasOperatedIn}
 use Rattle.k_keeper.specs.Whole.{AreFreedLast}
 use Rattle.k_keeper.specs.Keeping.{KeeperValue}
-use Rattle.k_keeper.specs.Kept.{HasCollectedAll, HasOpened, IsGone, IsNotOpened, MayRefuseCollection, MayRefuseKernel, MayRefuseOperation, MayRefuseToAbsorb}
+use Rattle.k_keeper.specs.declared.taking.Taken.{Taken}
+use Rattle.k_keeper.specs.Kept.{HasCollectedAll, HasOpened, HasTaken, HasTakenNone, IsGone, IsNotOpened, MayRefuseCollection, MayRefuseKernel, MayRefuseOperation, MayRefuseToAbsorb}
 use Rattle.k_embed.specs.declared.doing.Whole.{Whole}
 use Rattle.k_embed.specs.declared.doing.Whole.TheVariants.{Absorb, Collect, CollectKernel, Kill}
 use Rattle.k_embed.specs.declared.messages.Answer.{Answer}
 use Rattle.k_embed.specs.declared.messages.Request.{Request}
 use Rattle.k_embed.specs.declared.serving.Slot.{Slot}
-use Rattle.k_embed.specs.Asked.{operation_of, pid_of, whole_of}
-use Rattle.k_embed.specs.Codes.{line_of, of_found, of_held, of_listed, of_no_host, of_number, of_result, of_told, reason_of}
+use Rattle.k_embed.specs.declared.messages.Rooms.{Rooms}
+use Rattle.k_embed.specs.Asked.{is_take, operation_of, pid_of, rooms_of, whole_of}
+use Rattle.k_embed.specs.Codes.{line_of, of_event, of_found, of_held, of_listed, of_no_host, of_number, of_result, of_told, reason_of}
+use Rattle.k_embed.specs.Events.{asked_of, of_seen, of_taken}
 
 -- the answer is that of the machine's event, with its reply, or of what is lacking; and then nothing has changed
 pub record IsActed (old new : KeeperValue) (pid : Pid) (op : Op) (answer : Answer) : Type 0 where
@@ -89,8 +93,9 @@ told_of_register k p r = of_held (if nat_lt r register_count then option_map (he
 
 -- what is told to each question, and none to what is no question. Of a process: whether it lives, the bytes of its heap, what it is
 -- charged, what a register holds, how many operations are done, and how many bodies are left. Of a limit: its use and its maximum. And how
--- many events there are, the bytes of the kernel's heap, the first orphan, and how many events are left. And of the
--- names of what the last collection freed: how many there are, and the one at that place, counted from 0
+-- many events there are, the bytes of the kernel's heap, the first orphan, and how many events are left. Of the
+-- names of what the last collection freed: how many there are, and the one at that place, counted from 0. And of the event of that number,
+-- where it can be read: what was asked for, and what came of it
 abbrev pub told_of : KeeperValue → Request → Option Answer
 told_of k q =
     if q.call == 32 then Some (told_of_process k q.pid lives_of)
@@ -107,16 +112,30 @@ told_of k q =
     else if q.call == 43 then Some (of_number k.left)
     else if q.call == 44 then Some (of_number (length k.freed))
     else if q.call == 45 then Some (of_listed (slice_get k.freed q.at))
+    else if q.call == 46 then Some (of_seen asked_of (event_of k.host q.at))
+    else if q.call == 47 then Some (of_seen of_event (event_of k.host q.at))
     else None
+
+-- the next event is taken out, and the answer is its number; or there is none, with nothing to tell
+pub record IsTaken (old new : KeeperValue) (answer : Answer) : Type 0 where
+  pub came : Option Taken
+  pub shown : answer ≡ of_taken came
+  pub taken : IfSome came (λ t. HasTaken old new t.number t.event)
+  pub none : IfNone came (HasTakenNone old new)
 
 -- nothing has changed, and the answer is what is told, or that there is no such call
 pub record IsAnswered (old new : KeeperValue) (q : Request) (answer : Answer) : Type 0 where
   pub same : new ≡ old
   pub told : answer ≡ of_told (told_of old q)
 
--- where the request asks for a collection, an end or an absorption, that is what was done on the host, and else it is answered
+-- where the request takes the next event out, that is what was done, and else it is answered
+pub record IsServedRest (old new : KeeperValue) (q : Request) (answer : Answer) : Type 0 where
+  pub taken : IsTrue (is_take q) → IsTaken old new answer
+  pub answered : IsFalse (is_take q) → IsAnswered old new q answer
+
+-- where the request asks for a collection, an end or an absorption, that is what was done on the host
 abbrev pub IsServedElse : KeeperValue → KeeperValue → Request → Answer → Type 0
-IsServedElse old new q answer = MatchOption (whole_of q) (IsAnswered old new q answer) (λ whole. IsDoneWhole old new (pid_of q) whole answer)
+IsServedElse old new q answer = MatchOption (whole_of q) (IsServedRest old new q answer) (λ whole. IsDoneWhole old new (pid_of q) whole answer)
 
 -- where the request asks for an operation, that is what was done on the host
 abbrev pub IsServedOn : KeeperValue → KeeperValue → Request → Answer → Type 0
@@ -142,13 +161,13 @@ abbrev pub empty_for : OpenError → Slot
 empty_for why = record { host = None; line = line_of why; reason = reason_of why }
 
 -- no host of what the bytes declare is made, and line and reason are those of the cause
-pub record HasNoHost (bytes : Text) (ty : TypeId) (bodies events line reason : ℕ) : Type 0 where
+pub record HasNoHost (bytes : Text) (ty : TypeId) (bodies : ℕ) (rooms : Rooms) (line reason : ℕ) : Type 0 where
   pub why : OpenError
-  pub cause : IsNotOpened bytes ty bodies events why
+  pub cause : IsNotOpened bytes ty bodies (rooms_of rooms) why
   pub line_is : line ≡ line_of why
   pub reason_is : reason ≡ reason_of why
 
 -- in the place there is a host of what the bytes declare, before its first event, or the line and the reason why there is none
-abbrev pub IsOpened : Text → ℕ → ℕ → ℕ → Slot → Type 0
-IsOpened bytes ty bodies events place =
-    MatchOption place.host (HasNoHost bytes (record { 0 = ty }) bodies events place.line place.reason) (λ h. HasOpened bytes (record { 0 = ty }) bodies events h)
+abbrev pub IsOpened : Text → ℕ → ℕ → Rooms → Slot → Type 0
+IsOpened bytes ty bodies rooms place =
+    MatchOption place.host (HasNoHost bytes (record { 0 = ty }) bodies rooms place.line place.reason) (λ h. HasOpened bytes (record { 0 = ty }) bodies (rooms_of rooms) h)

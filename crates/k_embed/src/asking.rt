@@ -10,6 +10,7 @@ ghost use Rattle.k_embed.specs.Codes.{of_found};
 ghost use Rattle.k_embed.specs.Served.{lives_of, told_of};
 
 use crate::codes::{number, of_held, of_listed, of_number, unknown};
+use crate::events::{event_asked, event_came};
 use crate::messages::{Answer, Request};
 use k_keeper::{Host, Keeper};
 use k_types::{LimitId, Name, Pid, Reg};
@@ -101,6 +102,8 @@ pub(crate) fn ask(keeper: &Keeper, request: &Request) -> Option<Answer>
         43 => Some(number(u64::from(keeper.left()))),
         44 => Some(number(freed_count(keeper))),
         45 => Some(of_listed(freed_name(keeper, request.at))),
+        46 => Some(event_asked(host, request.at)),
+        47 => Some(event_came(host, request.at)),
         _ => None,
     }
 }

@@ -138,6 +138,8 @@ pub(crate) fn lacking(why: HostError) -> Answer
         HostError::NoMemory => 6,
         HostError::Orphan => 7,
         HostError::Reserved => 10,
+        HostError::Objects => 11,
+        HostError::Items => 12,
     };
     plain(status, 0, 0)
 }

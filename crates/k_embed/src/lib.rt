@@ -7,9 +7,11 @@
 mod asking;
 mod codes;
 mod doing;
+mod events;
 mod messages;
 mod serving;
 
 pub use doing::Whole;
-pub use messages::{Answer, Request};
-pub use serving::{Slot, act, act_whole, opened, serve};
+pub use events::take_next;
+pub use messages::{Answer, Request, Rooms};
+pub use serving::{Slot, act, act_whole, opened, rooms_for, serve};

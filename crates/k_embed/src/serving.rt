@@ -1,12 +1,14 @@
 //! One call for everything that a host does.
 ghost use Rattle.std.specs.Prelude.{◌≡◌};
+ghost use Rattle.k_embed.specs.Asked.{AreRoomsFor, rooms_of};
 ghost use Rattle.k_embed.specs.Codes.{of_told};
-ghost use Rattle.k_embed.specs.Served.{IsActed, IsDoneWhole, IsOpened, IsServed, IsServedOn, empty_for, told_of};
+ghost use Rattle.k_embed.specs.Served.{IsActed, IsDoneWhole, IsOpened, IsServed, IsServedOn, IsServedRest, empty_for, told_of};
 
 use crate::asking::ask;
 use crate::codes::{lacking_host, no_call, of_event};
 use crate::doing::{Whole, do_whole, operation, whole_asked};
-use crate::messages::{Answer, Request};
+use crate::events::{is_take, take_next};
+use crate::messages::{Answer, Request, Rooms};
 use k_keeper::{Keeper, OpenError};
 use k_types::{Op, Pid, TypeId};
 use std::alloc::Global;
@@ -36,11 +38,42 @@ fn empty(why: OpenError) -> Slot
     }
 }
 
-/// A host of what the text declares, if it can be made; else the line and the reason why not.
-pub fn opened(alloc: Global, text: &[u8], ty: u32, bodies: u32, events: u32) -> Slot
-    ensures { IsOpened text.now ty bodies events result }
+/// The rooms that are asked for.
+fn rooms_of(asked: Rooms) -> k_keeper::Rooms
+    ensures { result ≡ rooms_of asked }
 {
-    match Keeper::read(alloc, text, TypeId(ty), bodies, events) {
+    k_keeper::Rooms {
+        events: asked.events,
+        kept: asked.kept,
+        tail: asked.tail,
+        objects: asked.objects,
+        exits: asked.exits,
+        kernel_exits: asked.kernel_exits,
+        entries: asked.entries,
+    }
+}
+
+/// Rooms for so many living objects in each heap of so many processes and shared heaps, where no event is kept. Constant time.
+pub fn rooms_for(objects: u32, processes: u32, heaps: u32) -> Rooms
+    ensures { AreRoomsFor objects processes heaps result }
+{
+    let rooms = k_keeper::Rooms::for_objects(objects, processes, heaps);
+    Rooms {
+        events: rooms.events,
+        kept: rooms.kept,
+        tail: rooms.tail,
+        objects: rooms.objects,
+        exits: rooms.exits,
+        kernel_exits: rooms.kernel_exits,
+        entries: rooms.entries,
+    }
+}
+
+/// A host of what the text declares, with these rooms, if it can be made; else the line and the reason why not.
+pub fn opened(alloc: Global, text: &[u8], ty: u32, bodies: u32, rooms: Rooms) -> Slot
+    ensures { IsOpened text.now ty bodies rooms result }
+{
+    match Keeper::read(alloc, text, TypeId(ty), bodies, rooms_of(rooms)) {
         Ok(host) => Slot {
             host: Some(host),
             line: 0,
@@ -84,6 +117,16 @@ fn answered(host: &Keeper, request: &Request) -> Answer
     }
 }
 
+/// Takes the next event out, where the request asks for that, or answers a question.
+fn serve_rest(host: &mut Keeper, request: &Request) -> Answer
+    ensures { IsServedRest host.old host.new request.now result }
+{
+    if is_take(request) {
+        return take_next(host);
+    }
+    answered(host, request)
+}
+
 /// Does what the request asks, and answers what came of it.
 fn serve_host(host: &mut Keeper, request: &Request) -> Answer
     ensures { IsServedOn host.old host.new request.now result }
@@ -95,5 +138,5 @@ fn serve_host(host: &mut Keeper, request: &Request) -> Answer
     if let Some(asked) = whole_asked(request) {
         return act_whole(host, pid, asked);
     }
-    answered(host, request)
+    serve_rest(host, request)
 }

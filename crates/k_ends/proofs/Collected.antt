@@ -14,7 +14,7 @@ use Rattle.k_types.specs.declared.names.SharedId.{SharedId}
 use Rattle.k_types.specs.Agree.{CellValue}
 use Rattle.k_types.specs.Numbers.{numbers_below}
 use Rattle.k_types.specs.State.{Sharing}
-use Rattle.k_types.specs.Steps.{IsPossible, state_after}
+use Rattle.k_types.specs.Steps.{IsLegalHistory, IsPossible, state_after}
 use Rattle.k_types.specs.Trace.{segment_count, segment_of}
 use Rattle.k_book.specs.Books.{BookRecord}
 use Rattle.k_cell.specs.Holdings.{HoldingsValue}
@@ -23,7 +23,7 @@ use Rattle.k_shared.specs.SharedHeaps.{SharedRecord}
 use Rattle.k_shares.specs.Sharers.{heap_number, is_orphan_by, lowest_orphan}
 use Rattle.k_commit.specs.Published.{CanPublish, HasPublished}
 use Rattle.k_commit.specs.Standing.{HeapStands}
-use Rattle.k_collect.specs.Begun.{HasBegunHeap, HasBegunKernel as HasBegunKernelStep}
+use Rattle.k_collect.specs.Begun.{HasAppended, HasBegunHeap, HasBegunKernel as HasBegunKernelStep}
 use Rattle.k_collect.specs.Collecting.{CanBeginHeap, CanBeginKernel as CanBeginKernelStep, CanEndHeap, CanEndKernel}
 use Rattle.k_collect.specs.Ended.{HasEndedHeap, HasEndedKernel}
 use Rattle.k_collect.specs.Marking.{CanMark, HasMarkedOn}
@@ -35,9 +35,10 @@ use Rattle.k_calls.specs.declared.errors.HostError.TheVariants.{Orphan}
 use Rattle.k_calls.specs.Refusals.{Lacks}
 use Rattle.k_locked.proofs.Lists.{found_passes}
 use Rattle.k_base.specs.Distinct.{AreDistinctNames}
-use Rattle.k_ends.proofs.Handed.{exits_fit}
+use Rattle.k_ends.proofs.Handed.{book_appended, ends_take_none, exits_fit, kept_published, lives_now, own_few}
 use Rattle.k_ends.specs.Collecting.{CanAbsorbNow, CanBeginKernel, CanExitNow, CanGoOn, CanMarkGuest, CanMarkKernel, HasAbsorbedNow, HasBegun, HasBegunKernel, HasEnded, HasExitedNow, HasGoneOn, HasMarkedGuest, HasMarkedKernel, HasSettled, HasSettledKernel, KernelHasEnded}
-use Rattle.k_guests.specs.Serving.{Basis, BookServes, GivesSerials, GuestServes, KernelServes}
+use Rattle.k_guests.specs.Serving.{Basis, BookServes, GuestServes, HasReserveAt, HasSegment, KernelServes}
+use Rattle.k_guests.specs.Reserve.{Spares}
 use Rattle.k_calls.proofs.Due.{book_published, can_publish, guest_published, longer_published}
 use Rattle.k_calls.proofs.Going.{book_goes_on, guest_goes_on, kernel_goes_on}
 use Rattle.k_calls.proofs.Rooms.{event_left}
@@ -68,7 +69,11 @@ module _ (basis : Basis) (g : Guest) (b : BookRecord) (can : CanGoOn basis g b) 
           guest_goes_on basis b.journal.table l.journal.table g w g.bodies can.guest
           (s.heap_goes_on.cell_is ∙ ap (λ (x : HeapRecord). record g.cell { note = w.note; value = w.value; bodies = x.bodies }) (sym s.heap_goes_on.cell_is))
           s.heap_goes_on.agrees s.heap_goes_on.table (ap (λ (x : HeapRecord). x.bodies) s.heap_goes_on.cell_is ∙ can.guest.stock) (λ lives. can.lives);
-      book = book_goes_on basis b l can.book s.book_is s.agrees;
+      book =
+          book_goes_on basis b l can.book s.book_is s.agrees
+          (subst (λ history. HasReserveAt basis (state_after basis.trace history)) (sym s.journal)
+          (ends_take_none basis (User g.cell.pid) (b.journal.list ++ g.cell.value.tail) s.last (subst (IsLegalHistory basis.trace) s.journal s.agrees.legal)
+          (kept_published basis b can.book g.cell can.guest.agrees s.fits) g.cell.value.collection s.ends));
       same_table = s.same_table;
       pid = ap (λ (x : HeapRecord). x.pid) s.heap_goes_on.cell_is;
       bodies = refl;
@@ -87,7 +92,7 @@ module _ (basis : Basis) (g : Guest) (b : BookRecord) (can : CanGoOn basis g b) 
     book_now : BookServes basis l
     book_now = book_published basis g b can.guest can.book w l s
 
-    left_now : length l.journal.list < basis.events
+    left_now : length l.journal.list < basis.rooms.events
     left_now = let room = can.room in let longer = longer_published basis g b can.guest can.book w l s in omega (arith, room, longer)
 
     heap_stands : g.cell.value.collection ≡ Idle → HeapStands basis.trace w l
@@ -100,7 +105,7 @@ module _ (basis : Basis) (g : Guest) (b : BookRecord) (can : CanGoOn basis g b) 
     }
 
     pub can_begin : g.cell.value.collection ≡ Idle → CanBeginHeap basis.trace w l
-    can_begin idle = record { book_stands = book_now.stands; heap_stands = heap_stands idle; room = λ fits. event_left basis l book_now left_now }
+    can_begin idle = record { book_stands = book_now.stands; heap_stands = heap_stands idle; room = λ fits. event_left basis l l book_now refl left_now }
 
     pub can_end : g.cell.value.collection ≡ Marked → CanEndHeap basis.trace w l
     can_end is_marked = record {
@@ -111,7 +116,7 @@ module _ (basis : Basis) (g : Guest) (b : BookRecord) (can : CanGoOn basis g b) 
         settled = ap (λ (c : HeapRecord). c.value.tail) s.cell_is;
         in_phase = ap (λ (c : HeapRecord). c.value.collection) s.cell_is ∙ is_marked;
       };
-      room = λ fits. event_left basis l book_now left_now;
+      room = λ fits. event_left basis l l book_now refl left_now;
     }
 
     pub can_begin_kernel : (k : HoldingsValue) → CanBeginKernel basis g k b → CanBeginKernelStep basis.trace w k l
@@ -120,19 +125,21 @@ module _ (basis : Basis) (g : Guest) (b : BookRecord) (can : CanGoOn basis g b) 
       heap_stands = heap_stands both.own.idle;
       kernel_stands = record { agrees = both.kernel.agrees; table = both.kernel.table ∙ sym s.same_table; segment = refl; idle = both.idle };
       orphans = subst (λ (x : BookRecord). Rattle.k_shares.specs.Sharers.lowest_orphan x.value.phases x.value.shares ≡ None) (sym s.book_is) both.orphans;
-      room = λ fits kernel_fits. event_left basis l book_now left_now;
+      room = λ fits kernel_fits. event_left basis l l book_now refl left_now;
     }
 
-    pub can_exit : (k : HoldingsValue) → CanExitNow basis g k b → AreDistinctNames w.value.exits → AreDistinctNames k.value.exits → CanExit basis.trace w k l
-    can_exit k both distinct kernel_distinct = record {
+    pub can_exit : (k : HoldingsValue) → CanExitNow basis g k b → length w.value.exits ≤ w.exit_room → AreDistinctNames k.value.exits → CanExit basis.trace w k l
+    can_exit k both few kernel_distinct = record {
       book_stands = book_now.stands;
       heap_stands = heap_stands both.own.idle;
       kernel_stands = record { agrees = both.kernel.agrees; table = both.kernel.table ∙ sym s.same_table; segment = refl; idle = both.idle };
       numbers = both.kernel.numbers;
       room = λ fits kernel_fits. record {
-        events = event_left basis l book_now left_now;
+        events = event_left basis l l book_now refl left_now;
         exits =
-            exits_fit basis w k l guest_now.agrees (ap (λ (c : HeapRecord). c.value.tail) s.cell_is) both.kernel.agrees both.kernel.exits book_now left_now distinct kernel_distinct fits kernel_fits;
+            exits_fit basis l book_now w k guest_now.agrees.there
+            (lives_now basis l book_now w guest_now.agrees (ap (λ (c : HeapRecord). c.value.tail) s.cell_is) fits (ap (λ (c : HeapRecord). has_ended_in c.value.process) s.cell_is ∙ can.lives))
+            few guest_now.exits both.kernel.agrees both.kernel.exits kernel_distinct kernel_fits;
       };
     }
 
@@ -155,6 +162,9 @@ module _ (basis : Basis) (g : Guest) (b : BookRecord) (can : CanGoOn basis g b) 
       settled = settled;
     }
 
+    book_after : (m : BookRecord) (event : Event) → HasAppended basis.trace l m event → Spares basis.trace basis.rooms.exits basis.rooms.kernel_exits (state_after basis.trace l.journal.list) event → BookServes basis m
+    book_after m event a spares = book_appended basis l book_now m event a.book_is a.agrees a.journal a.possible spares
+
     guest_after : (v : HeapRecord) (m : BookRecord) (phase : CellPhase) → Rattle.k_collect.specs.Begun.HeapGoesOn basis.trace w v m phase → GuestServes basis m.journal.table (record g { cell = v })
     guest_after v m phase h =
         guest_goes_on basis l.journal.table m.journal.table (record g { cell = w }) v g.bodies guest_now
@@ -165,7 +175,7 @@ module _ (basis : Basis) (g : Guest) (b : BookRecord) (can : CanGoOn basis g b) 
     pub begun : (v : HeapRecord) (m : BookRecord) (event : Event) → HasBegunHeap basis.trace w v l m event → HasBegun basis g (record g { cell = v }) b m event
     begun v m event d = record {
       goes_on =
-          went_on v m event (guest_after v m Begun d.heap_goes_on) (book_goes_on basis l m book_now d.appended.book_is d.appended.agrees) d.appended.same_table
+          went_on v m event (guest_after v m Begun d.heap_goes_on) (book_after m event d.appended (subst (λ (e : Event). Spares basis.trace basis.rooms.exits basis.rooms.kernel_exits (state_after basis.trace l.journal.list) e) (sym d.event_is) tt)) d.appended.same_table
           (ap (λ (x : HeapRecord). x.pid) d.heap_goes_on.cell_is) d.appended.journal d.appended.possible d.heap_goes_on.settled;
       event_is = d.event_is ∙ ap (λ (x : HeapRecord). Done x.pid Collect DoneReply) s.cell_is;
       phase = d.heap_goes_on.in_phase;
@@ -174,7 +184,7 @@ module _ (basis : Basis) (g : Guest) (b : BookRecord) (can : CanGoOn basis g b) 
     pub ended : (v : HeapRecord) (m : BookRecord) (event : Event) → HasEndedHeap basis.trace w v l m event → HasEnded basis g (record g { cell = v }) b m event
     ended v m event d = record {
       goes_on =
-          went_on v m event (guest_after v m Idle d.heap_goes_on) (book_goes_on basis l m book_now d.appended.book_is d.appended.agrees) d.appended.same_table
+          went_on v m event (guest_after v m Idle d.heap_goes_on) (book_after m event d.appended (subst (λ (e : Event). Spares basis.trace basis.rooms.exits basis.rooms.kernel_exits (state_after basis.trace l.journal.list) e) (sym d.event_is) tt)) d.appended.same_table
           (ap (λ (x : HeapRecord). x.pid) d.heap_goes_on.cell_is) d.appended.journal d.appended.possible d.heap_goes_on.settled;
       is_end = record {
         objects = d.objects;
@@ -190,7 +200,7 @@ module _ (basis : Basis) (g : Guest) (b : BookRecord) (can : CanGoOn basis g b) 
         HasBegunKernel basis g (record g { cell = v }) x b m event
     begun_kernel v k x m event kernel d = record {
       goes_on =
-          went_on v m event (guest_after v m Idle d.heap_goes_on) (book_goes_on basis l m book_now d.appended.book_is d.appended.agrees) d.appended.same_table
+          went_on v m event (guest_after v m Idle d.heap_goes_on) (book_after m event d.appended (subst (λ (e : Event). Spares basis.trace basis.rooms.exits basis.rooms.kernel_exits (state_after basis.trace l.journal.list) e) (sym d.event_is) tt)) d.appended.same_table
           (ap (λ (y : HeapRecord). y.pid) d.heap_goes_on.cell_is) d.appended.journal d.appended.possible d.heap_goes_on.settled;
       event_is = d.event_is ∙ ap (λ (y : HeapRecord). Done y.pid KCollect DoneReply) s.cell_is;
       kernel = kernel_goes_on basis b.journal.table m.journal.table k x kernel d.kernel_goes_on.kernel_is d.kernel_goes_on.agrees d.kernel_goes_on.table;
@@ -199,9 +209,9 @@ module _ (basis : Basis) (g : Guest) (b : BookRecord) (can : CanGoOn basis g b) 
     }
 
     -- the kernel gives serials of its own segment still, whatever it has taken in
-    pub exited : (v : HeapRecord) (k x : HoldingsValue) (m : BookRecord) (event : Event) → KernelServes basis b.journal.table k → HasExited basis.trace w v k x l m event →
+    pub exited : (v : HeapRecord) (k x : HoldingsValue) (m : BookRecord) (event : Event) → KernelServes basis b.journal.table k → AreDistinctNames w.value.exits → length w.value.exits ≤ w.exit_room → HasExited basis.trace w v k x l m event →
         HasExitedNow basis g (record g { cell = v }) x b m event
-    exited v k x m event kernel d = record {
+    exited v k x m event kernel distinct few d = record {
       goes_on =
           went_on v m event
           (record {
@@ -209,22 +219,24 @@ module _ (basis : Basis) (g : Guest) (b : BookRecord) (can : CanGoOn basis g b) 
             agrees = d.ends.agrees;
             table = d.ends.table;
             stock = ap (λ (y : HeapRecord). y.bodies) d.ends.cell_is ∙ guest_now.stock;
-            exits = subst (λ (y : HeapRecord). basis.events ≤ y.exit_room) (sym d.ends.cell_is) guest_now.exits;
+            exits = ap (λ (y : HeapRecord). y.exit_room) d.ends.cell_is ∙ guest_now.exits;
             serials = λ lives. absurd (false≢true (sym lives ∙ d.ends.ended));
-            tail = subst (λ (y : HeapRecord). basis.events ≤ y.tail_room) (sym d.ends.cell_is) guest_now.tail;
+            tail = subst (λ (y : HeapRecord). basis.rooms.tail ≤ y.tail_room) (sym d.ends.cell_is) guest_now.tail;
           })
-          (book_goes_on basis l m book_now d.book_is d.book_agrees) d.same_table
+          (book_appended basis l book_now m event d.book_is d.book_agrees d.journal d.possible
+          (subst (λ (e : Event). Spares basis.trace basis.rooms.exits basis.rooms.kernel_exits (state_after basis.trace l.journal.list) e) (sym d.event_is)
+          (own_few basis l book_now w guest_now.agrees (ap (λ (c : HeapRecord). c.value.tail) s.cell_is) d.ends.fits distinct few guest_now.exits)))
+          d.same_table
           (ap (λ (y : HeapRecord). y.pid) d.ends.cell_is) d.journal d.possible d.ends.settled;
       event_is = d.event_is ∙ ap (λ (y : HeapRecord). Done y.pid Exit DoneReply) s.cell_is;
       kernel = record {
         rules = kernel.rules;
         agrees = d.ends.kernel_agrees;
         table = d.ends.kernel_table;
-        exits = subst (λ (y : HoldingsValue). basis.events ≤ y.exit_room) (sym d.ends.kernel_is) kernel.exits;
-        serials = subst (λ (y : HoldingsValue). GivesSerials basis.events y.serial_rooms 0) (sym d.ends.kernel_is) (record {
+        exits = ap (λ (y : HoldingsValue). y.exit_room) d.ends.kernel_is ∙ kernel.exits;
+        serials = subst (λ (y : HoldingsValue). HasSegment y.serial_rooms 0) (sym d.ends.kernel_is) (record {
           room = kernel.serials.room;
           there = get_or-set_other k.serial_rooms (own_segment w.pid) 0 (get_or w.serial_rooms (own_segment w.pid) None) None (λ e. omega (arith, e)) ∙ kernel.serials.there;
-          enough = kernel.serials.enough;
         });
         numbers = subst (λ (y : HoldingsValue). segment_count basis.trace ≤ y.bound) (sym d.ends.kernel_is) kernel.numbers;
       };
@@ -246,6 +258,7 @@ module _ (basis : Basis) (g : Guest) (can : CanMarkGuest basis g) where
         (ap (λ (x : HeapRecord). x.note.table) is) (ap (λ (x : HeapRecord). x.bodies) is ∙ can.serves.stock)
         (λ lives. sym (ap (λ (v : CellValue). has_ended_in v.process) m.rest) ∙ lives);
     guest_is = ap (λ (x : HeapRecord). record g { cell = x }) is;
+    tail = ap (λ (v : CellValue). v.tail) m.rest;
     phase = m.phase;
   }
 
@@ -264,7 +277,7 @@ module _ (basis : Basis) (k : HoldingsValue) (can : CanMarkKernel basis k) where
   }
 
 -- the kernel's collection
-module _ (basis : Basis) (k : HoldingsValue) (b : BookRecord) (kernel : KernelServes basis b.journal.table k) (book : BookServes basis b) (room : length b.journal.list < basis.events) where
+module _ (basis : Basis) (k : HoldingsValue) (b : BookRecord) (kernel : KernelServes basis b.journal.table k) (book : BookServes basis b) (room : length b.journal.list < basis.rooms.events) where
   pub can_settle_kernel : CanSettleKernel basis.trace k b
   can_settle_kernel = record {
     book_stands = book.stands;
@@ -276,7 +289,10 @@ module _ (basis : Basis) (k : HoldingsValue) (b : BookRecord) (kernel : KernelSe
   pub settled_kernel : (x : HoldingsValue) (m : BookRecord) → HasSettledKernelStep basis.trace k x b m → HasSettledKernel basis k x b m
   settled_kernel x m s = record {
     kernel = kernel_goes_on basis b.journal.table m.journal.table k x kernel s.kernel_goes_on.kernel_is s.kernel_goes_on.agrees s.kernel_goes_on.table;
-    book = book_goes_on basis b m book s.book_is s.agrees;
+    book =
+        book_goes_on basis b m book s.book_is s.agrees
+        (subst (λ history. HasReserveAt basis (state_after basis.trace history)) (sym s.journal)
+        (ends_take_none basis Kernel b.journal.list s.last (subst (IsLegalHistory basis.trace) s.journal s.agrees.legal) book.reserve k.value.collection s.ends));
     same_table = s.same_table;
     phase = s.kernel_goes_on.in_phase;
     last = s.last;
@@ -288,14 +304,16 @@ module _ (basis : Basis) (k : HoldingsValue) (b : BookRecord) (kernel : KernelSe
   can_end_kernel is = record {
     book_stands = book.stands;
     collects = record { agrees = kernel.agrees; table = kernel.table; in_phase = is };
-    room = λ fits. event_left basis b book room;
+    room = λ fits. event_left basis b b book refl room;
   }
 
   pub ended_kernel : (x : HoldingsValue) (m : BookRecord) (event : Event) → HasEndedKernel basis.trace k x b m event → KernelHasEnded basis x b m event
   ended_kernel x m event d = record {
     goes_on = record {
       kernel = kernel_goes_on basis b.journal.table m.journal.table k x kernel d.kernel_goes_on.kernel_is d.kernel_goes_on.agrees d.kernel_goes_on.table;
-      book = book_goes_on basis b m book d.appended.book_is d.appended.agrees;
+      book =
+          book_appended basis b book m event d.appended.book_is d.appended.agrees d.appended.journal d.appended.possible
+          (subst (λ (e : Event). Spares basis.trace basis.rooms.exits basis.rooms.kernel_exits (state_after basis.trace b.journal.list) e) (sym d.event_is) tt);
       same_table = d.appended.same_table;
       in_phase = d.kernel_goes_on.in_phase;
       journal = d.appended.journal;
@@ -313,7 +331,7 @@ module _ (basis : Basis) (s : SharedRecord) (k : HoldingsValue) (b : BookRecord)
     kernel_stands = record { agrees = can.own.kernel.agrees; table = can.own.kernel.table; segment = refl; idle = can.own.in_phase };
     orphan = can.orphan;
     numbers = can.own.kernel.numbers;
-    room = λ fits kernel_fits. event_left basis b can.own.book can.own.room;
+    room = λ fits kernel_fits. event_left basis b b can.own.book refl can.own.room;
   }
 
   pub absorbed : (t : SharedRecord) (x : HoldingsValue) (m : BookRecord) (event : Event) → HasAbsorbedHeap basis.trace s t k x b m event → HasAbsorbedNow basis s t x b m event
@@ -323,16 +341,16 @@ module _ (basis : Basis) (s : SharedRecord) (k : HoldingsValue) (b : BookRecord)
         rules = can.own.kernel.rules;
         agrees = d.kernel_agrees;
         table = d.kernel_table;
-        exits = subst (λ (y : HoldingsValue). basis.events ≤ y.exit_room) (sym d.kernel_is) can.own.kernel.exits;
-        serials = subst (λ (y : HoldingsValue). GivesSerials basis.events y.serial_rooms 0) (sym d.kernel_is) (record {
+        exits = ap (λ (y : HoldingsValue). y.exit_room) d.kernel_is ∙ can.own.kernel.exits;
+        serials = subst (λ (y : HoldingsValue). HasSegment y.serial_rooms 0) (sym d.kernel_is) (record {
           room = can.own.kernel.serials.room;
           there =
               get_or-set_other k.serial_rooms s.seg.0 0 (get_or s.serial_rooms s.seg.0 None) None (λ e. let at = can.shared.segment in omega (arith, at, e)) ∙ can.own.kernel.serials.there;
-          enough = can.own.kernel.serials.enough;
         });
         numbers = subst (λ (y : HoldingsValue). segment_count basis.trace ≤ y.bound) (sym d.kernel_is) can.own.kernel.numbers;
       };
-      book = book_goes_on basis b m can.own.book d.book_is d.book_agrees;
+      book = book_appended basis b can.own.book m event d.book_is d.book_agrees d.journal d.possible
+          (subst (λ (e : Event). Spares basis.trace basis.rooms.exits basis.rooms.kernel_exits (state_after basis.trace b.journal.list) e) (sym d.event_is) tt);
       same_table = d.same_table;
       in_phase = d.kernel_idle;
       journal = d.journal;
@@ -343,7 +361,7 @@ module _ (basis : Basis) (s : SharedRecord) (k : HoldingsValue) (b : BookRecord)
       table = d.table;
       segment = ap (λ (y : SharedRecord). y.seg.0) d.shared_is ∙ can.shared.segment ∙ ap (λ (y : SharedRecord). segment_of basis.trace (Shared y.id)) (sym d.shared_is);
       idle = d.idle;
-      exits = subst (λ (y : SharedRecord). basis.events ≤ y.exit_room) (sym d.shared_is) can.shared.exits;
+      exits = ap (λ (y : SharedRecord). y.exit_room) d.shared_is ∙ can.shared.exits;
       serials = λ stands. absurd (false≢true (sym stands ∙ ap Rattle.k_locked.specs.Keeping.is_absorbed_in d.phase));
     };
     same = ap (λ (y : SharedRecord). y.id) d.shared_is;

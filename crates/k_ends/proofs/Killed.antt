@@ -1,6 +1,6 @@
 -- The end of a process by another's operation can be done by what serves, which serves afterwards.
-use Rattle.std.proofs.Common.{◌≡◌, ◌+◌, ◌<◌, refl, sym, ap, ◌∙◌, subst, [], ◌∷◌, ◌++◌, length, get_or, arith, None, IsFalse, false, ◌≤◌}
-use Rattle.std.proofs.lemmas.Bool.{false≢true}
+use Rattle.std.proofs.Common.{◌≡◌, ◌+◌, ◌<◌, refl, sym, ap, ◌∙◌, subst, [], ◌∷◌, ◌++◌, length, get_or, arith, None, IsFalse, Bool, true, false, cond, ◌≤◌}
+use Rattle.std.proofs.lemmas.Bool.{and_parts, false≢true, not-true}
 use Rattle.std.proofs.lemmas.List.{get_or-set_other}
 use Rattle.k_types.specs.declared.event.Event.{Event}
 use Rattle.k_types.specs.declared.names.Heap.TheVariants.{Kernel, User}
@@ -8,7 +8,9 @@ use Rattle.k_types.specs.declared.names.Pid.{Pid}
 use Rattle.k_types.specs.declared.op.Op.{Op}
 use Rattle.k_types.specs.declared.op.Op.TheVariants.{Kill}
 use Rattle.k_types.specs.Agree.{book_shown_by}
-use Rattle.k_types.specs.Cells.{Cell}
+use Rattle.k_types.specs.Cells.{BookPart, Cell, book_part}
+use Rattle.k_types.specs.Limits.{is_above}
+use Rattle.k_types.specs.Names.{among}
 use Rattle.k_types.specs.Steps.{IsPossible, state_after}
 use Rattle.k_types.specs.Trace.{segment_count}
 use Rattle.k_squares.specs.Touches.{ends_other_in, other_cells_in}
@@ -23,15 +25,20 @@ use Rattle.k_commit.specs.Standing.{HeapStands}
 use Rattle.k_calls.specs.DepartKilling.{CanKill, HasKilled, ReachesEnd, kill_of}
 use Rattle.k_calls.specs.Reaching.{CanReach}
 use Rattle.k_guests.specs.declared.guest.Guest.{Guest}
-use Rattle.k_guests.specs.Serving.{Basis, BookServes, GivesSerials, GuestServes, GuestServesWith, KernelServes}
+use Rattle.k_guests.specs.Serving.{Basis, BookServes, HasSegment, GuestServes, GuestServesWith, KernelServes}
 use Rattle.k_calls.specs.Doing.{HasEventsLeft, IsDueWith, IsReady, bodies_for, touched_by}
 use Rattle.k_calls.proofs.Due.{book_published, can_publish, guest_published, longer_published}
-use Rattle.k_calls.proofs.Going.{book_goes_on, guest_goes_on}
+use Rattle.k_calls.proofs.Going.{guest_goes_on}
+use Rattle.k_guests.specs.Reserve.{Spares}
 use Rattle.k_calls.proofs.Rooms.{event_left}
 use Rattle.k_squares.specs.Locals.{is_local_in}
 use Rattle.k_base.specs.Distinct.{AreDistinctNames}
-use Rattle.k_ends.proofs.Handed.{exits_fit}
+use Rattle.k_ends.proofs.Handed.{book_appended, exits_fit, own_few}
 use Rattle.k_ends.specs.Killing.{CanKillNow, EndsThis, HasKilledNow}
+
+ends_so : (ends : Bool) (q : Pid) → cond ends (User q ∷ Kernel ∷ []) [] ≡ User q ∷ Kernel ∷ [] → ends ≡ true
+ends_so true q e = refl
+ends_so false q e = absurd (cc e)
 
 module _ (basis : Basis) (g t : Guest) (k : HoldingsValue) (b : BookRecord) (op : Op) (n : CanKillNow basis g t k b op) where
   pub publishes_own : CanPublish basis.trace g.cell b
@@ -65,7 +72,7 @@ module _ (basis : Basis) (g t : Guest) (k : HoldingsValue) (b : BookRecord) (op 
       book_now : BookServes basis m
       book_now = book_published basis t l target_then book_then u m r
 
-      left_now : length m.journal.list < basis.events
+      left_now : length m.journal.list < basis.rooms.events
       left_now = let room = n.can.room in let first = longer_then in let second = longer_published basis t l target_then book_then u m r in omega (arith, room, first, second)
 
       same_target : u.pid ≡ t.cell.pid
@@ -90,8 +97,17 @@ module _ (basis : Basis) (g t : Guest) (k : HoldingsValue) (b : BookRecord) (op 
           ∙ ap (λ (c : HeapRecord). other_cells_in basis.trace (book_shown_by b.value) (idle_part c.value) c.pid.0 op) s.cell_is
           ∙ n.touches ∙ ap (λ (q : Pid). User q ∷ Kernel ∷ []) (sym same_target)
 
-      pub can_kill : AreDistinctNames u.value.exits → AreDistinctNames k.value.exits → CanKill basis.trace w u k m op
-      can_kill distinct kernel_distinct = record {
+      -- the target lives, since the operation ends it
+      target_lives : IsFalse (among u.pid.0 (state_after basis.trace m.journal.list).ended)
+      unfolding other_cells_in book_part
+      target_lives =
+          let reached : other_cells_in basis.trace (book_shown_by m.value) (idle_part w.value) w.pid.0 (Kill u.pid) ≡ User u.pid ∷ Kernel ∷ [] =
+          subst (λ (o : Op). other_cells_in basis.trace (book_shown_by m.value) (idle_part w.value) w.pid.0 o ≡ User u.pid ∷ Kernel ∷ []) (n.asks ∙ ap Kill (sym same_target)) reaches_now in
+          let ends = ends_so (ends_other_in basis.trace (book_shown_by m.value) w.pid.0 u.pid.0) u.pid reached in
+          sym (ap (λ (p : BookPart). p.ended u.pid.0) book_now.stands.agrees.shows.part) ∙ not-true _ (and_parts (is_above basis.trace w.pid.0 u.pid.0) _ ends).1
+
+      pub can_kill : length u.value.exits ≤ u.exit_room → AreDistinctNames k.value.exits → CanKill basis.trace w u k m op
+      can_kill few kernel_distinct = record {
         book_stands = book_now.stands;
         heap_stands = heap_stands;
         target_stands = record {
@@ -105,14 +121,13 @@ module _ (basis : Basis) (g t : Guest) (k : HoldingsValue) (b : BookRecord) (op 
         asks = n.asks ∙ ap Kill (sym same_target);
         reaches = reaches_now;
         room = λ fits target_fits kernel_fits. record {
-          events = event_left basis m book_now left_now;
-          exits =
-              exits_fit basis u k m target_now.agrees (ap (λ (c : HeapRecord). c.value.tail) r.cell_is) n.kernel.agrees n.kernel.exits book_now left_now distinct kernel_distinct target_fits kernel_fits;
+          events = event_left basis m m book_now refl left_now;
+          exits = exits_fit basis m book_now u k target_now.agrees.there target_lives few target_now.exits n.kernel.agrees n.kernel.exits kernel_distinct kernel_fits;
         };
       }
 
       -- what the end of the target leaves
-      module _ (v x : HeapRecord) (y : HoldingsValue) (e : BookRecord) (event : Event) (d : HasKilled basis.trace w v u x k y m e op event) where
+      module _ (distinct : AreDistinctNames u.value.exits) (few : length u.value.exits ≤ u.exit_room) (v x : HeapRecord) (y : HoldingsValue) (e : BookRecord) (event : Event) (d : HasKilled basis.trace w v u x k y m e op event) where
         guest_after : GuestServes basis e.journal.table (record g { cell = v })
         guest_after =
             guest_goes_on basis m.journal.table e.journal.table (record g { cell = w }) v g.bodies guest_now
@@ -127,9 +142,9 @@ module _ (basis : Basis) (g t : Guest) (k : HoldingsValue) (b : BookRecord) (op 
           agrees = d.ends.agrees;
           table = d.ends.table;
           stock = ap (λ (c : HeapRecord). c.bodies) d.ends.cell_is ∙ target_now.stock;
-          exits = subst (λ (c : HeapRecord). basis.events ≤ c.exit_room) (sym d.ends.cell_is) target_now.exits;
+          exits = ap (λ (c : HeapRecord). c.exit_room) d.ends.cell_is ∙ target_now.exits;
           serials = λ lives. absurd (false≢true (sym lives ∙ d.ends.ended));
-          tail = subst (λ (c : HeapRecord). basis.events ≤ c.tail_room) (sym d.ends.cell_is) target_now.tail;
+          tail = subst (λ (c : HeapRecord). basis.rooms.tail ≤ c.tail_room) (sym d.ends.cell_is) target_now.tail;
         }
 
         kernel_after : KernelServes basis e.journal.table y
@@ -137,17 +152,19 @@ module _ (basis : Basis) (g t : Guest) (k : HoldingsValue) (b : BookRecord) (op 
           rules = n.kernel.rules;
           agrees = d.ends.kernel_agrees;
           table = d.ends.kernel_table;
-          exits = subst (λ (z : HoldingsValue). basis.events ≤ z.exit_room) (sym d.ends.kernel_is) n.kernel.exits;
-          serials = subst (λ (z : HoldingsValue). GivesSerials basis.events z.serial_rooms 0) (sym d.ends.kernel_is) (record {
+          exits = ap (λ (z : HoldingsValue). z.exit_room) d.ends.kernel_is ∙ n.kernel.exits;
+          serials = subst (λ (z : HoldingsValue). HasSegment z.serial_rooms 0) (sym d.ends.kernel_is) (record {
             room = n.kernel.serials.room;
             there = get_or-set_other k.serial_rooms (own_segment u.pid) 0 (get_or u.serial_rooms (own_segment u.pid) None) None (λ i. omega (arith, i)) ∙ n.kernel.serials.there;
-            enough = n.kernel.serials.enough;
           });
           numbers = subst (λ (z : HoldingsValue). segment_count basis.trace ≤ z.bound) (sym d.ends.kernel_is) n.kernel.numbers;
         }
 
         book_after : BookServes basis e
-        book_after = book_goes_on basis m e book_now d.own.book_is d.own.book_agrees
+        book_after =
+            book_appended basis m book_now e event d.own.book_is d.own.book_agrees d.own.journal d.own.possible
+            (subst (λ (f : Event). Spares basis.trace basis.rooms.exits basis.rooms.kernel_exits (state_after basis.trace m.journal.list) f) (sym d.answered)
+            (λ lives. own_few basis m book_now u target_now.agrees (ap (λ (c : HeapRecord). c.value.tail) r.cell_is) d.ends.fits distinct few target_now.exits))
 
         same_table : e.journal.table ≡ b.journal.table
         same_table = d.own.same_table ∙ r.same_table ∙ s.same_table

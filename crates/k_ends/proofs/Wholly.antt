@@ -1,5 +1,5 @@
 -- A whole collection can be done by what serves, which serves afterwards.
-use Rattle.std.proofs.Common.{◌≡◌, ℕ, ◌+◌, ◌<◌, refl, sym, ap, ap₂, ◌∙◌, subst, List, [], ◌∷◌, ◌++◌, length, arith}
+use Rattle.std.proofs.Common.{◌≡◌, ℕ, ◌+◌, ◌<◌, ◌≤◌, refl, sym, ap, ap₂, ◌∙◌, subst, List, [], ◌∷◌, ◌++◌, length, arith}
 use Rattle.std.proofs.lemmas.List.{length-append}
 use Rattle.k_types.specs.declared.event.Event.{Event}
 use Rattle.k_types.specs.declared.event.Event.TheVariants.{Done, Ended}
@@ -7,7 +7,7 @@ use Rattle.k_types.specs.declared.event.Reply.TheVariants.{Done as DoneReply}
 use Rattle.k_types.specs.declared.names.Heap.TheVariants.{Kernel, User}
 use Rattle.k_types.specs.declared.names.Name.{Name}
 use Rattle.k_types.specs.declared.op.Op.TheVariants.{Collect, KCollect}
-use Rattle.k_types.specs.Steps.{state_after}
+use Rattle.k_types.specs.Steps.{IsLegalHistory, state_after}
 use Rattle.k_types.specs.Trace.{Trace}
 use Rattle.k_types.specs.Agree.{CellValue}
 use Rattle.k_agree.specs.Agreement.{Agrees}
@@ -15,7 +15,7 @@ use Rattle.k_book.specs.Books.{BookRecord}
 use Rattle.k_cell.specs.Holdings.{HoldingsValue}
 use Rattle.k_heap.specs.Heaps.{HeapRecord}
 use Rattle.k_commit.specs.Published.{HasPublished}
-use Rattle.k_collect.specs.Begun.{HasBegunHeap, HasBegunKernel}
+use Rattle.k_collect.specs.Begun.{HasAppended, HasBegunHeap, HasBegunKernel}
 use Rattle.k_collect.specs.Collecting.{CanEndHeap, CanEndKernel}
 use Rattle.k_collect.specs.Ended.{HasEndedHeap, HasEndedKernel}
 use Rattle.k_collect.specs.Freed.{AreFreed, gone_between}
@@ -23,7 +23,11 @@ use Rattle.k_collect.specs.Marking.{CanMark, HasMarkedOn}
 use Rattle.k_guests.specs.declared.guest.Guest.{Guest}
 use Rattle.k_guests.specs.Serving.{Basis, BookServes, GuestServes, KernelServes}
 use Rattle.k_calls.proofs.Due.{book_published, longer_published}
-use Rattle.k_calls.proofs.Going.{book_goes_on, guest_goes_on, kernel_goes_on}
+use Rattle.k_calls.proofs.Going.{guest_goes_on, kernel_goes_on}
+use Rattle.k_guests.specs.Objects.{gone_by, made_by, objects_after}
+use Rattle.k_guests.specs.Reserve.{Spares}
+use Rattle.k_guests.proofs.Objects.{appended_counts, published_counts, settled_few}
+use Rattle.k_ends.proofs.Handed.{book_appended}
 use Rattle.k_calls.proofs.Rooms.{event_left}
 use Rattle.k_ends.specs.Collecting.{CanBeginKernel, CanGoOn}
 use Rattle.k_ends.specs.Whole.{AreFreedLast, CanCollect, CanCollectKernel, HasCollected, HasCollectedKernel}
@@ -53,15 +57,24 @@ last_freed trace before history event names is freed = record {
 -- a process that has published
 module _ (basis : Basis) (g : Guest) (b : BookRecord) (can : CanCollect basis g b) (w : HeapRecord) (l : BookRecord) (s : HasPublished basis.trace g.cell.value.tail g.cell w b l) where
   -- behind one event more the journal has room for another
-  left_behind : (m : BookRecord) (first : Event) → m.journal.list ≡ l.journal.list ++ first ∷ [] → length m.journal.list < basis.events
+  left_behind : (m : BookRecord) (first : Event) → m.journal.list ≡ l.journal.list ++ first ∷ [] → length m.journal.list < basis.rooms.events
   left_behind m first is =
       let room = can.room in
       let longer = longer_published basis g b can.guest can.book w l s in
       let more : length m.journal.list ≡ length l.journal.list + 1 = ap length is ∙ length-append l.journal.list (first ∷ []) in
       omega (arith, room, longer, more)
 
-  book_then : (m : BookRecord) → m ≡ record l { journal = m.journal; value = m.value } → Rattle.k_agree.specs.Agreement.BookAgrees basis.trace m.journal m.value → BookServes basis m
-  book_then m is agrees = book_goes_on basis l m (book_published basis g b can.guest can.book w l s) is agrees
+  book_then : (m : BookRecord) (event : Event) → HasAppended basis.trace l m event → Spares basis.trace basis.rooms.exits basis.rooms.kernel_exits (state_after basis.trace l.journal.list) event → BookServes basis m
+  book_then m event a spares = book_appended basis l (book_published basis g b can.guest can.book w l s) m event a.book_is a.agrees a.journal a.possible spares
+
+  -- where the machine has no more objects than so many, no cell has more once the collection has begun
+  few_then : (m : BookRecord) (first : Event) → HasAppended basis.trace l m first → made_by first ≡ 0 → gone_by first ≡ 0 → objects_after basis.trace m.journal.list ≡ objects_after basis.trace b.journal.list
+  few_then m first a none_made none_gone =
+      let published = published_counts basis.trace b.journal.list g.cell.pid g.cell.note g.cell.value can.guest.agrees (subst (IsLegalHistory basis.trace) s.journal s.book_agrees.legal) in
+      let one = appended_counts basis.trace l.journal.list first a.possible in
+      let then : objects_after basis.trace m.journal.list ≡ objects_after basis.trace (l.journal.list ++ first ∷ []) = ap (objects_after basis.trace) a.journal in
+      let before : objects_after basis.trace l.journal.list ≡ objects_after basis.trace (b.journal.list ++ g.cell.value.tail) = ap (objects_after basis.trace) s.journal in
+      omega (arith, published, one, then, before, none_made, none_gone)
 
   -- the process serves with a cell that has changed note and value alone
   guest_then : (z : HeapRecord) (n : BookRecord) → z ≡ record g.cell { note = z.note; value = z.value } → Agrees basis.trace (User z.pid) z.note z.value → z.note.table ≡ n.journal.table →
@@ -73,14 +86,11 @@ module _ (basis : Basis) (g : Guest) (b : BookRecord) (can : CanCollect basis g 
 
   -- whose collection has begun
   module _ (v : HeapRecord) (m : BookRecord) (first : Event) (d : HasBegunHeap basis.trace w v l m first) where
-    pub room_left : length m.journal.list < basis.events
-    room_left = left_behind m first d.appended.journal
-
     pub can_mark_then : CanMark basis.trace (User v.pid) v.note v.value
     can_mark_then = record { keeps = can.guest.rules; agrees = d.heap_goes_on.agrees; begun = d.heap_goes_on.in_phase }
 
     book_begun : BookServes basis m
-    book_begun = book_then m d.appended.book_is d.appended.agrees
+    book_begun = book_then m first d.appended (subst (λ (e : Event). Spares basis.trace basis.rooms.exits basis.rooms.kernel_exits (state_after basis.trace l.journal.list) e) (sym d.event_is) tt)
 
     begun_is : v ≡ record g.cell { note = v.note; value = v.value }
     begun_is = d.heap_goes_on.cell_is ∙ ap (λ (y : HeapRecord). record y { note = v.note; value = v.value }) s.cell_is
@@ -96,8 +106,16 @@ module _ (basis : Basis) (g : Guest) (b : BookRecord) (can : CanCollect basis g 
           settled = ap (λ (y : CellValue). y.tail) q.rest ∙ d.heap_goes_on.settled;
           in_phase = q.phase;
         };
-        room = λ fits. event_left basis m book_begun (left_behind m first d.appended.journal);
+        room = λ fits. event_left basis m m book_begun refl (left_behind m first d.appended.journal);
       }
+
+      -- the cell has no more objects than the machine had at first
+      pub objects_few : length x.value.objects ≤ objects_after basis.trace b.journal.list
+      objects_few =
+          let same : length x.value.objects ≡ length v.value.objects = ap (λ (y : CellValue). length y.objects) q.rest in
+          let few = settled_few basis.trace m.journal (User v.pid) v.note v.value d.heap_goes_on.agrees d.heap_goes_on.settled d.heap_goes_on.met.list in
+          let all = few_then m first d.appended (ap made_by d.event_is) (ap gone_by d.event_is) in
+          omega (arith, same, few, all)
 
       marked_is : x ≡ record g.cell { note = v.note; value = x.value }
       marked_is = is ∙ ap (λ (y : HeapRecord). record y { value = x.value }) begun_is
@@ -110,7 +128,9 @@ module _ (basis : Basis) (g : Guest) (b : BookRecord) (can : CanCollect basis g 
         collected = record {
           keeps = record {
             guest = guest_then z n ended_is e.heap_goes_on.agrees e.heap_goes_on.table;
-            book = book_goes_on basis m n book_begun e.appended.book_is e.appended.agrees;
+            book =
+                book_appended basis m book_begun n event e.appended.book_is e.appended.agrees e.appended.journal e.appended.possible
+                (subst (λ (f : Event). Spares basis.trace basis.rooms.exits basis.rooms.kernel_exits (state_after basis.trace m.journal.list) f) (sym e.event_is) tt);
             same_table = e.appended.same_table ∙ d.appended.same_table ∙ s.same_table;
             pid = ap (λ (y : HeapRecord). y.pid) ended_is;
             bodies = refl;
@@ -132,14 +152,11 @@ module _ (basis : Basis) (g : Guest) (b : BookRecord) (can : CanCollect basis g 
 
   -- with which the collection of the kernel's heap has begun
   module _ (k : HoldingsValue) (kernel : KernelServes basis b.journal.table k) (v : HeapRecord) (x : HoldingsValue) (m : BookRecord) (first : Event) (d : HasBegunKernel basis.trace w v k x l m first) where
-    pub kernel_room_left : length m.journal.list < basis.events
-    kernel_room_left = left_behind m first d.appended.journal
-
     pub kernel_can_mark_then : CanMark basis.trace Kernel x.note x.value
     kernel_can_mark_then = record { keeps = kernel.rules; agrees = d.kernel_goes_on.agrees; begun = d.kernel_goes_on.in_phase }
 
     kernel_book_begun : BookServes basis m
-    kernel_book_begun = book_then m d.appended.book_is d.appended.agrees
+    kernel_book_begun = book_then m first d.appended (subst (λ (e : Event). Spares basis.trace basis.rooms.exits basis.rooms.kernel_exits (state_after basis.trace l.journal.list) e) (sym d.event_is) tt)
 
     kernel_begun_is : v ≡ record g.cell { note = v.note; value = v.value }
     kernel_begun_is = d.heap_goes_on.cell_is ∙ ap (λ (y : HeapRecord). record y { note = v.note; value = v.value }) s.cell_is
@@ -153,8 +170,16 @@ module _ (basis : Basis) (g : Guest) (b : BookRecord) (can : CanCollect basis g 
           table = ap (λ (u : HoldingsValue). u.note.table) is ∙ d.kernel_goes_on.table;
           in_phase = q.phase;
         };
-        room = λ fits. event_left basis m kernel_book_begun (left_behind m first d.appended.journal);
+        room = λ fits. event_left basis m m kernel_book_begun refl (left_behind m first d.appended.journal);
       }
+
+      -- the cell has no more objects than the machine had at first
+      pub kernel_objects_few : length y.value.objects ≤ objects_after basis.trace b.journal.list
+      kernel_objects_few =
+          let same : length y.value.objects ≡ length x.value.objects = ap (λ (u : CellValue). length u.objects) q.rest in
+          let few = settled_few basis.trace m.journal Kernel x.note x.value d.kernel_goes_on.agrees d.kernel_goes_on.agrees.tail d.kernel_goes_on.met.list in
+          let all = few_then m first d.appended (ap made_by d.event_is) (ap gone_by d.event_is) in
+          omega (arith, same, few, all)
 
       module _ (z : HoldingsValue) (n : BookRecord) (event : Event) (e : HasEndedKernel basis.trace y z m n event) where
         kernel_is : z ≡ record k { note = z.note; value = z.value }
@@ -166,7 +191,9 @@ module _ (basis : Basis) (g : Guest) (b : BookRecord) (can : CanCollect basis g 
         kernel_collected = record {
           keeps = record {
             guest = guest_then v n kernel_begun_is d.heap_goes_on.agrees (d.heap_goes_on.table ∙ sym e.appended.same_table);
-            book = book_goes_on basis m n kernel_book_begun e.appended.book_is e.appended.agrees;
+            book =
+                book_appended basis m kernel_book_begun n event e.appended.book_is e.appended.agrees e.appended.journal e.appended.possible
+                (subst (λ (f : Event). Spares basis.trace basis.rooms.exits basis.rooms.kernel_exits (state_after basis.trace m.journal.list) f) (sym e.event_is) tt);
             same_table = e.appended.same_table ∙ d.appended.same_table ∙ s.same_table;
             pid = ap (λ (u : HeapRecord). u.pid) kernel_begun_is;
             bodies = refl;

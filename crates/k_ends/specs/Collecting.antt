@@ -51,6 +51,7 @@ pub record CanMarkGuest (basis : Basis) (g : Guest) : Type 0 where
 pub record HasMarkedGuest (basis : Basis) (old g : Guest) : Type 0 where
   pub serves : GuestServes basis old.cell.note.table g
   pub guest_is : g ≡ record old { cell = record old.cell { value = g.cell.value } }
+  pub tail : g.cell.value.tail ≡ old.cell.value.tail
   pub phase : g.cell.value.collection ≡ Marked
 
 -- the heap of the process is marked
@@ -94,7 +95,7 @@ pub record KernelCanGoOn (basis : Basis) (k : HoldingsValue) (b : BookRecord) (p
   pub kernel : KernelServes basis b.journal.table k
   pub book : BookServes basis b
   pub in_phase : k.value.collection ≡ phase
-  pub room : length b.journal.list < basis.events
+  pub room : length b.journal.list < basis.rooms.events
 
 -- the kernel and the book serve still, the event is appended and possible there, and the collection has got so far
 pub record KernelHasGoneOn (basis : Basis) (k : HoldingsValue) (old_b b : BookRecord) (event : Event) (phase : CellPhase) : Type 0 where

@@ -19,7 +19,7 @@ use Rattle.k_calls.specs.Refusals.{IsNotReady, Lacks}
 
 -- the journal has room for the unpublished events of both processes, and for one more
 abbrev pub HasRoomToKill : Basis → Guest → Guest → BookRecord → Type 0
-HasRoomToKill basis g t b = length b.journal.list + length g.cell.value.tail + length t.cell.value.tail < basis.events
+HasRoomToKill basis g t b = length b.journal.list + length g.cell.value.tail + length t.cell.value.tail < basis.rooms.events
 
 -- neither the target's heap nor the kernel's is collected, and the journal has room
 pub record IsReadyToEnd (basis : Basis) (g t : Guest) (k : HoldingsValue) (b : BookRecord) : Type 0 where

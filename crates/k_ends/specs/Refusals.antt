@@ -53,11 +53,11 @@ CanNotMarkKernel k why = Lacks Phase (k.value.collection ≡ Begun) why
 
 -- no collection of the kernel's heap can end: it is not marked, or the journal is full
 abbrev pub CanNotEndKernel : Basis → HoldingsValue → BookRecord → HostError → Type 0
-CanNotEndKernel basis k b why = Lacks Phase (k.value.collection ≡ Marked) why ⊎ Lacks Full (length b.journal.list < basis.events) why
+CanNotEndKernel basis k b why = Lacks Phase (k.value.collection ≡ Marked) why ⊎ Lacks Full (length b.journal.list < basis.rooms.events) why
 
 -- the kernel's heap can't be settled: the journal is full
 abbrev pub CanNotSettleKernel : Basis → BookRecord → HostError → Type 0
-CanNotSettleKernel basis b why = Lacks Full (length b.journal.list < basis.events) why
+CanNotSettleKernel basis b why = Lacks Full (length b.journal.list < basis.rooms.events) why
 
 -- the shared heap of that number can't be absorbed: it is not the first orphan, a collection of the kernel's heap is open, or the
 -- journal is full
@@ -65,4 +65,4 @@ abbrev pub CanNotAbsorb : Basis → HoldingsValue → BookRecord → SharedId �
 CanNotAbsorb basis k b id why =
     Lacks Orphan (lowest_orphan b.value.phases b.value.shares ≡ Some id.0) why
     ⊎ Lacks Phase (k.value.collection ≡ Idle) why
-    ⊎ Lacks Full (length b.journal.list < basis.events) why
+    ⊎ Lacks Full (length b.journal.list < basis.rooms.events) why

@@ -31,7 +31,7 @@ pub record AreFreedLast (trace : Trace) (history : List Event) (names : List Nam
 
 -- the journal has room for the unpublished events of the process, and for the two of a collection
 abbrev pub HasRoomToCollect : Basis → Guest → BookRecord → Type 0
-HasRoomToCollect basis g b = length b.journal.list + length g.cell.value.tail + 2 ≤ basis.events
+HasRoomToCollect basis g b = length b.journal.list + length g.cell.value.tail + 2 ≤ basis.rooms.events
 
 -- process and book serve, the process lives, no collection of its heap is open, and the journal has room for one
 pub record CanCollect (basis : Basis) (g : Guest) (b : BookRecord) : Type 0 where

@@ -92,7 +92,7 @@ pub(crate) fn do_settle_kernel(terms: &Terms, kernel: &mut KernelCell, book: &mu
     ghost basis: { Basis }
     requires kernel { KernelServes basis book.old.journal.table kernel.old }
     requires book { BookServes basis book.old }
-    requires room { length book.old.journal.list < basis.events }
+    requires room { length book.old.journal.list < basis.rooms.events }
     ensures { HasSettledKernel basis kernel.old kernel.new book.old book.new }
 {
     settle_kernel(kernel, book);

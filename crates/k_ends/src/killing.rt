@@ -16,7 +16,7 @@ fn has_room_to_kill(terms: &Terms, guest: &Guest, target: &Guest, book: &Book) -
     ensures { IsTrue result ↔ HasRoomToKill (basis_of terms.now) guest.now target.now book.now }
 {
     u64::from(book.len()) + u64::from(guest.cell.tail_len()) + u64::from(target.cell.tail_len())
-        < u64::from(terms.events)
+        < u64::from(terms.rooms.events)
 }
 
 /// Whether the target can end now by an operation of the process.

@@ -139,7 +139,7 @@ pub fn try_end_kernel(
     if !is_marked(kernel.phase()) {
         return Err(HostError::Phase);
     }
-    if book.len() >= terms.events {
+    if book.len() >= terms.rooms.events {
         return Err(HostError::Full);
     }
     Ok(do_end_kernel(terms, kernel, book))
@@ -157,7 +157,7 @@ pub fn try_settle_kernel(
     ensures same { OnErr result ((kernel.new ≡ kernel.old) × (book.new ≡ book.old)) }
     ensures why { IfErr result (λ why. CanNotSettleKernel (basis_of terms.now) book.old why) }
 {
-    if book.len() >= terms.events {
+    if book.len() >= terms.rooms.events {
         return Err(HostError::Full);
     }
     do_settle_kernel(terms, kernel, book);
@@ -218,7 +218,7 @@ pub fn try_absorb(
     if !is_idle(kernel.phase()) {
         return Err(HostError::Phase);
     }
-    if book.len() >= terms.events {
+    if book.len() >= terms.rooms.events {
         return Err(HostError::Full);
     }
     Ok(do_absorb(terms, shared, kernel, book))

@@ -1,5 +1,6 @@
 //! Whole collections of a host's heaps: each is tested before it begins, and then it ends too.
 ghost use Rattle.std.specs.Prelude.{◌≡◌, ◌≤◌, ◌↔◌, IfErr, IfOk, IsTrue, OnErr, OnOk};
+ghost use Rattle.k_guests.specs.Objects.{objects_after};
 ghost use Rattle.k_guests.specs.Serving.{Basis, BookServes, GuestServes, KernelServes, basis_of};
 ghost use Rattle.k_ends.specs.Whole.{AreFreedLast, CanCollect, CanCollectKernel, CanNotCollect, CanNotCollectKernel, HasCollected, HasCollectedKernel, HasRoomToCollect};
 
@@ -15,7 +16,7 @@ use k_types::Event;
 fn has_room_to_collect(terms: &Terms, guest: &Guest, book: &Book) -> bool
     ensures { IsTrue result ↔ HasRoomToCollect (basis_of terms.now) guest.now book.now }
 {
-    u64::from(book.len()) + u64::from(guest.cell.tail_len()) + 2 <= u64::from(terms.events)
+    u64::from(book.len()) + u64::from(guest.cell.tail_len()) + 2 <= u64::from(terms.rooms.events)
 }
 
 /// Publishes, and collects the process's heap. The list then has the names of what that freed, and no others.
@@ -23,7 +24,7 @@ fn do_collect(terms: &Terms, guest: &mut Guest, book: &mut Book, freed: &mut Fre
     ghost basis: { Basis }
     requires { CanCollect basis guest.old book.old }
     ensures done { HasCollected basis guest.old guest.new book.old book.new result }
-    ensures freed { basis.events ≤ freed.old.room → AreFreedLast basis.trace book.new.journal.list freed.new.names }
+    ensures freed { objects_after basis.trace book.old.journal.list ≤ freed.old.room → AreFreedLast basis.trace book.new.journal.list freed.new.names }
     ensures room { freed.new.room ≡ freed.old.room }
 {
     publish(&mut guest.cell, book);
@@ -33,7 +34,7 @@ fn do_collect(terms: &Terms, guest: &mut Guest, book: &mut Book, freed: &mut Fre
 }
 
 /// Collects the process's heap, if no collection of it is open and there is room. The list then has the names of what that freed, and no
-/// others, where it has room for as many as there can be events.
+/// others, where it has room for as many as the machine has objects.
 pub fn try_collect(
     terms: &Terms,
     guest: &mut Guest,
@@ -45,7 +46,7 @@ pub fn try_collect(
     ensures done { IfOk result (λ event. HasCollected (basis_of terms.now) guest.old guest.new book.old book.new event) }
     ensures same { IfErr result (λ why. (guest.new ≡ guest.old) × (book.new ≡ book.old)) }
     ensures why { IfErr result (λ why. CanNotCollect (basis_of terms.now) book.old guest.old why) }
-    ensures freed { (basis_of terms.now).events ≤ freed.old.room → OnOk result (AreFreedLast (basis_of terms.now).trace book.new.journal.list freed.new.names) }
+    ensures freed { objects_after (basis_of terms.now).trace book.old.journal.list ≤ freed.old.room → OnOk result (AreFreedLast (basis_of terms.now).trace book.new.journal.list freed.new.names) }
     ensures kept { OnErr result (freed.new ≡ freed.old) }
     ensures room { freed.new.room ≡ freed.old.room }
 {
@@ -67,7 +68,7 @@ fn do_collect_kernel(
     ghost basis: { Basis }
     requires { CanCollectKernel basis guest.old kernel.old book.old }
     ensures done { HasCollectedKernel basis guest.old guest.new kernel.new book.old book.new result }
-    ensures freed { basis.events ≤ freed.old.room → AreFreedLast basis.trace book.new.journal.list freed.new.names }
+    ensures freed { objects_after basis.trace book.old.journal.list ≤ freed.old.room → AreFreedLast basis.trace book.new.journal.list freed.new.names }
     ensures room { freed.new.room ≡ freed.old.room }
 {
     publish(&mut guest.cell, book);
@@ -77,7 +78,7 @@ fn do_collect_kernel(
 }
 
 /// Collects the kernel's heap, if no collection of it or of the process's heap is open, no shared heap is an orphan and there is room. The
-/// list then has the names of what that freed, and no others, where it has room for as many as there can be events.
+/// list then has the names of what that freed, and no others, where it has room for as many as the machine has objects.
 pub fn try_collect_kernel(
     terms: &Terms,
     guest: &mut Guest,
@@ -91,7 +92,7 @@ pub fn try_collect_kernel(
     ensures done { IfOk result (λ event. HasCollectedKernel (basis_of terms.now) guest.old guest.new kernel.new book.old book.new event) }
     ensures same { IfErr result (λ why. (guest.new ≡ guest.old) × (kernel.new ≡ kernel.old) × (book.new ≡ book.old)) }
     ensures why { IfErr result (λ why. CanNotCollectKernel (basis_of terms.now) kernel.old book.old guest.old why) }
-    ensures freed { (basis_of terms.now).events ≤ freed.old.room → OnOk result (AreFreedLast (basis_of terms.now).trace book.new.journal.list freed.new.names) }
+    ensures freed { objects_after (basis_of terms.now).trace book.old.journal.list ≤ freed.old.room → OnOk result (AreFreedLast (basis_of terms.now).trace book.new.journal.list freed.new.names) }
     ensures kept { OnErr result (freed.new ≡ freed.old) }
     ensures room { freed.new.room ≡ freed.old.room }
 {

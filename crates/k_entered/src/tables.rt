@@ -65,6 +65,13 @@ impl EnteredTables {
         self.entries.home(seg)
     }
 
+    /// Into how many objects exit items lead. Constant time.
+    pub fn entry_count(&self) -> u32
+        ensures { result ≡ length self.now.entries }
+    {
+        self.entries.len()
+    }
+
     /// How many heaps have an exit item to the object.
     pub fn entries(&self, target: Name) -> u32
         ensures count { result ≡ counted self.now.entries target }

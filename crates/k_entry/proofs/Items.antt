@@ -209,3 +209,7 @@ kept_made slots chains segments walks homes room b n m k slots_is chains_is segm
 
 pub shows_made : (slots : List Item) (segments walks : ListsValue) (m k : ℕ) → walks ≡ record { lists = replicate m []; room = k } → map (row_at slots) (joined (members segments) (concat walks.lists)) ≡ []
 shows_made slots segments walks m k is = ap (λ (v : ListsValue). map (row_at slots) (joined (members segments) (concat v.lists))) is ∙ shows_none slots segments m
+
+pub counted_made : (slots : List Item) (segments walks : ListsValue) (m k : ℕ) → walks ≡ record { lists = replicate m []; room = k } → 0 ≡ length (joined (members segments) (concat walks.lists))
+counted_made slots segments walks m k is =
+    sym (sym (length-map (joined (members segments) (concat walks.lists)) (row_at slots)) ∙ ap (λ (xs : List Counted). length xs) (shows_made slots segments walks m k is))

@@ -1,5 +1,5 @@
 -- A table with an item less.
-use Rattle.std.proofs.Common.{◌≡◌, ◌≢◌, ℕ, ◌<◌, true, refl, sym, ap, subst, ◌∙◌, ◌∷◌, length, set, arith}
+use Rattle.std.proofs.Common.{◌≡◌, ◌+◌, ◌≢◌, ℕ, ◌<◌, true, refl, sym, ap, subst, ◌∙◌, ◌∷◌, length, set, arith}
 use Rattle.std.specs.List.{concat}
 use Rattle.k_types.specs.declared.names.Name.{Name}
 use Rattle.k_lists.specs.Lists.{ListsValue, AreApart, IsFree, members, is_in, without}
@@ -57,6 +57,10 @@ used_less p v t i chains segments walks k m =
     let below = order_below p x k (concat_in p.walks.lists w.0 x (m.walk_left.old w.0 x w.1)) in
     sym (put_there v segments (length p.homes) i x m.freed (λ same. omega (arith, below, same)))) in
     subst (λ ys. IsWith i ys (used p)) (empty ∙ free) out
+
+-- there is one item less
+pub one_less : (p : Parts) (v : ListsValue) (t : Name) (i : ℕ) (chains segments walks : ListsValue) → AreKept p → IsLess p v t i chains segments walks → length (used p) ≡ length (used (moved p p.slots chains segments walks)) + 1
+one_less p v t i chains segments walks k m = with_length i (used (moved p p.slots chains segments walks)) (used p) (used_less p v t i chains segments walks k m)
 
 pub items_less : (p : Parts) (v : ListsValue) (t : Name) (i : ℕ) (chains segments walks : ListsValue) → AreKept p → IsLess p v t i chains segments walks → IsWith (row_at p.slots i) (shown (moved p p.slots chains segments walks)).items (shown p).items
 items_less p v t i chains segments walks k m = with_map (row_at p.slots) i (used (moved p p.slots chains segments walks)) (used p) (used_less p v t i chains segments walks k m)
@@ -127,7 +131,7 @@ kept_less p v t i chains segments walks k m =
           omega (
             arith,
             k.full,
-            with_length i (used (moved p p.slots chains segments walks)) (used p) (used_less p v t i chains segments walks k m),
+            one_less p v t i chains segments walks k m,
             ap (λ xs. length xs) (put_here v segments (length p.homes) i m.freed),
             ap (λ xs. length xs) (out_there p.segments v t.seg.0 i (length p.homes) m.segment_out (λ same. omega (arith, m.found.homed, same))),
           );

@@ -1,5 +1,5 @@
 -- Members of lists, and the way along one.
-use Rattle.std.proofs.Common.{◌≡◌, ◌≢◌, ◌==◌, ◌||◌, not, ℕ, zero, suc, ◌+◌, ◌<◌, Bool, true, false, cond, refl, sym, ap, ap₂, subst, ◌∙◌, List, [], ◌∷◌, ◌++◌, length, slice_get, set, get_or, Option, Some, None, eqb-true, eq-eqb, append-nil, arith, ◌-◌}
+use Rattle.std.proofs.Common.{◌≡◌, ◌≢◌, ◌==◌, ◌||◌, not, ℕ, zero, suc, ◌+◌, ◌<◌, Bool, true, false, cond, refl, sym, ap, ap₂, subst, ◌∙◌, List, [], ◌∷◌, ◌++◌, length, slice_get, set, get_or, Option, Some, None, eqb-true, eq-eqb, append-nil, arith}
 use Rattle.std.proofs.lemmas.Bool.{false_from_ne_true, or_left, or_right}
 use Rattle.k_lists.specs.Lists.{ListsValue, AreApart, members, is_in, without}
 use Rattle.k_lists.proofs.Members.{in_at, place_of}

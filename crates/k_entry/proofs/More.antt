@@ -1,5 +1,5 @@
 -- A table with an item more.
-use Rattle.std.proofs.Common.{◌≡◌, ◌≢◌, ℕ, zero, suc, ◌<◌, ◌≤◌, Bool, count_by, true, false, refl, sym, ap, subst, ◌∙◌, List, ◌∷◌, length, map, set, arith}
+use Rattle.std.proofs.Common.{◌≡◌, ◌+◌, ◌≢◌, ℕ, zero, suc, ◌<◌, ◌≤◌, Bool, count_by, true, false, refl, sym, ap, subst, ◌∙◌, List, ◌∷◌, length, map, set, arith}
 use Rattle.std.proofs.lemmas.Bool.{false_from_ne_true}
 use Rattle.std.proofs.lemmas.List.{length-map}
 use Rattle.std.specs.List.{concat}
@@ -54,6 +54,10 @@ used_more p v t i slots chains segments walks k m =
     (joined_with (members v) (members segments) (concat walks.lists) s i m.walk_in.single
     (λ x ne. sym (put_there v segments s i x m.segment_put ne))
     (subst (λ ys. IsWith i (members v s) ys) (sym (put_here v segments s i m.segment_put)) (with_front i (members v s))))
+
+-- there is one item more
+pub one_more : (p : Parts) (v : ListsValue) (t : Name) (i : ℕ) (slots : List Item) (chains segments walks : ListsValue) → AreKept p → IsMore p v t i slots chains segments walks → length (used (moved p slots chains segments walks)) ≡ length (used p) + 1
+one_more p v t i slots chains segments walks k m = with_length i (used p) (used (moved p slots chains segments walks)) (used_more p v t i slots chains segments walks k m)
 
 -- what stays of another slot
 stays : (p : Parts) (v : ListsValue) (t : Name) (i : ℕ) (slots : List Item) (s j : ℕ) → AreKept p → GivesSlot p.slots slots p.segments v (length p.homes) i (fresh t) → s < length p.homes → is_in (members p.segments s) j ≡ true → at slots j ≡ at p.slots j
@@ -158,7 +162,7 @@ kept_more p v t i slots chains segments walks k m =
             arith,
             k.full,
             m.given.count,
-            with_length i (used p) (used (moved p slots chains segments walks)) (used_more p v t i slots chains segments walks k m),
+            one_more p v t i slots chains segments walks k m,
             ap (λ xs. length xs) (put_there v segments t.seg.0 i (length p.homes) m.segment_put (λ same. omega (arith, m.homed, same))),
           );
     }

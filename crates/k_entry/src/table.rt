@@ -29,6 +29,8 @@ pub struct EntryTable {
     walks: Lists,
     homes: Vec<Heap>,
     room: u32,
+    // How many items there are.
+    count: u32,
 }
 
 impl Drop for EntryTable {
@@ -40,6 +42,7 @@ impl Drop for EntryTable {
             walks: _,
             homes: _,
             room: _,
+            count: _,
         } = self;
     }
 }
@@ -50,7 +53,7 @@ impl Model for EntryTable {
     ghost Value = { EntryValue };
 
     ghost use Rattle.std.specs.Prelude.{length, vec_capacity, ◌≡◌};
-    ghost use Rattle.k_entry.specs.Slots.{shown, AreKept, AreKnown};
+    ghost use Rattle.k_entry.specs.Slots.{shown, used, AreKept, AreKnown};
 
     ghost view = { λ t. shown (record { slots = t.slots.items; chains = t.chains; segments = t.segments; walks = t.walks; homes = t.homes.items; room = t.room }) };
 
@@ -59,6 +62,7 @@ impl Model for EntryTable {
       homes_reserved : vec_capacity t.homes ≡ length t.homes.items;
       kept : AreKept (record { slots = t.slots.items; chains = t.chains; segments = t.segments; walks = t.walks; homes = t.homes.items; room = t.room });
       known : AreKnown (record { slots = t.slots.items; chains = t.chains; segments = t.segments; walks = t.walks; homes = t.homes.items; room = t.room });
+      counted : t.count ≡ length (used (record { slots = t.slots.items; chains = t.chains; segments = t.segments; walks = t.walks; homes = t.homes.items; room = t.room }));
     } };
 }
 
@@ -94,7 +98,15 @@ impl EntryTable {
             walks,
             homes,
             room,
+            count: 0,
         })
+    }
+
+    /// How many objects are counted. Constant time.
+    pub fn len(&self) -> u32
+        ensures { result ≡ length self.now.items }
+    {
+        self.count
     }
 
     /// How often the object is counted; 0 where it isn't there. It passes one hash chain at most.
@@ -136,6 +148,7 @@ impl EntryTable {
                 let i = take_slot(&mut self.slots, &mut self.segments, self.homes.len(), item);
                 self.chains.push_front(chain, i);
                 put_in(&mut self.segments, &mut self.walks, walk, name.seg, i);
+                self.count += 1;
             }
         }
     }
@@ -157,6 +170,7 @@ impl EntryTable {
             take_out(&mut self.segments, &mut self.walks, walk, target.seg, i);
             self.segments.push_front(self.homes.len(), i);
             self.slots[i as usize] = item.with_count(0);
+            self.count -= 1;
         } else {
             self.slots[i as usize] = item.with_count(item.count - 1);
         }

@@ -1,5 +1,5 @@
 -- What is made serves.
-use Rattle.std.proofs.Common.{◌≡◌, ℕ, zero, suc, ◌+◌, ◌<◌, ◌==◌, cond, refl, sym, ap, ◌∙◌, subst, List, [], ◌∷◌, ◌++◌, map, length, replicate, Some, None, arith, eq-eqb}
+use Rattle.std.proofs.Common.{◌≡◌, ℕ, zero, suc, ◌+◌, ◌*◌, ◌<◌, ◌≤◌, ◌==◌, cond, refl, sym, ap, ◌∙◌, subst, List, [], ◌∷◌, ◌++◌, map, length, replicate, Some, None, arith, eq-eqb}
 use Rattle.std.proofs.lemmas.List.{length-append, length-map, length-replicate}
 use Rattle.atomic_table.specs.Seated.{TableId}
 use Rattle.k_types.specs.declared.names.CellPhase.TheVariants.{Idle}
@@ -8,8 +8,10 @@ use Rattle.k_types.specs.declared.names.Phase.TheVariants.{Unmade}
 use Rattle.k_types.specs.declared.names.Pid.{Pid}
 use Rattle.k_types.specs.declared.names.SharedId.{SharedId}
 use Rattle.k_types.specs.Numbers.{numbers_below, numbers_from}
-use Rattle.k_types.specs.Trace.{Trace, segment_count, segment_of}
+use Rattle.k_types.specs.Steps.{state_after}
+use Rattle.k_types.specs.Trace.{Trace, process_count, segment_count, segment_of}
 use Rattle.k_base.proofs.Lists.{numbers_length, at_number}
+use Rattle.k_base.proofs.Sums.{ones}
 use Rattle.k_tie.specs.Values.{JournalValue, NoteValue, blank_note, empty_journal}
 use Rattle.k_agree.proofs.Openings.{opened_cell}
 use Rattle.k_book.specs.Books.{BookRecord, opened}
@@ -19,12 +21,13 @@ use Rattle.k_heap.specs.declared.heap.CellRooms.{CellRooms}
 use Rattle.k_heap.specs.Heaps.{HeapRecord, opened_heap, own_segment}
 use Rattle.k_kernel.specs.Kernels.{opened_kernel}
 use Rattle.k_shared.specs.SharedHeaps.{SharedRecord, opened_shared}
+use Rattle.k_shares.specs.Sharers.{living_of}
 use Rattle.k_space.specs.Objects.{BodyValue, new_body}
 use Rattle.k_locked.proofs.Lists.{each_pushed}
 use Rattle.k_guests.specs.declared.guest.Guest.{Guest}
 use Rattle.k_guests.specs.declared.terms.Terms.{Terms}
 use Rattle.k_guests.specs.Making.{AreGuestsSoFar, AreHeapsSoFar, AreNotes, CanMake, CanMakeGuest, CanMakeShared, HasMadeBook, HaveMadeGuests, IsFirstGuest}
-use Rattle.k_guests.specs.Serving.{Basis, BookServes, GivesSerials, GuestServes, HeapsServe, KernelServes, SharedServes, basis_of, open_trace}
+use Rattle.k_guests.specs.Serving.{Basis, BookServes, GuestServes, HasReserveAt, HasSegment, HeapsServe, KernelServes, SharedServes, basis_of, open_trace}
 
 -- notes that are left, of which one is taken
 pub first_note : (tie : TableId) (first left : ℕ) (notes rest : List NoteValue) (note : NoteValue) → AreNotes tie first left notes → notes ≡ note ∷ rest →
@@ -60,6 +63,10 @@ module _ (tie table : TableId) (same : table ≡ tie) (n procs heaps : ℕ) (cou
         first.3 ∙ ap (λ k. map (blank_note tie) (numbers_from 1 k)) (let fewer = first.2 in omega (arith, fewer))
         ∙ ap (λ t. map (blank_note t) (numbers_from 1 (procs + heaps))) (sym same)
 
+-- where none has ended, all live
+all_live : (n : ℕ) → living_of [] n ≡ n
+all_live n = ones (numbers_below n) ∙ numbers_length 0 n
+
 module _ (terms : Terms) (can : CanMake terms) where
   abbrev trace : Trace
   trace = open_trace terms.setup
@@ -67,20 +74,25 @@ module _ (terms : Terms) (can : CanMake terms) where
   abbrev basis : Basis
   basis = basis_of terms
 
-  -- the one segment with which a cell begins gives as many serials as the cell was made for
-  begins_with : (seg : ℕ) → seg < segment_count trace →
-      GivesSerials terms.events (map (λ number. cond (number == seg) (Some (terms.events + 1)) None) (numbers_below (segment_count trace))) seg
+  -- the one segment with which a cell begins is there
+  begins_with : (seg : ℕ) → seg < segment_count trace → HasSegment (map (λ number. cond (number == seg) (Some terms.rooms.objects) None) (numbers_below (segment_count trace))) seg
   begins_with seg inside = record {
-    room = terms.events + 1;
+    room = terms.rooms.objects;
     there =
-        at_number (λ number. cond (number == seg) (Some (terms.events + 1)) None) 0 (segment_count trace) seg None inside
-        ∙ ap (λ t. cond t (Some (terms.events + 1)) None) (eq-eqb (0 + seg) seg (omega arith));
-    enough = omega arith;
+        at_number (λ number. cond (number == seg) (Some terms.rooms.objects) None) 0 (segment_count trace) seg None inside
+        ∙ ap (λ t. cond t (Some terms.rooms.objects) None) (eq-eqb (0 + seg) seg (omega arith));
   }
+
+  -- no exit item is there, and all processes live
+  reserve_at_first : HasReserveAt basis (state_after trace [])
+  reserve_at_first =
+      let kept : terms.rooms.exits * living_of [] (process_count trace) ≤ terms.rooms.kernel_exits =
+      subst (λ n. terms.rooms.exits * n ≤ terms.rooms.kernel_exits) (sym (all_live (process_count trace))) can.fit.enough.reserve in
+      omega (arith, kept)
 
   -- the rooms of a process's cell
   abbrev rooms_for : CellRooms
-  rooms_for = record { objects = terms.events + 1; exits = terms.events; tail = terms.events }
+  rooms_for = record { objects = terms.rooms.objects; exits = terms.rooms.exits; tail = terms.rooms.tail }
 
   opened_serves : (table : TableId) (pid : Pid) → pid.0 < length terms.setup.procs.items → (bodies : List BodyValue) (n : ℕ) → bodies ≡ replicate n (new_body terms.setup.types terms.ty) →
       GuestServes basis table (record { cell = opened_heap terms.setup pid bodies rooms_for (blank_note table (own_segment pid)); bodies = n })
@@ -89,7 +101,7 @@ module _ (terms : Terms) (can : CanMake terms) where
     agrees = opened_cell trace table (User pid) known;
     table = refl;
     stock = stock;
-    exits = omega arith;
+    exits = refl;
     serials = λ lives. begins_with (own_segment pid) (omega (arith, known));
     tail = omega arith;
   }
@@ -104,53 +116,54 @@ module _ (terms : Terms) (can : CanMake terms) where
     subst (λ (c : HeapRecord). IsFirstGuest terms.bodies (record { cell = c; bodies = terms.bodies })) (sym is) (record { all_left = refl; settled = refl; idle = refl }),
   )
 
-  pub kernel_made : (note : NoteValue) (k : HoldingsValue) → note ≡ blank_note note.table 0 → k ≡ opened_kernel terms.setup (terms.events + 1) terms.events note → KernelServes basis note.table k × (k.value.collection ≡ Idle)
+  pub kernel_made : (note : NoteValue) (k : HoldingsValue) → note ≡ blank_note note.table 0 → k ≡ opened_kernel terms.setup terms.rooms.objects terms.rooms.kernel_exits note → KernelServes basis note.table k × (k.value.collection ≡ Idle)
   kernel_made note k blank is = (
     subst (λ (x : HoldingsValue). KernelServes basis note.table x) (sym is)
-        (subst (λ (n : NoteValue). KernelServes basis note.table (opened_kernel terms.setup (terms.events + 1) terms.events n)) (sym blank)
+        (subst (λ (n : NoteValue). KernelServes basis note.table (opened_kernel terms.setup terms.rooms.objects terms.rooms.kernel_exits n)) (sym blank)
         (record {
           rules = can.rules;
           agrees = opened_cell trace note.table Kernel tt;
           table = refl;
-          exits = omega arith;
+          exits = refl;
           serials = begins_with 0 (omega arith);
           numbers = omega arith;
         })),
     ap (λ (x : HoldingsValue). x.value.collection) is,
   )
 
-  pub heap_made : (id : SharedId) (note : NoteValue) (s : SharedRecord) → CanMakeShared terms id note → s ≡ opened_shared terms.setup id (terms.events + 1) terms.events note →
+  pub heap_made : (id : SharedId) (note : NoteValue) (s : SharedRecord) → CanMakeShared terms id note → s ≡ opened_shared terms.setup id terms.rooms.objects terms.rooms.exits note →
       SharedServes basis note.table s × (s.id ≡ id)
   heap_made id note s make is = (
     subst (λ (x : SharedRecord). SharedServes basis note.table x) (sym is)
-        (subst (λ (n : NoteValue). SharedServes basis note.table (opened_shared terms.setup id (terms.events + 1) terms.events n)) (sym make.blank)
+        (subst (λ (n : NoteValue). SharedServes basis note.table (opened_shared terms.setup id terms.rooms.objects terms.rooms.exits n)) (sym make.blank)
         (record {
           agrees = opened_cell trace note.table (Shared id) make.known;
           table = refl;
           segment = refl;
           idle = refl;
-          exits = omega arith;
+          exits = refl;
           serials = λ stands. begins_with (segment_of trace (Shared id)) (let known = make.known in omega (arith, known));
         })),
     ap (λ (x : SharedRecord). x.id) is,
   )
 
-  pub book_made : (b : BookRecord) (seat : JournalValue) (table : TableId) → seat ≡ empty_journal table → b ≡ opened terms.setup terms.events terms.events terms.events seat → HasMadeBook terms seat b
+  pub book_made : (b : BookRecord) (seat : JournalValue) (table : TableId) → seat ≡ empty_journal table → b ≡ opened terms.setup terms.rooms.entries terms.rooms.events terms.rooms.kept seat → HasMadeBook terms seat b
   book_made b seat table empty is = record {
     can = can;
     serves =
         subst (λ (x : BookRecord). BookServes basis x) (sym is)
-        (subst (λ (j : JournalValue). BookServes basis (opened terms.setup terms.events terms.events terms.events j)) (sym empty)
+        (subst (λ (j : JournalValue). BookServes basis (opened terms.setup terms.rooms.entries terms.rooms.events terms.rooms.kept j)) (sym empty)
         (record {
           stands = record {
             keeps = can.rules;
-            of_trace = opened_of terms.setup trace.operations trace.order terms.events terms.events terms.events table;
-            agrees = opened_agrees terms.setup trace.operations trace.order terms.events terms.events terms.events table;
+            of_trace = opened_of terms.setup trace.operations trace.order terms.rooms.entries terms.rooms.events terms.rooms.kept table;
+            agrees = opened_agrees terms.setup trace.operations trace.order terms.rooms.entries terms.rooms.events terms.rooms.kept table;
             pins = omega arith;
           };
           events = refl;
           kept = refl;
-          entries = omega arith;
+          entries = refl;
+          reserve = reserve_at_first;
         }));
     journal = ap (λ (x : BookRecord). x.journal) is;
     procs = ap (λ (x : BookRecord). length x.procs) is;

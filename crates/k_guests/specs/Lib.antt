@@ -1,3 +1,6 @@
 pub mod Serving
 pub mod Making
+pub mod Reserve
+pub mod Objects
+pub mod Enough
 pub use Rattle.k_locked.specs.Keeping

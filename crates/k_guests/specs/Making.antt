@@ -1,12 +1,12 @@
 -- What the making of a host asks and leaves.
-use Rattle.std.specs.Prelude.{◌≡◌, ℕ, ◌+◌, ◌<◌, ◌^◌, List, [], map, length, Some, slice_get}
+use Rattle.std.specs.Prelude.{◌≡◌, ℕ, ◌+◌, ◌*◌, ◌<◌, ◌≤◌, ◌^◌, List, [], map, length, Some, slice_get}
 use Rattle.atomic_table.specs.Seated.{TableId}
 use Rattle.k_types.specs.declared.names.CellPhase.TheVariants.{Idle}
-use Rattle.k_types.specs.declared.names.Field.{Field}
 use Rattle.k_types.specs.declared.names.Heap.TheVariants.{Shared}
 use Rattle.k_types.specs.declared.names.Pid.{Pid}
 use Rattle.k_types.specs.declared.names.SharedId.{SharedId}
 use Rattle.k_types.specs.declared.names.TypeId.{TypeId}
+use Rattle.k_types.specs.declared.setup.Setup.{Setup}
 use Rattle.k_types.specs.Numbers.{numbers_from}
 use Rattle.k_types.specs.Trace.{segment_of}
 use Rattle.k_types.specs.TraceRules.{KeepsRules}
@@ -16,18 +16,38 @@ use Rattle.k_shared.specs.SharedHeaps.{SharedRecord}
 use Rattle.k_tie.specs.Values.{JournalValue, NoteValue, blank_note}
 use Rattle.k_guests.specs.declared.guest.Guest.{Guest}
 use Rattle.k_guests.specs.declared.making.Parts.{Parts}
+use Rattle.k_guests.specs.declared.rooms.Rooms.{Rooms}
 use Rattle.k_guests.specs.declared.terms.Terms.{Terms}
 use Rattle.k_guests.specs.Serving.{BookServes, GuestServes, GuestsServe, RestServes, SharedServes, basis_of, open_trace}
 
--- the type is one of these, and the events are so few that each table can have room for them
-pub record AreFit (types : List (List Field)) (ty : TypeId) (events : ℕ) : Type 0 where
-  pub known : ty.0 < length types
-  pub few : events < 2 ^ 30
+-- each of the rooms is below 2^30
+pub record AreFew (rooms : Rooms) : Type 0 where
+  pub events : rooms.events < 2 ^ 30
+  pub kept : rooms.kept < 2 ^ 30
+  pub tail : rooms.tail < 2 ^ 30
+  pub objects : rooms.objects < 2 ^ 30
+  pub exits : rooms.exits < 2 ^ 30
+  pub kernel_exits : rooms.kernel_exits < 2 ^ 30
+  pub entries : rooms.entries < 2 ^ 30
+
+-- no more events are kept than there can be, there is room for an unpublished event and for the directory, and the kernel's heap has
+-- room for the exit items of all so many processes
+pub record AreEnough (procs : ℕ) (rooms : Rooms) : Type 0 where
+  pub kept : rooms.kept ≤ rooms.events
+  pub tail : 1 ≤ rooms.tail
+  pub objects : 1 ≤ rooms.objects
+  pub reserve : rooms.exits * procs ≤ rooms.kernel_exits
+
+-- the type is one of the setup's, and the rooms are few and enough
+pub record AreFit (setup : Setup) (ty : TypeId) (rooms : Rooms) : Type 0 where
+  pub known : ty.0 < length setup.types
+  pub few : AreFew rooms
+  pub enough : AreEnough (length setup.procs.items) rooms
 
 -- the setup keeps the rules, and the rest is fit
 pub record CanMake (terms : Terms) : Type 0 where
   pub rules : KeepsRules (open_trace terms.setup)
-  pub fit : AreFit terms.setup.types terms.ty terms.events
+  pub fit : AreFit terms.setup terms.ty terms.rooms
 
 -- the notes are the blank ones of so many cells, from that number on
 abbrev pub AreNotes : TableId → ℕ → ℕ → List NoteValue → Type 0

@@ -5,6 +5,8 @@ use Rattle.k_types.specs.declared.names.CellPhase.TheVariants.{Idle}
 use Rattle.k_types.specs.declared.names.Heap.TheVariants.{Kernel, Shared, User}
 use Rattle.k_types.specs.declared.names.TypeId.{TypeId}
 use Rattle.k_types.specs.declared.setup.Setup.{Setup}
+use Rattle.k_types.specs.State.{State}
+use Rattle.k_types.specs.Steps.{state_after}
 use Rattle.k_types.specs.Trace.{Trace, process_count, segment_count, segment_of, trace_of}
 use Rattle.k_types.specs.TraceRules.{KeepsRules}
 use Rattle.k_agree.specs.Agreement.{Agrees}
@@ -16,39 +18,45 @@ use Rattle.k_space.specs.Objects.{BodyValue, new_body}
 use Rattle.k_locked.specs.Standing.{BookStands}
 use Rattle.k_locked.specs.Keeping.{is_absorbed_in}
 use Rattle.k_guests.specs.declared.guest.Guest.{Guest}
+use Rattle.k_guests.specs.declared.rooms.Rooms.{Rooms}
 use Rattle.k_guests.specs.declared.terms.Terms.{Terms}
+use Rattle.k_guests.specs.Reserve.{kept_for}
 
 -- the trace of the setup in which no process has an operation: what is done is made up as it goes
 abbrev pub open_trace : Setup → Trace
 open_trace setup = trace_of setup (replicate (length setup.procs.items) []) []
 
 -- what all parts of a host have in common: the trace with which they agree, the type of the objects for which there is a supply of
--- bodies, and how many events there can be
+-- bodies, and for how much there is room
 pub record Basis : Type 0 where
   pub trace : Trace
   pub ty : TypeId
-  pub events : ℕ
+  pub rooms : Rooms
 
 -- the basis of a host that is made for these terms
 abbrev pub basis_of : Terms → Basis
-basis_of terms = record { trace = open_trace terms.setup; ty = terms.ty; events = terms.events }
+basis_of terms = record { trace = open_trace terms.setup; ty = terms.ty; rooms = terms.rooms }
 
--- by these rooms the segment is there, and can give more serials than there can be events
-pub record GivesSerials (events : ℕ) (rooms : List (Option ℕ)) (seg : ℕ) : Type 0 where
+-- by these rooms the segment is there
+pub record HasSegment (rooms : List (Option ℕ)) (seg : ℕ) : Type 0 where
   pub room : ℕ
   pub there : slice_index_or rooms seg None ≡ Some room
-  pub enough : events < room
+
+-- the exit items of the kernel's heap and those that are kept back for the processes that live, as many for each as it can have,
+-- are no more than the kernel's heap can have
+abbrev pub HasReserveAt : Basis → State → Type 0
+HasReserveAt basis st = kept_for basis.trace basis.rooms.exits st ≤ basis.rooms.kernel_exits
 
 -- the cell of a process agrees with the trace, which keeps the rules, and is of the journal's table; it has these bodies, and its
--- tables have room for each event
+-- tables have the room that the basis says, with the segment of a process that lives
 pub record GuestServesWith (basis : Basis) (tie : TableId) (bodies : List BodyValue) (g : Guest) : Type 0 where
   pub rules : KeepsRules basis.trace
   pub agrees : Agrees basis.trace (User g.cell.pid) g.cell.note g.cell.value
   pub table : g.cell.note.table ≡ tie
   pub stock : g.cell.bodies ≡ bodies
-  pub exits : basis.events ≤ g.cell.exit_room
-  pub serials : IsFalse (has_ended_in g.cell.value.process) → GivesSerials basis.events g.cell.serial_rooms (own_segment g.cell.pid)
-  pub tail : basis.events ≤ g.cell.tail_room
+  pub exits : g.cell.exit_room ≡ basis.rooms.exits
+  pub serials : IsFalse (has_ended_in g.cell.value.process) → HasSegment g.cell.serial_rooms (own_segment g.cell.pid)
+  pub tail : basis.rooms.tail ≤ g.cell.tail_room
 
 -- the bodies of a supply: so many new ones, of the type that the terms name
 abbrev pub supply_of : Basis → ℕ → List BodyValue
@@ -58,32 +66,38 @@ supply_of basis bodies = replicate bodies (new_body basis.trace.types basis.ty)
 abbrev pub GuestServes : Basis → TableId → Guest → Type 0
 GuestServes basis tie g = GuestServesWith basis tie (supply_of basis g.bodies) g
 
--- the kernel's cell agrees with the trace, which keeps the rules, and is of the journal's table; its tables have room for each event,
--- and it has a number for each segment
+-- one event more of the process can be unpublished
+abbrev pub HasTailRoom : Basis → Guest → Type 0
+HasTailRoom basis g = length g.cell.value.tail < basis.rooms.tail
+
+-- the kernel's cell agrees with the trace, which keeps the rules, and is of the journal's table; it has its segment, room for the
+-- exit items that the basis says, and a number for each segment
 pub record KernelServes (basis : Basis) (tie : TableId) (k : HoldingsValue) : Type 0 where
   pub rules : KeepsRules basis.trace
   pub agrees : Agrees basis.trace Kernel k.note k.value
   pub table : k.note.table ≡ tie
-  pub exits : basis.events ≤ k.exit_room
-  pub serials : GivesSerials basis.events k.serial_rooms 0
+  pub exits : k.exit_room ≡ basis.rooms.kernel_exits
+  pub serials : HasSegment k.serial_rooms 0
   pub numbers : segment_count basis.trace ≤ k.bound
 
--- the cell of a shared heap agrees, is of the journal's table and begins with the heap's own segment, and its tables have room for
--- each event
+-- the cell of a shared heap agrees, is of the journal's table and begins with the heap's own segment, which it has until it is absorbed,
+-- and it has room for the exit items that the basis says
 pub record SharedServes (basis : Basis) (tie : TableId) (s : SharedRecord) : Type 0 where
   pub agrees : Agrees basis.trace (Shared s.id) s.note s.value
   pub table : s.note.table ≡ tie
   pub segment : s.seg.0 ≡ segment_of basis.trace (Shared s.id)
   pub idle : s.value.collection ≡ Idle
-  pub exits : basis.events ≤ s.exit_room
-  pub serials : IsFalse (is_absorbed_in s.value.phase) → GivesSerials basis.events s.serial_rooms s.seg.0
+  pub exits : s.exit_room ≡ basis.rooms.exits
+  pub serials : IsFalse (is_absorbed_in s.value.phase) → HasSegment s.serial_rooms s.seg.0
 
--- the book stands, with room for so many events, which can all be read, and for as many entry items
+-- the book stands, with the room that the basis says for events, for the last of them that can be read and for entry items; and the
+-- kernel's heap has room for the exit items that come to it when the processes end
 pub record BookServes (basis : Basis) (b : BookRecord) : Type 0 where
   pub stands : BookStands basis.trace b
-  pub events : b.event_room ≡ basis.events
-  pub kept : b.kept ≡ basis.events
-  pub entries : basis.events ≤ b.entry_room
+  pub events : b.event_room ≡ basis.rooms.events
+  pub kept : b.kept ≡ basis.rooms.kept
+  pub entries : b.entry_room ≡ basis.rooms.entries
+  pub reserve : HasReserveAt basis (state_after basis.trace b.journal.list)
 
 -- process and book serve still, with the same table, and the process is the same one with as many bodies
 pub record KeepsPair (basis : Basis) (old g : Guest) (old_b b : BookRecord) : Type 0 where

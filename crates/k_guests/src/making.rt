@@ -1,12 +1,13 @@
 //! How the parts of a host are made.
-ghost use Rattle.std.specs.Prelude.{◌≡◌, ◌↔◌, ◌<◌, ◌∷◌, IfOk, IsTrue, length, replicate};
+ghost use Rattle.std.specs.Prelude.{◌≡◌, ◌↔◌, ◌*◌, ◌<◌, ◌≤◌, ◌∷◌, IfOk, IsTrue, length, replicate};
 ghost use Rattle.k_types.specs.declared.names.CellPhase.TheVariants.{Idle};
 ghost use Rattle.k_space.specs.Objects.{new_body};
 ghost use Rattle.k_tie.specs.Values.{blank_note, empty_journal};
-ghost use Rattle.k_guests.specs.Making.{AreFirstParts, AreFit, CanMake, CanMakeGuest, CanMakeGuests, CanMakeHeaps, CanMakeShared, HasMadeBook, HaveMadeGuests, IsFirstGuest};
+ghost use Rattle.k_guests.specs.Making.{AreEnough, AreFew, AreFirstParts, AreFit, CanMake, CanMakeGuest, CanMakeGuests, CanMakeHeaps, CanMakeShared, HasMadeBook, HaveMadeGuests, IsFirstGuest};
 ghost use Rattle.k_guests.specs.Serving.{GuestServes, HeapsServe, KernelServes, SharedServes, basis_of};
 
 use crate::guest::Guest;
+use crate::rooms::Rooms;
 use crate::terms::Terms;
 use k_book::Book;
 use k_heap::{CellRooms, HeapCell};
@@ -20,8 +21,8 @@ use k_types::{Pid, SharedId};
 use std::alloc::Global;
 use std::collections::VecDeque;
 
-/// One more than the most events that a journal can be asked to have.
-const EVENTS_BELOW: u32 = 1 << 30;
+/// One more than the most for which a host can be asked to have room.
+const ROOM_BELOW: u32 = 1 << 30;
 
 /// The parts of a host.
 #[derive(Drop)]
@@ -36,11 +37,47 @@ pub struct Parts {
     pub book: Book,
 }
 
-/// Whether the setup has the type, and the events are fewer than 2^30.
-pub fn are_fit(terms: &Terms) -> bool
-    ensures { IsTrue result ↔ AreFit terms.now.setup.types terms.now.ty terms.now.events }
+/// Whether each of the rooms is below 2^30.
+fn are_few(rooms: &Rooms) -> bool
+    ensures { IsTrue result ↔ AreFew rooms.now }
 {
-    (terms.ty.0 as usize) < terms.setup.types.len() && terms.events < EVENTS_BELOW
+    rooms.events < ROOM_BELOW
+        && rooms.kept < ROOM_BELOW
+        && rooms.tail < ROOM_BELOW
+        && rooms.objects < ROOM_BELOW
+        && rooms.exits < ROOM_BELOW
+        && rooms.kernel_exits < ROOM_BELOW
+        && rooms.entries < ROOM_BELOW
+}
+
+/// Whether so many exit items of the kernel's heap are enough for those of all processes.
+fn has_reserve(procs: usize, exits: u32, kernel_exits: u32) -> bool
+    ensures { IsTrue result ↔ (exits * procs ≤ kernel_exits) }
+{
+    match (exits as usize).checked_mul(procs) {
+        Some(all) => all <= kernel_exits as usize,
+        None => false,
+    }
+}
+
+/// Whether the rooms are enough for a host of so many processes.
+fn are_enough(procs: usize, rooms: &Rooms) -> bool
+    ensures { IsTrue result ↔ AreEnough procs rooms.now }
+{
+    rooms.kept <= rooms.events
+        && 1 <= rooms.tail
+        && 1 <= rooms.objects
+        && has_reserve(procs, rooms.exits, rooms.kernel_exits)
+}
+
+/// Whether the setup has the type, each of the rooms is below 2^30, no more events are kept than there can be, there is room for an
+/// unpublished event and an object, and the kernel's heap has room for the exit items of all processes.
+pub fn are_fit(terms: &Terms) -> bool
+    ensures { IsTrue result ↔ AreFit terms.now.setup terms.now.ty terms.now.rooms }
+{
+    (terms.ty.0 as usize) < terms.setup.types.len()
+        && are_few(&terms.rooms)
+        && are_enough(terms.setup.procs.len(), &terms.rooms)
 }
 
 /// The bodies of a process, all new ones of the type.
@@ -73,9 +110,9 @@ fn make_guest(alloc: Global, terms: &Terms, pid: Pid, note: Note) -> Result<Gues
 {
     let bodies = make_bodies(alloc, terms)?;
     let rooms = CellRooms {
-        objects: terms.events + 1,
-        exits: terms.events,
-        tail: terms.events,
+        objects: terms.rooms.objects,
+        exits: terms.rooms.exits,
+        tail: terms.rooms.tail,
     };
     let cell = HeapCell::make(alloc, &terms.setup, pid, bodies, rooms, note)?;
     Ok(Guest {
@@ -108,7 +145,13 @@ fn make_kernel(alloc: Global, terms: &Terms, note: Note) -> Result<KernelCell, N
     requires blank { note ≡ blank_note note.table 0 }
     ensures { IfOk result (λ k. KernelServes (basis_of terms.now) note.table k × (k.value.collection ≡ Idle)) }
 {
-    KernelCell::make(alloc, &terms.setup, terms.events + 1, terms.events, note)
+    KernelCell::make(
+        alloc,
+        &terms.setup,
+        terms.rooms.objects,
+        terms.rooms.kernel_exits,
+        note,
+    )
 }
 
 /// The cell of a shared heap before the first event.
@@ -120,8 +163,8 @@ fn make_heap(alloc: Global, terms: &Terms, id: SharedId, note: Note) -> Result<S
         alloc,
         &terms.setup,
         id,
-        terms.events + 1,
-        terms.events,
+        terms.rooms.objects,
+        terms.rooms.exits,
         note,
     )
 }
@@ -150,8 +193,13 @@ fn make_book(alloc: Global, terms: &Terms, tie: Tie, seat: JournalSeat) -> Resul
     requires empty { seat ≡ empty_journal tie }
     ensures { IfOk result (λ b. HasMadeBook terms.now seat b) }
 {
-    let events = terms.events;
-    match Book::make(alloc, &terms.setup, events, events, events, tie, seat) {
+    let Rooms {
+        entries,
+        events,
+        kept,
+        ..
+    } = terms.rooms;
+    match Book::make(alloc, &terms.setup, entries, events, kept, tie, seat) {
         Ok(book) => Ok(book),
         Err(MakeError::ReserveFull(_)) => unreachable!(),
         Err(MakeError::NoMemory(refused)) => Err(refused),
@@ -159,7 +207,7 @@ fn make_book(alloc: Global, terms: &Terms, tie: Tie, seat: JournalSeat) -> Resul
 }
 
 /// The parts of a host for these terms, before the first event. It takes all memory that the calls on them will need, but for objects
-/// beside a supply: for each process its bodies, and for each heap and the book tables with room for all events.
+/// beside a supply: for each process its bodies, and for each heap and the book tables with the room that the terms say.
 ///
 /// # Errors
 ///

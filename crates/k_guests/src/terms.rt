@@ -1,4 +1,5 @@
 //! What a host is made for.
+use crate::rooms::Rooms;
 use k_types::{Setup, TypeId};
 
 /// What a host is made for: a setup, and how much its processes can do.
@@ -9,6 +10,6 @@ pub struct Terms {
     pub ty: TypeId,
     /// How many bodies the supply of each process has: allocations of that type, refused ones too, that take no memory.
     pub bodies: u32,
-    /// How many events the journal can have.
-    pub events: u32,
+    /// For how much there is room.
+    pub rooms: Rooms,
 }

@@ -1,5 +1,5 @@
 -- What a process is charged, by its cell and the book, is what the machine charges it.
-use Rattle.std.proofs.Common.{◌≡◌, ℕ, zero, ◌+◌, ◌-◌, ◌<◌, ◌≤◌, ◌^◌, ◌&&◌, ◌==◌, Bool, true, false, cond, refl, sym, ap, ap₂, ◌∙◌, subst, List, ◌++◌, filter, length, map, get_or, Some, slice_get, arith, IsFalse}
+use Rattle.std.proofs.Common.{◌≡◌, ℕ, ◌+◌, ◌-◌, ◌<◌, ◌≤◌, ◌^◌, ◌&&◌, ◌==◌, Bool, true, false, cond, refl, sym, ap, ap₂, ◌∙◌, subst, List, ◌++◌, filter, length, map, get_or, Some, slice_get, arith, IsFalse}
 use Rattle.k_types.specs.declared.event.Event.{Event}
 use Rattle.k_types.specs.declared.names.Heap.{Heap}
 use Rattle.k_types.specs.Agree.{BookValue, CellValue}
@@ -27,7 +27,8 @@ use Rattle.k_book.specs.Books.{BookRecord}
 use Rattle.k_heap.specs.Heaps.{has_ended_in}
 use Rattle.k_solo.proofs.Known.{charge_small}
 use Rattle.k_guests.specs.declared.guest.Guest.{Guest}
-use Rattle.k_guests.specs.Serving.{Basis, BookServes, GuestServes, KeepsPair}
+use Rattle.k_guests.specs.Serving.{Basis, BookServes, GuestServes, HasTailRoom}
+use Rattle.k_host.proofs.Hosts.{KeepsRoom}
 use Rattle.k_host.specs.Asked.{charge_told as told_charge}
 use Rattle.k_host.specs.Calls.{HasMetTheJournal}
 use Rattle.k_host.specs.Hosts.{HostServes, HostValue}
@@ -178,19 +179,22 @@ module _ (h : HostValue) (n : ℕ) (g : Guest) (serves : HostServes h) (there : 
         ∙ inside_is_free h.basis.trace rules.limits g.cell.pid.0 n h.book.journal.list g.cell.value.tail met.agrees.legal serves.rest.book.stands.agrees.legal met.agrees.tail
 
 -- a process whose cell has met the journal serves as before
-pub met_serves : (basis : Basis) (g h : Guest) (b : BookRecord) → GuestServes basis b.journal.table g → BookServes basis b → HasMetTheJournal b g h → KeepsPair basis g h b b
+pub met_serves : (basis : Basis) (g h : Guest) (b : BookRecord) → GuestServes basis b.journal.table g → BookServes basis b → HasMetTheJournal b g h → KeepsRoom basis g h b b
 met_serves basis g h b guest book met = record {
-  guest = subst (GuestServes basis b.journal.table) (sym met.guest_is) (record {
-    rules = guest.rules;
-    agrees = (meeting basis.trace b.journal b.value (user g.cell.pid.0) g.cell.note g.cell.value guest.agrees book.stands.agrees met.fitted).agrees;
-    table = guest.table;
-    stock = guest.stock;
-    exits = guest.exits;
-    serials = guest.serials;
-    tail = guest.tail;
-  });
-  book = book;
-  same_table = refl;
-  pid = ap (λ (x : Guest). x.cell.pid) met.guest_is;
-  bodies = ap (λ (x : Guest). x.bodies) met.guest_is;
+  pair = record {
+    guest = subst (GuestServes basis b.journal.table) (sym met.guest_is) (record {
+      rules = guest.rules;
+      agrees = (meeting basis.trace b.journal b.value (user g.cell.pid.0) g.cell.note g.cell.value guest.agrees book.stands.agrees met.fitted).agrees;
+      table = guest.table;
+      stock = guest.stock;
+      exits = guest.exits;
+      serials = guest.serials;
+      tail = guest.tail;
+    });
+    book = book;
+    same_table = refl;
+    pid = ap (λ (x : Guest). x.cell.pid) met.guest_is;
+    bodies = ap (λ (x : Guest). x.bodies) met.guest_is;
+  };
+  few = subst (HasTailRoom basis) (sym met.guest_is);
 }

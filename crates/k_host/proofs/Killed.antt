@@ -19,7 +19,8 @@ use Rattle.k_moves.specs.Shown.{idle_part}
 use Rattle.k_shared.specs.SharedHeaps.{SharedRecord}
 use Rattle.k_squares.specs.Locals.{is_local_in}
 use Rattle.k_guests.specs.declared.guest.Guest.{Guest}
-use Rattle.k_guests.specs.Serving.{Basis, BookServes, GuestServes, KernelServes}
+use Rattle.k_guests.specs.Serving.{Basis, BookServes, GuestServes, HasTailRoom, KernelServes}
+use Rattle.k_host.proofs.Hosts.{few_set, none_unpublished}
 use Rattle.k_ends.specs.HostError.{HostError}
 use Rattle.k_ends.specs.Doing.{HasOperated, left_after}
 use Rattle.k_ends.specs.CallsRefusals.{CanNotOperateAlone, EndsAnother}
@@ -130,6 +131,8 @@ record StillServe (basis : Basis) (g own t other : Guest) (x : HoldingsValue) (b
   kernel : KernelServes basis l.journal.table x
   book : BookServes basis l
   same_table : l.journal.table ≡ b.journal.table
+  few : HasTailRoom basis g → HasTailRoom basis own
+  target_few : HasTailRoom basis t → HasTailRoom basis other
 
 module _ (basis : Basis) (gs : List Guest) (k : HoldingsValue) (ss : List SharedRecord) (b : BookRecord) (serves : HostServes (host_of basis gs k ss b)) (op : Op) (at target : ℕ) (g t : Guest) (places : AreTwoAt gs at target g t) where
   guest_there : GuestServes basis b.journal.table g
@@ -147,6 +150,8 @@ module _ (basis : Basis) (gs : List Guest) (k : HoldingsValue) (ss : List Shared
     kernel = subst (λ (m : BookRecord). KernelServes basis m.journal.table x) (sym book_is) (subst (KernelServes basis b.journal.table) (sym kernel_is) serves.rest.kernel);
     book = subst (BookServes basis) (sym book_is) serves.rest.book;
     same_table = ap (λ (m : BookRecord). m.journal.table) book_is;
+    few = subst (HasTailRoom basis) (sym own_is);
+    target_few = subst (HasTailRoom basis) (sym other_is);
   }
 
   nobody_ended : (own other : Guest) (x : HoldingsValue) (l : BookRecord) (event : Event) → HasEndedNobody basis op g own t other k x b l event → StillServe basis g own t other x b l
@@ -158,6 +163,8 @@ module _ (basis : Basis) (gs : List Guest) (k : HoldingsValue) (ss : List Shared
     kernel = subst (λ tie. KernelServes basis tie x) (sym d.alone.same_table) (subst (KernelServes basis b.journal.table) (sym d.kernel_is) serves.rest.kernel);
     book = d.alone.book;
     same_table = d.alone.same_table;
+    few = none_unpublished basis g own d.alone.settled;
+    target_few = subst (HasTailRoom basis) (sym d.target_is);
   }
 
   target_ended : (own other : Guest) (x : HoldingsValue) (l : BookRecord) (event : Event) → HasKilledNow basis op g own t other x b l event → StillServe basis g own t other x b l
@@ -169,6 +176,8 @@ module _ (basis : Basis) (gs : List Guest) (k : HoldingsValue) (ss : List Shared
     kernel = d.kernel;
     book = d.keeps.book;
     same_table = d.keeps.same_table;
+    few = none_unpublished basis g own d.settled;
+    target_few = none_unpublished basis t other d.target_settled;
   }
 
   still : (own other : Guest) (x : HoldingsValue) (l : BookRecord) (r : Result Event HostError) → IfOk r (λ event. HasTriedToKill basis op g own t other k x b l event) →
@@ -185,6 +194,7 @@ module _ (basis : Basis) (gs : List Guest) (k : HoldingsValue) (ss : List Shared
     all = guests_set basis l.journal.table l.journal.table refl (slice_set gs at own) target t other (guests_set basis b.journal.table l.journal.table s.same_table gs at g own serves.all places.own s.guest s.pid)
         (target_after own) s.target s.target_pid;
     rest = record { kernel = s.kernel; heaps = heaps_stay basis b.journal.table l.journal.table s.same_table ss serves.rest.heaps; book = s.book };
+    few = few_set basis (slice_set gs at own) target other (few_set basis gs at own serves.few (s.few (serves.few at g places.own))) (s.target_few (serves.few target t places.other));
   }
 
   -- whatever it answers, the host serves still
@@ -227,14 +237,14 @@ module _ (basis : Basis) (gs : List Guest) (k : HoldingsValue) (ss : List Shared
       pid = d.alone.pid;
       said = d.alone.said;
       event_is = d.alone.event_is;
-      done = inr (record {
+      done = inr (inr (record {
         outside = outside;
         appended = d.alone.appended;
         settled = d.alone.settled;
         idle = d.alone.idle;
         bodies = d.alone.bodies ∙ none_taken;
         others = inl (record { touches = d.touches; kernel_is = d.kernel_is; shared_is = refl });
-      });
+      }));
     }
 
     operated : (own other : Guest) (x : HoldingsValue) (l : BookRecord) (event : Event) → HasTriedToKill basis op g own t other k x b l event →

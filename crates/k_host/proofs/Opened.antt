@@ -1,5 +1,5 @@
 -- The rules of a trace that speak of its setup are kept where no process has an operation, and a host is read as it is made.
-use Rattle.std.proofs.Common.{◌≡◌, ℕ, ◌<◌, refl, sym, ap, subst, List, [], ◌∷◌, length, zero-le, Result, Ok, Err, IfErr, IsTrue, OnOk}
+use Rattle.std.proofs.Common.{◌≡◌, ℕ, ◌<◌, ◌≤◌, arith, refl, sym, ap, subst, List, [], ◌∷◌, length, zero-le, Result, Ok, Err, IfErr, IsTrue, OnOk}
 use Rattle.std.specs.Prelude.{IfOk}
 use Rattle.std.proofs.lemmas.List.{length-replicate}
 use Rattle.k_types.specs.declared.names.TypeId.{TypeId}
@@ -15,11 +15,13 @@ use Rattle.k_trace.specs.declared.trace.Trace.{Trace as ReadTrace}
 use Rattle.k_trace.specs.Meaning.{meaning_of}
 use Rattle.k_trace.specs.Rules.{Spells}
 use Rattle.k_guests.specs.declared.terms.Terms.{Terms}
-use Rattle.k_guests.specs.Making.{AreFit}
+use Rattle.k_guests.specs.declared.making.Parts.{Parts}
+use Rattle.k_guests.specs.declared.rooms.Rooms.{Rooms}
+use Rattle.k_guests.specs.Making.{AreFirstParts, AreFit}
 use Rattle.k_guests.specs.Serving.{basis_of, open_trace}
 use Rattle.k_host.specs.declared.errors.OpenError.{OpenError}
 use Rattle.k_host.specs.declared.errors.OpenError.TheVariants.{NoMemory, Bad, Terms as Unfit}
-use Rattle.k_host.specs.Hosts.{HostValue, IsFresh}
+use Rattle.k_host.specs.Hosts.{HaveTailRoom, HostValue, IsFresh}
 use Rattle.k_host.specs.Opening.{HasRead, IsNotMade, IsNotRead}
 
 none_ends : EndsWithExit []
@@ -63,17 +65,21 @@ module _ (setup : Setup) where
   }
 
 -- the terms for which a host is read
-abbrev pub terms_of : ReadTrace → TypeId → ℕ → ℕ → Terms
-terms_of t ty bodies events = record { setup = t.setup; ty = ty; bodies = bodies; events = events }
+abbrev pub terms_of : ReadTrace → TypeId → ℕ → Rooms → Terms
+terms_of t ty bodies rooms = record { setup = t.setup; ty = ty; bodies = bodies; rooms = rooms }
 
-module _ (bytes : Text) (t : ReadTrace) (ty : TypeId) (bodies events : ℕ) (spelled : Spells bytes (meaning_of t)) where
-  pub read_made : (r : Result HostValue OpenError) → IfOk r (λ host. IsFresh (basis_of (terms_of t ty bodies events)) bodies host) → OnOk r (AreFit t.setup.types ty events) →
-      IfOk r (λ host. HasRead bytes ty bodies events host)
-  read_made (Ok host) fresh fit = record { said = meaning_of t; spelled = spelled; fit = fit; fresh = fresh }
+module _ (bytes : Text) (t : ReadTrace) (ty : TypeId) (bodies : ℕ) (rooms : Rooms) (spelled : Spells bytes (meaning_of t)) where
+  pub read_made : (r : Result HostValue OpenError) → IfOk r (λ host. IsFresh (basis_of (terms_of t ty bodies rooms)) bodies host) → OnOk r (AreFit t.setup ty rooms) →
+      IfOk r (λ host. HasRead bytes ty bodies rooms host)
+  read_made (Ok host) fresh fit = record { said = meaning_of t; spelled = spelled; fit = record { known = fit.known; few = fit.few; enough = fit.enough }; fresh = fresh }
   read_made (Err why) fresh fit = tt
 
-  pub read_refused : (r : Result HostValue OpenError) → IfErr r (λ why. IsNotMade (terms_of t ty bodies events) why) → IfErr r (λ why. IsNotRead bytes ty events why)
+  pub read_refused : (r : Result HostValue OpenError) → IfErr r (λ why. IsNotMade (terms_of t ty bodies rooms) why) → IfErr r (λ why. IsNotRead bytes ty rooms why)
   read_refused (Ok host) why = tt
   read_refused (Err (NoMemory refused)) why = tt
   read_refused (Err (Bad line reason)) why = absurd why
-  read_refused (Err Unfit) why = record { said = meaning_of t; spelled = spelled; unfit = why }
+  read_refused (Err Unfit) why = record { said = meaning_of t; spelled = spelled; unfit = λ fit. why (record { known = fit.known; few = fit.few; enough = fit.enough }) }
+
+-- where nothing has happened yet one event of each process can be unpublished
+pub first_few : (terms : Terms) (parts : Parts) → AreFirstParts terms parts → 1 ≤ terms.rooms.tail → HaveTailRoom (basis_of terms) parts.guests.items
+first_few terms parts are some = λ k g found. let none = ap length (are.first k g found).settled in omega (arith, none, some)

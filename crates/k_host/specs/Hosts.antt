@@ -1,5 +1,6 @@
 -- What is seen of a host, and what it keeps.
-use Rattle.std.specs.Prelude.{◌≡◌, ℕ, List, Some, [], length, slice_get}
+use Rattle.std.specs.Prelude.{◌≡◌, ℕ, ◌+◌, nat_lt, if◌then◌else◌, List, Option, Some, None, [], length, slice_get}
+use Rattle.k_types.specs.declared.event.Event.{Event}
 use Rattle.k_types.specs.declared.names.CellPhase.{CellPhase}
 use Rattle.k_types.specs.declared.names.CellPhase.TheVariants.{Idle}
 use Rattle.k_book.specs.Books.{BookRecord}
@@ -7,7 +8,7 @@ use Rattle.k_cell.specs.Holdings.{HoldingsValue}
 use Rattle.k_shared.specs.SharedHeaps.{SharedRecord}
 use Rattle.k_guests.specs.declared.guest.Guest.{Guest}
 use Rattle.k_guests.specs.Making.{IsFirstGuest}
-use Rattle.k_guests.specs.Serving.{Basis, GuestsServe, RestServes}
+use Rattle.k_guests.specs.Serving.{Basis, GuestsServe, HasTailRoom, RestServes}
 
 -- a host: what its parts have in common, its processes, the cells of the kernel and of the shared heaps, and the book
 pub record HostValue : Type 0 where
@@ -17,10 +18,19 @@ pub record HostValue : Type 0 where
   pub shared : List SharedRecord
   pub book : BookRecord
 
--- all parts serve
+-- one event more of each process can be unpublished
+abbrev pub HaveTailRoom : Basis → List Guest → Type 0
+HaveTailRoom basis guests = (k : ℕ) (g : Guest) → slice_get guests k ≡ Some g → HasTailRoom basis g
+
+-- all parts serve, and one event more of each process can be unpublished
 pub record HostServes (h : HostValue) : Type 0 where
   pub all : GuestsServe h.basis h.book.journal.table h.guests
   pub rest : RestServes h.basis h.kernel h.shared h.book
+  pub few : HaveTailRoom h.basis h.guests
+
+-- the event of that number, where it is among the last that can be read
+abbrev pub event_of : HostValue → ℕ → Option Event
+event_of h number = if nat_lt (number + h.basis.rooms.kept) (length h.book.journal.list) then None else slice_get h.book.journal.list number
 
 -- how many events of the process the journal lacks
 abbrev pub unpublished_of : Guest → ℕ

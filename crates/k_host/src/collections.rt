@@ -1,5 +1,6 @@
 //! Collections, absorptions and ends of processes, called on a host, and what a process does inside its heap.
 ghost use Rattle.std.specs.Prelude.{◌≡◌, ◌≤◌, IfErr, IfOk, MatchOption, OnErr, OnOk};
+ghost use Rattle.k_guests.specs.Objects.{objects_after};
 ghost use Rattle.k_ends.specs.CallsRefusals.{CanNotDoInside, CanNotPublish};
 ghost use Rattle.k_ends.specs.Refusals.{CanNotBegin, CanNotBeginKernel, CanNotEnd, CanNotEndKernel, CanNotExit, CanNotMark, CanNotMarkKernel, CanNotSettle, CanNotSettleKernel};
 ghost use Rattle.k_ends.specs.Whole.{AreFreedLast, CanNotCollect, CanNotCollectKernel};
@@ -22,8 +23,8 @@ impl Host {
     ///
     /// # Errors
     ///
-    /// Each changes nothing: `Unknown`, `Ended`, `Phase` where a collection of the heap is open, and `Full` where the process's tables may
-    /// not have room for what an operation adds, or its unpublished events are as many as the host has room for.
+    /// Each changes nothing: `Unknown`, `Ended`, `Phase` where a collection of the heap is open, and `Full` where the process has done as
+    /// many operations as can be counted, or no event more could be unpublished after this one.
     pub fn local(&mut self, pid: Pid, op: &Op) -> Result<Option<Reply>, HostError>
         ensures done { IfOk result (λ answer. MatchOption answer (HasLeftOutside self.old self.new pid op.now) (λ said. HasDoneInsideIn self.old self.new pid op.now said)) }
         ensures same { OnErr result (self.new ≡ self.old) }
@@ -167,7 +168,7 @@ impl Host {
     }
 
     /// Collects the process's heap whole: begins, marks and ends. It answers the event of the end, with what was freed, of which the
-    /// list then has the names: those of this collection alone, each once, where it has room for as many as the host for events. The cost is
+    /// list then has the names: those of this collection alone, each once, where it has room for as many as the machine has objects. The cost is
     /// in proportion to the objects of the heap, its exit items and its entered and pinned objects.
     ///
     /// # Errors
@@ -178,7 +179,7 @@ impl Host {
         ensures done { IfOk result (λ event. HasCollectedIn self.old self.new pid event) }
         ensures same { OnErr result (self.new ≡ self.old) }
         ensures why { IfErr result (λ why. MayRefuse self.old pid (CanNotCollect self.old.basis self.old.book) why) }
-        ensures freed { self.old.basis.events ≤ freed.old.room → OnOk result (AreFreedLast self.new.basis.trace self.new.book.journal.list freed.new.names) }
+        ensures freed { objects_after self.old.basis.trace self.old.book.journal.list ≤ freed.old.room → OnOk result (AreFreedLast self.new.basis.trace self.new.book.journal.list freed.new.names) }
         ensures kept { OnErr result (freed.new ≡ freed.old) }
         ensures room { freed.new.room ≡ freed.old.room }
     {
@@ -197,7 +198,7 @@ impl Host {
         ensures done { IfOk result (λ event. HasCollectedKernelIn self.old self.new pid event) }
         ensures same { OnErr result (self.new ≡ self.old) }
         ensures why { IfErr result (λ why. MayRefuse self.old pid (CanNotCollectKernel self.old.basis self.old.kernel self.old.book) why) }
-        ensures freed { self.old.basis.events ≤ freed.old.room → OnOk result (AreFreedLast self.new.basis.trace self.new.book.journal.list freed.new.names) }
+        ensures freed { objects_after self.old.basis.trace self.old.book.journal.list ≤ freed.old.room → OnOk result (AreFreedLast self.new.basis.trace self.new.book.journal.list freed.new.names) }
         ensures kept { OnErr result (freed.new ≡ freed.old) }
         ensures room { freed.new.room ≡ freed.old.room }
     {

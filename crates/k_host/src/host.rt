@@ -13,7 +13,7 @@ use crate::killing::{kill_among, killed};
 use crate::places::place_of;
 use k_book::Book;
 use k_ends::{HostError, operate_with};
-use k_guests::{Guest, Terms, are_fit, make_parts};
+use k_guests::{Guest, Rooms, Terms, are_fit, make_parts};
 use k_kernel::KernelCell;
 use k_shared::SharedCell;
 use k_trace::{Trace, TraceError, read_trace};
@@ -44,15 +44,16 @@ impl Model for Host {
 
 impl Host {
     /// A host for these terms, before the first event. It takes all memory that its calls will need, but for objects of which the supply of
-    /// their process has no body: time and memory are in proportion to the bodies, and to the events for each heap.
+    /// their process has no body: time and memory are in proportion to the bodies and to the rooms, those of a heap for each heap.
     ///
     /// # Errors
     ///
-    /// `Terms` exactly where the setup has no such type or the events are 2^30 or more. `NoMemory` where memory runs out.
+    /// `Terms` exactly where the setup has no such type or the rooms are not fit, as `are_fit` of `k_guests` says. `NoMemory` where memory
+    /// runs out.
     pub fn make(alloc: Global, terms: Terms) -> Result<Host, OpenError>
         requires { KeepsRules (open_trace terms.setup) }
         ensures made { IfOk result (λ host. IsFresh (basis_of terms) terms.bodies host) }
-        ensures fit { OnOk result (AreFit terms.setup.types terms.ty terms.events) }
+        ensures fit { OnOk result (AreFit terms.setup terms.ty terms.rooms) }
         ensures why { IfErr result (λ why. IsNotMade terms why) }
     {
         if !are_fit(&terms) {
@@ -73,16 +74,16 @@ impl Host {
     /// # Errors
     ///
     /// `Bad` exactly where the bytes spell no trace, with the first bad line and its reason, as `k_trace` numbers them; else those of
-    /// `make`: `Terms` where the trace declares no such type or the events are 2^30 or more, and `NoMemory` where memory runs out.
+    /// `make`: `Terms` where the trace declares no such type or the rooms are not fit, and `NoMemory` where memory runs out.
     pub fn read(
         alloc: Global,
         text: &[u8],
         ty: TypeId,
         bodies: u32,
-        events: u32,
+        rooms: Rooms,
     ) -> Result<Host, OpenError>
-        ensures read { IfOk result (λ host. HasRead text.now ty bodies events host) }
-        ensures why { IfErr result (λ why. IsNotRead text.now ty events why) }
+        ensures read { IfOk result (λ host. HasRead text.now ty bodies rooms host) }
+        ensures why { IfErr result (λ why. IsNotRead text.now ty rooms why) }
     {
         match read_trace(alloc, text) {
             Ok(trace) => {
@@ -98,7 +99,7 @@ impl Host {
                         setup,
                         ty,
                         bodies,
-                        events,
+                        rooms,
                     },
                 )
             }
@@ -107,14 +108,16 @@ impl Host {
         }
     }
 
-    /// Does the operation of the process, inside its heap where it needs that heap alone, and answers its event. Where it is a `kill` that
+    /// Does the operation of the process, inside its heap where it needs that heap alone, and answers its event. What is done inside the heap
+    /// is published once no event more can be unpublished. Where it is a `kill` that
     /// ends another process, what both did inside their heaps is published first, the own before the target's.
     ///
     /// # Errors
     ///
     /// Each changes nothing: `Unknown`, `OwnCall`, `Ended` and `NoMemory` as they say, `Phase` where a collection is open of the process's
-    /// heap, or of the kernel's or a killed process's where the operation touches that, and `Full` where the journal has no room for what
-    /// is unpublished and one event more, or the tables of a heap that is touched may have none for what the operation adds.
+    /// heap, or of the kernel's or a killed process's where the operation touches that, `Full` where the journal has no room for what is
+    /// unpublished and one event more, or the process has done as many operations as can be counted, `Objects` where the heap has no room for
+    /// the object, and `Items` where it has no exit item left or the book no entry item.
     pub fn operate(&mut self, pid: Pid, op: &Op) -> Result<Event, HostError>
         ensures done { IfOk result (λ event. HasOperatedIn self.old self.new pid op.now event) }
         ensures same { OnErr result (self.new ≡ self.old) }

@@ -2,11 +2,12 @@
 ghost use Rattle.std.specs.Prelude.{◌≡◌, IfOk, length, option_map, slice_get};
 ghost use Rattle.k_types.specs.Counted.{counted};
 ghost use Rattle.k_shares.specs.Sharers.{heap_number, lowest_orphan};
-ghost use Rattle.k_host.specs.Hosts.{HostServes, collection_of, unpublished_of};
+ghost use Rattle.k_host.specs.Hosts.{HostServes, collection_of, event_of, unpublished_of};
 ghost use Rattle.k_host.specs.Twins.{first_twin};
 
 use crate::host::Host;
 use crate::twin::Twin;
+use k_guests::Rooms;
 use k_io::NoMemory;
 use k_types::{CellPhase, Event, Name, Pid, SharedId};
 use std::alloc::Global;
@@ -18,6 +19,13 @@ impl Host {
         ensures { HostServes self.now }
     {
         let _book = &self.book;
+    }
+
+    /// For how much there is room. Constant time.
+    pub fn rooms(&self) -> Rooms
+        ensures { result ≡ self.now.basis.rooms }
+    {
+        self.terms.rooms
     }
 
     /// The number of processes, ended ones too. Constant time.
@@ -41,11 +49,13 @@ impl Host {
         self.book.len()
     }
 
-    /// The event of that number in the journal, from 0; `None` past the last. Constant time.
+    /// The event of that number in the journal, from 0; `None` past the last, and where it is no more among those that are kept. Constant
+    /// time.
     pub fn event(&self, number: u32) -> Option<Event>
-        ensures { result ≡ slice_get self.now.book.journal.list number }
+        ensures { result ≡ event_of self.now number }
     {
-        if number >= self.book.len() {
+        let count = self.book.len();
+        if number >= count || count - number > self.terms.rooms.kept {
             return None;
         }
         Some(*self.book.event(number))

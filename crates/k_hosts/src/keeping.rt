@@ -1,5 +1,5 @@
 //! A keeper of which one operation has used up all but the reserve.
-use crate::usual::{NODE, P1, P2, S, USUAL, new, share};
+use crate::usual::{NODE, P1, P2, S, USUAL, new, rooms, share};
 use k_host::{HostError, OpenError};
 use k_keeper::Keeper;
 use k_types::{Event, Op, Pid, SharedId};
@@ -11,7 +11,7 @@ use std::test::Fail;
 const FEWEST: u32 = 10;
 
 fn opened(alloc: Global, events: u32) -> Result<Keeper, OpenError> {
-    Keeper::read(alloc, USUAL, NODE, 100, events)
+    Keeper::read(alloc, USUAL, NODE, 100, rooms(events))
 }
 
 /// Drops the keeper, which tests only lend.

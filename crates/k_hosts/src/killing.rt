@@ -1,6 +1,6 @@
 //! Kills and resizes on a host: what a process may do to those below it.
 use crate::driving::{begin_heap, begin_kernel, charge, operate, settle_heap, settle_kernel};
-use crate::usual::{NODE, dir, let_go, name, new, store};
+use crate::usual::{NODE, dir, let_go, name, new, rooms, store};
 use k_host::{Host, HostError, Twin};
 use k_io::NoMemory;
 use k_types::{Event, Fault, LimitId, Op, Pid, Reply};
@@ -149,7 +149,7 @@ fn fill<R: Abort>(rt: &R, host: &mut Host) -> Result<(), Fail> {
 
 #[test]
 fn a_process_ends_those_below_it(rt: HostRuntime) -> Result<(), Fail> {
-    let mut host = Host::read(rt.alloc(), BELOW, NODE, 100, 2000)?;
+    let mut host = Host::read(rt.alloc(), BELOW, NODE, 100, rooms(2000))?;
     let mut twin = host.twin(rt.alloc())?;
     let end = end_others(&rt, rt.alloc(), &mut host, &mut twin);
     let_go(host);
@@ -158,7 +158,7 @@ fn a_process_ends_those_below_it(rt: HostRuntime) -> Result<(), Fail> {
 
 #[test]
 fn a_process_resizes_what_is_below_it(rt: HostRuntime) -> Result<(), Fail> {
-    let mut host = Host::read(rt.alloc(), BELOW, NODE, 100, 2000)?;
+    let mut host = Host::read(rt.alloc(), BELOW, NODE, 100, rooms(2000))?;
     let mut twin = host.twin(rt.alloc())?;
     let end = set_maxima(&rt, rt.alloc(), &mut host, &mut twin);
     let_go(host);
@@ -167,7 +167,7 @@ fn a_process_resizes_what_is_below_it(rt: HostRuntime) -> Result<(), Fail> {
 
 #[test]
 fn a_kill_waits_for_collections(rt: HostRuntime) -> Result<(), Fail> {
-    let mut host = Host::read(rt.alloc(), BELOW, NODE, 100, 2000)?;
+    let mut host = Host::read(rt.alloc(), BELOW, NODE, 100, rooms(2000))?;
     let end = wait(&rt, &mut host);
     let_go(host);
     end
@@ -175,7 +175,7 @@ fn a_kill_waits_for_collections(rt: HostRuntime) -> Result<(), Fail> {
 
 #[test]
 fn a_kill_has_room_for_all_or_changes_nothing(rt: HostRuntime) -> Result<(), Fail> {
-    let mut host = Host::read(rt.alloc(), BELOW, NODE, 100, 3)?;
+    let mut host = Host::read(rt.alloc(), BELOW, NODE, 100, rooms(3))?;
     let end = fill(&rt, &mut host);
     let_go(host);
     end

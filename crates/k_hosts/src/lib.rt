@@ -7,6 +7,8 @@
 #[cfg(test)]
 mod barrier;
 #[cfg(test)]
+mod bounds;
+#[cfg(test)]
 mod collections;
 #[cfg(test)]
 mod driving;

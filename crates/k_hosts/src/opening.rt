@@ -1,5 +1,5 @@
 //! Which hosts are not made.
-use crate::usual::{NODE, USUAL};
+use crate::usual::{NODE, USUAL, rooms};
 use k_host::{Host, OpenError};
 use k_types::TypeId;
 use std::test::Fail;
@@ -11,11 +11,14 @@ const BAD: &[u8] = b"kaffe 1\nkernel 200 2\nlimit root 1000\nproc p1 a\n";
 #[test]
 fn unfit_hosts_are_not_made(rt: HostRuntime) -> Result<(), Fail> {
     let bad = Some(OpenError::Bad { line: 4, reason: 8 });
-    assert_eq!(rt; Host::read(rt.alloc(), BAD, NODE, 1, 1).err(), bad);
+    assert_eq!(rt; Host::read(rt.alloc(), BAD, NODE, 1, rooms(1)).err(), bad);
     let unfit = Some(OpenError::Terms);
-    assert_eq!(rt; Host::read(rt.alloc(), USUAL, TypeId(1), 1, 1).err(), unfit);
     assert_eq!(rt;
-        Host::read(rt.alloc(), USUAL, NODE, 1, 1 << 30).err(),
+        Host::read(rt.alloc(), USUAL, TypeId(1), 1, rooms(1)).err(),
+        unfit
+    );
+    assert_eq!(rt;
+        Host::read(rt.alloc(), USUAL, NODE, 1, rooms(1 << 30)).err(),
         unfit
     );
     Ok(())

@@ -2,7 +2,7 @@
 use crate::driving::{
     absorb, begin_heap, begin_kernel, exit, meet, operate, publish, settle_kernel,
 };
-use crate::usual::{NODE, P1, P2, S, USUAL, clear, let_go, new, share, usual};
+use crate::usual::{NODE, P1, P2, S, USUAL, clear, let_go, new, rooms, share, usual};
 use k_host::{Host, HostError};
 use k_types::{Op, Pid, Reg};
 use std::process::Abort;
@@ -69,7 +69,7 @@ fn run_out<R: Abort>(rt: &R, host: &mut Host) -> Result<(), Fail> {
 
 #[test]
 fn what_runs_out_is_told(rt: HostRuntime) -> Result<(), Fail> {
-    let mut host = Host::read(rt.alloc(), USUAL, NODE, 1, 3)?;
+    let mut host = Host::read(rt.alloc(), USUAL, NODE, 1, rooms(3))?;
     let end = run_out(&rt, &mut host);
     let_go(host);
     end

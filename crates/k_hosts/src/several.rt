@@ -1,6 +1,6 @@
 //! Objects of several types in one heap, with a supply of one of them.
 use crate::driving::{charge, operate};
-use crate::usual::{NODE, P1, P2, let_go, new};
+use crate::usual::{NODE, P1, P2, let_go, new, rooms};
 use k_host::{Host, HostError};
 use k_types::{Event, Op, Reg, Reply, TypeId};
 use std::process::Abort;
@@ -52,7 +52,7 @@ fn make_several<R: Abort>(rt: &R, host: &mut Host) -> Result<(), Fail> {
 
 #[test]
 fn objects_are_of_several_types(rt: HostRuntime) -> Result<(), Fail> {
-    let mut host = Host::read(rt.alloc(), SEVERAL, NODE, 1, 100)?;
+    let mut host = Host::read(rt.alloc(), SEVERAL, NODE, 1, rooms(100))?;
     let end = make_several(&rt, &mut host);
     let_go(host);
     end

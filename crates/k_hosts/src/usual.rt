@@ -1,5 +1,5 @@
 //! The setup with which hosts are tested, and operations on it.
-use k_host::{Host, OpenError};
+use k_host::{Host, OpenError, Rooms};
 use k_types::{Name, Op, Pid, Reg, Seg, Serial, SharedId, TypeId};
 use std::alloc::Global;
 
@@ -18,9 +18,22 @@ pub(crate) const S: SharedId = SharedId(0);
 /// The room for events of the usual host.
 pub(crate) const EVENTS: u32 = 2000;
 
+/// Room for so many events, which can all be read, and for all else that a test needs.
+pub(crate) fn rooms(events: u32) -> Rooms {
+    Rooms {
+        events,
+        kept: events,
+        tail: 2000,
+        objects: 2000,
+        exits: 2000,
+        kernel_exits: 100000,
+        entries: 100000,
+    }
+}
+
 /// A host of the usual setup.
 pub(crate) fn usual(alloc: Global) -> Result<Host, OpenError> {
-    Host::read(alloc, USUAL, NODE, 100, EVENTS)
+    Host::read(alloc, USUAL, NODE, 100, rooms(EVENTS))
 }
 
 /// Drops the host. A function that has a host drops all its parts wherever it can end; so tests only lend theirs, and end here.

@@ -1,7 +1,7 @@
 //! Whole collections, and what a process is charged between them.
 use crate::collections::ended;
 use crate::driving::{charge, collect, collect_kernel, exit, meet, operate};
-use crate::usual::{EVENTS, NODE, P1, P2, USUAL, let_go, name, new, usual};
+use crate::usual::{EVENTS, NODE, P1, P2, USUAL, let_go, name, new, rooms, usual};
 use k_host::{Freed, Host, HostError};
 use k_types::{Heap, Name};
 use std::process::Abort;
@@ -59,7 +59,7 @@ fn collect_without_room<R: Abort>(rt: &R, host: &mut Host, freed: &mut Freed) ->
 
 #[test]
 fn no_collection_stops_half_way(rt: HostRuntime) -> Result<(), Fail> {
-    let mut host = Host::read(rt.alloc(), USUAL, NODE, 100, 3)?;
+    let mut host = Host::read(rt.alloc(), USUAL, NODE, 100, rooms(3))?;
     let mut freed = Freed::make(rt.alloc(), EVENTS)?;
     let end = collect_without_room(&rt, &mut host, &mut freed);
     let_go(host);

@@ -14,7 +14,7 @@ use Rattle.k_cell.specs.Holdings.{HoldingsValue}
 use Rattle.k_shared.specs.SharedHeaps.{SharedRecord}
 use Rattle.k_guests.specs.declared.guest.Guest.{Guest}
 use Rattle.k_guests.specs.Serving.{Basis}
-use Rattle.k_host.specs.Doing.{IsKept as IsKeptInside, IsRecorded, LeavesOthers}
+use Rattle.k_host.specs.Doing.{IsKept as IsKeptInside, IsKeptAndPublished, IsRecorded, LeavesOthers}
 use Rattle.k_host.specs.Asked.{has_ended_of}
 use Rattle.k_host.specs.Calls.{HasAbsorbedIn, HasCollectedIn, HasCollectedKernelIn, HasExitedIn, HasKilledIn, HasOperatedAs, HasOperatedIn}
 use Rattle.k_host.specs.Hosts.{HostServes, HostValue}
@@ -69,7 +69,7 @@ module _ (h : HostValue) (left : ℕ) (kept : IsKept h left) where
         let sum = total_at owed_by h.guests pid g w at in
         let now : total owed_by n.guests ≡ total owed_by (slice_set h.guests pid w) = ap (total owed_by) guests in
         let before = kept.room in
-        let events : n.basis.events ≡ h.basis.events = ap (λ (b : Basis). b.events) basis in
+        let events : n.basis.rooms.events ≡ h.basis.rooms.events = ap (λ (b : Basis). b.rooms.events) basis in
         omega (arith, sum, now, before, events, spend);
   }
 
@@ -83,12 +83,12 @@ module _ (h : HostValue) (left : ℕ) (kept : IsKept h left) where
     room =
         let now : total owed_by n.guests ≡ total owed_by h.guests = ap (total owed_by) guests in
         let before = kept.room in
-        let events : n.basis.events ≡ h.basis.events = ap (λ (b : Basis). b.events) basis in
+        let events : n.basis.rooms.events ≡ h.basis.rooms.events = ap (λ (b : Basis). b.rooms.events) basis in
         omega (arith, now, before, events, spend);
   }
 
   -- there is room for what a process that lives has not published, for its end and for what is left
-  pub room_of : (pid : ℕ) (g : Guest) → slice_get h.guests pid ≡ Some g → IsFalse (has_ended_of g) → length h.book.journal.list + length g.cell.value.tail + 1 + left ≤ h.basis.events
+  pub room_of : (pid : ℕ) (g : Guest) → slice_get h.guests pid ≡ Some g → IsFalse (has_ended_of g) → length h.book.journal.list + length g.cell.value.tail + 1 + left ≤ h.basis.rooms.events
   room_of pid g at lives =
       let one = one_of owed_by h.guests pid g at in
       let owes = owed_alive g lives in
@@ -147,7 +147,8 @@ module _ (h : HostValue) (left : ℕ) (kept : IsKept h left) where
       lives : IsFalse (has_ended_of c.before)
       lives = same_guest pid c.before alive c.there
 
-      by_way : IsKeptInside h.basis op c.before c.after h.kernel n.kernel h.shared n.shared h.book n.book c.way.said ⊎ IsRecorded h.basis op c.before c.after h.kernel n.kernel h.shared n.shared h.book n.book event → IsKept n rest
+      by_way : IsKeptInside h.basis op c.before c.after h.kernel n.kernel h.shared n.shared h.book n.book c.way.said ⊎ IsKeptAndPublished h.basis op c.before c.after h.kernel n.kernel h.shared n.shared h.book n.book c.way.said
+          ⊎ IsRecorded h.basis op c.before c.after h.kernel n.kernel h.shared n.shared h.book n.book event → IsKept n rest
       by_way (inl inside) =
           kept_pair n pid.0 c.before c.after rest c.there (ap (λ (x : HostValue). x.guests) c.host_is) (ap (λ (x : HostValue). x.basis) c.host_is) serves
           (λ now. idle_inside h.basis op c.before c.after c.way.said inside.inside (kept.idle pid.0 c.before c.there lives)) (ap (λ (x : HoldingsValue). x.value.collection) inside.kernel_is ∙ kept.kernel_idle)
@@ -156,7 +157,16 @@ module _ (h : HostValue) (left : ℕ) (kept : IsKept h left) where
           let owes = owed_alive c.before lives in
           let low = owed_low c.after in
           omega (arith, list, grown, owes, low, all))
-      by_way (inr recorded) =
+      by_way (inr (inl published)) =
+          kept_pair n pid.0 c.before c.after rest c.there (ap (λ (x : HostValue). x.guests) c.host_is) (ap (λ (x : HostValue). x.basis) c.host_is) serves
+          (λ now. ap (λ (x : Guest). x.cell.value.collection) published.published.guest_is ∙ idle_inside h.basis op c.before published.mid c.way.said published.inside (kept.idle pid.0 c.before c.there lives))
+          (ap (λ (x : HoldingsValue). x.value.collection) published.kernel_is ∙ kept.kernel_idle)
+          (let whole : length n.book.journal.list ≡ length h.book.journal.list + length published.mid.cell.value.tail = ap length published.published.journal ∙ length-append h.book.journal.list published.mid.cell.value.tail in
+          let grown : length published.mid.cell.value.tail ≡ length c.before.cell.value.tail + 1 = ap (λ (x : Guest). length x.cell.value.tail) published.inside.guest_is ∙ length-append c.before.cell.value.tail (_ ∷ []) in
+          let owes = owed_alive c.before lives in
+          let low = owed_settled c.after (ap (λ (x : Guest). x.cell.value.tail) published.published.guest_is) in
+          omega (arith, whole, grown, owes, low, all))
+      by_way (inr (inr recorded)) =
           kept_pair n pid.0 c.before c.after rest c.there (ap (λ (x : HostValue). x.guests) c.host_is) (ap (λ (x : HostValue). x.basis) c.host_is) serves
           (λ now. recorded.idle) (others_idle _ n.kernel h.shared n.shared recorded.others)
           (let more = longer h.book.journal.list c.before.cell.value.tail n.book.journal.list event recorded.appended.journal in
@@ -183,7 +193,7 @@ module _ (h : HostValue) (left : ℕ) (kept : IsKept h left) where
         let none = owed_ended c.target_after c.way.target_settled c.way.ended in
         let least = owed_least c.target_before in
         let before = kept.room in
-        let events : n.basis.events ≡ h.basis.events = ap (λ (y : HostValue). y.basis.events) c.host_is in
+        let events : n.basis.rooms.events ≡ h.basis.rooms.events = ap (λ (y : HostValue). y.basis.rooms.events) c.host_is in
         omega (arith, first, second, now, more, both, owes, low, none, least, before, events, all);
   }
 

@@ -3,4 +3,5 @@ pub mod Insides
 pub mod Kept
 pub mod Refused
 pub mod Absorbed
+pub mod Counted
 pub mod Opened

@@ -1,5 +1,5 @@
 -- A keeper is opened over a host in which nothing has happened.
-use Rattle.std.proofs.Common.{◌≡◌, ◌≤◌, ◌+◌, ◌-◌, ◌↔◌, ℕ, Bool, false, refl, ap, List, length, arith, IsTrue}
+use Rattle.std.proofs.Common.{◌≡◌, ◌≤◌, ◌+◌, ◌-◌, ◌*◌, ◌^◌, ◌↔◌, ℕ, Bool, true, false, cond, nat_lt, refl, subst, sym, ap, List, length, arith, IsTrue}
 use Rattle.k_types.specs.declared.names.Name.{Name}
 use Rattle.k_types.specs.declared.names.TypeId.{TypeId}
 use Rattle.k_words.specs.Words.{Text}
@@ -7,14 +7,18 @@ use Rattle.k_guests.specs.Serving.{Basis}
 use Rattle.k_host.specs.declared.errors.OpenError.TheVariants.{Terms}
 use Rattle.k_host.specs.Hosts.{HostValue, IsFresh}
 use Rattle.k_host.specs.Opening.{HasRead}
-use Rattle.k_keeper.specs.Keeping.{IsKept, needed_to_operate, owed_by}
+use Rattle.k_guests.specs.declared.rooms.Rooms.{Rooms}
+use Rattle.k_guests.specs.Enough.{lesser}
+use Rattle.k_guests.specs.Objects.{objects_after}
+use Rattle.k_types.specs.Trace.{process_count, segment_count}
+use Rattle.k_keeper.specs.Keeping.{IsKept, most_objects, needed_to_operate, objects_in, owed_by}
 use Rattle.k_keeper.specs.Kept.{HasFewEvents, HasOpened}
 use Rattle.k_keeper.proofs.Kept.{owed_settled}
 use Rattle.k_keeper.proofs.Refused.{keeper_of}
 use Rattle.k_keeper.proofs.Sums.{total_low}
 use Rattle.std.proofs.lemmas.Bool.{iff_false}
 
-fresh_kept : (basis : Basis) (bodies : ℕ) (h : HostValue) (left : ℕ) → IsFresh basis bodies h → left + length h.guests ≤ basis.events → IsKept h left
+fresh_kept : (basis : Basis) (bodies : ℕ) (h : HostValue) (left : ℕ) → IsFresh basis bodies h → left + length h.guests ≤ basis.rooms.events → IsKept h left
 fresh_kept basis bodies h left f enough = record {
   serves = f.serves;
   idle = λ k g at lives. (f.guests k g at).idle;
@@ -22,22 +26,47 @@ fresh_kept basis bodies h left f enough = record {
   room =
       let low = total_low owed_by h.guests (λ k g at. owed_settled g (f.guests k g at).settled) in
       let none : length h.book.journal.list ≡ 0 = ap length f.journal in
-      let events = ap (λ (b : Basis). b.events) f.basis_is in
+      let events = ap (λ (b : Basis). b.rooms.events) f.basis_is in
       omega (arith, low, none, events, enough);
 }
 
-module _ (text : Text) (ty : TypeId) (bodies events : ℕ) (h : HostValue) (read : HasRead text ty bodies events h) where
-  pub opened_room : h.basis.events ≤ events
-  opened_room = let same = ap (λ (b : Basis). b.events) read.fresh.basis_is in omega (arith, same)
+-- a host has a segment at least
+some_room : (segments objects : ℕ) → 1 ≤ objects → 1 ≤ (segments + 1) * objects
+some_room segments objects some = let spread : (segments + 1) * objects ≡ segments * objects + objects = omega arith in omega (arith, spread, some)
 
-  module _ (fits : needed_to_operate h + length h.guests ≤ events) (count : ℕ) (counted : count ≡ length h.guests) where
-    pub read_kept : IsKept h (events - count)
-    read_kept = fresh_kept _ bodies h (events - count) read.fresh (omega (arith, fits, counted))
+one_first : (a b : ℕ) → a + b + 1 ≡ 1 + a + b
+one_first a b = omega arith
 
-    pub opened : (freed : List Name) → HasOpened text ty bodies events (keeper_of h (events - count) freed)
-    opened freed = record { read = read; all = omega (arith, fits, counted); enough = omega (arith, fits, counted) }
+lesser_some : (a b : ℕ) → 1 ≤ a → 1 ≤ b → 1 ≤ lesser a b
+lesser_some a b some more = elim (nat_lt a b) as (λ t. 1 ≤ cond t a b) [
+  | true ↦ some
+  | false ↦ more
+]
 
-  pub few_events : (test : Bool) → (IsTrue test ↔ (needed_to_operate h + length h.guests ≤ events)) → test ≡ false → HasFewEvents text ty bodies events Terms
+module _ (text : Text) (ty : TypeId) (bodies : ℕ) (rooms : Rooms) (h : HostValue) (read : HasRead text ty bodies rooms h) where
+  pub same_objects : rooms.objects ≡ h.basis.rooms.objects
+  same_objects = sym (ap (λ (b : Basis). b.rooms.objects) read.fresh.basis_is)
+
+  -- there is the directory
+  pub first_objects : objects_in h ≡ 1
+  first_objects = ap (objects_after h.basis.trace) read.fresh.journal
+
+  pub first_listed : (most : ℕ) → most ≡ most_objects h → 1 ≤ most
+  first_listed most is =
+      let some = read.fit.enough.objects in
+      let least = lesser_some (segment_count h.basis.trace * h.basis.rooms.objects) (2 ^ 32 - 1)
+      (subst (λ n. 1 ≤ n * h.basis.rooms.objects) (one_first (process_count h.basis.trace) h.basis.trace.shared_heaps)
+      (some_room (process_count h.basis.trace + h.basis.trace.shared_heaps) h.basis.rooms.objects (omega (arith, some, same_objects)))) (omega arith) in
+      omega (arith, is, least)
+
+  module _ (fits : needed_to_operate h + length h.guests ≤ rooms.events) (count : ℕ) (counted : count ≡ length h.guests) where
+    pub read_kept : IsKept h (rooms.events - count)
+    read_kept = fresh_kept _ bodies h (rooms.events - count) read.fresh (omega (arith, fits, counted))
+
+    pub opened : (freed : List Name) (objects : ℕ) → HasOpened text ty bodies rooms (keeper_of h (rooms.events - count) freed objects 0)
+    opened freed objects = record { read = read; all = omega (arith, fits, counted); enough = omega (arith, fits, counted); untaken = refl }
+
+  pub few_events : (test : Bool) → (IsTrue test ↔ (needed_to_operate h + length h.guests ≤ rooms.events)) → test ≡ false → HasFewEvents text ty bodies rooms Terms
   few_events test decides fails = record {
     error_is = refl;
     host = h;

@@ -1,5 +1,5 @@
 -- Why a call of a keeper is refused, and that nothing else refuses it.
-use Rattle.std.proofs.Common.{◌≡◌, ◌≤◌, ◌+◌, ℕ, refl, sym, ap, ◌∙◌, subst, Bool, false, true, List, Option, Some, None, option_map, slice_get, IsFalse, inl, inr, arith, Result, Ok, Err, IfErr, OnErr, OnOk, ◌⊎◌}
+use Rattle.std.proofs.Common.{◌≡◌, ◌≤◌, ◌<◌, ◌+◌, ℕ, refl, sym, ap, ◌∙◌, subst, Bool, false, true, List, Option, Some, None, option_map, slice_get, IsFalse, IsTrue, inl, inr, arith, Result, Ok, Err, IfErr, OnErr, OnOk, ◌⊎◌}
 use Rattle.std.proofs.lemmas.Bool.{false≢true}
 use Rattle.std.specs.Prelude.{IfOk, MatchOption}
 use Rattle.k_types.specs.declared.event.Event.{Event}
@@ -7,10 +7,10 @@ use Rattle.k_types.specs.declared.names.Name.{Name}
 use Rattle.k_types.specs.declared.names.Pid.{Pid}
 use Rattle.k_types.specs.declared.names.SharedId.{SharedId}
 use Rattle.k_types.specs.declared.op.Op.{Op}
+use Rattle.k_bounds.specs.Counts.{is_allocation}
 use Rattle.k_guests.specs.declared.guest.Guest.{Guest}
-use Rattle.k_guests.specs.Serving.{Basis}
 use Rattle.k_host.specs.HostError.{HostError}
-use Rattle.k_host.specs.HostError.TheVariants.{Ended, Reserved, Unknown}
+use Rattle.k_host.specs.HostError.TheVariants.{Ended, Objects, Reserved, Unknown}
 use Rattle.k_host.specs.CallsRefusals.{Lacks}
 use Rattle.k_host.specs.EndsRefusals.{CanNotExit}
 use Rattle.k_host.specs.Whole.{CanNotCollect, CanNotCollectKernel}
@@ -19,7 +19,7 @@ use Rattle.k_host.specs.Asked.{has_ended_of}
 use Rattle.k_host.specs.Calls.{HasAbsorbedIn, HasCollectedIn, HasCollectedKernelIn, HasExitedIn, HasOperatedIn}
 use Rattle.k_host.specs.Hosts.{HostServes, HostValue}
 use Rattle.k_host.specs.Refusals.{CanNotOperateIn, MayRefuse, MayRefuseAbsorption}
-use Rattle.k_keeper.specs.Keeping.{IsKept, KeeperValue, left_after, needed_by_the_kernel, needed_to_absorb, needed_to_collect, needed_to_operate}
+use Rattle.k_keeper.specs.Keeping.{IsKept, KeeperValue, left_after, most_objects, objects_then, needed_by_the_kernel, needed_to_absorb, needed_to_collect, needed_to_operate}
 use Rattle.k_keeper.specs.Kept.{HasCollectedAll, HasNoOrphan, HaveAbsorbed, IsAlive, IsGone, MayRefuseCollection, MayRefuseKernel, MayRefuseOperation, MayRefuseToAbsorb}
 use Rattle.k_keeper.proofs.Kept.{kept_collected, kept_exited, kept_kernel, kept_operated, room_of}
 
@@ -54,8 +54,8 @@ pub gone_operates : (h : HostValue) (pid : Pid) (op : Op) (why : HostError) → 
 gone_operates h pid op why gone = gone_by h op (slice_get h.guests pid.0) why gone
 
 -- a keeper of these
-abbrev pub keeper_of : HostValue → ℕ → List Name → KeeperValue
-keeper_of h left freed = record { host = h; left = left; freed = freed }
+abbrev pub keeper_of : HostValue → ℕ → List Name → ℕ → ℕ → KeeperValue
+keeper_of h left freed objects taken = record { host = h; left = left; freed = freed; objects = objects; taken = taken }
 
 -- what a call takes
 pub takes : (left cost rest : ℕ) (r : Result Event HostError) → cost ≤ left → rest ≡ left_after left cost r → OnOk r (left ≡ rest + cost)
@@ -74,45 +74,49 @@ pub still : (freed : List Name) (r : Result Event HostError) → OnErr r (freed 
 still freed (Ok event) = tt
 still freed (Err why) = refl
 
-pub unchanged : (h n : HostValue) (left cost rest : ℕ) (freed names : List Name) (r : Result Event HostError) → rest ≡ left_after left cost r → OnErr r (n ≡ h) → OnErr r (names ≡ freed) → OnErr r (keeper_of n rest names ≡ keeper_of h left freed)
-unchanged h n left cost rest freed names (Ok event) is same kept = tt
-unchanged h n left cost rest freed names (Err why) is same kept = ap (λ x. keeper_of x rest names) same ∙ ap (λ k. keeper_of h k names) is ∙ ap (keeper_of h left) kept
+pub unchanged : (h n : HostValue) (left cost rest : ℕ) (freed names : List Name) (objects count taken : ℕ) (r : Result Event HostError) → rest ≡ left_after left cost r → count ≡ objects_then objects r → OnErr r (n ≡ h) → OnErr r (names ≡ freed) →
+    OnErr r (keeper_of n rest names count taken ≡ keeper_of h left freed objects taken)
+unchanged h n left cost rest freed names objects count taken (Ok event) is count_is same kept = tt
+unchanged h n left cost rest freed names objects count taken (Err why) is count_is same kept =
+    ap (λ x. keeper_of x rest names count taken) same ∙ ap (λ k. keeper_of h k names count taken) is ∙ ap (λ f. keeper_of h left f count taken) kept ∙ ap (λ c. keeper_of h left freed c taken) count_is
 
-pub unchanged_left : (h n : HostValue) (left : ℕ) (freed : List Name) (r : Result Event HostError) → OnErr r (n ≡ h) → OnErr r (keeper_of n left freed ≡ keeper_of h left freed)
-unchanged_left h n left freed (Ok event) same = tt
-unchanged_left h n left freed (Err why) same = ap (λ x. keeper_of x left freed) same
+pub unchanged_rest : (h n : HostValue) (left cost rest : ℕ) (freed : List Name) (objects taken : ℕ) (r : Result Event HostError) → rest ≡ left_after left cost r → OnErr r (n ≡ h) →
+    OnErr r (keeper_of n rest freed objects taken ≡ keeper_of h left freed objects taken)
+unchanged_rest h n left cost rest freed objects taken (Ok event) is same = tt
+unchanged_rest h n left cost rest freed objects taken (Err why) is same = ap (λ x. keeper_of x rest freed objects taken) same ∙ ap (λ k. keeper_of h k freed objects taken) is
+
+pub unchanged_left : (h n : HostValue) (left : ℕ) (freed : List Name) (objects taken : ℕ) (r : Result Event HostError) → OnErr r (n ≡ h) → OnErr r (keeper_of n left freed objects taken ≡ keeper_of h left freed objects taken)
+unchanged_left h n left freed objects taken (Ok event) same = tt
+unchanged_left h n left freed objects taken (Err why) same = ap (λ x. keeper_of x left freed objects taken) same
 
 pub names_kept : (old new : FreedNames) (r : Result Event HostError) → OnErr r (new ≡ old) → OnErr r (new.names ≡ old.names)
 names_kept old new (Ok event) same = tt
 names_kept old new (Err why) same = ap (λ (f : FreedNames). f.names) same
 
--- a host has room for as many events as before
+-- what the parts of a host have in common stays
 basis_by : (h n : HostValue) (Way : Event → Type 0) (r : Result Event HostError) → ((event : Event) → Way event → n.basis ≡ h.basis) → IfOk r Way → OnErr r (n ≡ h) → n.basis ≡ h.basis
 basis_by h n Way (Ok event) by done same = by event done
 basis_by h n Way (Err why) by done same = ap (λ (x : HostValue). x.basis) same
 
-operated_basis : (h n : HostValue) (pid : Pid) (op : Op) (event : Event) → HasOperatedIn h n pid op event → n.basis ≡ h.basis
+pub operated_basis : (h n : HostValue) (pid : Pid) (op : Op) (event : Event) → HasOperatedIn h n pid op event → n.basis ≡ h.basis
 operated_basis h n pid op event (inl c) = ap (λ (x : HostValue). x.basis) c.host_is
 operated_basis h n pid op event (inr c) = ap (λ (x : HostValue). x.basis) c.host_is
 
-module _ (h n : HostValue) (room : ℕ) (fits : h.basis.events ≤ room) (r : Result Event HostError) (same : OnErr r (n ≡ h)) where
-  room_by : n.basis ≡ h.basis → n.basis.events ≤ room
-  room_by is = subst (λ (b : Basis). b.events ≤ room) (sym is) fits
+module _ (h n : HostValue) (r : Result Event HostError) (same : OnErr r (n ≡ h)) where
+  pub operate_basis : (pid : Pid) (op : Op) → IfOk r (λ event. HasOperatedIn h n pid op event) → n.basis ≡ h.basis
+  operate_basis pid op done = basis_by h n (λ event. HasOperatedIn h n pid op event) r (operated_basis h n pid op) done same
 
-  pub operate_room : (pid : Pid) (op : Op) → IfOk r (λ event. HasOperatedIn h n pid op event) → n.basis.events ≤ room
-  operate_room pid op done = room_by (basis_by h n (λ event. HasOperatedIn h n pid op event) r (operated_basis h n pid op) done same)
+  pub collect_basis : (pid : Pid) → IfOk r (λ event. HasCollectedIn h n pid event) → n.basis ≡ h.basis
+  collect_basis pid done = basis_by h n (λ event. HasCollectedIn h n pid event) r (λ event c. ap (λ (x : HostValue). x.basis) c.host_is) done same
 
-  pub collect_room : (pid : Pid) → IfOk r (λ event. HasCollectedIn h n pid event) → n.basis.events ≤ room
-  collect_room pid done = room_by (basis_by h n (λ event. HasCollectedIn h n pid event) r (λ event c. ap (λ (x : HostValue). x.basis) c.host_is) done same)
+  pub kernel_basis : (pid : Pid) → IfOk r (λ event. HasCollectedKernelIn h n pid event) → n.basis ≡ h.basis
+  kernel_basis pid done = basis_by h n (λ event. HasCollectedKernelIn h n pid event) r (λ event c. ap (λ (x : HostValue). x.basis) c.host_is) done same
 
-  pub kernel_room : (pid : Pid) → IfOk r (λ event. HasCollectedKernelIn h n pid event) → n.basis.events ≤ room
-  kernel_room pid done = room_by (basis_by h n (λ event. HasCollectedKernelIn h n pid event) r (λ event c. ap (λ (x : HostValue). x.basis) c.host_is) done same)
+  pub exit_basis : (pid : Pid) → IfOk r (λ event. HasExitedIn h n pid event) → n.basis ≡ h.basis
+  exit_basis pid done = basis_by h n (λ event. HasExitedIn h n pid event) r (λ event c. ap (λ (x : HostValue). x.basis) c.host_is) done same
 
-  pub exit_room : (pid : Pid) → IfOk r (λ event. HasExitedIn h n pid event) → n.basis.events ≤ room
-  exit_room pid done = room_by (basis_by h n (λ event. HasExitedIn h n pid event) r (λ event c. ap (λ (x : HostValue). x.basis) c.host_is) done same)
-
-  pub absorb_room : (id : SharedId) → IfOk r (λ event. HasAbsorbedIn h n id event) → n.basis.events ≤ room
-  absorb_room id done = room_by (basis_by h n (λ event. HasAbsorbedIn h n id event) r (λ event c. ap (λ (x : HostValue). x.basis) c.host_is) done same)
+  pub absorb_basis : (id : SharedId) → IfOk r (λ event. HasAbsorbedIn h n id event) → n.basis ≡ h.basis
+  absorb_basis id done = basis_by h n (λ event. HasAbsorbedIn h n id event) r (λ event c. ap (λ (x : HostValue). x.basis) c.host_is) done same
 
 module _ (h : HostValue) (left : ℕ) (kept : IsKept h left) where
   pub same_kept : (n : HostValue) (rest : ℕ) → n ≡ h → rest ≡ left → IsKept n rest
@@ -183,36 +187,40 @@ alive_still h n pid same alive = record { guest = alive.guest; there = ap (λ gs
 fewer : (left asked needed : ℕ) (why : HostError) → asked ≡ needed → Lacks Reserved (asked ≤ left) why → Lacks Reserved (needed ≤ left) why
 fewer left asked needed why is lacks = record { error_is = lacks.error_is; fails = λ enough. lacks.fails (omega (arith, is, enough)) }
 
-module _ (h : HostValue) (left : ℕ) (freed : List Name) where
-  pub operation_unready : (pid : Pid) (op : Op) (asked : ℕ) → asked ≡ needed_to_operate h → (why : HostError) → IsGone h pid why ⊎ Lacks Reserved (asked ≤ left) why → MayRefuseOperation (keeper_of h left freed) pid op why
+module _ (h : HostValue) (left : ℕ) (freed : List Name) (objects taken : ℕ) where
+  pub operation_unready : (pid : Pid) (op : Op) (asked : ℕ) → asked ≡ needed_to_operate h → (why : HostError) → IsGone h pid why ⊎ Lacks Reserved (asked ≤ left) why → MayRefuseOperation (keeper_of h left freed objects taken) pid op why
   operation_unready pid op asked is why (inl gone) = inl (gone_operates h pid op why gone)
-  operation_unready pid op asked is why (inr lacks) = inr (fewer left asked (needed_to_operate h) why is lacks)
+  operation_unready pid op asked is why (inr lacks) = inr (inl (fewer left asked (needed_to_operate h) why is lacks))
 
-  pub operation_refused : (pid : Pid) (op : Op) (r : Result Event HostError) → IfErr r (λ why. MayRefuse h pid (CanNotOperateIn h op) why) → IfErr r (λ why. MayRefuseOperation (keeper_of h left freed) pid op why)
+  pub operation_full : (pid : Pid) (op : Op) (most : ℕ) → most ≡ most_objects h → (why : HostError) → Lacks Objects (IsTrue (is_allocation op) → objects < most) why → MayRefuseOperation (keeper_of h left freed objects taken) pid op why
+  operation_full pid op most is why lacks =
+      inr (inr (record { error_is = lacks.error_is; fails = λ room. lacks.fails (λ asks. let left = room asks in omega (arith, left, is)) }))
+
+  pub operation_refused : (pid : Pid) (op : Op) (r : Result Event HostError) → IfErr r (λ why. MayRefuse h pid (CanNotOperateIn h op) why) → IfErr r (λ why. MayRefuseOperation (keeper_of h left freed objects taken) pid op why)
   operation_refused pid op (Ok event) why = tt
   operation_refused pid op (Err error) why = inl why
 
-  pub collection_unready : (pid : Pid) (asked : ℕ) → asked ≡ needed_to_collect h → (why : HostError) → IsGone h pid why ⊎ Lacks Reserved (asked ≤ left) why → MayRefuseCollection (keeper_of h left freed) pid why
+  pub collection_unready : (pid : Pid) (asked : ℕ) → asked ≡ needed_to_collect h → (why : HostError) → IsGone h pid why ⊎ Lacks Reserved (asked ≤ left) why → MayRefuseCollection (keeper_of h left freed objects taken) pid why
   collection_unready pid asked is why (inl gone) = inl gone
   collection_unready pid asked is why (inr lacks) = inr (fewer left asked (needed_to_collect h) why is lacks)
 
-  pub kernel_unready : (pid : Pid) (asked : ℕ) → asked ≡ needed_by_the_kernel h → (why : HostError) → IsGone h pid why ⊎ Lacks Reserved (asked ≤ left) why → MayRefuseKernel (keeper_of h left freed) pid why
+  pub kernel_unready : (pid : Pid) (asked : ℕ) → asked ≡ needed_by_the_kernel h → (why : HostError) → IsGone h pid why ⊎ Lacks Reserved (asked ≤ left) why → MayRefuseKernel (keeper_of h left freed objects taken) pid why
   kernel_unready pid asked is why (inl gone) = inl gone
   kernel_unready pid asked is why (inr lacks) = inr (fewer left asked (needed_by_the_kernel h) why is lacks)
 
-  pub absorption_unready : (id : SharedId) (asked : ℕ) → asked ≡ needed_to_absorb h → (why : HostError) → Lacks Reserved (asked ≤ left) why → MayRefuseToAbsorb (keeper_of h left freed) id why
+  pub absorption_unready : (id : SharedId) (asked : ℕ) → asked ≡ needed_to_absorb h → (why : HostError) → Lacks Reserved (asked ≤ left) why → MayRefuseToAbsorb (keeper_of h left freed objects taken) id why
   absorption_unready id asked is why lacks = inr (fewer left asked (needed_to_absorb h) why is lacks)
 
-  pub absorption_refused : (id : SharedId) (r : Result Event HostError) → IfErr r (λ why. MayRefuseAbsorption h id why) → IfErr r (λ why. MayRefuseToAbsorb (keeper_of h left freed) id why)
+  pub absorption_refused : (id : SharedId) (r : Result Event HostError) → IfErr r (λ why. MayRefuseAbsorption h id why) → IfErr r (λ why. MayRefuseToAbsorb (keeper_of h left freed objects taken) id why)
   absorption_refused id (Ok event) why = tt
   absorption_refused id (Err error) why = inl why
 
 -- a whole collection of the kernel's heap, behind the absorptions
-pub collected_all : (h m n : HostValue) (left between rest : ℕ) (freed names : List Name) (pid : Pid) (r : Result Event HostError) → HaveAbsorbed h m left between → HasNoOrphan m → 2 ≤ between → rest ≡ left_after between 2 r →
-    IfOk r (λ event. HasCollectedKernelIn m n pid event) → IfOk r (λ event. HasCollectedAll (keeper_of h left freed) (keeper_of n rest names) pid event)
-collected_all h m n left between rest freed names pid (Ok event) absorbed none two is done =
-    record { between = keeper_of m between freed; absorbed = absorbed; none_left = none; collected = done; spends = omega (arith, two, is) }
-collected_all h m n left between rest freed names pid (Err why) absorbed none two is done = tt
+pub collected_all : (h m n : HostValue) (left between rest : ℕ) (freed names : List Name) (objects count taken : ℕ) (pid : Pid) (r : Result Event HostError) → HaveAbsorbed h m left between → HasNoOrphan m → 2 ≤ between → rest ≡ left_after between 2 r →
+    IfOk r (λ event. HasCollectedKernelIn m n pid event) → IfOk r (λ event. HasCollectedAll (keeper_of h left freed objects taken) (keeper_of n rest names count taken) pid event)
+collected_all h m n left between rest freed names objects count taken pid (Ok event) absorbed none two is done =
+    record { between = keeper_of m between freed objects taken; absorbed = absorbed; none_left = none; collected = done; spends = omega (arith, two, is) }
+collected_all h m n left between rest freed names objects count taken pid (Err why) absorbed none two is done = tt
 
 -- two things that are told by two calls
 pub both_on : {T E : Type 0} (P Q : Type 0) (r : Result T E) → P → OnOk r Q → OnOk r (P × Q)

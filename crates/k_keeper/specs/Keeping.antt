@@ -1,9 +1,12 @@
 -- What a keeper keeps of its host: room in the journal for the ends of all processes, and no collection open.
-use Rattle.std.specs.Prelude.{◌≡◌, ℕ, ◌+◌, ◌-◌, ◌*◌, ◌≤◌, Result, Ok, Err, IsFalse, List, Some, if◌then◌else◌, length, slice_get}
+use Rattle.std.specs.Prelude.{◌≡◌, ℕ, ◌+◌, ◌-◌, ◌*◌, ◌<◌, ◌≤◌, ◌^◌, Result, Ok, Err, IsFalse, List, Some, if◌then◌else◌, length, slice_get}
 use Rattle.k_types.specs.declared.names.CellPhase.TheVariants.{Idle}
 use Rattle.k_types.specs.declared.event.Event.{Event}
 use Rattle.k_types.specs.declared.names.Name.{Name}
 use Rattle.k_types.specs.Totals.{total}
+use Rattle.k_types.specs.Trace.{segment_count}
+use Rattle.k_guests.specs.Enough.{greater, lesser}
+use Rattle.k_guests.specs.Objects.{gone_by, made_by, objects_after}
 use Rattle.k_guests.specs.declared.guest.Guest.{Guest}
 use Rattle.k_host.specs.HostError.{HostError}
 use Rattle.k_host.specs.Asked.{has_ended_of}
@@ -29,14 +32,28 @@ pub record IsKept (h : HostValue) (left : ℕ) : Type 0 where
   pub serves : HostServes h
   pub idle : AreIdle h
   pub kernel_idle : h.kernel.value.collection ≡ Idle
-  pub room : spent h + left ≤ h.basis.events
+  pub room : spent h + left ≤ h.basis.rooms.events
 
--- a keeper: its host, how many events are left beside those that are kept for the ends of processes, and the names of the objects that the
--- last collection freed
+-- how many objects the machine has after the journal
+abbrev pub objects_in : HostValue → ℕ
+objects_in h = objects_after h.basis.trace h.book.journal.list
+
+-- how many objects a host can have at once: so many in each segment, as far as they can be counted
+abbrev pub most_objects : HostValue → ℕ
+most_objects h = lesser (segment_count h.basis.trace * h.basis.rooms.objects) (2 ^ 32 - 1)
+
+-- a keeper: its host, how many events are left beside those that are kept for the ends of processes, the names of the objects that the
+-- last collection freed, how many objects there are, and how many of the first events were taken out or passed over
 pub record KeeperValue : Type 0 where
   pub host : HostValue
   pub left : ℕ
   pub freed : List Name
+  pub objects : ℕ
+  pub taken : ℕ
+
+-- the number of the first event that was neither taken out nor passed over, and is still among those that are kept
+abbrev pub next_event : KeeperValue → ℕ
+next_event k = greater k.taken (length k.host.book.journal.list - k.host.basis.rooms.kept)
 
 -- how many events a collection of the kernel's heap asks for: its beginning and end, and an absorption of each shared heap
 abbrev pub needed_by_the_kernel : HostValue → ℕ
@@ -53,6 +70,16 @@ needed_to_operate h = needed_by_the_kernel h + 2 * length h.guests + 1
 -- how many an absorption asks for: its own, and those of one collection of the kernel's heap
 abbrev pub needed_to_absorb : HostValue → ℕ
 needed_to_absorb h = needed_by_the_kernel h + 1
+
+-- how many objects there are once a call has answered
+abbrev pub objects_then : ℕ → Result Event HostError → ℕ
+objects_then objects (Ok event) = (objects - gone_by event) + made_by event
+objects_then objects (Err why) = objects
+
+-- there are objects for those that go, and those that come can be counted
+abbrev pub CanCount : ℕ → Result Event HostError → Type 0
+CanCount objects (Ok event) = (gone_by event ≤ objects) × (objects + made_by event < 2 ^ 32)
+CanCount objects (Err why) = Unit {0}
 
 -- how many events are left by a call that takes so many where it is done
 abbrev pub left_after : ℕ → ℕ → Result Event HostError → ℕ

@@ -1,5 +1,5 @@
 -- What the calls on a keeper leave, and when they are refused.
-use Rattle.std.specs.Prelude.{◌≡◌, ◌⊎◌, ℕ, ◌+◌, ◌≤◌, ◌++◌, IsFalse, List, None, Some, length, map, slice_get}
+use Rattle.std.specs.Prelude.{◌≡◌, ◌⊎◌, ℕ, ◌+◌, ◌<◌, ◌≤◌, ◌++◌, IsFalse, IsTrue, List, None, Some, length, map, slice_get}
 use Rattle.k_types.specs.declared.event.Event.{Event}
 use Rattle.k_types.specs.declared.event.Event.TheVariants.{Absorbed}
 use Rattle.k_types.specs.declared.names.Pid.{Pid}
@@ -8,9 +8,11 @@ use Rattle.k_types.specs.declared.names.TypeId.{TypeId}
 use Rattle.k_types.specs.declared.op.Op.{Op}
 use Rattle.k_shares.specs.Sharers.{lowest_orphan}
 use Rattle.k_words.specs.Words.{Text}
+use Rattle.k_bounds.specs.Counts.{is_allocation}
 use Rattle.k_guests.specs.declared.guest.Guest.{Guest}
+use Rattle.k_guests.specs.declared.rooms.Rooms.{Rooms}
 use Rattle.k_host.specs.HostError.{HostError}
-use Rattle.k_host.specs.HostError.TheVariants.{Ended, Reserved}
+use Rattle.k_host.specs.HostError.TheVariants.{Ended, Objects, Reserved}
 use Rattle.k_host.specs.CallsRefusals.{Lacks}
 use Rattle.k_host.specs.declared.errors.OpenError.{OpenError}
 use Rattle.k_host.specs.declared.errors.OpenError.TheVariants.{Terms}
@@ -19,7 +21,7 @@ use Rattle.k_host.specs.Calls.{HasCollectedKernelIn}
 use Rattle.k_host.specs.Hosts.{HostValue}
 use Rattle.k_host.specs.Opening.{HasRead, IsNotRead}
 use Rattle.k_host.specs.Refusals.{CanNotOperateIn, MayRefuse, MayRefuseAbsorption}
-use Rattle.k_keeper.specs.Keeping.{KeeperValue, needed_by_the_kernel, needed_to_absorb, needed_to_collect, needed_to_operate}
+use Rattle.k_keeper.specs.Keeping.{KeeperValue, most_objects, needed_by_the_kernel, needed_to_absorb, needed_to_collect, needed_to_operate, next_event}
 
 -- the process of that number is one of the host's, and lives
 pub record IsAlive (h : HostValue) (pid : Pid) : Type 0 where
@@ -35,9 +37,16 @@ IsGone h pid why = MayRefuse h pid (λ g. Lacks Ended (IsFalse (has_ended_of g))
 abbrev pub IsReserved : KeeperValue → ℕ → HostError → Type 0
 IsReserved k needed why = Lacks Reserved (needed ≤ k.left) why
 
--- an operation is refused: for the host's reasons, or since no more is left than the reserve
+-- there can be one object more, where the operation makes one
+abbrev pub HasObjectLeft : KeeperValue → Op → Type 0
+HasObjectLeft k op = IsTrue (is_allocation op) → k.objects < most_objects k.host
+
+-- an operation is refused: for the host's reasons, since no more is left than the reserve, or since the host can have no object more
 abbrev pub MayRefuseOperation : KeeperValue → Pid → Op → HostError → Type 0
-MayRefuseOperation k pid op why = MayRefuse k.host pid (CanNotOperateIn k.host op) why ⊎ IsReserved k (needed_to_operate k.host) why
+MayRefuseOperation k pid op why =
+    MayRefuse k.host pid (CanNotOperateIn k.host op) why
+    ⊎ IsReserved k (needed_to_operate k.host) why
+    ⊎ Lacks Objects (HasObjectLeft k op) why
 
 -- a collection of a process's heap is refused
 abbrev pub MayRefuseCollection : KeeperValue → Pid → HostError → Type 0
@@ -73,18 +82,30 @@ pub record HasCollectedAll (old new : KeeperValue) (pid : Pid) (event : Event) :
   pub spends : between.left ≡ new.left + 2
 
 -- a host of what the bytes declare, in which nothing has happened; what is left is all but one event for each process
-pub record HasOpened (bytes : Text) (ty : TypeId) (bodies events : ℕ) (k : KeeperValue) : Type 0 where
-  pub read : HasRead bytes ty bodies events k.host
-  pub all : k.left + length k.host.guests ≡ events
+pub record HasOpened (bytes : Text) (ty : TypeId) (bodies : ℕ) (rooms : Rooms) (k : KeeperValue) : Type 0 where
+  pub read : HasRead bytes ty bodies rooms k.host
+  pub all : k.left + length k.host.guests ≡ rooms.events
   pub enough : needed_to_operate k.host ≤ k.left
+  pub untaken : k.taken ≡ 0
 
 -- a host of what the bytes declare would have no room for one operation beside the reserve
-pub record HasFewEvents (bytes : Text) (ty : TypeId) (bodies events : ℕ) (why : OpenError) : Type 0 where
+pub record HasFewEvents (bytes : Text) (ty : TypeId) (bodies : ℕ) (rooms : Rooms) (why : OpenError) : Type 0 where
   pub error_is : why ≡ Terms
   pub host : HostValue
-  pub read : HasRead bytes ty bodies events host
-  pub few : ¬ (needed_to_operate host + length host.guests ≤ events)
+  pub read : HasRead bytes ty bodies rooms host
+  pub few : ¬ (needed_to_operate host + length host.guests ≤ rooms.events)
 
 -- no keeper is opened
-abbrev pub IsNotOpened : Text → TypeId → ℕ → ℕ → OpenError → Type 0
-IsNotOpened bytes ty bodies events why = IsNotRead bytes ty events why ⊎ HasFewEvents bytes ty bodies events why
+abbrev pub IsNotOpened : Text → TypeId → ℕ → Rooms → OpenError → Type 0
+IsNotOpened bytes ty bodies rooms why = IsNotRead bytes ty rooms why ⊎ HasFewEvents bytes ty bodies rooms why
+
+-- the next event is taken out, which is still among those that are kept, and nothing else has changed
+pub record HasTaken (old new : KeeperValue) (number : ℕ) (event : Event) : Type 0 where
+  pub there : slice_get old.host.book.journal.list number ≡ Some event
+  pub next : number ≡ next_event old
+  pub rest : new ≡ record old { taken = number + 1 }
+
+-- no event is there to be taken out, and nothing has changed
+pub record HasTakenNone (old new : KeeperValue) : Type 0 where
+  pub none : length old.host.book.journal.list ≤ next_event old
+  pub same : new ≡ old

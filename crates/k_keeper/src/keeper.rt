@@ -1,40 +1,49 @@
 //! A host and the room that it keeps.
-ghost use Rattle.std.specs.Prelude.{◌≡◌, ◌+◌, ◌≤◌, [], IfErr, IfOk, OnErr, OnOk};
+ghost use Rattle.std.specs.Prelude.{◌≡◌, ◌+◌, ◌≤◌, [], IfErr, IfNone, IfOk, IfSome, OnErr, OnOk};
 ghost use Rattle.k_host.specs.Whole.{AreFreedLast};
 ghost use Rattle.k_host.specs.Calls.{HasAbsorbedIn, HasCollectedIn, HasExitedIn, HasOperatedIn};
-ghost use Rattle.k_keeper.specs.Keeping.{IsKept, needed_by_the_kernel, needed_to_operate};
-ghost use Rattle.k_keeper.specs.Kept.{HasCollectedAll, HasOpened, IsGone, IsNotOpened, MayRefuseCollection, MayRefuseKernel, MayRefuseOperation, MayRefuseToAbsorb};
+ghost use Rattle.k_keeper.specs.Keeping.{IsKept, needed_by_the_kernel, needed_to_operate, objects_in};
+ghost use Rattle.k_keeper.specs.Kept.{HasCollectedAll, HasOpened, HasTaken, HasTakenNone, IsGone, IsNotOpened, MayRefuseCollection, MayRefuseKernel, MayRefuseOperation, MayRefuseToAbsorb};
 
 use crate::absorbing::absorb_all;
 use crate::alive::{alive, ready, spared};
 use crate::rooms::{
-    fits, left_after, needed_by_the_kernel, needed_to_absorb, needed_to_collect, needed_to_operate,
+    fits, has_object_left, left_after, most_objects, needed_by_the_kernel, needed_to_absorb,
+    needed_to_collect, needed_to_operate, objects_then,
 };
-use k_host::{Freed, Host, HostError, OpenError};
+use crate::taking::{Taken, take_next};
+use k_host::{Freed, Host, HostError, OpenError, Rooms};
 use k_types::{Event, Name, Op, Pid, SharedId, TypeId};
 use std::alloc::Global;
 use std::marker::Model;
 
 /// A host, and how many events are left for operations and collections. Room for the end of each living process is kept beside these. It
-/// also has the names of the objects that its last collection freed.
+/// also has the names of the objects that its last collection freed, counts the objects, of which there are never more than that list has
+/// room for, and counts the events that were taken out of the journal.
 #[derive(Drop)]
 pub struct Keeper {
     pub(crate) host: Host,
     pub(crate) left: u32,
     pub(crate) freed: Freed,
+    pub(crate) most: u32,
+    pub(crate) objects: u32,
+    pub(crate) taken: u32,
 }
 
 impl Model for Keeper {
-    ghost use Rattle.std.specs.Prelude.{◌≤◌};
-    ghost use Rattle.k_keeper.specs.Keeping.{IsKept, KeeperValue};
+    ghost use Rattle.std.specs.Prelude.{◌≡◌, ◌≤◌};
+    ghost use Rattle.k_keeper.specs.Keeping.{IsKept, KeeperValue, most_objects, objects_in};
 
     ghost Value = { KeeperValue };
 
-    ghost view = { λ k. record { host = k.host; left = k.left; freed = k.freed.names } };
+    ghost view = { λ k. record { host = k.host; left = k.left; freed = k.freed.names; objects = k.objects; taken = k.taken } };
 
     ghost invariant = { λ k. record {
       kept : IsKept k.host k.left;
-      room : k.host.basis.events ≤ k.freed.room;
+      counted : objects_in k.host ≡ k.objects;
+      listed : k.objects ≤ k.most;
+      room : k.freed.room ≡ k.most;
+      most : k.most ≡ most_objects k.host;
     } };
 }
 
@@ -44,25 +53,34 @@ impl Keeper {
     /// # Errors
     ///
     /// Those of `Host::read`; and `Terms` where the events are too few for one operation beside the reserve: three for each process, one
-    /// for each shared heap and three.
+    /// for each shared heap and three. It takes memory for the names of as many objects as there can be, 8 bytes each, so that no
+    /// collection wants any.
     pub fn read(
         alloc: Global,
         text: &[u8],
         ty: TypeId,
         bodies: u32,
-        events: u32,
+        rooms: Rooms,
     ) -> Result<Keeper, OpenError>
-        ensures read { IfOk result (λ k. HasOpened text.now ty bodies events k) }
+        ensures read { IfOk result (λ k. HasOpened text.now ty bodies rooms k) }
         ensures freed { IfOk result (λ k. k.freed ≡ []) }
-        ensures why { IfErr result (λ why. IsNotOpened text.now ty bodies events why) }
+        ensures why { IfErr result (λ why. IsNotOpened text.now ty bodies rooms why) }
     {
-        let host = Host::read(alloc, text, ty, bodies, events)?;
-        if !fits(&host, events) {
+        let host = Host::read(alloc, text, ty, bodies, rooms)?;
+        if !fits(&host, rooms.events) {
             return Err(OpenError::Terms);
         }
-        let left = events - host.processes();
-        let freed = Freed::make(alloc, events)?;
-        Ok(Keeper { host, left, freed })
+        let left = rooms.events - host.processes();
+        let most = most_objects(&host, rooms.objects);
+        let freed = Freed::make(alloc, most)?;
+        Ok(Keeper {
+            host,
+            left,
+            freed,
+            most,
+            objects: 1,
+            taken: 0,
+        })
     }
 
     /// The host, for questions.
@@ -72,10 +90,11 @@ impl Keeper {
         &self.host
     }
 
-    /// Tells what a keeper keeps between its calls: no collection is open, and the journal has room for what is left and for the end of
-    /// each process.
+    /// Tells what a keeper keeps between its calls: no collection is open, the journal has room for what is left and for the end of
+    /// each process, and the objects are counted.
     pub fn keeps(&self)
-        ensures { IsKept self.now.host self.now.left }
+        ensures kept { IsKept self.now.host self.now.left }
+        ensures counted { objects_in self.now.host ≡ self.now.objects }
     {
         let _left = self.left;
     }
@@ -85,6 +104,24 @@ impl Keeper {
         ensures { result ≡ self.now.left }
     {
         self.left
+    }
+
+    /// How many objects the machine has after the events of the journal, the directory with them. Constant time.
+    pub fn objects(&self) -> u32
+        ensures { result ≡ self.now.objects }
+    {
+        self.objects
+    }
+
+    /// Takes the next event out of the journal: the first that was not taken out yet and is still among those that are kept; `None` where there
+    /// is none. So each event is taken out at most once, and in order, and its number tells how many were missed before it. Constant time.
+    pub fn take(&mut self) -> Option<Taken>
+        ensures taken { IfSome result (λ t. HasTaken self.old self.new t.number t.event) }
+        ensures none { IfNone result (HasTakenNone self.old self.new) }
+    {
+        let taken = take_next(&self.host, self.taken)?;
+        self.taken = taken.number + 1;
+        Some(taken)
     }
 
     /// The names of the objects that the last collection freed, of a process's heap or the kernel's, each once and in any order; none before
@@ -100,19 +137,23 @@ impl Keeper {
     ///
     /// # Errors
     ///
-    /// Each changes nothing: those of `Host::operate`, and `Reserved` where no more is left than the reserve.
+    /// Each changes nothing: those of `Host::operate`, `Reserved` where no more is left than the reserve, and `Objects` also where the host
+    /// has as many objects as all its heaps have room for.
     pub fn operate(&mut self, pid: Pid, op: &Op) -> Result<Event, HostError>
         ensures done { IfOk result (λ event. HasOperatedIn self.old.host self.new.host pid op.now event) }
         ensures left { OnOk result (self.old.left ≡ self.new.left + 1) }
         ensures enough { OnOk result (needed_to_operate self.old.host ≤ self.new.left + 1) }
         ensures freed { self.new.freed ≡ self.old.freed }
+        ensures taken { self.new.taken ≡ self.old.taken }
         ensures same { OnErr result (self.new ≡ self.old) }
         ensures why { IfErr result (λ why. MayRefuseOperation self.old pid op.now why) }
     {
         ready(&self.host, pid, self.left, needed_to_operate(&self.host))?;
+        has_object_left(self.objects, self.most, op)?;
         let came = self.host.operate(pid, op);
-        self.left = left_after(self.left, 1, &came);
         self.host.serves();
+        self.left = left_after(self.left, 1, &came);
+        self.objects = objects_then(self.objects, &came);
         came
     }
 
@@ -126,13 +167,15 @@ impl Keeper {
         ensures left { OnOk result (self.old.left ≡ self.new.left + 2) }
         ensures enough { OnOk result (needed_by_the_kernel self.old.host ≤ self.new.left) }
         ensures freed { OnOk result (AreFreedLast self.new.host.basis.trace self.new.host.book.journal.list self.new.freed) }
+        ensures taken { self.new.taken ≡ self.old.taken }
         ensures same { OnErr result (self.new ≡ self.old) }
         ensures why { IfErr result (λ why. MayRefuseCollection self.old pid why) }
     {
         ready(&self.host, pid, self.left, needed_to_collect(&self.host))?;
         let came = self.host.collect(pid, &mut self.freed);
-        self.left = left_after(self.left, 2, &came);
         self.host.serves();
+        self.left = left_after(self.left, 2, &came);
+        self.objects = objects_then(self.objects, &came);
         came
     }
 
@@ -145,14 +188,16 @@ impl Keeper {
     pub fn collect_kernel(&mut self, pid: Pid) -> Result<Event, HostError>
         ensures done { IfOk result (λ event. HasCollectedAll self.old self.new pid event) }
         ensures freed { OnOk result (AreFreedLast self.new.host.basis.trace self.new.host.book.journal.list self.new.freed) }
+        ensures taken { self.new.taken ≡ self.old.taken }
         ensures same { OnErr result (self.new ≡ self.old) }
         ensures why { IfErr result (λ why. MayRefuseKernel self.old pid why) }
     {
         ready(&self.host, pid, self.left, needed_by_the_kernel(&self.host))?;
         let left = absorb_all(&mut self.host, self.left);
         let came = self.host.collect_kernel(pid, &mut self.freed);
-        self.left = left_after(left, 2, &came);
         self.host.serves();
+        self.left = left_after(left, 2, &came);
+        self.objects = objects_then(self.objects, &came);
         came
     }
 
@@ -165,6 +210,7 @@ impl Keeper {
         ensures done { IfOk result (λ event. HasExitedIn self.old.host self.new.host pid event) }
         ensures left { self.new.left ≡ self.old.left }
         ensures freed { self.new.freed ≡ self.old.freed }
+        ensures taken { self.new.taken ≡ self.old.taken }
         ensures same { OnErr result (self.new ≡ self.old) }
         ensures why { IfErr result (λ why. IsGone self.old.host pid why) }
     {
@@ -184,6 +230,7 @@ impl Keeper {
         ensures done { IfOk result (λ event. HasAbsorbedIn self.old.host self.new.host id event) }
         ensures left { OnOk result (self.old.left ≡ self.new.left + 1) }
         ensures freed { self.new.freed ≡ self.old.freed }
+        ensures taken { self.new.taken ≡ self.old.taken }
         ensures same { OnErr result (self.new ≡ self.old) }
         ensures why { IfErr result (λ why. MayRefuseToAbsorb self.old id why) }
     {

@@ -10,6 +10,8 @@ mod absorbing;
 mod alive;
 mod keeper;
 mod rooms;
+mod taking;
 
-pub use k_host::{Host, HostError, OpenError};
+pub use k_host::{Host, HostError, OpenError, Rooms};
 pub use keeper::Keeper;
+pub use taking::Taken;

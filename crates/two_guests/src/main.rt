@@ -1,7 +1,7 @@
 //! Shows a host of two guests under one limit, of which one keeps all that it makes and is killed. It prints what each is charged.
 #![tactic(auto)]
 
-use k_keeper::{Host, HostError, Keeper, OpenError};
+use k_keeper::{Host, HostError, Keeper, OpenError, Rooms};
 use k_types::{Event, Fault, LimitId, Op, Pid, Reg, Reply, TypeId};
 
 /// Process 0 is the host's own, and processes 1 and 2 are its guests. Limit 2 is above those of both.
@@ -69,7 +69,8 @@ fn turn(rt: &impl Print, keeper: &mut Keeper, guest: Pid, step: u64) -> Result<(
 }
 
 fn main(rt: HostRuntime) -> Result<(), Stop> {
-    let mut keeper = Keeper::read(rt.alloc(), SETUP, TypeId(0), 2000, 20000).map_err(Stop::Open)?;
+    let rooms = Rooms::for_objects(1000, 3, 0);
+    let mut keeper = Keeper::read(rt.alloc(), SETUP, TypeId(0), 2000, rooms).map_err(Stop::Open)?;
     for step in 1..=300 {
         turn(&rt, &mut keeper, Pid(1), step)?;
         if keeper.host().has_ended(Pid(2)) == Some(false) {

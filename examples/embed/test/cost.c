@@ -1,11 +1,11 @@
 /* One call, done many times, for valgrind to count: cost CALL TIMES. And a host that is opened and closed:
-   cost open PROCESSES SHARED BODIES EVENTS. scripts/embed --cost runs both. */
+   cost open PROCESSES SHARED BODIES, then each of its rooms in the order of kaffe_rooms. scripts/embed --cost runs both. */
 #include "../kaffe.h"
 #include <stdio.h>
 
 enum { HOST, GUEST };
 enum { NODE };
-enum { NUMBER_FIELD = 2, LIST = 0, LAST = 1, DIRECTORY = 2 };
+enum { NUMBER_FIELD = 2, LIST = 0, LAST = 1, DIRECTORY = 2, OBJECTS = 20000 };
 
 /* What is measured: the instructions of this function and of what it calls are counted. */
 __attribute__((noinline)) void measured(kaffe_host *h, kaffe_request q, long times);
@@ -31,13 +31,13 @@ static const struct {
     {"publish", {KAFFE_CALL_NEW, GUEST, NODE, 0, 3, 0, 0, 0, 0, 0}},  /* once, after so many calls that stay inside the heap */
 };
 
-static kaffe_host *opened(int processes, int shared, uint32_t bodies, uint32_t events) {
+static kaffe_host *opened(int processes, int shared, uint32_t bodies, kaffe_rooms rooms) {
     static char text[8192];
     kaffe_answer why;
     int k = sprintf(text, "kaffe 1\nkernel 4096 4\ntype Node ref ref int\nlimit root 1000000000\n");
     for (int i = 0; i < processes; i++) k += sprintf(text + k, "proc p%d root\n", i);
     for (int i = 0; i < shared; i++) k += sprintf(text + k, "shared s%d\n", i);
-    kaffe_host *h = kaffe_make(text, NODE, bodies, events, &why);
+    kaffe_host *h = kaffe_make_with(text, NODE, bodies, &rooms, &why);
     if (!h) exit(1);
     return h;
 }
@@ -64,16 +64,23 @@ static long prepare(kaffe_host *h, const char *call, long times) {
     return 1;
 }
 
+/* The number in the word. */
+static uint32_t number(const char *word) { return (uint32_t)strtoul(word, NULL, 10); }
+
 int main(int count, char **words) {
-    if (count == 6 && strcmp(words[1], "open") == 0) {
-        kaffe_free(opened(atoi(words[2]), atoi(words[3]), (uint32_t)atol(words[4]), (uint32_t)atol(words[5])));
+    if (count == 12 && strcmp(words[1], "open") == 0) {
+        kaffe_rooms rooms = {number(words[5]), number(words[6]),  number(words[7]), number(words[8]),
+                             number(words[9]), number(words[10]), number(words[11])};
+        kaffe_free(opened(atoi(words[2]), atoi(words[3]), number(words[4]), rooms));
         return 0;
     }
     if (count != 3) return 2;
     long times = atol(words[2]);
     for (size_t i = 0; i < sizeof CALLS / sizeof CALLS[0]; i++) {
         if (strcmp(words[1], CALLS[i].name) != 0) continue;
-        kaffe_host *h = opened(2, 1, strcmp(words[1], "make") == 0 ? 0 : 20000, 100000);
+        kaffe_rooms rooms = kaffe_rooms_for(OBJECTS, 2, 1);
+        rooms.tail = OBJECTS; /* nothing is published by itself while calls are counted */
+        kaffe_host *h = opened(2, 1, strcmp(words[1], "make") == 0 ? 0 : OBJECTS, rooms);
         long often = prepare(h, words[1], times);
         measured(h, CALLS[i].request, often);
         kaffe_free(h);

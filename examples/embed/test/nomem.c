@@ -43,7 +43,7 @@ void __wrap_free(void *p) {
 static const char *DECLARED = "kaffe 1\nkernel 4096 4\ntype Node ref ref int\ntype Leaf int\nlimit root 100000\nproc host root\nproc guest root\nshared s\n";
 
 enum { NODE, LEAF };
-enum { PROCESSES = 2, BODIES = 3, EVENTS = 200 };
+enum { PROCESSES = 2, SHARED_HEAPS = 1, BODIES = 3, OBJECTS = 50, EVENTS = 200 };
 /* The room for the host is an allocation, each body is one, and each process has tables. */
 enum { LEAST_ALLOCATIONS = 1 + PROCESSES * BODIES + PROCESSES };
 
@@ -51,7 +51,9 @@ enum { LEAST_ALLOCATIONS = 1 + PROCESSES * BODIES + PROCESSES };
 static kaffe_host *opened(long n, kaffe_answer *why) {
     taken = 0;
     refused_at = n;
-    kaffe_host *h = kaffe_make(DECLARED, 0, BODIES, EVENTS, why);
+    kaffe_rooms rooms = kaffe_rooms_for(OBJECTS, PROCESSES, SHARED_HEAPS);
+    rooms.events = rooms.kept = EVENTS;
+    kaffe_host *h = kaffe_make_with(DECLARED, 0, BODIES, &rooms, why);
     refused_at = -1;
     return h;
 }

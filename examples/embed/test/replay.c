@@ -12,14 +12,16 @@ static void need(void *to, size_t size) {
 }
 
 static kaffe_host *open_next(void) {
-    uint32_t head[4];
+    uint32_t head[3];
+    kaffe_rooms rooms;
     kaffe_answer why;
     need(head, sizeof head);
+    need(&rooms, sizeof rooms);
     char *text = (char *)malloc((size_t)head[0] + 1);
     if (!text) exit(2);
     need(text, head[0]);
     text[head[0]] = 0;
-    kaffe_host *h = kaffe_make(text, head[1], head[2], head[3], &why);
+    kaffe_host *h = kaffe_make_with(text, head[1], head[2], &rooms, &why);
     if (!h) fprintf(stderr, "replay: line %" PRIu32 ", reason %" PRIu32 " of\n%s", why.seg, why.at, text);
     free(text);
     if (!h) exit(1);

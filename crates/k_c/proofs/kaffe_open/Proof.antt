@@ -33,6 +33,8 @@ use Rattle.std.proofs.raw_atomic.Walks.{proved}
 use Rattle.std.specs.contracts.alloc.Global.{the_row as Global}
 use Rattle.std.proofs.alloc.Global.TheLaws.{the_told as GT, the_row_laws as GL}
 use Rattle.k_embed.specs.Served.{IsOpened}
+use Rattle.k_embed.specs.contracts.messages.Rooms.{the_row as Size}
+use Rattle.k_embed.proofs.messages.Rooms.TheLaws.{the_told as ZT, the_row_laws as ZL}
 use Rattle.k_embed.specs.contracts.serving.Slot.{the_row as R}
 use Rattle.k_embed.specs.declared.serving.Slot.{Slot}
 use Rattle.k_embed.proofs.serving.Slot.TheLaws.{the_row_laws as RL}
@@ -53,16 +55,16 @@ kaffe_open_spec 𝓤 𝓛 𝓜 𝓡 wired =
       Goes-dropped 𝓛 1 (plain (λ _. Global)) yes (λ κs x w. refl),
       (
         Goes-dropped 𝓛 1 (SliceRefOf (0 ∷ []) tt (plain (λ κs. u8)) (λ κs. tt)) yes (λ κs x w. refl),
-        (word, (word, (word, (Goes-dropped 𝓛 1 (plain (λ _. RawPtr)) yes (λ κs x w. refl), tt)))),
+        (word, (word, (Goes-dropped 𝓛 1 (plain (λ _. Size)) yes (λ κs x w. refl), (Goes-dropped 𝓛 1 (plain (λ _. RawPtr)) yes (λ κs x w. refl), tt)))),
       ),
     )
     f.Key.name code.function (code.unfolded 𝓤 𝓛.H 𝓜 𝓡 wired)
-    (λ κs. ((λ x. GT.val x ∷ []), (shr_slice_vals, (uint_vals w32, (uint_vals w32, (uint_vals w32, (rawptr_vals, tt)))))))
-    (λ κs. (GT.tells, (shr_slice_Tells (named 0) κs.0 u8, (uint_Tells w32, (uint_Tells w32, (uint_Tells w32, (rawptr_Tells, tt))))))) (λ κs qs bounds a g are.
+    (λ κs. ((λ x. GT.val x ∷ []), (shr_slice_vals, (uint_vals w32, (uint_vals w32, ((λ x. ZT.val x ∷ []), (rawptr_vals, tt)))))))
+    (λ κs. (GT.tells, (shr_slice_Tells (named 0) κs.0 u8, (uint_Tells w32, (uint_Tells w32, (ZT.tells, (rawptr_Tells, tt))))))) (λ κs qs bounds a g are.
     let heap = a.0 in let text = a.1.0 in let m = a.1.1.0 in let n = a.1.1.1.0 in let k = a.1.1.1.1.0 in let at = a.1.1.1.1.1.0 in
-    let us = GT.val heap ∷ [] in let vs = shr_slice_vals text in let S = ShrSlice (named 0) κs.0 u8 in let ms = uint_vals w32 m in let ns = uint_vals w32 n in let ks = uint_vals w32 k in
+    let us = GT.val heap ∷ [] in let vs = shr_slice_vals text in let S = ShrSlice (named 0) κs.0 u8 in let ms = uint_vals w32 m in let ns = uint_vals w32 n in let ks = ZT.val k ∷ [] in
     let y : Ptr → W.Ghost = λ p. ((κs, qs, bounds, (heap, (text, (m, (n, (k, (p, tt)))))), (us, (vs, (ms, (ns, (ks, (rawptr_vals p, tt))))))), g) in
-    qed 𝓛 (((‵ (flft κs.0 qs.0) ⊛ ‵ ftrue) ⊛ ‵ (fsep (Global.own_val heap us) (fsep (S.own_val text vs) (fsep (u32.own_val m ms) (fsep (u32.own_val n ns) (fsep (u32.own_val k ks) (fsep (RawPtr.own_val at (rawptr_vals at)) ftrue))))))) ∷ ‵ (room_at R at) ∷ []) ∵
+    qed 𝓛 (((‵ (flft κs.0 qs.0) ⊛ ‵ ftrue) ⊛ ‵ (fsep (Global.own_val heap us) (fsep (S.own_val text vs) (fsep (u32.own_val m ms) (fsep (u32.own_val n ns) (fsep (Size.own_val k ks) (fsep (RawPtr.own_val at (rawptr_vals at)) ftrue))))))) ∷ ‵ (room_at R at) ∷ []) ∵
     split ! $ move ! (1 ∷ []) $ fsplit ! $ move ! (1 ∷ []) $ fsplit3 ! $ move ! (2 ∷ []) $ fsplit3 ! $ move ! (2 ∷ []) $ fsplit ! $ keep ! (8 ∷ 7 ∷ 6 ∷ 4 ∷ 5 ∷ 2 ∷ 3 ∷ []) $
     in_a_block ! at (λ p. room_at R p) (id⊢ 𝓤 _) (λ b o e.
     regoal ! (λ p. prop (WpFn 𝓤 𝓛.H 𝓣.C 𝓣.Λ code.function (us ++ (vs ++ (ms ++ (ns ++ (ks ++ (rawptr_vals p ++ [])))))) (W.post (y p)))) e refl $
@@ -70,10 +72,10 @@ kaffe_open_spec 𝓤 𝓛 𝓜 𝓡 wired =
       ((GL.lawful 𝓛).typed heap us are.0).0,
       (
         ((shr_slice_Lawful 𝓛 (named 0) κs.0 u8).typed text vs are.1.0).0,
-        ((tt, record { fits = are.1.1.0.1 }), ((tt, record { fits = are.1.1.1.0.1 }), ((tt, record { fits = are.1.1.1.1.0.1 }), ((tt, tt), tt)))),
+        ((tt, record { fits = are.1.1.0.1 }), ((tt, record { fits = are.1.1.1.0.1 }), (((ZL.lawful 𝓛).typed k ks are.1.1.1.1.0).0, ((tt, tt), tt)))),
       ),
     ) $
-    -- [the room; the tokens; the allocator; the text; three numbers; the locals]
+    -- [the room; the tokens; the allocator; the text; two numbers; the rooms; the locals]
     sets ! (of_opd ! (get ! refl)) refl (tt, tt) $
     let G = triple_of 𝓛 s.signature (s.spec 𝓛 𝓜.mem 𝓡.returns) in
     let z : G.Ghost = ((κs, qs, bounds, (heap, (text, (m, (n, (k, tt))))), (us, (vs, (ms, (ns, (ks, tt)))))), tt) in

@@ -8,10 +8,10 @@ publish-requires g c = can_publish_first g.basis c.args.guest.now c.args.book.no
 
 pub step_kernel-requires : goal.step_kernel-requires
 step_kernel-requires g c =
-    can_with_kernel g.basis c.args.guest.now c.args.book.now c.args.op.now (Kernel ∷ []) c.requires.due c.publish.new.cell c.publish.new.book c.publish.ensures c.know_entries.ensures c.args.kernel.now c.requires.kernel
-    c.requires.ready.idle c.requires.ready.exits refl
+    can_with_kernel g.basis c.args.guest.now c.args.book.now c.args.op.now (Kernel ∷ []) c.requires.due c.publish.new.cell c.publish.new.book c.publish.ensures c.args.kernel.now c.requires.kernel
+    c.requires.ready refl
 
 pub returns : goal.returns
 returns g c =
     done_with_kernel g.basis c.args.guest.now c.args.book.now c.args.op.now (Kernel ∷ []) c.requires.due c.publish.new.cell c.publish.new.book c.publish.ensures
-    c.step_kernel.new.cell c.step_kernel.new.book c.step_kernel.result c.args.kernel.now c.step_kernel.new.kernel c.requires.kernel c.step_kernel.ensures
+    c.step_kernel.new.cell c.step_kernel.new.book c.step_kernel.result c.args.kernel.now c.step_kernel.new.kernel c.requires.kernel c.requires.ready c.know_exits.ensures refl c.step_kernel.ensures

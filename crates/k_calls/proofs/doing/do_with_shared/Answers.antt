@@ -8,10 +8,10 @@ publish-requires g c = can_publish_first g.basis c.args.guest.now c.args.book.no
 
 pub step_shared-requires : goal.step_shared-requires
 step_shared-requires g c =
-    can_with_shared g.basis c.args.guest.now c.args.book.now c.args.op.now (Shared c.args.shared.now.id ∷ []) c.requires.due c.publish.new.cell c.publish.new.book c.publish.ensures c.know_entries.ensures c.args.shared.now
-    c.requires.shared c.requires.exits refl
+    can_with_shared g.basis c.args.guest.now c.args.book.now c.args.op.now (Shared c.args.shared.now.id ∷ []) c.requires.due c.publish.new.cell c.publish.new.book c.publish.ensures c.args.shared.now
+    c.requires.shared c.requires.room refl
 
 pub returns : goal.returns
 returns g c =
     done_with_shared g.basis c.args.guest.now c.args.book.now c.args.op.now (Shared c.args.shared.now.id ∷ []) c.requires.due c.publish.new.cell c.publish.new.book c.publish.ensures
-    c.step_shared.new.cell c.step_shared.new.book c.step_shared.result c.args.shared.now c.step_shared.new.shared c.requires.shared c.step_shared.ensures
+    c.step_shared.new.cell c.step_shared.new.book c.step_shared.result c.args.shared.now c.step_shared.new.shared c.requires.shared refl c.step_shared.ensures

@@ -4,7 +4,7 @@ use Rattle.k_operate.specs.Own.{is_collect}
 use Rattle.k_operate.specs.Operating.{collects_or_exits}
 use Rattle.k_limits.proofs.Making.{handed_on}
 use Rattle.k_calls.specs.declared.errors.HostError.TheVariants.{Full, OwnCall, Unknown}
-use Rattle.k_calls.specs.Doing.{HasItemRoom}
+use Rattle.k_calls.specs.Doing.{HasCountRoom}
 use Rattle.k_calls.specs.Refusals.{IsNotReady, is_plain}
 use Rattle.k_guests.specs.Serving.{basis_of, open_trace}
 use Rattle.k_calls.proofs.Refused.{lacks, lacks_test}
@@ -21,9 +21,9 @@ pub returns-in_err-awake-clause-why : goal.returns-in_err-awake-clause-why
 returns-in_err-awake-clause-why c =
     handed_on (IsNotReady (basis_of c.args.terms.now) c.args.guest.now c.args.op.now) c.from_residual.result c.in_err-awake.field-0.0 c.from_residual.ensures.1 (inr (inr (inl c.in_err-awake.ensures.why)))
 
-pub returns-then-not-has_item_room-clause-why : goal.returns-then-not-has_item_room-clause-why
-returns-then-not-has_item_room-clause-why c =
-    inr (inr (inr (inl (lacks Full (HasItemRoom (basis_of c.args.terms.now) c.args.guest.now) c.has_item_room.result c.has_item_room.ensures c.if-not-has_item_room.true))))
+pub returns-then-not-has_count_room-clause-why : goal.returns-then-not-has_count_room-clause-why
+returns-then-not-has_count_room-clause-why c =
+    inr (inr (inr (inl (lacks Full (HasCountRoom c.args.guest.now) c.has_count_room.result c.has_count_room.ensures c.if-not-has_count_room.true))))
 
 pub returns-clause-ok : goal.returns-clause-ok
 returns-clause-ok c =
@@ -33,5 +33,5 @@ returns-clause-ok c =
       no_collection = plain.0;
       goes_on = plain.1;
       awake = c.in_ok-awake.ensures.ok;
-      room = c.has_item_room.ensures.0 c.if-not-has_item_room.false;
+      room = c.has_count_room.ensures.0 c.if-not-has_count_room.false;
     }

@@ -34,7 +34,7 @@ returns-clause-told g c = λ fits.
     let keeps = c.requires.1.book_stands.keeps in
     let value = met_value g.trace c.args.cell.now c.meet_heap.new.cell c.args.book.now c.meet_heap.new.book met in
     let few : length (g.L.Listener.heard c.args.listener.now) + freed_objects c.args.cell.now.value ≤ g.L.Listener.room c.args.listener.now =
-    fits_all g.trace c.args.book.now.journal.list keeps legal (User c.args.cell.now.pid) c.args.cell.now.value shows (length (g.L.Listener.heard c.args.listener.now)) (g.L.Listener.room c.args.listener.now) fits in
+    fits_all c.args.cell.now.value (length (g.L.Listener.heard c.args.listener.now)) (g.L.Listener.room c.args.listener.now) fits in
     let told = c.sweep_heap_telling-freed.ensures.told (subst (λ (v : CellValue). length (g.L.Listener.heard c.args.listener.now) + freed_objects v ≤ g.L.Listener.room c.args.listener.now) (sym value) few) in
     let ended =
     ended_at_last g.trace c.args.cell.now c.meet_heap.new.cell c.args.book.now c.meet_heap.new.book c.requires.1 c.meet_heap.ensures c.sweep_heap_telling-freed.new.cell c.end_swept_heap.new.cell c.end_swept_heap.new.book

@@ -34,7 +34,7 @@ returns-clause-told g c = λ fits.
     let keeps = c.requires.1.book_stands.keeps in
     let value = kernel_met_value g.trace c.args.kernel.now c.meet_kernel.new.kernel c.args.book.now c.meet_kernel.new.book met in
     let few : length (g.L.Listener.heard c.args.listener.now) + freed_objects c.args.kernel.now.value ≤ g.L.Listener.room c.args.listener.now =
-    fits_all g.trace c.args.book.now.journal.list keeps legal Kernel c.args.kernel.now.value shows (length (g.L.Listener.heard c.args.listener.now)) (g.L.Listener.room c.args.listener.now) fits in
+    fits_all c.args.kernel.now.value (length (g.L.Listener.heard c.args.listener.now)) (g.L.Listener.room c.args.listener.now) fits in
     let told = c.sweep_kernel_telling-freed.ensures.told (subst (λ (v : CellValue). length (g.L.Listener.heard c.args.listener.now) + freed_objects v ≤ g.L.Listener.room c.args.listener.now) (sym value) few) in
     let ended =
     kernel_ended_at_last g.trace c.args.kernel.now c.meet_kernel.new.kernel c.args.book.now c.meet_kernel.new.book c.requires.1 c.meet_kernel.ensures c.sweep_kernel_telling-freed.new.kernel c.end_swept_kernel.new.kernel c.end_swept_kernel.new.book

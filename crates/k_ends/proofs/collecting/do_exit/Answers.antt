@@ -6,9 +6,9 @@ publish-requires g c = publishes g.basis c.args.guest.now c.args.book.now c.requ
 
 pub exit-requires : goal.exit-requires
 exit-requires g c = can_exit g.basis c.args.guest.now c.args.book.now c.requires.own.can c.publish.new.cell c.publish.new.book c.publish.ensures c.args.kernel.now c.requires
-    c.know_exits.ensures c.know_kernel_exits.ensures
+    c.know_exits.ensures.room c.know_kernel_exits.ensures
 
 pub returns : goal.returns
 returns g c =
     exited g.basis c.args.guest.now c.args.book.now c.requires.own.can c.publish.new.cell c.publish.new.book c.publish.ensures c.exit.new.cell c.args.kernel.now c.exit.new.kernel c.exit.new.book
-    c.exit.result c.requires.kernel c.exit.ensures
+    c.exit.result c.requires.kernel c.know_exits.ensures.distinct c.know_exits.ensures.room c.exit.ensures

@@ -11,9 +11,9 @@ publish-requires-2 g c =
 pub kill-requires : goal.kill-requires
 kill-requires g c =
     can_kill g.basis c.args.guest.now c.args.target.now c.args.kernel.now c.args.book.now c.args.op.now c.requires c.publish.new.cell c.publish.new.book c.publish.ensures
-    c.publish-2.new.cell c.publish-2.new.book c.publish-2.ensures c.know_exits.ensures c.know_kernel_exits.ensures
+    c.publish-2.new.cell c.publish-2.new.book c.publish-2.ensures c.know_exits.ensures.room c.know_kernel_exits.ensures
 
 pub returns : goal.returns
 returns g c =
     has_killed g.basis c.args.guest.now c.args.target.now c.args.kernel.now c.args.book.now c.args.op.now c.requires c.publish.new.cell c.publish.new.book c.publish.ensures
-    c.publish-2.new.cell c.publish-2.new.book c.publish-2.ensures c.kill.new.cell c.kill.new.target c.kill.new.kernel c.kill.new.book c.kill.result c.kill.ensures
+    c.publish-2.new.cell c.publish-2.new.book c.publish-2.ensures c.know_exits.ensures.distinct c.know_exits.ensures.room c.kill.new.cell c.kill.new.target c.kill.new.kernel c.kill.new.book c.kill.result c.kill.ensures

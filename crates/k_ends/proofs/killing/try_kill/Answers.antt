@@ -1,5 +1,7 @@
-use Rattle.std.proofs.Common.{refl, sym, inl, inr}
+use Rattle.std.proofs.Common.{refl, subst, sym, inl, inr}
 use Rattle.k_types.specs.declared.names.Heap.TheVariants.{Kernel, Shared}
+use Rattle.k_types.specs.declared.op.Op.{Op}
+use Rattle.k_calls.specs.Adding.{HasOwnRoom}
 use Rattle.k_limits.proofs.Making.{handed_on}
 use Rattle.k_guests.specs.Serving.{basis_of}
 use Rattle.k_ends.specs.Killing.{CanNotKill}
@@ -24,9 +26,12 @@ do_kill-requires c = record {
   can = c.in_ok-ready_to_end-in-End.ensures.ok;
 }
 
+-- a kill adds nothing to a heap
 pub do_alone-requires : goal.do_alone-requires
-do_alone-requires c =
-    due_alone (basis_of c.args.terms.now) c.args.guest.now c.args.target.now c.args.book.now c.args.op.now c.requires.guest c.requires.book c.in_ok-ready.ensures.ok c.in_ok-room_left.ensures.ok c.requires.asks (sym c.in-Own.ensures)
+do_alone-requires c = (
+  due_alone (basis_of c.args.terms.now) c.args.guest.now c.args.target.now c.args.book.now c.args.op.now c.requires.guest c.requires.book c.in_ok-ready.ensures.ok c.in_ok-room_left.ensures.ok c.requires.asks (sym c.in-Own.ensures),
+  subst (λ (op : Op). HasOwnRoom (basis_of c.args.terms.now) c.args.guest.now c.args.book.now op) (sym c.requires.asks) tt,
+)
 
 pub unreachable-requires : goal.unreachable-requires
 unreachable-requires c =

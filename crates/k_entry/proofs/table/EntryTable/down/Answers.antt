@@ -7,7 +7,7 @@ use Rattle.k_entry.proofs.Counts.{no_hits}
 use Rattle.k_entry.proofs.Items.{found_by, none_by, read_at, walk_read}
 use Rattle.k_entry.proofs.Recounts.{with_slots, recount_by, kept_recount, less_recount}
 use Rattle.k_entry.proofs.More.{moved}
-use Rattle.k_entry.proofs.Less.{freed_there, less_by, kept_less, has_less, freed_is_free}
+use Rattle.k_entry.proofs.Less.{freed_there, one_less, less_by, kept_less, has_less, freed_is_free}
 use Rattle.k_entry.proofs.Known.{known_recount, known_less, kept_cleared, shows_cleared}
 use Rattle.k_entry.proofs.table.EntryTable.down.Goals as goal
 
@@ -33,6 +33,7 @@ invariant_of-self-else-item-eq1 c =
     record {
       reserved = c.self.invariant.reserved;
       homes_reserved = c.self.invariant.homes_reserved;
+      counted = c.self.invariant.counted;
       known = known_recount p c.args.target (set c.self.inside.slots.items c.in-Some.i c.with_count-else-item-eq1.result) c.in-Some.i (c.index-item.result.now.count - 1) c.self.invariant.kept c.self.invariant.known f r;
       kept = kept_recount p (set c.self.inside.slots.items c.in-Some.i c.with_count-else-item-eq1.result) c.in-Some.i (c.index-item.result.now.count - 1) c.self.invariant.kept r (omega (arith, read, f.positive, c.if-item-eq1.false));
     }
@@ -53,6 +54,18 @@ push_front-requires-clause-free c =
     let f = found_by p c.args.target c.deref.result.now c.chain_of-chain.result c.in-Some.i c.self.invariant.kept c.deref.ensures.value c.chain_of-chain.ensures.value c.in-Some.ensures.there c.in-Some.ensures.target in
     freed_is_free p c.take_out.new.segments c.args.target c.in-Some.i c.self.invariant.kept f c.take_out.ensures.segments
 
+pub overflow_sub-self : goal.overflow_sub-self
+overflow_sub-self c =
+    let p : Parts = record { slots = c.self.inside.slots.items; chains = c.self.inside.chains; segments = c.self.inside.segments; walks = c.self.inside.walks; homes = c.self.inside.homes.items; room = c.self.inside.room } in
+    let f = found_by p c.args.target c.deref.result.now c.chain_of-chain.result c.in-Some.i c.self.invariant.kept c.deref.ensures.value c.chain_of-chain.ensures.value c.in-Some.ensures.there c.in-Some.ensures.target in
+    let len : c.len.result ≡ length c.self.inside.homes.items = omega (arith, c.len.ensures, c.self.inside.homes.ok.0) in
+    let free : c.len-then-item-eq1.result ≡ length c.self.inside.homes.items = omega (arith, c.len-then-item-eq1.ensures, c.self.inside.homes.ok.0) in
+    let walk = walk_read c.self.inside.homes.items c.args.target.seg.0 c.len.result c.walk_number-walk.result c.index.result.now f.homed c.index.ensures len c.walk_number-walk.ensures.value in
+    let m = less_by p c.take_out.new.segments c.args.target c.in-Some.i c.len-then-item-eq1.result c.chain_of-chain.result c.walk_number-walk.result c.remove.new.self c.push_front.new.self c.take_out.new.walks c.self.invariant.kept f free c.chain_of-chain.ensures.value walk
+    c.remove.ensures.removed c.take_out.ensures.segments c.take_out.ensures.walks c.push_front.ensures.pushed c.push_front.ensures.apart c.take_out.ensures.walks_apart in
+    let one = one_less p c.take_out.new.segments c.args.target c.in-Some.i c.remove.new.self c.push_front.new.self c.take_out.new.walks c.self.invariant.kept m in
+    omega (arith, c.self.invariant.counted, one)
+
 pub invariant_of-self : goal.invariant_of-self
 invariant_of-self c =
     let p : Parts = record { slots = c.self.inside.slots.items; chains = c.self.inside.chains; segments = c.self.inside.segments; walks = c.self.inside.walks; homes = c.self.inside.homes.items; room = c.self.inside.room } in
@@ -65,6 +78,7 @@ invariant_of-self c =
     record {
       reserved = c.self.invariant.reserved;
       homes_reserved = c.self.invariant.homes_reserved;
+      counted = let one = one_less p c.take_out.new.segments c.args.target c.in-Some.i c.remove.new.self c.push_front.new.self c.take_out.new.walks c.self.invariant.kept m in omega (arith, c.self.invariant.counted, one);
       kept = kept_cleared (moved p c.self.inside.slots.items c.remove.new.self c.push_front.new.self c.take_out.new.walks) c.in-Some.i c.with_count.result
           (kept_less p c.take_out.new.segments c.args.target c.in-Some.i c.remove.new.self c.push_front.new.self c.take_out.new.walks c.self.invariant.kept m) (freed_there p c.take_out.new.segments c.args.target c.in-Some.i c.remove.new.self c.push_front.new.self c.take_out.new.walks m);
       known = known_less p c.take_out.new.segments c.args.target c.in-Some.i c.with_count.result c.remove.new.self c.push_front.new.self c.take_out.new.walks c.self.invariant.known m (ap (λ (x : Item). x.count) c.with_count.ensures);

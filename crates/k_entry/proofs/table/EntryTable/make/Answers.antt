@@ -1,7 +1,7 @@
 use Rattle.std.proofs.Common.{◌≡◌, ◌+◌, List, length, sym, ap, ap₂, ◌∙◌, arith}
 use Rattle.k_types.specs.declared.names.Heap.{Heap}
 use Rattle.k_types.specs.Counted.{Counted}
-use Rattle.k_entry.proofs.Items.{entries_of, kept_made, shows_made}
+use Rattle.k_entry.proofs.Items.{counted_made, entries_of, kept_made, shows_made}
 use Rattle.k_entry.proofs.Known.{known_none}
 use Rattle.k_entry.proofs.table.EntryTable.make.Goals as goal
 
@@ -10,6 +10,7 @@ invariant_of-result c =
     let same : c.in_ok-homes.homes.items ≡ c.args.homes.now = c.in_ok-homes.ensures.items in
     let len : length c.args.homes.now ≡ length c.in_ok-homes.homes.items = ap (λ (hs : List Heap). length hs) (sym same) in
     record {
+      counted = counted_made c.in_ok-slots.slots.items c.in_ok-segments.segments c.in_ok-walks.walks (length c.args.homes.now + 1) (length c.args.homes.now) c.in_ok-walks.ensures;
       reserved = c.in_ok-slots.ensures.exact;
       homes_reserved = c.in_ok-homes.ensures.capacity ∙ len;
       known = known_none (record { slots = c.in_ok-slots.slots.items; chains = c.in_ok-chains.chains; segments = c.in_ok-segments.segments; walks = c.in_ok-walks.walks; homes = c.in_ok-homes.homes.items; room = c.args.room }) c.in_ok-slots.ensures.items;

@@ -1,10 +1,13 @@
 use Rattle.std.proofs.Common.{◌≡◌, ◌<◌, true, length, length-set, sym, ap, subst, ◌∙◌, arith}
 use Rattle.std.specs.List.Sorted.{IsPermutation}
+use Rattle.std.specs.List.{concat}
+use Rattle.std.proofs.lemmas.List.Sorted.{length_permutation}
 use Rattle.k_lists.specs.Lists.{members, is_in}
 use Rattle.k_entry.specs.Entries.{EntryValue}
-use Rattle.k_entry.specs.Slots.{Parts, shown, walk_of}
+use Rattle.k_entry.specs.Slots.{Parts, shown, used, walk_of}
 use Rattle.k_entry.proofs.Items.{entries_of, walk_read}
 use Rattle.k_entry.proofs.Given.{some_in}
+use Rattle.k_entry.proofs.Joined.{joined}
 use Rattle.k_entry.proofs.Rehomes.{counted_same, rehomed, rehomed_by, kept_rehomed, items_rehomed}
 use Rattle.k_entry.proofs.table.EntryTable.rehome.Goals as goal
 
@@ -25,6 +28,7 @@ invariant_of-self c =
     let len_2 : c.len-2.result ≡ length c.self.inside.homes.items = omega (arith, c.len-2.ensures, c.self.inside.homes.ok.0) in
     let r = rehomed_by p c.change_walk.new.walks c.args.seg.0 c.walk_number-from.result c.walk_number-into.result c.args.to c.self.invariant.kept within from (c.walk_number-into.ensures.value ∙ ap (λ n. walk_of n c.args.to) len_2) (omega (arith, c.walk_number-into.ensures.within, len_2)) c.change_walk.ensures.walks c.change_walk.ensures.apart in
     record {
+      counted = c.self.invariant.counted ∙ sym (length_permutation (used p) (joined (members p.segments) (concat c.change_walk.new.walks.lists)) r.permuted);
       reserved = c.self.invariant.reserved;
       known = c.self.invariant.known;
       homes_reserved = omega (arith, c.self.invariant.homes_reserved, length-set c.self.inside.homes.items c.args.seg.0 c.args.to);

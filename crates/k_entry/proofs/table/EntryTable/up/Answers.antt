@@ -1,4 +1,4 @@
-use Rattle.std.proofs.Common.{◌≡◌, ◌+◌, ◌<◌, ℕ, List, length, set, sym, ap, ap₂, subst, ◌∙◌, arith}
+use Rattle.std.proofs.Common.{◌≡◌, ◌+◌, ◌^◌, ◌<◌, ℕ, List, length, set, sym, ap, ap₂, subst, ◌∙◌, arith}
 use Rattle.k_types.specs.declared.names.Name.{Name}
 use Rattle.k_types.specs.declared.names.Heap.{Heap}
 use Rattle.k_types.specs.Names.{name_of}
@@ -12,7 +12,7 @@ use Rattle.k_entry.specs.Slots.{Parts, shown, used, row_at, AreKept, GivesSlot}
 use Rattle.k_entry.proofs.Counts.{hits, no_hits}
 use Rattle.k_entry.proofs.Items.{entries_of, found_by, none_by, read_at, walk_read}
 use Rattle.k_entry.proofs.Recounts.{recount_by, kept_recount, more_recount}
-use Rattle.k_entry.proofs.More.{more_by, kept_more, has_more, slots_fit, moved, fresh}
+use Rattle.k_entry.proofs.More.{one_more, more_by, kept_more, has_more, slots_fit, moved, fresh}
 use Rattle.k_entry.proofs.Known.{known_recount, known_more}
 use Rattle.k_entry.proofs.table.EntryTable.up.Goals as goal
 
@@ -32,6 +32,7 @@ invariant_of-self c =
     record {
       reserved = c.self.invariant.reserved;
       homes_reserved = c.self.invariant.homes_reserved;
+      counted = c.self.invariant.counted;
       known = known_recount p c.name-name.result (set c.self.inside.slots.items c.in-Some.i c.with_count.result) c.in-Some.i (c.index-item.result.now.count + 1) c.self.invariant.kept c.self.invariant.known f r;
       kept = kept_recount p (set c.self.inside.slots.items c.in-Some.i c.with_count.result) c.in-Some.i (c.index-item.result.now.count + 1) c.self.invariant.kept r (omega arith);
     }
@@ -88,6 +89,15 @@ put_in-requires-clause-room c =
     let free : c.len-in-None.result ≡ length c.self.inside.homes.items = omega (arith, c.len-in-None.ensures, c.self.inside.homes.ok.0) in
     omega (arith, c.take_slot-i.ensures.given.room, c.self.invariant.kept.sizes.segments_room, slot_in p c.take_slot-i.new.segments c.take_slot-i.new.slots.items (fresh c.name-name.result) c.len-in-None.result c.take_slot-i.result c.self.invariant.kept c.take_slot-i.ensures.given free room)
 
+-- the items are fewer than the room, so one more can be counted
+pub overflow_add-self : goal.overflow_add-self
+overflow_add-self c =
+    let p : Parts = record { slots = c.self.inside.slots.items; chains = c.self.inside.chains; segments = c.self.inside.segments; walks = c.self.inside.walks; homes = c.self.inside.homes.items; room = c.self.inside.room } in
+    let none = none_by p c.name-name.result c.deref.result.now c.chain_of-chain.result c.self.invariant.kept c.deref.ensures.value c.chain_of-chain.ensures.value c.in-None.ensures.none in
+    let room = room_left p c.args.self.now c.name-name.result (name_of c.args.target) c.self.view_is c.name-name.ensures none (c.requires.room (entries_shown p c.args.self.now c.self.view_is c.self.invariant.kept)) in
+    let few : c.self.inside.room < 2 ^ 32 = omega (arith, c.self.ranges) in
+    omega (arith, c.self.invariant.counted, room, length-map (used p) (row_at p.slots), few)
+
 pub invariant_of-self-in-None : goal.invariant_of-self-in-None
 invariant_of-self-in-None c =
     let p : Parts = record { slots = c.self.inside.slots.items; chains = c.self.inside.chains; segments = c.self.inside.segments; walks = c.self.inside.walks; homes = c.self.inside.homes.items; room = c.self.inside.room } in
@@ -103,6 +113,7 @@ invariant_of-self-in-None c =
     record {
       reserved = omega (arith, c.take_slot-i.ensures.capacity, c.self.invariant.reserved);
       homes_reserved = c.self.invariant.homes_reserved;
+      counted = ap (λ n. n + 1) c.self.invariant.counted ∙ sym (one_more p c.take_slot-i.new.segments c.name-name.result c.take_slot-i.result c.take_slot-i.new.slots.items c.push_front.new.self c.put_in.new.segments c.put_in.new.walks c.self.invariant.kept m);
       known = known_more p c.take_slot-i.new.segments c.name-name.result c.take_slot-i.result c.take_slot-i.new.slots.items c.push_front.new.self c.put_in.new.segments c.put_in.new.walks c.self.invariant.known m;
       kept = kept_more p c.take_slot-i.new.segments c.name-name.result c.take_slot-i.result c.take_slot-i.new.slots.items c.push_front.new.self c.put_in.new.segments c.put_in.new.walks c.self.invariant.kept m;
     }

@@ -21,7 +21,7 @@ invariant_of-self c =
     let at : slice_get c.self.inside.guests.items c.in_ok-at.at ≡ Some c.index_mut-guest.result.now = found_there c.self.inside.guests.items c.deref.result.now c.args.pid.0 c.in_ok-at.at c.index_mut-guest.result.now c.deref.ensures.value c.in_ok-at.ensures.place c.index_mut-guest.ensures.value in
     let guest = found_guest (basis_of c.self.inside.terms) c.self.inside.guests.items c.self.inside.kernel c.self.inside.shared.items c.self.inside.book c.self.invariant c.in_ok-at.at c.index_mut-guest.result.now at in
     let both = both_kept (basis_of c.self.inside.terms) c.index_mut-guest.result.now c.try_begin_kernel.new.guest c.self.inside.kernel c.try_begin_kernel.new.kernel c.self.inside.book c.try_begin_kernel.new.book guest c.self.invariant.rest.kernel c.self.invariant.rest.book
-    (λ event. HasBegunKernel (basis_of c.self.inside.terms) c.index_mut-guest.result.now c.try_begin_kernel.new.guest c.try_begin_kernel.new.kernel c.self.inside.book c.try_begin_kernel.new.book event) (λ event h. h.goes_on.keeps) (λ event h. h.kernel) c.try_begin_kernel.result c.try_begin_kernel.ensures.done c.try_begin_kernel.ensures.same in
+    (λ event. HasBegunKernel (basis_of c.self.inside.terms) c.index_mut-guest.result.now c.try_begin_kernel.new.guest c.try_begin_kernel.new.kernel c.self.inside.book c.try_begin_kernel.new.book event) (λ event h. h.goes_on.keeps) (λ event h. h.goes_on.settled) (λ event h. h.kernel) c.try_begin_kernel.result c.try_begin_kernel.ensures.done c.try_begin_kernel.ensures.same in
     host_pair_kernel (basis_of c.self.inside.terms) c.self.inside.guests.items c.self.inside.kernel c.self.inside.shared.items c.self.inside.book c.self.invariant c.in_ok-at.at c.index_mut-guest.result.now c.try_begin_kernel.new.guest c.try_begin_kernel.new.kernel c.try_begin_kernel.new.book at both.0 both.1
 
 pub returns-in_err-at-clause-why : goal.returns-in_err-at-clause-why

@@ -1,5 +1,6 @@
 use Rattle.std.proofs.Common.{◌≡◌, ◌≤◌, ◌∙◌, sym, ap, subst, Some, slice_get, slice_set, OnOk}
 use Rattle.std.specs.Prelude.{IfErr, IfOk}
+use Rattle.k_guests.specs.Objects.{objects_after}
 use Rattle.k_limits.proofs.Making.{handed_on}
 use Rattle.k_host.specs.Calls.{HasCollectedIn}
 use Rattle.k_ends.specs.Whole.{AreFreedLast, CanNotCollect, HasCollected}
@@ -21,7 +22,7 @@ invariant_of-self c =
     let at : slice_get c.self.inside.guests.items c.in_ok-at.at ≡ Some c.index_mut-guest.result.now = found_there c.self.inside.guests.items c.deref.result.now c.args.pid.0 c.in_ok-at.at c.index_mut-guest.result.now c.deref.ensures.value c.in_ok-at.ensures.place c.index_mut-guest.ensures.value in
     let guest = found_guest (basis_of c.self.inside.terms) c.self.inside.guests.items c.self.inside.kernel c.self.inside.shared.items c.self.inside.book c.self.invariant c.in_ok-at.at c.index_mut-guest.result.now at in
     host_pair (basis_of c.self.inside.terms) c.self.inside.guests.items c.self.inside.kernel c.self.inside.shared.items c.self.inside.book c.self.invariant c.in_ok-at.at c.index_mut-guest.result.now c.try_collect.new.guest c.try_collect.new.book at
-    (pair_kept (basis_of c.self.inside.terms) c.index_mut-guest.result.now c.try_collect.new.guest c.self.inside.book c.try_collect.new.book guest c.self.invariant.rest.book (λ event. HasCollected (basis_of c.self.inside.terms) c.index_mut-guest.result.now c.try_collect.new.guest c.self.inside.book c.try_collect.new.book event) (λ event h. h.keeps) c.try_collect.result c.try_collect.ensures.done c.try_collect.ensures.same)
+    (pair_kept (basis_of c.self.inside.terms) c.index_mut-guest.result.now c.try_collect.new.guest c.self.inside.book c.try_collect.new.book guest c.self.invariant.rest.book (λ event. HasCollected (basis_of c.self.inside.terms) c.index_mut-guest.result.now c.try_collect.new.guest c.self.inside.book c.try_collect.new.book event) (λ event h. h.keeps) (λ event h. h.settled) c.try_collect.result c.try_collect.ensures.done c.try_collect.ensures.same)
 
 pub returns-in_err-at-clause-why : goal.returns-in_err-at-clause-why
 returns-in_err-at-clause-why c =
@@ -43,5 +44,5 @@ returns-clause-why c =
 
 pub returns-clause-freed : goal.returns-clause-freed
 returns-clause-freed c =
-    subst (λ (old : HostValue). old.basis.events ≤ c.args.freed.now.room → OnOk c.try_collect.result (AreFreedLast (basis_of c.self.inside.terms).trace c.try_collect.new.book.journal.list c.try_collect.new.freed.names)) c.self.view_is
+    subst (λ (old : HostValue). objects_after old.basis.trace old.book.journal.list ≤ c.args.freed.now.room → OnOk c.try_collect.result (AreFreedLast (basis_of c.self.inside.terms).trace c.try_collect.new.book.journal.list c.try_collect.new.freed.names)) c.self.view_is
     c.try_collect.ensures.freed

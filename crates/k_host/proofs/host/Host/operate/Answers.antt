@@ -40,10 +40,15 @@ returns-in-Some-clause-why c =
     (ap (λ (gs : List Guest). killed_among (length gs) c.args.pid.0 c.args.op.now) (sym c.deref-2.ensures.value) ∙ sym c.killed.ensures ∙ c.in-Some.is)
     c.deref_mut.result.now c.kill_among.new.guests c.deref_mut.ensures.value c.kill_among.new.kernel c.kill_among.new.book c.kill_among.result c.kill_among.ensures c.self.inside.guests.len c.self.inside.guests.ok.0)
 
-pub operate_with-requires : goal.operate_with-requires
-operate_with-requires c =
+pub operate_with-requires-clause-can : goal.operate_with-requires-clause-can
+operate_with-requires-clause-can c =
     let at : slice_get c.self.inside.guests.items c.in_ok-at.at ≡ Some c.index_mut-guest.result.now = found_there c.self.inside.guests.items c.deref.result.now c.args.pid.0 c.in_ok-at.at c.index_mut-guest.result.now c.deref.ensures.value c.in_ok-at.ensures.place c.index_mut-guest.ensures.value in
     record { guest = found_guest (basis_of c.self.inside.terms) c.self.inside.guests.items c.self.inside.kernel c.self.inside.shared.items c.self.inside.book c.self.invariant c.in_ok-at.at c.index_mut-guest.result.now at; rest = c.self.invariant.rest }
+
+pub operate_with-requires-clause-few : goal.operate_with-requires-clause-few
+operate_with-requires-clause-few c =
+    let at : slice_get c.self.inside.guests.items c.in_ok-at.at ≡ Some c.index_mut-guest.result.now = found_there c.self.inside.guests.items c.deref.result.now c.args.pid.0 c.in_ok-at.at c.index_mut-guest.result.now c.deref.ensures.value c.in_ok-at.ensures.place c.index_mut-guest.ensures.value in
+    c.self.invariant.few c.in_ok-at.at c.index_mut-guest.result.now at
 
 pub invariant_of-self-2 : goal.invariant_of-self-2
 invariant_of-self-2 c =

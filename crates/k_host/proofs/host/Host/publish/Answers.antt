@@ -5,6 +5,7 @@ use Rattle.k_host.specs.Calls.{HasPublishedIn}
 use Rattle.k_ends.specs.Doing.{HasPublishedAll}
 use Rattle.k_ends.specs.CallsRefusals.{CanNotPublish}
 use Rattle.k_host.specs.Refusals.{MayRefuse}
+use Rattle.k_guests.specs.declared.guest.Guest.{Guest}
 use Rattle.k_guests.specs.Serving.{basis_of}
 use Rattle.k_host.proofs.Called.{changed_on, found_here, found_there, host_of}
 use Rattle.k_host.proofs.Hosts.{found_guest, host_pair, pair_kept_on}
@@ -21,7 +22,7 @@ invariant_of-self c =
     let at : slice_get c.self.inside.guests.items c.in_ok-at.at ≡ Some c.index_mut-guest.result.now = found_there c.self.inside.guests.items c.deref.result.now c.args.pid.0 c.in_ok-at.at c.index_mut-guest.result.now c.deref.ensures.value c.in_ok-at.ensures.place c.index_mut-guest.ensures.value in
     let guest = found_guest (basis_of c.self.inside.terms) c.self.inside.guests.items c.self.inside.kernel c.self.inside.shared.items c.self.inside.book c.self.invariant c.in_ok-at.at c.index_mut-guest.result.now at in
     host_pair (basis_of c.self.inside.terms) c.self.inside.guests.items c.self.inside.kernel c.self.inside.shared.items c.self.inside.book c.self.invariant c.in_ok-at.at c.index_mut-guest.result.now c.try_publish.new.guest c.try_publish.new.book at
-    (pair_kept_on (basis_of c.self.inside.terms) c.index_mut-guest.result.now c.try_publish.new.guest c.self.inside.book c.try_publish.new.book guest c.self.invariant.rest.book (HasPublishedAll (basis_of c.self.inside.terms) c.index_mut-guest.result.now c.try_publish.new.guest c.self.inside.book c.try_publish.new.book) (λ h. h.keeps) c.try_publish.result c.try_publish.ensures.done c.try_publish.ensures.same)
+    (pair_kept_on (basis_of c.self.inside.terms) c.index_mut-guest.result.now c.try_publish.new.guest c.self.inside.book c.try_publish.new.book guest c.self.invariant.rest.book (HasPublishedAll (basis_of c.self.inside.terms) c.index_mut-guest.result.now c.try_publish.new.guest c.self.inside.book c.try_publish.new.book) (λ h. h.keeps) (λ h. ap (λ (x : Guest). x.cell.value.tail) h.guest_is) c.try_publish.result c.try_publish.ensures.done c.try_publish.ensures.same)
 
 pub returns-in_err-at-clause-why : goal.returns-in_err-at-clause-why
 returns-in_err-at-clause-why c =

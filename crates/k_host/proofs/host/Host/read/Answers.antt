@@ -7,7 +7,7 @@ make-requires c = rules_open c.in-Ok.trace.setup (meaning_of c.in-Ok.trace).trac
 
 pub returns-in-Ok-clause-read : goal.returns-in-Ok-clause-read
 returns-in-Ok-clause-read c =
-    read_made c.args.text.now c.in-Ok.trace c.args.ty c.args.bodies c.args.events c.in-Ok.ensures.ok c.make.result c.make.ensures.made c.make.ensures.fit
+    read_made c.args.text.now c.in-Ok.trace c.args.ty c.args.bodies c.args.rooms c.in-Ok.ensures.ok c.make.result c.make.ensures.made c.make.ensures.fit
 
 pub returns-in-Ok-clause-why : goal.returns-in-Ok-clause-why
-returns-in-Ok-clause-why c = read_refused c.args.text.now c.in-Ok.trace c.args.ty c.args.bodies c.args.events c.in-Ok.ensures.ok c.make.result c.make.ensures.why
+returns-in-Ok-clause-why c = read_refused c.args.text.now c.in-Ok.trace c.args.ty c.args.bodies c.args.rooms c.in-Ok.ensures.ok c.make.result c.make.ensures.why

@@ -1,10 +1,11 @@
-use Rattle.std.proofs.Common.{◌≡◌, ap, subst, OnErr}
+use Rattle.std.proofs.Common.{◌≡◌, ◌∙◌, ap, subst, OnErr}
 use Rattle.std.specs.Prelude.{IfErr, IfOk}
 use Rattle.k_limits.proofs.Making.{handed_on}
 use Rattle.k_host.specs.Calls.{HasExitedIn}
 use Rattle.k_keeper.specs.Keeping.{KeeperValue}
 use Rattle.k_keeper.specs.Kept.{IsGone}
-use Rattle.k_keeper.proofs.Refused.{exit_kept, exit_room, exit_why, keeper_of, unchanged_left}
+use Rattle.k_keeper.proofs.Counted.{exit_same, most_same}
+use Rattle.k_keeper.proofs.Refused.{exit_basis, exit_kept, exit_why, keeper_of, unchanged_left}
 use Rattle.k_keeper.proofs.keeper.Keeper.kill.Goals as goal
 
 pub returns-in_err-alive-clause-why : goal.returns-in_err-alive-clause-why
@@ -15,7 +16,11 @@ returns-in_err-alive-clause-why c =
 pub invariant_of-self : goal.invariant_of-self
 invariant_of-self c = record {
   kept = exit_kept c.self.inside.host c.self.inside.left c.self.invariant.kept c.args.pid c.in_ok-alive.ensures.ok c.exit-came.new.self c.exit-came.result c.serves.ensures c.exit-came.ensures.done c.exit-came.ensures.same;
-  room = exit_room c.self.inside.host c.exit-came.new.self c.self.inside.freed.room c.self.invariant.room c.exit-came.result c.exit-came.ensures.same c.args.pid c.exit-came.ensures.done;
+  counted =
+      exit_same c.self.inside.host c.exit-came.new.self c.self.invariant.kept.serves c.serves.ensures c.args.pid c.exit-came.result c.exit-came.ensures.done c.exit-came.ensures.same ∙ c.self.invariant.counted;
+  listed = c.self.invariant.listed;
+  room = c.self.invariant.room;
+  most = most_same c.self.inside.host c.exit-came.new.self c.self.inside.most c.self.invariant.most (exit_basis c.self.inside.host c.exit-came.new.self c.exit-came.result c.exit-came.ensures.same c.args.pid c.exit-came.ensures.done);
 }
 
 pub returns-clause-done : goal.returns-clause-done
@@ -27,8 +32,8 @@ returns-clause-left c = ap (λ (old : KeeperValue). old.left) c.self.view_is
 
 pub returns-clause-same : goal.returns-clause-same
 returns-clause-same c =
-    subst (λ (old : KeeperValue). OnErr c.exit-came.result (keeper_of c.exit-came.new.self c.self.inside.left c.self.inside.freed.names ≡ old)) c.self.view_is
-    (unchanged_left c.self.inside.host c.exit-came.new.self c.self.inside.left c.self.inside.freed.names c.exit-came.result c.exit-came.ensures.same)
+    subst (λ (old : KeeperValue). OnErr c.exit-came.result (keeper_of c.exit-came.new.self c.self.inside.left c.self.inside.freed.names c.self.inside.objects c.self.inside.taken ≡ old)) c.self.view_is
+    (unchanged_left c.self.inside.host c.exit-came.new.self c.self.inside.left c.self.inside.freed.names c.self.inside.objects c.self.inside.taken c.exit-came.result c.exit-came.ensures.same)
 
 pub returns-clause-why : goal.returns-clause-why
 returns-clause-why c =
@@ -37,3 +42,6 @@ returns-clause-why c =
 
 pub returns-clause-freed : goal.returns-clause-freed
 returns-clause-freed c = ap (λ (old : KeeperValue). old.freed) c.self.view_is
+
+pub returns-clause-taken : goal.returns-clause-taken
+returns-clause-taken c = ap (λ (old : KeeperValue). old.taken) c.self.view_is

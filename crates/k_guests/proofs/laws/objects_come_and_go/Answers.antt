@@ -1,0 +1,8 @@
+use Rattle.k_guests.proofs.Objects.{event_counts, published_counts}
+use Rattle.k_guests.proofs.laws.objects_come_and_go.Goals as goal
+
+pub returns-clause-event : goal.returns-clause-event
+returns-clause-event c = event_counts
+
+pub returns-clause-published : goal.returns-clause-published
+returns-clause-published c = published_counts
