@@ -63,7 +63,7 @@ def build_proved(program):
     doors = subprocess.run([f"{top}/scripts/one-door"], stdin=subprocess.DEVNULL, stdout=sys.stderr, check=False)
     if doors.returncode:
         fail(NO_PROGRAM, "the code at these places could answer want of memory with no refused allocation")
-    say("proving and building the program, which a first time takes some twenty minutes (--unproved takes a minute)")
+    say("proving and building the program, which a first time takes some twenty-five minutes (--unproved takes a minute)")
     began = time.monotonic()
     crates = subprocess.run([f"{top}/scripts/side-by-side"], stdin=subprocess.DEVNULL, stdout=sys.stderr, check=False)
     if crates.returncode:
